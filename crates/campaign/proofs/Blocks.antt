@@ -5,7 +5,8 @@ use Rattle.std.specs.List.{AllByRecursion}
 use Rattle.std.proofs.lemmas.List.{map-append, take-append-le, drop-append-le, length-drop, length-append, length-take, length-take-le, length-map, drop_at, take_all}
 use Rattle.std.proofs.lemmas.List.Sums.{sum_by_more_le}
 use Rattle.model.specs.declared.event.Event.{Event}
-use Rattle.model.specs.Campaign.{Row, AreRows}
+use Rattle.model.specs.Campaign.{Row}
+use Rattle.campaign.specs.Seen.{AreSeen}
 use Rattle.deal.specs.Divisions.{IsBlock}
 use Rattle.deal.specs.Tallies.{Tallied}
 use Rattle.deal.specs.Totals.{total, range, times, one_at}
@@ -110,7 +111,7 @@ old_block work kept more trail own block rows is =
     record {
       is_block = is.is_block;
       within = (let within = is.within in omega (arith, length-append kept more));
-      made = subst (λ r. AreRows work.app work.limits (block_points work block.number) r) (sym same) is.made;
+      made = subst (λ r. AreSeen work.app work.limits work.view (block_points work block.number) r) (sym same) is.made;
     }
 
 old_blocks : (work : Work) (kept more : List KeptRow) (trail own : List Event) (blocks : List KeptBlock) → AllByRecursion (IsKept work.base trail) kept
@@ -122,12 +123,12 @@ module _ (work : Work) (kept kept' : List KeptRow) (trail trail' : List Event) (
     (worked : HasWorked work kept trail blocks answered old seat) (number first count : ℕ)
     (block : IsBlock work.lengths number first count) (new : times number answered ≡ 0) (whole : sum work.lengths ≡ length work.points)
     (same : read.sheet ≡ seat.sheet) (same_counts : read.added ≡ seat.added)
-    (gains : GainsRows work.app work.limits work.base (take count (drop first work.points)) kept kept' trail trail' read seat')
+    (gains : GainsRows work.app work.limits work.view work.base (take count (drop first work.points)) kept kept' trail trail' read seat')
     (pushed : blocks' ≡ blocks ++ record { number = number; first = length kept; count = count } ∷ []) where
   its_points : block_points work number ≡ take count (drop first work.points)
   its_points = ap₂ (λ (n : ℕ) (m : ℕ). take n (drop m work.points)) (sym block.2) (sym block.1)
 
-  its_rows : AreRows work.app work.limits (block_points work number) (rows_of work.base trail' gains.more)
+  its_rows : AreSeen work.app work.limits work.view (block_points work number) (rows_of work.base trail' gains.more)
   its_rows = rw its_points gains.made
 
   many : length gains.more ≡ count
@@ -161,7 +162,7 @@ module _ (work : Work) (kept kept' : List KeptRow) (trail trail' : List Event) (
         let first = (worked.counts rows are).rises kind l in
         let its_gain = gains.gained.rises kind l in
         let at = ap (λ (xs : List ℕ). slice_index xs kind) same_counts in
-        let its = ap (λ (r : List Row). kind_in r kind) (one_list work.app work.limits (block_points work number) (rows_of work.base trail' gains.more) (rows number) its_rows (are number block.0)) in
+        let its = ap (λ (r : List Row). kind_in r kind) (one_list work.app work.limits work.view (block_points work number) (rows_of work.base trail' gains.more) (rows number) its_rows (are number block.0)) in
         let split = total_append f answered (number ∷ []) in
         omega arith);
   }
@@ -176,7 +177,7 @@ module _ (work : Work) (kept kept' : List KeptRow) (trail trail' : List Event) (
     once = still_once work kept trail blocks answered old seat worked number first count block new whole;
     few = λ kind l. (
         let before = worked.few kind l in
-        let more = gained_few work.app work.limits work.base _ _ _ _ _ _ _ gains kind l in
+        let more = gained_few work.app work.limits work.view work.base _ _ _ _ _ _ _ gains kind l in
         let at = ap (λ (xs : List ℕ). slice_index xs kind) same_counts in
         let most = length-take count (drop first work.points) in
         let split = total_append (λ b. slice_index work.lengths b) answered (number ∷ []) in

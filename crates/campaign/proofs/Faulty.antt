@@ -17,6 +17,8 @@ use Rattle.script.specs.declared.fault.LoadError.TheVariants as loading
 use Rattle.byte_io.specs.Bytes.{SentFront}
 use Rattle.byte_io.specs.declared.read.ReadFault.{ReadFault}
 use Rattle.byte_io.specs.declared.read.ReadFault.TheVariants as read
+use Rattle.report.specs.Shards.{Shard}
+use Rattle.report.specs.declared.view.View.{View}
 use Rattle.campaign.specs.declared.at.At.{At}
 use Rattle.campaign.specs.declared.file.ServeFault.{ServeFault}
 use Rattle.campaign.specs.declared.file.ServeFault.TheVariants.{Read, NotToml, Load, UnknownHandler, TooManyPoints, Memory, Write}
@@ -214,9 +216,9 @@ campaign_fault bytes app Memory file h = file_has_bytes bytes app file
 campaign_fault bytes app Write file h = absurd h
 
 -- a fault of the file itself
-pub campaign_serves_file_fault : (input : Option (List ℕ)) (rf wf : Bool) (old : Option (List ℕ)) (f : ServeFault) → ((bytes : List ℕ) × Known input bytes × HasFileFault bytes f)
-    → rf ≡ is_read_fault {A = Totals} (Err f) → is_write_fault {A = Totals} (Err f) ≡ false → wf ≡ false → ServesCampaign input rf old old wf (Err f)
-campaign_serves_file_fault input rf wf old f h r w e = serves_fault _ _ input rf wf old f (h.0, h.1, campaign_file_fault h.0 f h.2) r w e
+pub campaign_serves_file_fault : (view : View) (shard : Shard) (input : Option (List ℕ)) (rf wf : Bool) (old : Option (List ℕ)) (f : ServeFault) → ((bytes : List ℕ) × Known input bytes × HasFileFault bytes f)
+    → rf ≡ is_read_fault {A = Totals} (Err f) → is_write_fault {A = Totals} (Err f) ≡ false → wf ≡ false → ServesCampaign view shard input rf old old wf (Err f)
+campaign_serves_file_fault view shard input rf wf old f h r w e = serves_fault _ _ input rf wf old f (h.0, h.1, campaign_file_fault h.0 f h.2) r w e
 
 campaign_reads : (app : Application) (f : ServeFault) → IsCampaignFault app f → is_read_fault {A = Totals} (Err f) ≡ false
 campaign_reads app Read h = absurd h
@@ -237,7 +239,7 @@ campaign_writes app Memory h = refl
 campaign_writes app Write h = absurd h
 
 -- an application whose rows were not made
-pub campaign_serves_rows_fault : (input : Option (List ℕ)) (rf wf : Bool) (old : Option (List ℕ)) (f : ServeFault) (app : Application)
-    → ((bytes : List ℕ) × Known input bytes × IsFileOf bytes app) → IsCampaignFault app f → rf ≡ false → wf ≡ false → ServesCampaign input rf old old wf (Err f)
-campaign_serves_rows_fault input rf wf old f app file h r e =
+pub campaign_serves_rows_fault : (view : View) (shard : Shard) (input : Option (List ℕ)) (rf wf : Bool) (old : Option (List ℕ)) (f : ServeFault) (app : Application)
+    → ((bytes : List ℕ) × Known input bytes × IsFileOf bytes app) → IsCampaignFault app f → rf ≡ false → wf ≡ false → ServesCampaign view shard input rf old old wf (Err f)
+campaign_serves_rows_fault view shard input rf wf old f app file h r e =
     serves_fault _ _ input rf wf old f (file.0, file.1, campaign_fault file.0 app f file.2 h) (r ∙ sym (campaign_reads app f h)) (campaign_writes app f h) e

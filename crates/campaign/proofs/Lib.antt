@@ -12,6 +12,7 @@ mod LookedUp
 mod Multiplicity
 mod Pieces
 mod Placed
+mod Seeing
 mod Sending
 mod Started
 mod Texts

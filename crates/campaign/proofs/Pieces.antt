@@ -1,13 +1,14 @@
 -- Pieces that come one after the other: their texts joined are the text of all.
 use Rattle.std.specs.Prelude.{Option}
 use Rattle.std.specs.List.{AllByRecursion, flat_map}
-use Rattle.std.proofs.Common.{◌≡◌, ◌≤◌, ◌+◌, ◌-◌, ℕ, List, [], ◌∷◌, ◌++◌, length, take, drop, sym, ap, subst, ◌∙◌, arith}
+use Rattle.std.proofs.Common.{◌≡◌, ◌≤◌, ◌+◌, ◌-◌, ℕ, List, [], ◌∷◌, ◌++◌, length, take, drop, sym, ap, ap₂, subst, ◌∙◌, arith}
 use Rattle.std.proofs.lemmas.List.{drop-drop, drop-take, length-drop, length-take-le, take-append-drop, take-take, take_all}
 use Rattle.byte_io.specs.Bytes.{Sent, SentFront}
 use Rattle.model.specs.Application.{Application}
 use Rattle.model.specs.Campaign.{Row}
-use Rattle.report.proofs.Rows.{rows_text-append}
-use Rattle.report.specs.Text.{rows_text}
+use Rattle.report.proofs.Views.{shown-append}
+use Rattle.report.specs.Views.{shown_rows}
+use Rattle.report.specs.declared.view.View.{View}
 use Rattle.campaign.specs.declared.campaign_report.Rows.{Rows}
 use Rattle.campaign.specs.declared.piece.Piece.{Piece}
 use Rattle.campaign.specs.Report.{whole}
@@ -36,18 +37,18 @@ module _ {A : Type 0} (xs : List A) (from number count : ℕ) (low : from ≤ nu
       let long = length-take-le (number - from) (drop from xs) (omega arith) in
       omega arith
 
--- a piece of which some rows went out
-module _ (app : Application) (xs : List Row) (from number count total : ℕ) (low : from ≤ number) (high : number + count ≤ from + total) (within : from + total ≤ length xs)
-    (a b c : Option (List ℕ)) (page mid : List ℕ) (sent : Sent a b (page ++ rows_text app from (some_of xs from (number - from))) mid) where
-  its_number : from + length (some_of xs from (number - from)) ≡ number
-  its_number = some_count xs from number count low (omega arith)
+-- a piece of which some rows went out; the first of all rows has a number of its own
+module _ (app : Application) (view : View) (first : ℕ) (xs : List Row) (from number count total : ℕ) (low : from ≤ number) (high : number + count ≤ from + total) (within : from + total ≤ length xs)
+    (a b c : Option (List ℕ)) (page mid : List ℕ) (sent : Sent a b (page ++ shown_rows app view (first + from) (some_of xs from (number - from))) mid) where
+  its_number : first + from + length (some_of xs from (number - from)) ≡ first + number
+  its_number = let there = some_count xs from number count low (omega arith) in omega (arith, there)
 
-  pub some_sent : (kept : List ℕ) → Sent b c (mid ++ rows_text app number (some_of xs number count)) kept
-      → Sent a c (page ++ rows_text app from (some_of xs from (number + count - from))) kept
+  pub some_sent : (kept : List ℕ) → Sent b c (mid ++ shown_rows app view (first + number) (some_of xs number count)) kept
+      → Sent a c (page ++ shown_rows app view (first + from) (some_of xs from (number + count - from))) kept
   some_sent kept second =
-      subst (λ (rs : List Row). Sent a c (page ++ rows_text app from rs) kept) (sym (some_more xs from number count low))
-      (sent_more app from (some_of xs from (number - from)) a b c page mid sent (some_of xs number count) kept
-      (subst (λ n. Sent b c (mid ++ rows_text app n (some_of xs number count)) kept) (sym its_number) second))
+      subst (λ (rs : List Row). Sent a c (page ++ shown_rows app view (first + from) rs) kept) (sym (some_more xs from number count low))
+      (sent_more app view (first + from) (some_of xs from (number - from)) a b c page mid sent (some_of xs number count) kept
+      (subst (λ n. Sent b c (mid ++ shown_rows app view n (some_of xs number count)) kept) (sym its_number) second))
 
   abbrev rest : ℕ
   rest = from + total - (number + count)
@@ -58,11 +59,11 @@ module _ (app : Application) (xs : List Row) (from number count total : ℕ) (lo
       ap (λ n. some_of xs from n) (sym end) ∙ some_more xs from (number + count) rest (omega arith)
       ∙ ap (λ rs. rs ++ some_of xs (number + count) rest) (some_more xs from number count low)
 
-  pub some_stopped : SentFront b c (mid ++ rows_text app number (some_of xs number count)) → SentFront a c (page ++ rows_text app from (some_of xs from total))
+  pub some_stopped : SentFront b c (mid ++ shown_rows app view (first + number) (some_of xs number count)) → SentFront a c (page ++ shown_rows app view (first + from) (some_of xs from total))
   some_stopped second =
-      subst (λ (rs : List Row). SentFront a c (page ++ rows_text app from rs)) (sym all_of_it)
-      (front_more app from (some_of xs from (number - from)) a b c page mid sent (some_of xs number count) (some_of xs (number + count) rest)
-      (subst (λ n. SentFront b c (mid ++ rows_text app n (some_of xs number count))) (sym its_number) second))
+      subst (λ (rs : List Row). SentFront a c (page ++ shown_rows app view (first + from) rs)) (sym all_of_it)
+      (front_more app view (first + from) (some_of xs from (number - from)) a b c page mid sent (some_of xs number count) (some_of xs (number + count) rest)
+      (subst (λ n. SentFront b c (mid ++ shown_rows app view n (some_of xs number count))) (sym its_number) second))
 
 -- ---- all pieces
 
@@ -88,30 +89,36 @@ module _ (rows : Rows) where
       (omega (arith, rest.0), rest.1)
 
   -- Their texts joined are the text of the rows from the first of them to the last.
-  pub texts_joined : (app : Application) (first last : ℕ) (pieces : List Piece) → first ≤ length (whole rows) → ArePieces rows first last pieces
-      → flat_map (piece_text app rows) pieces ≡ rows_text app first (some_of (whole rows) first (last - first))
-  texts_joined app first last [] within are =
-      let none : last - first ≡ 0 = omega (arith, are) in
-      sym (ap (λ n. rows_text app first (some_of (whole rows) first n)) none)
-  texts_joined app first last (p ∷ ps) within are =
-      let next = first + p.count in
+  pub texts_joined : (app : Application) (from last : ℕ) (pieces : List Piece) → from ≤ length (whole rows) → ArePieces rows from last pieces
+      → flat_map (piece_text app rows) pieces ≡ shown_rows app rows.view (rows.first + from) (some_of (whole rows) from (last - from))
+  texts_joined app from last [] within are =
+      let none : last - from ≡ 0 = omega (arith, are) in
+      sym (ap (λ n. shown_rows app rows.view (rows.first + from) (some_of (whole rows) from n)) none)
+  texts_joined app from last (p ∷ ps) within are =
+      let text : ℕ → List Row → List ℕ = λ n rs. shown_rows app rows.view n rs in
+      let next = from + p.count in
       let piece = are.0.within in
-      let from = are.1 in
+      let at = are.1 in
       let there : next ≤ length (whole rows) = omega arith in
       let rise = (pieces_rise next last ps there are.2).0 in
-      let its : piece_text app rows p ≡ rows_text app first (some_of (whole rows) first p.count) =
-      ap (λ n. rows_text app n (some_of (whole rows) n p.count)) from in
+      let its : piece_text app rows p ≡ text (rows.first + from) (some_of (whole rows) from p.count) =
+      ap (λ n. text (rows.first + n) (some_of (whole rows) n p.count)) at in
       let others = texts_joined app next last ps there are.2 in
-      let one : next - first ≡ p.count = omega arith in
-      let end : next + (last - next) - first ≡ last - first = omega arith in
-      let both : some_of (whole rows) first (last - first) ≡ some_of (whole rows) first p.count ++ some_of (whole rows) next (last - next) =
-      sym (ap (some_of (whole rows) first) end) ∙ some_more (whole rows) first next (last - next) (omega arith) ∙ ap (λ n. some_of (whole rows) first n ++ some_of (whole rows) next (last - next)) one in
-      let count : first + length (some_of (whole rows) first p.count) ≡ next =
-      sym (ap (λ n. first + length (some_of (whole rows) first n)) one) ∙ some_count (whole rows) first next 0 (omega arith) there in
-      ap (λ t. t ++ flat_map (piece_text app rows) ps) its ∙ ap (λ t. rows_text app first (some_of (whole rows) first p.count) ++ t) others
-      ∙ sym (ap (rows_text app first) both ∙ rows_text-append app first (some_of (whole rows) first p.count) (some_of (whole rows) next (last - next))
-      ∙ ap (λ n. rows_text app first (some_of (whole rows) first p.count) ++ rows_text app n (some_of (whole rows) next (last - next))) count)
+      let one : next - from ≡ p.count = omega arith in
+      let end : next + (last - next) - from ≡ last - from = omega arith in
+      let both : some_of (whole rows) from (last - from) ≡ some_of (whole rows) from p.count ++ some_of (whole rows) next (last - next) =
+      sym (ap (some_of (whole rows) from) end) ∙ some_more (whole rows) from next (last - next) (omega arith) ∙ ap (λ n. some_of (whole rows) from n ++ some_of (whole rows) next (last - next)) one in
+      let count : from + length (some_of (whole rows) from p.count) ≡ next =
+      sym (ap (λ n. from + length (some_of (whole rows) from n)) one) ∙ some_count (whole rows) from next 0 (omega arith) there in
+      let number : rows.first + from + length (some_of (whole rows) from p.count) ≡ rows.first + next = omega (arith, count) in
+      ap (λ t. t ++ flat_map (piece_text app rows) ps) its ∙ ap (λ t. text (rows.first + from) (some_of (whole rows) from p.count) ++ t) others
+      ∙ sym (ap (text (rows.first + from)) both ∙ shown-append app rows.view (rows.first + from) (some_of (whole rows) from p.count) (some_of (whole rows) next (last - next))
+      ∙ ap (λ n. text (rows.first + from) (some_of (whole rows) from p.count) ++ text n (some_of (whole rows) next (last - next))) number)
 
   -- The texts of all pieces joined are the text of all rows.
-  pub text_of_all : (app : Application) (pieces : List Piece) → ArePieces rows 0 (length (whole rows)) pieces → flat_map (piece_text app rows) pieces ≡ rows_text app 0 (whole rows)
-  text_of_all app pieces are = texts_joined app 0 (length (whole rows)) pieces (omega arith) are ∙ ap (rows_text app 0) (take_all (length (whole rows) - 0) (whole rows) (omega arith))
+  pub text_of_all : (app : Application) (pieces : List Piece) → ArePieces rows 0 (length (whole rows)) pieces
+      → flat_map (piece_text app rows) pieces ≡ shown_rows app rows.view rows.first (whole rows)
+  text_of_all app pieces are =
+      let start : rows.first + 0 ≡ rows.first = omega arith in
+      texts_joined app 0 (length (whole rows)) pieces (omega arith) are
+      ∙ ap₂ (λ (n : ℕ) (rs : List Row). shown_rows app rows.view n rs) start (take_all (length (whole rows) - 0) (whole rows) (omega arith))

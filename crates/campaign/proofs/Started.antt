@@ -1,5 +1,5 @@
 -- The campaign of an application, from its shelf.
-use Rattle.std.proofs.Common.{◌≡◌, ◌≤◌, List, [], length, sym, subst}
+use Rattle.std.proofs.Common.{◌≡◌, ◌≤◌, ◌∙◌, ℕ, List, [], length, ap, sym, subst}
 use Rattle.model.specs.declared.plan.Injection.{Injection}
 use Rattle.model.specs.Application.{Application, Limits}
 use Rattle.model.specs.Scripts.{most_points}
@@ -7,7 +7,12 @@ use Rattle.model.specs.Run.{Run, IsRun}
 use Rattle.model.specs.Campaign.{Row, AreRows, points_in}
 use Rattle.campaign.specs.declared.points.ExpandFault.{ExpandFault}
 use Rattle.campaign.specs.declared.points.ExpandFault.TheVariants.{TooManyPoints, Memory}
-use Rattle.campaign.specs.Campaigns.{AreRowsOf, IsCampaignFault, of_expanding}
+use Rattle.report.specs.Shards.{Shard, first_of, part_of}
+use Rattle.report.specs.declared.view.View.{View}
+use Rattle.campaign.specs.Campaigns.{IsCampaignFault, IsShownOf, of_expanding}
+use Rattle.campaign.specs.Report.{Shown}
+use Rattle.campaign.specs.Seen.{AreSeen}
+use Rattle.campaign.proofs.Seeing.{rows_of_seen}
 use Rattle.campaign.specs.Points.{IsExpandFault}
 use Rattle.shelf.specs.Shelves.{Shelved, IsShelf}
 
@@ -19,10 +24,21 @@ module _ (app : Application) (shelf : Shelved) (base : Run) (is : IsShelf app sh
   expand_fault TooManyPoints many = record { base = base; is_base = its_run; many = many }
   expand_fault Memory few = tt
 
-  pub app_rows : (points : List (List Injection)) (rows : List Row) → points ≡ points_in app base.steps → length points ≤ most_points → AreRows app shelf.limits points rows → AreRowsOf app rows
-  app_rows points rows its few are = record {
-    base = base;
-    is_base = its_run;
-    few = subst (λ (ps : List (List Injection)). length ps ≤ most_points) its few;
-    are_rows = subst (λ ps. AreRows app app.limits ps rows) its (subst (λ (limits : Limits). AreRows app limits points rows) own are);
-  }
+  pub app_rows : (view : View) (shard : Shard) (points some : List (List Injection)) (report : Shown) → points ≡ points_in app base.steps → length points ≤ most_points
+      → some ≡ part_of shard points → report.view ≡ view → report.first ≡ first_of shard (length points) → AreSeen app shelf.limits view some report.rows → IsShownOf app view shard report
+  app_rows view shard points some report its few part in_view first are =
+      let of = rows_of_seen app shelf.limits view some report.rows are in
+      record {
+        rows = of.whole;
+        runs = record {
+          base = base;
+          is_base = its_run;
+          few = subst (λ (ps : List (List Injection)). length ps ≤ most_points) its few;
+          are_rows = subst (λ (ps : List (List Injection)). AreRows app app.limits ps of.whole) (part ∙ ap (part_of shard) its) (subst (λ (limits : Limits). AreRows app limits some of.whole) own of.are_rows);
+        };
+        shown = same_shown report _ in_view (first ∙ ap (λ (ps : List (List Injection)). first_of shard (length ps)) its) of.as_seen;
+      }
+    where
+      same_shown : (a b : Shown) → a.view ≡ b.view → a.first ≡ b.first → a.rows ≡ b.rows → a ≡ b
+      same_shown a b v f r =
+          ap (λ (x : View). record a { view = x }) v ∙ ap (λ (x : ℕ). record a { view = b.view; first = x }) f ∙ ap (λ (x : List Row). record b { rows = x }) r

@@ -7,7 +7,8 @@ use Rattle.std.proofs.lemmas.Bool.Decides.{nat_tests}
 use Rattle.std.proofs.lemmas.List.Sums.{sum_by_more}
 use Rattle.machine.specs.Logged.{all_of}
 use Rattle.model.specs.Run.{Run}
-use Rattle.model.specs.Campaign.{Row, AreRows, totals_of}
+use Rattle.model.specs.Campaign.{Row, totals_of}
+use Rattle.campaign.specs.Seen.{AreSeen}
 use Rattle.model.specs.Scripts.{most_points}
 use Rattle.deal.specs.Sharing.{Game, Sight, SomeHasSeenAll, lists_of, fresh, fresh_lanes}
 use Rattle.deal.specs.Tallies.{Sheet, Tallied, added_in}
@@ -136,7 +137,7 @@ parts_kept work (part ∷ parts) all = (all.0.rows, parts_kept work parts all.1)
 -- the rows of a block are in this place
 pub record IsPlaceOf (work : Work) (parts : List Part) (block : ℕ) (place : Place) : Type 0 where
   pub is_place : IsPlace parts place
-  pub made : AreRows work.app work.limits (block_points work block) (rows_at work.base parts place)
+  pub made : AreSeen work.app work.limits work.view (block_points work block) (rows_at work.base parts place)
 
 module _ (work : Work) (parts : List Part) where
   -- those of these blocks are in their places
@@ -222,20 +223,20 @@ take_both (suc a) b [] = let e : suc a + b ≡ suc (a + b) = omega arith in rw e
 take_both (suc a) b (x ∷ xs) = let e : suc a + b ≡ suc (a + b) = omega arith in rw e (ap (λ r. x ∷ r) (take_both a b xs))
 
 module _ (work : Work) (rows : ℕ → List Row) (are : AreRowsByBlock work rows) where
-  front_rows : (n : ℕ) → n ≤ length work.lengths → AreRows work.app work.limits (take (sum (take n work.lengths)) work.points) (flat_map rows (range 0 n))
+  front_rows : (n : ℕ) → n ≤ length work.lengths → AreSeen work.app work.limits work.view (take (sum (take n work.lengths)) work.points) (flat_map rows (range 0 n))
   front_rows zero l = record { one_each = refl; each = tt }
   front_rows (suc n) l =
       let more : sum (take (suc n) work.lengths) ≡ sum (take n work.lengths) + slice_index work.lengths n = ap (λ m. sum (take m work.lengths)) (sym (add-one n)) ∙ sum_by_more (λ (x : ℕ). x) work.lengths n 0 (omega arith) in
       let zero_plus : 0 + n ≡ n = omega arith in
       let last : flat_map rows (range 0 (suc n)) ≡ flat_map rows (range 0 n) ++ rows n = flat_last rows 0 n ∙ ap (λ i. flat_map rows (range 0 n) ++ rows i) zero_plus in
       rw (more, take_both (sum (take n work.lengths)) (slice_index work.lengths n) work.points, last)
-      (rows-append work.app work.limits _ _ _ _ (front_rows n (omega arith)) (are n (omega arith)))
+      (rows-append work.app work.limits work.view _ _ _ _ (front_rows n (omega arith)) (are n (omega arith)))
 
-  pub all_rows : sum work.lengths ≡ length work.points → AreRows work.app work.limits work.points (flat_map rows (range 0 (length work.lengths)))
+  pub all_rows : sum work.lengths ≡ length work.points → AreSeen work.app work.limits work.view work.points (flat_map rows (range 0 (length work.lengths)))
   all_rows whole =
       let lens : take (length work.lengths) work.lengths ≡ work.lengths = take_all (length work.lengths) work.lengths (omega arith) in
       let all : take (sum (take (length work.lengths) work.lengths)) work.points ≡ work.points = ap (λ ls. take (sum ls) work.points) lens ∙ take_all (sum work.lengths) work.points (omega arith) in
-      subst (λ ps. AreRows work.app work.limits ps (flat_map rows (range 0 (length work.lengths)))) all (front_rows (length work.lengths) (omega arith))
+      subst (λ ps. AreSeen work.app work.limits work.view ps (flat_map rows (range 0 (length work.lengths)))) all (front_rows (length work.lengths) (omega arith))
 
 pub kinds_flat : (rows : ℕ → List Row) (kind : ℕ) (blocks : List ℕ) → kind_in (flat_map rows blocks) kind ≡ total (λ b. kind_in (rows b) kind) blocks
 kinds_flat rows kind [] = let few = kind_in-few [] kind in omega arith
@@ -317,7 +318,7 @@ module _ (work : Work) (base : Run) (deal : Game) (lanes : List Sight) (parts : 
         each_of [] h = tt
         each_of (x ∷ xs) h = (h 0 x (omega arith), each_of xs (λ i d l. h (suc i) d (omega arith)))
 
-    pub rows_all : AreRows work.app work.limits work.points (rows_placed work.base parts places)
+    pub rows_all : AreSeen work.app work.limits work.view work.points (rows_placed work.base parts places)
     rows_all = rw in_order (all_rows work rows_by by_block whole.whole)
 
     pub rows_few : length (rows_placed work.base parts places) ≤ most_points
@@ -335,24 +336,24 @@ module _ (work : Work) (base : Run) (deal : Game) (lanes : List Sight) (parts : 
 
 -- ---- the report
 
-module _ (work : Work) (tally : Sheet) (old : List Tallied) (made : Made) (is : IsMade work tally old made) (base : Run) (same : base ≡ work.base) (few : length work.points ≤ most_points) where
-  pub sound_made : IsSound (record { base = base; parts = made.parts; places = made.places; totals = made.totals })
+module _ (work : Work) (tally : Sheet) (old : List Tallied) (made : Made) (is : IsMade work tally old made) (base : Run) (same : base ≡ work.base) (first : ℕ) (few : first + length work.points ≤ most_points) where
+  pub sound_made : IsSound (record { view = work.view; first = first; base = base; parts = made.parts; places = made.places; totals = made.totals })
   sound_made =
       let count = sym (length-map (rows_placed work.base made.parts.items made.places.items) (λ (row : Row). row.point)) ∙ ap length is.rows.one_each in
-      subst (λ b. IsSound (record { base = b; parts = made.parts; places = made.places; totals = made.totals })) (sym same) (record {
+      subst (λ b. IsSound (record { view = work.view; first = first; base = b; parts = made.parts; places = made.places; totals = made.totals })) (sym same) (record {
         kept = is.kept;
         placed = is.placed;
         few = omega (arith, count, few);
         counted = is.counted;
       })
 
-  rows_same : (report : List Row) → report ≡ whole_rows (record { base = base; parts = made.parts; places = made.places; totals = made.totals }) → report ≡ rows_placed work.base made.parts.items made.places.items
+  rows_same : (report : List Row) → report ≡ whole_rows (record { view = work.view; first = first; base = base; parts = made.parts; places = made.places; totals = made.totals }) → report ≡ rows_placed work.base made.parts.items made.places.items
   rows_same report e = e ∙ ap (λ (b : Run). rows_placed b made.parts.items made.places.items) same
 
-  pub rows_made : (report : List Row) → report ≡ whole_rows (record { base = base; parts = made.parts; places = made.places; totals = made.totals }) → AreRows work.app work.limits work.points report
+  pub rows_made : (report : List Row) → report ≡ whole_rows (record { view = work.view; first = first; base = base; parts = made.parts; places = made.places; totals = made.totals }) → AreSeen work.app work.limits work.view work.points report
   rows_made report e = rw (rows_same report e) is.rows
 
-  pub rise_made : (report : List Row) → report ≡ whole_rows (record { base = base; parts = made.parts; places = made.places; totals = made.totals }) → RiseBy (totals_of report) old made.seats.items
+  pub rise_made : (report : List Row) → report ≡ whole_rows (record { view = work.view; first = first; base = base; parts = made.parts; places = made.places; totals = made.totals }) → RiseBy (totals_of report) old made.seats.items
   rise_made report e = subst (λ rs. RiseBy (totals_of rs) old made.seats.items) (sym (rows_same report e)) is.rise
 
 -- What holds of the kinds apart holds of what was taken apart, if it was.

@@ -1,24 +1,39 @@
--- What the campaign of a file comes to: the report of one row for each of its points, or the fault that stands in the way.
-use Rattle.std.specs.Prelude.{◌≡◌, ◌<◌, ◌≤◌, ℕ, Bool, List, [], length, Option, Result}
+-- What the campaign of a file comes to: the report of one row for each of its points, or of a part of these, as a view shows it; or the
+-- fault that stands in the way.
+use Rattle.std.specs.Prelude.{◌≡◌, ◌<◌, ◌≤◌, ℕ, Bool, List, [], length, map, Option, Result}
 use Rattle.model.specs.Application.{Application}
 use Rattle.model.specs.Scripts.{most_points}
 use Rattle.model.specs.Run.{Run, IsRun}
 use Rattle.model.specs.Campaign.{Row, AreRows, points_in, totals_of}
 use Rattle.model.specs.declared.totals.Totals.{Totals}
-use Rattle.report.specs.Text.{campaign_text}
+use Rattle.report.specs.Shards.{Shard, first_of, part_of}
+use Rattle.report.specs.Views.{report_text}
+use Rattle.report.specs.declared.view.View.{View}
 use Rattle.campaign.specs.declared.file.ServeFault.{ServeFault}
 use Rattle.campaign.specs.declared.file.ServeFault.TheVariants.{TooManyPoints, Memory}
 use Rattle.campaign.specs.declared.points.ExpandFault.{ExpandFault}
 use Rattle.campaign.specs.declared.points.ExpandFault.TheVariants as expanding
+use Rattle.campaign.specs.Report.{Shown}
+use Rattle.campaign.specs.Seen.{seen}
 use Rattle.campaign.specs.Serving.{IsFileOf, HasFileFault, Serves}
 
--- The rows are those of the application's own points, which are few enough, under its own limits; `all` stands for every step of
--- the base run.
-pub record AreRowsOf (app : Application) (rows : List Row) : Type 0 where
+-- The rows are those of a part of the application's own points, which are few enough, under its own limits; `all` stands for every
+-- step of the base run.
+pub record AreRowsOf (app : Application) (shard : Shard) (rows : List Row) : Type 0 where
   pub base : Run
   pub is_base : IsRun app [] app.limits base
   pub few : length (points_in app base.steps) ≤ most_points
-  pub are_rows : AreRows app app.limits (points_in app base.steps) rows
+  pub are_rows : AreRows app app.limits (part_of shard (points_in app base.steps)) rows
+
+-- the number of the first of them among those of all points
+abbrev pub first_number : {app : Application} → {shard : Shard} → {rows : List Row} → AreRowsOf app shard rows → ℕ
+first_number {app} {shard} are = first_of shard (length (points_in app are.base.steps))
+
+-- The report has these rows, as far as the view shows them.
+pub record IsShownOf (app : Application) (view : View) (shard : Shard) (report : Shown) : Type 0 where
+  pub rows : List Row
+  pub runs : AreRowsOf app shard rows
+  pub shown : report ≡ record { view = view; first = first_number runs; rows = map (seen view) rows }
 
 -- The application's points are more than there may be (profile).
 pub record HasTooManyPoints (app : Application) : Type 0 where
@@ -26,14 +41,15 @@ pub record HasTooManyPoints (app : Application) : Type 0 where
   pub is_base : IsRun app [] app.limits base
   pub many : most_points < length (points_in app base.steps)
 
--- The bytes are a file whose campaign has this report, and these totals.
-pub record IsCampaignOf (bytes report : List ℕ) (totals : Totals) : Type 0 where
+-- The bytes are a file whose campaign has this report, of a part of its rows as the view shows them, and these totals of that part's
+-- rows.
+pub record IsCampaignOf (view : View) (shard : Shard) (bytes report : List ℕ) (totals : Totals) : Type 0 where
   pub app : Application
   pub file : IsFileOf bytes app
   pub rows : List Row
-  pub runs : AreRowsOf app rows
+  pub runs : AreRowsOf app shard rows
   pub adds_up : totals ≡ totals_of rows
-  pub text : report ≡ campaign_text app rows
+  pub text : report ≡ report_text app view (first_number runs) rows
 
 -- The bytes have this fault, where their campaign is asked for.
 abbrev pub HasCampaignFault : List ℕ → ServeFault → Type 0
@@ -50,8 +66,8 @@ abbrev pub of_expanding : ExpandFault → ServeFault
 of_expanding expanding.TooManyPoints = TooManyPoints
 of_expanding expanding.Memory = Memory
 
--- a call that serves the campaign of a file, and answers its totals
-abbrev pub ServesCampaign : Option (List ℕ) → (read_failed : Bool) → (old new : Option (List ℕ)) → (write_failed : Bool)
+-- a call that serves a part of the campaign of a file, as the view shows it, and answers that part's totals
+abbrev pub ServesCampaign : View → Shard → Option (List ℕ) → (read_failed : Bool) → (old new : Option (List ℕ)) → (write_failed : Bool)
     → Result Totals ServeFault → Type 0
-ServesCampaign input read_failed old new write_failed outcome =
-    Serves Totals IsCampaignOf HasCampaignFault input read_failed old new write_failed outcome
+ServesCampaign view shard input read_failed old new write_failed outcome =
+    Serves Totals (IsCampaignOf view shard) HasCampaignFault input read_failed old new write_failed outcome

@@ -7,6 +7,7 @@ pub mod Pieces
 pub mod Placing
 pub mod Points
 pub mod Report
+pub mod Seen
 pub mod Serving
 pub mod Setup
 pub mod Working

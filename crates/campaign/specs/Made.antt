@@ -3,7 +3,7 @@ use Rattle.std.specs.Prelude.{◌≡◌, ◌<◌, ◌≤◌, ◌+◌, ℕ, List,
 use Rattle.std.specs.List.{AllByRecursion, concat, flat_map}
 use Rattle.model.specs.Run.{Run}
 use Rattle.model.specs.Scripts.{most_points}
-use Rattle.model.specs.Campaign.{Row, AreRows, totals_of}
+use Rattle.model.specs.Campaign.{Row, totals_of}
 use Rattle.deal.specs.Sharing.{Game, Sight, AreLanesOf, SomeHasSeenAll, lists_of}
 use Rattle.deal.specs.Tallies.{Sheet, Tallied, added_in}
 use Rattle.deal.specs.Totals.{total}
@@ -13,6 +13,7 @@ use Rattle.campaign.specs.declared.rows.Place.{Place}
 use Rattle.campaign.specs.Kinds.{RiseBy, kind_in}
 use Rattle.campaign.specs.Placing.{all_numbers}
 use Rattle.campaign.specs.Report.{AreKept, IsPlace, rows_at}
+use Rattle.campaign.specs.Seen.{AreSeen}
 use Rattle.campaign.specs.Working.{Work, AreRowsByBlock, IsKeptPart}
 
 -- the blocks of the deal are those of the work, and have all its points
@@ -51,7 +52,7 @@ rows_placed base parts places = flat_map (rows_at base parts) places
 pub record IsMade (work : Work) (tally : Sheet) (old : List Tallied) (made : Made) : Type 0 where
   pub kept : AllByRecursion (AreKept work.base) made.parts.items
   pub placed : AllByRecursion (IsPlace made.parts.items) made.places.items
-  pub rows : AreRows work.app work.limits work.points (rows_placed work.base made.parts.items made.places.items)
+  pub rows : AreSeen work.app work.limits work.view work.points (rows_placed work.base made.parts.items made.places.items)
   pub counted : made.totals ≡ totals_of (rows_placed work.base made.parts.items made.places.items)
   pub back : ComeBack tally old made.seats.items
   pub rise : RiseBy (totals_of (rows_placed work.base made.parts.items made.places.items)) old made.seats.items

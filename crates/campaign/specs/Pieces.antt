@@ -5,7 +5,7 @@ use Rattle.rtrb.specs.Ring.{sent, received, IsPair, SameConsumer}
 use Rattle.byte_io.specs.Buffers.{bytes_of, buffer_failed}
 use Rattle.model.specs.Application.{Application}
 use Rattle.model.specs.Campaign.{Row}
-use Rattle.report.specs.Text.{rows_text}
+use Rattle.report.specs.Views.{shown_rows}
 use Rattle.campaign.specs.declared.campaign_report.Rows.{Rows}
 use Rattle.campaign.specs.declared.cursor.Cursor.{Cursor}
 use Rattle.campaign.specs.declared.desk.Desk.{Desk}
@@ -34,9 +34,9 @@ pub record IsPiece (rows : Rows) (piece : Piece) : Type 0 where
 abbrev pub piece_rows : Rows → Piece → List Row
 piece_rows rows piece = some_of (whole rows) piece.from.number piece.count
 
--- its text
+-- its text, in the view of the rows
 abbrev pub piece_text : Application → Rows → Piece → List ℕ
-piece_text app rows piece = rows_text app piece.from.number (piece_rows rows piece)
+piece_text app rows piece = shown_rows app rows.view (rows.first + piece.from.number) (piece_rows rows piece)
 
 -- The pieces come one after the other, from the row of this number on, up to that one.
 abbrev pub ArePieces : Rows → (first last : ℕ) → List Piece → Type 0

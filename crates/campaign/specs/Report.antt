@@ -7,6 +7,7 @@ use Rattle.model.specs.Points.{first_step}
 use Rattle.model.specs.Run.{Run}
 use Rattle.model.specs.Campaign.{Row, totals_of}
 use Rattle.model.specs.Scripts.{most_points}
+use Rattle.report.specs.declared.view.View.{View}
 use Rattle.campaign.specs.declared.rows.KeptRow.{KeptRow}
 use Rattle.campaign.specs.declared.rows.Part.{Part}
 use Rattle.campaign.specs.declared.rows.Stretch.{Stretch}
@@ -72,9 +73,18 @@ whole rows = flat_map (rows_at rows.base rows.parts.items) rows.places.items
 abbrev pub AreKept : Run → Part → Type 0
 AreKept base part = AllByRecursion (IsKept base (all_of part.trail)) part.kept
 
--- Each row is there, and they add up to these totals.
+-- Each row is there, the last one's number is no greater than there may be rows, and they add up to these totals.
 pub record IsSound (rows : Rows) : Type 0 where
   pub kept : AllByRecursion (AreKept rows.base) rows.parts.items
   pub placed : AllByRecursion (IsPlace rows.parts.items) rows.places.items
-  pub few : length (whole rows) ≤ most_points
+  pub few : rows.first + length (whole rows) ≤ most_points
   pub counted : rows.totals ≡ totals_of (whole rows)
+
+-- what callers see of a report: its view, the number of its first row, and its rows, as far as the view shows them
+pub record Shown : Type 0 where
+  pub view : View
+  pub first : ℕ
+  pub rows : List Row
+
+abbrev pub shown_of : Rows → Shown
+shown_of rows = record { view = rows.view; first = rows.first; rows = whole rows }

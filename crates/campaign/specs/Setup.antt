@@ -8,6 +8,7 @@ abbrev pub work_of : Setup → List ℕ → Work
 work_of setup lens = record {
   app = setup.app.now;
   limits = setup.shelf.now.limits;
+  view = setup.view.now;
   base = setup.shelf.now.base;
   points = setup.points.now;
   lengths = lens;

@@ -1,5 +1,5 @@
 -- What workers make: the rows of blocks.
-use Rattle.std.specs.Prelude.{◌≡◌, ℕ, ◌+◌, ◌<◌, ◌≤◌, ◌^◌, false, List, [], ◌∷◌, ◌++◌, length, map, take, drop, sum, slice_get, slice_index, nat_lt, Option, Some, IfSome}
+use Rattle.std.specs.Prelude.{◌≡◌, ℕ, ◌+◌, ◌<◌, ◌≤◌, ◌^◌, false, List, [], ◌∷◌, ◌++◌, length, map, take, drop, sum, slice_get, slice_index, ◌⊎◌, Bool, true, Option, Some, IfSome}
 use Rattle.std.specs.List.{AllByRecursion}
 use Rattle.machine.specs.Logged.{all_of}
 use Rattle.machine.specs.declared.machine.Machine.{Machine}
@@ -7,49 +7,53 @@ use Rattle.kernel.specs.Rests.{IsRest}
 use Rattle.model.specs.declared.event.End.{End}
 use Rattle.model.specs.declared.event.Event.{Event}
 use Rattle.model.specs.declared.plan.Injection.{Injection}
-use Rattle.model.specs.Points.{first_step}
 use Rattle.model.specs.Application.{Application, Limits}
-use Rattle.model.specs.Run.{Run, IsRun, IsRow, events_after}
-use Rattle.model.specs.Campaign.{Row, AreRows}
+use Rattle.model.specs.Run.{Run, IsRun, events_after}
+use Rattle.model.specs.Campaign.{Row}
+use Rattle.report.specs.Views.{shows_events}
+use Rattle.report.specs.declared.view.View.{View}
 use Rattle.deal.specs.Sharing.{Game, Sight, HasSeenAll}
 use Rattle.deal.specs.Tallies.{Sheet, Tallied}
 use Rattle.deal.specs.Totals.{total}
 use Rattle.campaign.specs.declared.rows.KeptRow.{KeptRow}
 use Rattle.campaign.specs.declared.rows.KeptBlock.{KeptBlock}
 use Rattle.campaign.specs.declared.rows.Part.{Part}
+use Rattle.campaign.specs.declared.rows.Stretch.{Stretch}
 use Rattle.campaign.specs.declared.mark.Mark.{Mark}
 use Rattle.campaign.specs.declared.mark.Rest.{Rest}
 use Rattle.campaign.specs.declared.worker.Job.{Job}
 use Rattle.campaign.specs.declared.worker.Done.{Done}
 use Rattle.campaign.specs.Kinds.{kind_in}
 use Rattle.campaign.specs.Report.{row_of, rows_of, told_in, IsStretch, IsKept, AreKept}
+use Rattle.campaign.specs.Seen.{AreSeen, IsSeen}
 
--- What there is to be done: rows of the application under these limits, with this base run, at these points, which are cut into
--- blocks of these lengths.
+-- What there is to be done: rows of the application under these limits, for this view, with this base run, at these points, which are
+-- cut into blocks of these lengths.
 pub record Work : Type 0 where
   pub app : Application
   pub limits : Limits
+  pub view : View
   pub base : Run
   pub points : List (List Injection)
   pub lengths : List ℕ
 
 -- ---- one row
 
--- The row of this point is kept so. Its own events are the last of the trail.
-pub record IsKeptRow (app : Application) (limits : Limits) (base : Run) (trail : List Event) (point : List Injection) (kept : KeptRow) : Type 0 where
+-- The row of this point is kept so, as far as the view shows it.
+pub record IsKeptRow (app : Application) (limits : Limits) (view : View) (base : Run) (trail : List Event) (point : List Injection) (kept : KeptRow) : Type 0 where
   pub at_point : kept.point ≡ point
   pub is_kept : IsKept base trail kept
-  pub is_row : IsRow app limits point (nat_lt (first_step point) base.steps) (row_of base trail kept).run
+  pub is_seen : IsSeen app limits view (row_of base trail kept)
 
 -- A trail gains some events, with which a row is kept.
-pub record GainsRow (app : Application) (limits : Limits) (base : Run) (point : List Injection) (old new : List Event) (kept : KeptRow) : Type 0 where
+pub record GainsRow (app : Application) (limits : Limits) (view : View) (base : Run) (point : List Injection) (old new : List Event) (kept : KeptRow) : Type 0 where
   pub own : List Event
   pub trail : new ≡ old ++ own
-  pub row : IsKeptRow app limits base new point kept
+  pub row : IsKeptRow app limits view base new point kept
 
 -- Each row is that of its point.
-abbrev pub AreKnown : Application → Limits → Run → List KeptRow → (trail : List Event) → Type 0
-AreKnown app limits base kept trail = AllByRecursion (λ (k : KeptRow). IsKeptRow app limits base trail k.point k) kept
+abbrev pub AreKnown : Application → Limits → View → Run → List KeptRow → (trail : List Event) → Type 0
+AreKnown app limits view base kept trail = AllByRecursion (λ (k : KeptRow). IsKeptRow app limits view base trail k.point k) kept
 
 -- The row of this number is one of these, and of this point.
 pub record IsAmong (rows : List KeptRow) (point : List Injection) (number : ℕ) : Type 0 where
@@ -58,33 +62,44 @@ pub record IsAmong (rows : List KeptRow) (point : List Injection) (number : ℕ)
   pub at_point : row.point ≡ point
 
 -- Behind these rows comes that of this point, with the events that the trail gains, and ends so.
-pub record KeepsRow (app : Application) (limits : Limits) (base : Run) (point : List Injection) (kept kept' : List KeptRow)
+pub record KeepsRow (app : Application) (limits : Limits) (view : View) (base : Run) (point : List Injection) (kept kept' : List KeptRow)
     (old new : List Event) (end : End) : Type 0 where
   pub row : KeptRow
   pub rows_are : kept' ≡ kept ++ row ∷ []
   pub ends : row.end ≡ end
-  pub gains : GainsRow app limits base point old new row
+  pub gains : GainsRow app limits view base point old new row
 
 -- ---- how rows go on
 
--- Each row that comes to the kernel goes on so, and what it tells is there.
-pub record IsRestIn (app : Application) (limits : Limits) (trail : List Event) (k : Machine) (rest : Rest) : Type 0 where
-  pub told : IsStretch trail rest.told
-  pub is_rest : IsRest app limits k (record { events = told_in trail rest.told; steps = rest.steps; ticks = rest.ticks; end = rest.end })
+-- The events stand in this stretch of the trail, where they are to be shown.
+abbrev pub AreThere : (shown : Bool) → (trail : List Event) → Stretch → List Event → Type 0
+AreThere true trail stretch events = IsStretch trail stretch × (told_in trail stretch ≡ events)
+AreThere false trail stretch events = Unit {0}
 
--- The row of this point, which has come to the kernel, goes on so, and what it tells is there.
-pub record IsRestOf (app : Application) (limits : Limits) (trail : List Event) (point : List Injection) (k : Machine) (rest : Rest) : Type 0 where
-  pub told : IsStretch trail rest.told
-  pub is_row : IsRun app point limits (record { events = events_after app limits point k.steps ++ told_in trail rest.told; steps = rest.steps; ticks = rest.ticks; end = rest.end })
+-- Each row that comes to the kernel goes on so, and what it tells is there, where the view shows it.
+pub record IsRestIn (app : Application) (limits : Limits) (view : View) (trail : List Event) (k : Machine) (rest : Rest) : Type 0 where
+  pub events : List Event
+  pub there : AreThere (shows_events view rest.end) trail rest.told events
+  pub is_rest : IsRest app limits k (record { events = events; steps = rest.steps; ticks = rest.ticks; end = rest.end })
+
+-- The row of this point, which has come to the kernel, goes on so, and what it tells is there, where the view shows it.
+pub record IsRestOf (app : Application) (limits : Limits) (view : View) (trail : List Event) (point : List Injection) (k : Machine) (rest : Rest) : Type 0 where
+  pub events : List Event
+  pub there : AreThere (shows_events view rest.end) trail rest.told events
+  pub is_row : IsRun app point limits (record { events = events_after app limits point k.steps ++ events; steps = rest.steps; ticks = rest.ticks; end = rest.end })
 
 -- The mark, if there is one, has the rest of each row that comes to its kernel.
-abbrev pub IsMarked : Application → Limits → (trail : List Event) → Option Mark → Type 0
-IsMarked app limits trail mark = IfSome mark (λ m. IsRestIn app limits trail m.kernel m.rest)
+abbrev pub IsMarked : Application → Limits → View → (trail : List Event) → Option Mark → Type 0
+IsMarked app limits view trail mark = IfSome mark (λ m. IsRestIn app limits view trail m.kernel m.rest)
+
+-- The mark is the one before, or that of a row that ends so.
+abbrev pub StaysOrEnds : (old new : Option Mark) → End → Type 0
+StaysOrEnds old new end = (new ≡ old) ⊎ IfSome new (λ m. m.rest.end ≡ end)
 
 -- What a worker knows: of each of its rows that it is that of its point, and what the mark says.
-pub record Knows (app : Application) (limits : Limits) (base : Run) (kept : List KeptRow) (trail : List Event) (mark : Option Mark) : Type 0 where
-  pub rows : AreKnown app limits base kept trail
-  pub marked : IsMarked app limits trail mark
+pub record Knows (app : Application) (limits : Limits) (view : View) (base : Run) (kept : List KeptRow) (trail : List Event) (mark : Option Mark) : Type 0 where
+  pub rows : AreKnown app limits view base kept trail
+  pub marked : IsMarked app limits view trail mark
 
 -- ---- seats
 
@@ -100,14 +115,14 @@ HasRoom count seat = (kind : ℕ) → kind < 7 → slice_index seat.added kind +
 -- ---- the rows of several points
 
 -- Behind these rows and events come those of the rows of these points, and the seat counted them.
-pub record GainsRows (app : Application) (limits : Limits) (base : Run) (points : List (List Injection))
+pub record GainsRows (app : Application) (limits : Limits) (view : View) (base : Run) (points : List (List Injection))
     (kept kept' : List KeptRow) (trail trail' : List Event) (seat seat' : Tallied) : Type 0 where
   pub more : List KeptRow
   pub rows_are : kept' ≡ kept ++ more
   pub own : List Event
   pub trail_is : trail' ≡ trail ++ own
   pub sound : AllByRecursion (IsKept base trail') more
-  pub made : AreRows app limits points (rows_of base trail' more)
+  pub made : AreSeen app limits view points (rows_of base trail' more)
   pub gained : Gained (kind_in (rows_of base trail' more)) seat seat'
 
 -- ---- blocks
@@ -118,13 +133,13 @@ block_points work block = take (slice_index work.lengths block) (drop (sum (take
 
 -- these are the rows of each block
 abbrev pub AreRowsByBlock : Work → (ℕ → List Row) → Type 0
-AreRowsByBlock work rows = (block : ℕ) → block < length work.lengths → AreRows work.app work.limits (block_points work block) (rows block)
+AreRowsByBlock work rows = (block : ℕ) → block < length work.lengths → AreSeen work.app work.limits work.view (block_points work block) (rows block)
 
 -- The rows of a block are kept.
 pub record IsKeptBlock (work : Work) (kept : List KeptRow) (trail : List Event) (block : KeptBlock) : Type 0 where
   pub is_block : block.number < length work.lengths
   pub within : block.first + block.count ≤ length kept
-  pub made : AreRows work.app work.limits (block_points work block.number) (rows_of work.base trail (take block.count (drop block.first kept)))
+  pub made : AreSeen work.app work.limits work.view (block_points work block.number) (rows_of work.base trail (take block.count (drop block.first kept)))
 
 abbrev pub AreKeptBlocks : Work → List KeptRow → List Event → List KeptBlock → Type 0
 AreKeptBlocks work kept trail blocks = AllByRecursion (IsKeptBlock work kept trail) blocks

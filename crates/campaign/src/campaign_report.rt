@@ -1,23 +1,28 @@
 //! The report of a campaign.
 ghost use Rattle.std.specs.Prelude.{◌≡◌};
 ghost use Rattle.model.specs.Campaign.{totals_of};
+ghost use Rattle.campaign.specs.Report.{shown_of, whole, IsSound};
 
 use crate::rows::{Part, Place};
 use model::{Run, Totals};
+use report::View;
 use std::marker::Model;
 use std::thread;
 use std::thread::Threads;
 
-/// The rows of a campaign: those of each block stand in its place, one block after the other. All begin as the base run does.
+/// The rows of a campaign, as far as a view shows them: those of each block stand in its place, one block after the other. All begin as
+/// the base run does. The first has this number.
 #[derive(Drop)]
 pub(crate) struct Rows {
+    pub(crate) view: View,
+    pub(crate) first: usize,
     pub(crate) base: Run,
     pub(crate) parts: Vec<Part>,
     pub(crate) places: Vec<Place>,
     pub(crate) totals: Totals,
 }
 
-/// The rows of a campaign, in the order of its points, and their totals.
+/// The rows of a campaign or of a part of it, in the order of its points, and their totals.
 #[derive(Drop)]
 pub struct Report {
     rows: Rows,
@@ -25,7 +30,6 @@ pub struct Report {
 
 impl Rows {
     ghost use Rattle.std.specs.Prelude.{length};
-    ghost use Rattle.campaign.specs.Report.{whole, IsSound};
 
     /// How many rows there are.
     pub(crate) fn count(&self) -> usize
@@ -36,40 +40,36 @@ impl Rows {
     }
 }
 
-// Clauses see the rows as a whole.
+// Clauses see the view, the number of the first row, and the rows as a whole.
 impl Model for Report {
-    ghost use Rattle.std.specs.Prelude.{List};
-    ghost use Rattle.model.specs.Campaign.{Row};
-    ghost use Rattle.campaign.specs.Report.{whole, IsSound};
+    ghost use Rattle.campaign.specs.Report.{shown_of, IsSound, Shown};
 
-    ghost Value = { List Row };
+    ghost Value = { Shown };
 
-    ghost view = { λ r. whole r.rows };
+    ghost view = { λ r. shown_of r.rows };
 
     ghost invariant = { λ r. IsSound r.rows };
 }
 
 impl Report {
-    ghost use Rattle.campaign.specs.Report.{whole, IsSound};
-
     /// The report of these rows.
     pub(crate) fn new(rows: Rows) -> Report
         requires { IsSound rows }
-        ensures { result ≡ whole rows }
+        ensures { result ≡ shown_of rows }
     {
         Report { rows }
     }
 
     /// How many rows there are, and how many of them end in which way.
     pub fn totals(&self) -> Totals
-        ensures { result ≡ totals_of self.now }
+        ensures { result ≡ totals_of self.now.rows }
     {
         self.rows.totals
     }
 
     /// The rows, as they are kept.
     pub(crate) fn rows(&self) -> &Rows
-        ensures whole { whole result.now ≡ self.now }
+        ensures shown { shown_of result.now ≡ self.now }
         ensures sound { IsSound result.now }
     {
         &self.rows
@@ -80,6 +80,8 @@ impl Report {
     pub(crate) fn free<R: Threads + Sync>(self, rt: &R) {
         let Report { rows } = self;
         let Rows {
+            view: _,
+            first: _,
             base: _base,
             parts,
             places: _places,

@@ -1,7 +1,8 @@
 //! The rows of a campaign, which workers make.
-ghost use Rattle.std.specs.Prelude.{◌≡◌, ◌<◌, ◌≤◌, List, length, sum, vec_len, All, IfOk};
+ghost use Rattle.std.specs.Prelude.{◌≡◌, ◌<◌, ◌≤◌, ◌+◌, List, length, sum, vec_len, All, IfOk};
 ghost use Rattle.model.specs.Scripts.{most_points};
 ghost use Rattle.model.specs.Campaign.{AreRows, totals_of};
+ghost use Rattle.report.specs.Views.{plain};
 ghost use Rattle.deal.specs.Sharing.{Game, fresh_lanes};
 ghost use Rattle.deal.specs.Tallies.{Sheet, Tallied};
 ghost use Rattle.campaign.specs.declared.worker.Job as declared;
@@ -9,6 +10,7 @@ ghost use Rattle.shelf.specs.Shelves.{IsShelf};
 ghost use Rattle.campaign.specs.Setup.{work_of};
 ghost use Rattle.campaign.specs.Working.{AreDone, AreJobs, AreReady, IsDone, IsJob, Work};
 ghost use Rattle.campaign.specs.Kinds.{RiseBy};
+ghost use Rattle.campaign.specs.Seen.{AreSeen};
 ghost use Rattle.campaign.specs.Made.{BringsWhole, ComeBack, IsBrought, IsMade, IsWhole};
 
 use crate::campaign_report::{Report, Rows};
@@ -19,6 +21,7 @@ use crate::rows::{Part, Place};
 use crate::worker::{Done, Job, Setup, work};
 use deal::{Deal, Division, Lane, Tally, TallySeat};
 use model::{App, Limits, Memory, Point, Run, Totals};
+use report::View;
 use shelf::Shelf;
 use std::alloc::Global;
 use std::sync::Wait;
@@ -161,12 +164,14 @@ pub struct Finished {
     pub seats: Vec<TallySeat>,
 }
 
-/// The report of the rows of these points, each run from this shelf.
+/// The report of the rows of these points, each run from this shelf, as far as the view shows them. The first row has this number.
 pub(crate) fn campaign_from<R: Threads + Wait + Sync, G: Gate + Sync>(
     rt: &R,
     alloc: Global,
     app: &App,
     shelf: Shelf,
+    view: View,
+    first: usize,
     points: &[Point],
     workers: usize,
     division: Division,
@@ -175,18 +180,21 @@ pub(crate) fn campaign_from<R: Threads + Wait + Sync, G: Gate + Sync>(
     seats: Vec<TallySeat>,
 ) -> Result<Finished, Memory>
     requires shelf { IsShelf app.now shelf }
-    requires few { length points.now ≤ most_points }
+    requires few { first + length points.now ≤ most_points }
     requires workers { (0 < workers) × (workers ≤ 64) }
     requires division { sum division ≡ length points.now }
     requires seats { (vec_len seats ≡ workers) × AreReady tally.now (length points.now) seats.items }
-    ensures rows { IfOk result (λ finished. AreRows app.now shelf.limits points.now finished.report) }
+    ensures view { IfOk result (λ finished. finished.report.view ≡ view) }
+    ensures first { IfOk result (λ finished. finished.report.first ≡ first) }
+    ensures rows { IfOk result (λ finished. AreSeen app.now shelf.limits view points.now finished.report.rows) }
     ensures back { IfOk result (λ finished. ComeBack tally.now seats.items finished.seats.items) }
-    ensures rise { IfOk result (λ finished. RiseBy (totals_of finished.report) seats.items finished.seats.items) }
+    ensures rise { IfOk result (λ finished. RiseBy (totals_of finished.report.rows) seats.items finished.seats.items) }
 {
     let blocks = division.count();
     let setup = Setup {
         app,
         shelf: &shelf,
+        view: &view,
         points,
         tally,
     };
@@ -200,6 +208,8 @@ pub(crate) fn campaign_from<R: Threads + Wait + Sync, G: Gate + Sync>(
         seats,
     } = gather_rows(alloc, shelf.base(), brought?, blocks)?;
     let rows = Rows {
+        view,
+        first,
         base: shelf.into_base(),
         parts,
         places,
@@ -209,7 +219,7 @@ pub(crate) fn campaign_from<R: Threads + Wait + Sync, G: Gate + Sync>(
     Ok(Finished { report, seats })
 }
 
-/// Runs an application once for each of these points, under these limits, and reports the rows: a row's injections come where
+/// Runs an application once for each of these points, under these limits, and reports the rows, all of each: a row's injections come where
 /// the base run gets beyond the step of the first, else the row is the base run. There are at most 1,000,000 points, and their handlers are the
 /// application's.
 ///
@@ -236,9 +246,11 @@ pub fn campaign<R: Threads + Wait + Sync, G: Gate + Sync>(
     requires stride { (0 < stride) × (stride ≤ 65536) }
     requires division { sum division ≡ length points.items }
     requires seats { (vec_len seats ≡ workers) × AreReady tally.now (length points.items) seats.items }
-    ensures rows { IfOk result (λ finished. AreRows app.now limits points.items finished.report) }
+    ensures view { IfOk result (λ finished. finished.report.view ≡ plain) }
+    ensures first { IfOk result (λ finished. finished.report.first ≡ 0) }
+    ensures rows { IfOk result (λ finished. AreRows app.now limits points.items finished.report.rows) }
     ensures back { IfOk result (λ finished. ComeBack tally.now seats.items finished.seats.items) }
-    ensures rise { IfOk result (λ finished. RiseBy (totals_of finished.report) seats.items finished.seats.items) }
+    ensures rise { IfOk result (λ finished. RiseBy (totals_of finished.report.rows) seats.items finished.seats.items) }
 {
     let shelf = Shelf::make(alloc, app, limits, stride)?;
     campaign_from(
@@ -246,6 +258,8 @@ pub fn campaign<R: Threads + Wait + Sync, G: Gate + Sync>(
         alloc,
         app,
         shelf,
+        View::plain(),
+        0,
         points.as_slice(),
         workers,
         division,

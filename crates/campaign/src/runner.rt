@@ -1,17 +1,19 @@
 //! Running the rows of a worker, one after another.
-ghost use Rattle.std.specs.Prelude.{◌≡◌, ◌<◌, ◌≤◌, ◌+◌, ◌^◌, Some, None, min, option_map, IfOk, IfSome, OnOk};
+ghost use Rattle.std.specs.Prelude.{◌≡◌, ◌<◌, ◌≤◌, ◌+◌, ◌^◌, length, take, if◌then◌else◌, Some, None, min, option_map, IfOk, IfSome, OnOk};
 ghost use Rattle.model.specs.Points.{first_step, last_step};
 ghost use Rattle.model.specs.Run.{end_of, state_after};
 ghost use Rattle.machine.specs.Logged.{all_of};
 ghost use Rattle.machine.specs.Can.{IsUnderWay};
 ghost use Rattle.kernel.specs.Rows.{Extends};
 ghost use Rattle.shelf.specs.Shelves.{IsShelf};
-ghost use Rattle.campaign.specs.Working.{GainsRow, IsMarked, IsRestOf};
+ghost use Rattle.report.specs.Views.{shows_events};
+ghost use Rattle.campaign.specs.Working.{GainsRow, IsMarked, IsRestOf, StaysOrEnds};
 
 use crate::mark::{Mark, Rest};
 use crate::rows::{KeptRow, Stretch};
 use kernel::{Kernel, Snapshot, StepLog, Trail, run_rest};
-use model::{App, End, Limits, Memory, Meter, Point};
+use model::{App, End, Limits, Memory, Meter, Point, Run};
+use report::View;
 use shelf::Shelf;
 use std::alloc::Global;
 
@@ -60,6 +62,17 @@ fn meeting(mark: &Option<Mark>, point: &Point) -> u32
     }
 }
 
+// How many of the base run's events a row has that is the base run, as far as the view shows it.
+fn shared_by(base: &Run, view: View) -> usize
+    ensures { result ≡ (if shows_events view base.now.end then length base.now.events else 0) }
+{
+    if view.shows_events(base.end) {
+        base.events.len()
+    } else {
+        0
+    }
+}
+
 impl Runner {
     /// No row is run.
     pub(crate) fn new(alloc: Global, app: &App) -> Runner
@@ -82,10 +95,10 @@ impl Runner {
     }
 
     // The rest of a row that has come to its end: nothing.
-    fn no_rest(&self, app: &App, limits: &Limits, point: &Point, end: End) -> Rest
+    fn no_rest(&self, app: &App, limits: &Limits, view: View, point: &Point, end: End) -> Rest
         requires way { IsUnderWay app.now point.now limits.now self.now.kernel }
         requires end { end_of app.now limits.now (state_after app.now limits.now point.now self.now.kernel.steps) ≡ Some end }
-        ensures { IsRestOf app.now limits.now (all_of self.now.trail) point.now self.now.kernel result }
+        ensures { IsRestOf app.now limits.now view (all_of self.now.trail) point.now self.now.kernel result }
     {
         limits.well_formed();
         let place = self.trail.len();
@@ -101,11 +114,11 @@ impl Runner {
     }
 
     // The rest of the row of a point that is known, since it has come to the kernel of the mark.
-    fn known_rest(&self, app: &App, limits: &Limits, point: &Point) -> Option<Rest>
+    fn known_rest(&self, app: &App, limits: &Limits, view: View, point: &Point) -> Option<Rest>
         requires way { IsUnderWay app.now point.now limits.now self.now.kernel }
         requires beyond { last_step point.now < self.now.kernel.steps }
-        requires mark { IsMarked app.now limits.now (all_of self.now.trail) self.now.mark }
-        ensures { IfSome result (IsRestOf app.now limits.now (all_of self.now.trail) point.now self.now.kernel) }
+        requires mark { IsMarked app.now limits.now view (all_of self.now.trail) self.now.mark }
+        ensures { IfSome result (IsRestOf app.now limits.now view (all_of self.now.trail) point.now self.now.kernel) }
     {
         point.well_formed();
         let Some(mark) = &self.mark else {
@@ -133,6 +146,7 @@ impl Runner {
         &mut self,
         app: &App,
         limits: &Limits,
+        view: View,
         point: &Point,
         meter: &mut Meter,
     ) -> Result<Rest, Memory>
@@ -140,8 +154,9 @@ impl Runner {
         requires beyond { last_step point.now < self.old.kernel.steps }
         requires meter { meter.old < 2 ^ 62 + self.old.kernel.steps }
         ensures told { OnOk result (Extends (all_of self.old.trail) (all_of self.new.trail)) }
-        ensures rest { IfOk result (IsRestOf app.now limits.now (all_of self.new.trail) point.now self.old.kernel) }
-        ensures mark { OnOk result (IsMarked app.now limits.now (all_of self.new.trail) self.new.mark) }
+        ensures rest { IfOk result (IsRestOf app.now limits.now view (all_of self.new.trail) point.now self.old.kernel) }
+        ensures mark { OnOk result (IsMarked app.now limits.now view (all_of self.new.trail) self.new.mark) }
+        ensures ends { IfOk result (λ rest. IfSome self.new.mark (λ m. m.rest.end ≡ rest.end)) }
     {
         point.well_formed();
         let kernel = self.snapshot();
@@ -175,6 +190,7 @@ impl Runner {
         &mut self,
         app: &App,
         limits: &Limits,
+        view: View,
         point: &Point,
         end: Option<End>,
         meter: &mut Meter,
@@ -182,32 +198,33 @@ impl Runner {
         requires way { IsUnderWay app.now point.now limits.now self.old.kernel }
         requires beyond { end ≡ None → last_step point.now < self.old.kernel.steps }
         requires end { end ≡ end_of app.now limits.now (state_after app.now limits.now point.now self.old.kernel.steps) }
-        requires mark { IsMarked app.now limits.now (all_of self.old.trail) self.old.mark }
+        requires mark { IsMarked app.now limits.now view (all_of self.old.trail) self.old.mark }
         requires meter { meter.old < 2 ^ 62 + self.old.kernel.steps }
         ensures told { OnOk result (Extends (all_of self.old.trail) (all_of self.new.trail)) }
-        ensures rest { IfOk result (IsRestOf app.now limits.now (all_of self.new.trail) point.now self.old.kernel) }
-        ensures mark { OnOk result (IsMarked app.now limits.now (all_of self.new.trail) self.new.mark) }
+        ensures rest { IfOk result (IsRestOf app.now limits.now view (all_of self.new.trail) point.now self.old.kernel) }
+        ensures mark { OnOk result (IsMarked app.now limits.now view (all_of self.new.trail) self.new.mark) }
+        ensures stays { IfOk result (λ rest. StaysOrEnds self.old.mark self.new.mark rest.end) }
     {
         if let Some(end) = end {
-            return Ok(self.no_rest(app, limits, point, end));
+            return Ok(self.no_rest(app, limits, view, point, end));
         }
-        match self.known_rest(app, limits, point) {
+        match self.known_rest(app, limits, view, point) {
             Some(rest) => Ok(rest),
-            None => self.run_on(app, limits, point, meter),
+            None => self.run_on(app, limits, view, point, meter),
         }
     }
 
     // The row of a point that the base run doesn't reach: it is the base run.
-    fn missed(&self, app: &App, shelf: &Shelf, point: &Point) -> KeptRow
+    fn missed(&self, app: &App, shelf: &Shelf, view: View, point: &Point) -> KeptRow
         requires shelf { IsShelf app.now shelf.now }
         requires missed { shelf.now.base.steps ≤ first_step point.now }
-        ensures { GainsRow app.now shelf.now.limits shelf.now.base point.now (all_of self.now.trail) (all_of self.now.trail) result }
+        ensures { GainsRow app.now shelf.now.limits view shelf.now.base point.now (all_of self.now.trail) (all_of self.now.trail) result }
     {
         let base = shelf.base();
         let end = self.trail.len();
         KeptRow {
             point: *point,
-            shared: base.events.len(),
+            shared: shared_by(base, view),
             own: Stretch { from: end, to: end },
             rest: Stretch { from: end, to: end },
             steps: base.steps,
@@ -216,14 +233,46 @@ impl Runner {
         }
     }
 
+    // The row of a point, which goes on so, without its events. They and all behind them leave the trail.
+    fn without_events(&mut self, point: &Point, from: usize, rest: &Rest) -> KeptRow
+        ensures trail { all_of self.new.trail ≡ take from (all_of self.old.trail) }
+        ensures mark { self.new.mark ≡ self.old.mark }
+        ensures row { result ≡ record {
+          point = point.now;
+          shared = 0;
+          own = record { from = from; to = from };
+          rest = record { from = from; to = from };
+          steps = rest.now.steps;
+          ticks = rest.now.ticks;
+          end = rest.now.end;
+        } }
+    {
+        self.trail.truncate(from);
+        KeptRow {
+            point: *point,
+            shared: 0,
+            own: Stretch { from, to: from },
+            rest: Stretch { from, to: from },
+            steps: rest.steps,
+            ticks: rest.ticks,
+            end: rest.end,
+        }
+    }
+
     // The row of a point that the base run reaches.
-    fn reached(&mut self, app: &App, shelf: &Shelf, point: &Point) -> Result<KeptRow, Memory>
+    fn reached(
+        &mut self,
+        app: &App,
+        shelf: &Shelf,
+        view: View,
+        point: &Point,
+    ) -> Result<KeptRow, Memory>
         requires shelf { IsShelf app.now shelf.now }
         requires reached { first_step point.now < shelf.now.base.steps }
-        requires mark { IsMarked app.now shelf.now.limits (all_of self.old.trail) self.old.mark }
-        ensures row { IfOk result (GainsRow app.now shelf.now.limits shelf.now.base point.now
+        requires mark { IsMarked app.now shelf.now.limits view (all_of self.old.trail) self.old.mark }
+        ensures row { IfOk result (GainsRow app.now shelf.now.limits view shelf.now.base point.now
             (all_of self.old.trail) (all_of self.new.trail)) }
-        ensures mark { OnOk result (IsMarked app.now shelf.now.limits (all_of self.new.trail) self.new.mark) }
+        ensures mark { OnOk result (IsMarked app.now shelf.now.limits view (all_of self.new.trail) self.new.mark) }
     {
         let limits = shelf.limits();
         limits.well_formed();
@@ -240,7 +289,10 @@ impl Runner {
             &mut self.trail,
         )?;
         let to = self.trail.len();
-        let rest = self.rest(app, &limits, point, begun.end, &mut meter)?;
+        let rest = self.rest(app, &limits, view, point, begun.end, &mut meter)?;
+        if !view.shows_events(rest.end) {
+            return Ok(self.without_events(point, from, &rest));
+        }
         Ok(KeptRow {
             point: *point,
             shared: begun.before,
@@ -252,18 +304,25 @@ impl Runner {
         })
     }
 
-    /// The row of a point, whose own events go to the trail. At `Err(Memory)` the runner is of no more use.
-    pub(crate) fn run(&mut self, app: &App, shelf: &Shelf, point: &Point) -> Result<KeptRow, Memory>
+    /// The row of a point, as far as the view shows it. Where it shows events, the row's own go to the trail. At `Err(Memory)` the runner
+    /// is of no more use.
+    pub(crate) fn run(
+        &mut self,
+        app: &App,
+        shelf: &Shelf,
+        view: View,
+        point: &Point,
+    ) -> Result<KeptRow, Memory>
         requires shelf { IsShelf app.now shelf.now }
-        requires mark { IsMarked app.now shelf.now.limits (all_of self.old.trail) self.old.mark }
-        ensures row { IfOk result (GainsRow app.now shelf.now.limits shelf.now.base point.now
+        requires mark { IsMarked app.now shelf.now.limits view (all_of self.old.trail) self.old.mark }
+        ensures row { IfOk result (GainsRow app.now shelf.now.limits view shelf.now.base point.now
             (all_of self.old.trail) (all_of self.new.trail)) }
-        ensures mark { OnOk result (IsMarked app.now shelf.now.limits (all_of self.new.trail) self.new.mark) }
+        ensures mark { OnOk result (IsMarked app.now shelf.now.limits view (all_of self.new.trail) self.new.mark) }
     {
         if shelf.reaches(point) {
-            self.reached(app, shelf, point)
+            self.reached(app, shelf, view, point)
         } else {
-            Ok(self.missed(app, shelf, point))
+            Ok(self.missed(app, shelf, view, point))
         }
     }
 }

@@ -1,8 +1,8 @@
-//! From the bytes of a file to the report of its campaign.
-ghost use Rattle.std.specs.Prelude.{◌≡◌, ◌≤◌, ℕ, List, Option, Some, false, length, IfOk, MatchResult};
-ghost use Rattle.model.specs.Campaign.{AreRows};
+//! From the bytes of a file to the report of its campaign, or of a part of it.
+ghost use Rattle.std.specs.Prelude.{◌≡◌, ◌≤◌, ◌+◌, ℕ, List, Option, Some, false, length, IfOk, MatchResult};
 ghost use Rattle.model.specs.Scripts.{most_points};
-ghost use Rattle.campaign.specs.Campaigns.{AreRowsOf, IsCampaignFault, ServesCampaign};
+ghost use Rattle.campaign.specs.Campaigns.{IsCampaignFault, IsShownOf, ServesCampaign};
+ghost use Rattle.campaign.specs.Seen.{AreSeen};
 ghost use Rattle.campaign.specs.Serving.{IsFileOf, Known};
 ghost use Rattle.shelf.specs.Shelves.{IsShelf};
 
@@ -16,6 +16,7 @@ use crate::writing::write_report_in;
 use byte_io::{Sink, Source};
 use deal::{Division, Tally};
 use model::{App, Memory, Point, Totals};
+use report::{Shard, View};
 use shelf::Shelf;
 use std::alloc::Global;
 use std::sync::Wait;
@@ -34,19 +35,23 @@ impl From<ExpandFault> for ServeFault {
     }
 }
 
-// The report of these points, whose rows are counted by a tally of its own.
+// The report of these points, of which the first has this number. The rows are counted by a tally of its own.
 fn report_from<R: Threads + Wait + Sync, G: Gate + Sync>(
     rt: &R,
     alloc: Global,
     app: &App,
     shelf: Shelf,
+    view: View,
+    first: usize,
     points: &[Point],
     options: Options,
     gate: &G,
 ) -> Result<Report, Memory>
     requires shelf { IsShelf app.now shelf }
-    requires few { length points.now ≤ most_points }
-    ensures { IfOk result (λ report. AreRows app.now shelf.limits points.now report) }
+    requires few { first + length points.now ≤ most_points }
+    ensures view { IfOk result (λ report. report.view ≡ view) }
+    ensures first { IfOk result (λ report. report.first ≡ first) }
+    ensures rows { IfOk result (λ report. AreSeen app.now shelf.limits view points.now report.rows) }
 {
     let workers = options.workers.clamp(1, Options::MOST_WORKERS) as usize;
     let block = options.block.clamp(1, Options::MOST_BLOCK) as usize;
@@ -57,25 +62,29 @@ fn report_from<R: Threads + Wait + Sync, G: Gate + Sync>(
         return Err(Memory);
     };
     let finished = campaign_from(
-        rt, alloc, app, shelf, points, workers, division, gate, &tally, seats,
+        rt, alloc, app, shelf, view, first, points, workers, division, gate, &tally, seats,
     )?;
     Ok(finished.report)
 }
 
-// The report of the application's own points, under its own limits.
+// The report of a part of the application's own points, under its own limits.
 fn report_of<R: Threads + Wait + Sync, G: Gate + Sync>(
     rt: &R,
     alloc: Global,
     app: &App,
+    view: View,
+    shard: Shard,
     options: Options,
     gate: &G,
 ) -> Result<Report, ServeFault>
-    ensures { MatchResult result (AreRowsOf app.now) (IsCampaignFault app.now) }
+    ensures { MatchResult result (IsShownOf app.now view shard) (IsCampaignFault app.now) }
 {
     let stride = options.stride.clamp(1, Options::MOST_STRIDE);
     let shelf = Shelf::make(alloc, app, app.limits(), stride)?;
     let points = expand(alloc, app, shelf.base())?;
-    let report = report_from(rt, alloc, app, shelf, points.as_slice(), options, gate)?;
+    let first = shard.first(points.len());
+    let some = &points[first..shard.next(points.len())];
+    let report = report_from(rt, alloc, app, shelf, view, first, some, options, gate)?;
     Ok(report)
 }
 
@@ -85,25 +94,28 @@ fn serve_app<T: Threads + Wait + Sync, W: Sink, G: Gate + Sync>(
     alloc: Global,
     app: &App,
     writer: &mut W,
+    view: View,
+    shard: Shard,
     options: Options,
     gate: &G,
 ) -> Result<Totals, ServeFault>
     requires { W.has_failed writer.old ≡ false }
     ensures { (input : Option (List ℕ)) (bytes : List ℕ) → Known input bytes → IsFileOf bytes app.now
-        → ServesCampaign input false (W.held writer.old) (W.held writer.new)
+        → ServesCampaign view shard input false (W.held writer.old) (W.held writer.new)
         (W.has_failed writer.new) result }
 {
     let threads = options.workers.clamp(1, Options::MOST_WORKERS) as usize;
-    let report = report_of(rt, alloc, app, options, gate)?;
+    let report = report_of(rt, alloc, app, view, shard, options, gate)?;
     write_report_in(rt, alloc, app, &report, threads, writer)?;
     let totals = report.totals();
     report.free(rt);
     Ok(totals)
 }
 
-/// Reads a file, runs the application that it names once for each of its points, under its own limits, and writes the report of
-/// the rows, as its last deed: so all rows are made before the first byte goes out. Answers the totals that it wrote. The
-/// report doesn't depend on the options. The gate is told what the workers do. It waits for them.
+/// Reads a file, runs the application that it names once for each of its points in this part of them, under its own limits, and
+/// writes what the view shows of the rows, and their totals, as its last deed: so all rows are made before the first byte goes out.
+/// Answers the totals that it wrote: they count all rows of the part, written or not. The report doesn't depend on the options. The
+/// gate is told what the workers do. It waits for them.
 ///
 /// At `Write` a beginning of the report is written. At every other error nothing is. `TooManyPoints` comes after every fault of
 /// the file; `UnknownHandler` never does.
@@ -112,16 +124,18 @@ pub fn serve_watched<T: Threads + Wait + Sync, R: Source, W: Sink, G: Gate + Syn
     alloc: Global,
     reader: &mut R,
     writer: &mut W,
+    view: View,
+    shard: Shard,
     options: Options,
     gate: &G,
 ) -> Result<Totals, ServeFault>
     requires reads { R.has_failed reader.old ≡ false }
     requires writes { W.has_failed writer.old ≡ false }
-    ensures { ServesCampaign (R.left reader.old) (R.has_failed reader.new)
+    ensures { ServesCampaign view shard (R.left reader.old) (R.has_failed reader.new)
         (W.held writer.old) (W.held writer.new) (W.has_failed writer.new) result }
 {
     let app = app_of(alloc, reader)?;
-    serve_app(rt, alloc, &app, writer, options, gate)
+    serve_app(rt, alloc, &app, writer, view, shard, options, gate)
 }
 
 /// The same as `serve_watched`, with a gate that does nothing.
@@ -130,14 +144,16 @@ pub fn serve<T: Threads + Wait + Sync, R: Source, W: Sink>(
     alloc: Global,
     reader: &mut R,
     writer: &mut W,
+    view: View,
+    shard: Shard,
     options: Options,
 ) -> Result<Totals, ServeFault>
     requires reads { R.has_failed reader.old ≡ false }
     requires writes { W.has_failed writer.old ≡ false }
-    ensures { ServesCampaign (R.left reader.old) (R.has_failed reader.new)
+    ensures { ServesCampaign view shard (R.left reader.old) (R.has_failed reader.new)
         (W.held writer.old) (W.held writer.new) (W.has_failed writer.new) result }
 {
-    serve_watched(rt, alloc, reader, writer, options, &NoGate)
+    serve_watched(rt, alloc, reader, writer, view, shard, options, &NoGate)
 }
 
 /// The same as `serve_watched`, of the file of these bytes.
@@ -146,13 +162,15 @@ pub fn serve_of<T: Threads + Wait + Sync, W: Sink, G: Gate + Sync>(
     alloc: Global,
     bytes: &[u8],
     writer: &mut W,
+    view: View,
+    shard: Shard,
     options: Options,
     gate: &G,
 ) -> Result<Totals, ServeFault>
     requires { W.has_failed writer.old ≡ false }
-    ensures { ServesCampaign (Some bytes.now) false
+    ensures { ServesCampaign view shard (Some bytes.now) false
         (W.held writer.old) (W.held writer.new) (W.has_failed writer.new) result }
 {
     let app = app_in(alloc, bytes)?;
-    serve_app(rt, alloc, &app, writer, options, gate)
+    serve_app(rt, alloc, &app, writer, view, shard, options, gate)
 }

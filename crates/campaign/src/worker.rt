@@ -13,6 +13,7 @@ use crate::runner::Runner;
 use crate::tallying::count_row;
 use deal::{Lane, Next, Tally, TallySeat};
 use model::{App, End, Memory, Point};
+use report::View;
 use shelf::Shelf;
 use std::alloc::Global;
 use std::sync::Wait;
@@ -23,6 +24,7 @@ use std::sync::atomic::{AtomicU64, Ordering};
 pub(crate) struct Setup<'a> {
     pub(crate) app: &'a App,
     pub(crate) shelf: &'a Shelf,
+    pub(crate) view: &'a View,
     pub(crate) points: &'a [Point],
     pub(crate) tally: &'a Tally,
 }
@@ -85,20 +87,26 @@ impl Worker {
     }
 
     // Keeps the row of a point: once more that of the same point before, where it is found, or else it is made. Answers how it ends.
-    fn keep_row(&mut self, app: &App, shelf: &Shelf, point: &Point) -> Result<End, Memory>
+    fn keep_row(
+        &mut self,
+        app: &App,
+        shelf: &Shelf,
+        view: View,
+        point: &Point,
+    ) -> Result<End, Memory>
         requires shelf { IsShelf app.now shelf.now }
-        requires known { Knows app.now shelf.now.limits shelf.now.base self.old.kept (all_of self.old.runner.trail) self.old.runner.mark }
+        requires known { Knows app.now shelf.now.limits view shelf.now.base self.old.kept (all_of self.old.runner.trail) self.old.runner.mark }
         ensures blocks { self.new.blocks ≡ self.old.blocks }
-        ensures row { IfOk result (KeepsRow app.now shelf.now.limits shelf.now.base point.now self.old.kept self.new.kept
+        ensures row { IfOk result (KeepsRow app.now shelf.now.limits view shelf.now.base point.now self.old.kept self.new.kept
             (all_of self.old.runner.trail) (all_of self.new.runner.trail)) }
-        ensures mark { OnOk result (IsMarked app.now shelf.now.limits (all_of self.new.runner.trail) self.new.runner.mark) }
+        ensures mark { OnOk result (IsMarked app.now shelf.now.limits view (all_of self.new.runner.trail) self.new.runner.mark) }
     {
         if let Some(number) = again(&self.kept, &self.recent, point) {
             let end = self.kept.at(number).end;
             self.kept.repeat(number)?;
             return Ok(end);
         }
-        let row = self.runner.run(app, shelf, point)?;
+        let row = self.runner.run(app, shelf, view, point)?;
         let end = row.end;
         self.recent.set(point, self.kept.len());
         self.kept.push(row)?;
@@ -113,17 +121,17 @@ impl Worker {
         point: &Point,
     ) -> Result<(), Memory>
         requires shelf { IsShelf setup.now.app.now setup.now.shelf.now }
-        requires known { Knows setup.now.app.now setup.now.shelf.now.limits setup.now.shelf.now.base self.old.kept (all_of self.old.runner.trail) self.old.runner.mark }
+        requires known { Knows setup.now.app.now setup.now.shelf.now.limits setup.now.view.now setup.now.shelf.now.base self.old.kept (all_of self.old.runner.trail) self.old.runner.mark }
         requires seat { seat.old.sheet ≡ setup.now.tally.now }
         requires room { HasRoom 1 seat.old }
-        ensures known { OnOk result (Knows setup.now.app.now setup.now.shelf.now.limits setup.now.shelf.now.base self.new.kept (all_of self.new.runner.trail) self.new.runner.mark) }
+        ensures known { OnOk result (Knows setup.now.app.now setup.now.shelf.now.limits setup.now.view.now setup.now.shelf.now.base self.new.kept (all_of self.new.runner.trail) self.new.runner.mark) }
         ensures blocks { self.new.blocks ≡ self.old.blocks }
-        ensures row { OnOk result (GainsRows setup.now.app.now setup.now.shelf.now.limits setup.now.shelf.now.base (point.now ∷ [])
+        ensures row { OnOk result (GainsRows setup.now.app.now setup.now.shelf.now.limits setup.now.view.now setup.now.shelf.now.base (point.now ∷ [])
             self.old.kept self.new.kept (all_of self.old.runner.trail) (all_of self.new.runner.trail) seat.old seat.new) }
     {
         let shelf = setup.shelf;
         let is_reached = shelf.reaches(point);
-        let end = self.keep_row(setup.app, shelf, point)?;
+        let end = self.keep_row(setup.app, shelf, *setup.view, point)?;
         count_row(setup.tally, seat, is_reached, end);
         Ok(())
     }
@@ -138,14 +146,14 @@ impl Worker {
         count: usize,
     ) -> Result<(), Memory>
         requires shelf { IsShelf setup.now.app.now setup.now.shelf.now }
-        requires known { Knows setup.now.app.now setup.now.shelf.now.limits setup.now.shelf.now.base self.old.kept (all_of self.old.runner.trail) self.old.runner.mark }
+        requires known { Knows setup.now.app.now setup.now.shelf.now.limits setup.now.view.now setup.now.shelf.now.base self.old.kept (all_of self.old.runner.trail) self.old.runner.mark }
         requires seat { seat.old.sheet ≡ setup.now.tally.now }
         requires points { first + count ≤ length setup.now.points.now }
         requires room { HasRoom count seat.old }
-        ensures known { OnOk result (Knows setup.now.app.now setup.now.shelf.now.limits setup.now.shelf.now.base self.new.kept (all_of self.new.runner.trail) self.new.runner.mark) }
+        ensures known { OnOk result (Knows setup.now.app.now setup.now.shelf.now.limits setup.now.view.now setup.now.shelf.now.base self.new.kept (all_of self.new.runner.trail) self.new.runner.mark) }
         ensures block { OnOk result (self.new.blocks.items ≡ self.old.blocks.items
             ++ record { number = number; first = length self.old.kept; count = count } ∷ []) }
-        ensures rows { OnOk result (GainsRows setup.now.app.now setup.now.shelf.now.limits setup.now.shelf.now.base
+        ensures rows { OnOk result (GainsRows setup.now.app.now setup.now.shelf.now.limits setup.now.view.now setup.now.shelf.now.base
             (take count (drop first setup.now.points.now))
             self.old.kept self.new.kept (all_of self.old.runner.trail) (all_of self.new.runner.trail) seat.old seat.new) }
     {

@@ -1,11 +1,15 @@
 //! The text of a campaign's report, to a sink.
-ghost use Rattle.std.specs.Prelude.{◌≡◌, ◌≤◌, ◌<◌, ◌+◌, false, [], ◌∷◌, length, slice_get, Some, IfSome, OnOk};
+ghost use Rattle.std.specs.Prelude.{◌≡◌, ◌≤◌, ◌<◌, ◌+◌, false, List, [], ◌∷◌, length, nat_lt, slice_get, Some, IfSome, OnOk};
 ghost use Rattle.std.specs.Result.{is_err};
 ghost use Rattle.byte_io.specs.Bytes.{Adds, Writes};
 ghost use Rattle.machine.specs.Logged.{all_of};
+ghost use Rattle.model.specs.declared.event.Event.{Event};
+ghost use Rattle.model.specs.Points.{first_step};
 ghost use Rattle.model.specs.Scripts.{most_points};
 ghost use Rattle.model.specs.Campaign.{totals_of};
-ghost use Rattle.report.specs.Text.{row_text, rows_text, total_text, campaign_text};
+ghost use Rattle.report.specs.Text.{row_text, total_text};
+ghost use Rattle.report.specs.Views.{report_text, row_head, shown_row, shown_rows};
+ghost use Rattle.report.specs.declared.title.Title.TheVariants as title;
 ghost use Rattle.campaign.specs.Report.{row_of, rows_in, whole, AreKept, IsKept, IsSound};
 ghost use Rattle.campaign.specs.Pieces.{piece_text, AreFresh, ArePairs, ArePieces, IsPiece, IsSpelling};
 
@@ -18,7 +22,7 @@ use crate::side_by_side::write_side_by_side;
 use crate::speller::Spelling;
 use byte_io::{Sink, WriteFault};
 use model::{App, Ending, Event, Run};
-use report::{BaseEvents, ReportWriter, Title};
+use report::{BaseEvents, ReportWriter, Title, View};
 use std::alloc::Global;
 use std::sync::Wait;
 use std::sync::atomic::AtomicU64;
@@ -31,6 +35,30 @@ const MOST_PIECE: usize = 1 << 16;
 
 // No text that is longer than this is kept in memory, in bytes.
 const MOST_TEXT: usize = 1 << 24;
+
+// What the head line of a row begins with.
+fn title_of(number: usize, row: &KeptRow, base: &Run) -> Title
+    requires { number ≤ most_points }
+    ensures { result ≡ title.Row number row.now.point (nat_lt (first_step row.now.point) base.now.steps) }
+{
+    let reached = row.point.first_step() < base.steps;
+    Title::Row {
+        number: number as u32,
+        point: row.point,
+        reached,
+    }
+}
+
+// How a row ends.
+fn ending_of(row: &KeptRow) -> Ending
+    ensures { result ≡ record { steps = row.now.steps; ticks = row.now.ticks; end = row.now.end } }
+{
+    Ending {
+        steps: row.steps,
+        ticks: row.ticks,
+        end: row.end,
+    }
+}
 
 /// Adds a row of this number to a report: its events are the first so many of the base run's, its own, and those of its rest.
 pub(crate) fn add_row<W: Sink>(
@@ -52,20 +80,28 @@ pub(crate) fn add_row<W: Sink>(
         (row_text text.old.app number (row_of base.now trail.now row.now)) }
     ensures failed { W.has_failed writer.new ≡ is_err result }
 {
-    let reached = row.point.first_step() < base.steps;
-    let title = Title::Row {
-        number: number as u32,
-        point: row.point,
-        reached,
-    };
-    let ending = Ending {
-        steps: row.steps,
-        ticks: row.ticks,
-        end: row.end,
-    };
+    let title = title_of(number, row, base);
     let own = &trail[row.own.from..row.own.to];
     let rest = &trail[row.rest.from..row.rest.to];
-    text.add_run_after(writer, title, ending, events, row.shared, own, rest)
+    text.add_run_after(writer, title, ending_of(row), events, row.shared, own, rest)
+}
+
+// Adds the head line of a row of this number.
+fn add_row_head<W: Sink>(
+    writer: &mut W,
+    text: &mut ReportWriter<'_>,
+    number: usize,
+    row: &KeptRow,
+    base: &Run,
+) -> Result<(), WriteFault>
+    requires working { W.has_failed writer.old ≡ false }
+    requires few { number ≤ most_points }
+    ensures app { text.new.app ≡ text.old.app }
+    ensures text { (trail : List Event) → Adds (W.held writer.old) (W.held writer.new) text.old.page text.new.page result
+        (row_head text.old.app number (row_of base.now trail row.now)) }
+    ensures failed { W.has_failed writer.new ≡ is_err result }
+{
+    text.add_head(writer, title_of(number, row, base), ending_of(row))
 }
 
 // Adds a row of this number to a report. Its text under the number 0 may be known.
@@ -96,10 +132,43 @@ fn add_kept_row<W: Sink>(
     }
 }
 
-// Adds so many rows of the part of this number, from the first on, which are numbered from here.
+// Adds what the view shows of a row of this number. The row's text under the number 0 may be known.
+fn add_shown_row<W: Sink>(
+    writer: &mut W,
+    text: &mut ReportWriter<'_>,
+    view: View,
+    number: usize,
+    row: &KeptRow,
+    known: Option<&[u8]>,
+    base: &Run,
+    events: &BaseEvents<'_>,
+    trail: &[Event],
+) -> Result<(), WriteFault>
+    requires working { W.has_failed writer.old ≡ false }
+    requires app { events.now.app ≡ text.old.app }
+    requires base { events.now.events ≡ base.now.events }
+    requires few { number ≤ most_points }
+    requires kept { IsKept base.now trail.now row.now }
+    requires known { IfSome known (λ t. t.now ≡ row_text text.old.app 0 (row_of base.now trail.now row.now)) }
+    ensures app { text.new.app ≡ text.old.app }
+    ensures text { Adds (W.held writer.old) (W.held writer.new) text.old.page text.new.page result
+        (shown_row text.old.app view number (row_of base.now trail.now row.now)) }
+    ensures failed { W.has_failed writer.new ≡ is_err result }
+{
+    if !view.shows(row.end) {
+        return Ok(());
+    }
+    if view.heads {
+        return add_row_head(writer, text, number, row, base);
+    }
+    add_kept_row(writer, text, number, row, known, base, events, trail)
+}
+
+// Adds what the view shows of so many rows of the part of this number, from the first on, which are numbered from here.
 fn add_place<W: Sink>(
     writer: &mut W,
     text: &mut ReportWriter<'_>,
+    view: View,
     number: usize,
     base: &Run,
     texts: &RowTexts<'_>,
@@ -117,7 +186,7 @@ fn add_place<W: Sink>(
     requires within { first + count ≤ length part.now.kept }
     ensures app { text.new.app ≡ text.old.app }
     ensures text { Adds (W.held writer.old) (W.held writer.new) text.old.page text.new.page result
-        (rows_text text.old.app number (rows_in base.now part.now first count)) }
+        (shown_rows text.old.app view number (rows_in base.now part.now first count)) }
     ensures failed { W.has_failed writer.new ≡ is_err result }
 {
     let trail = part.trail.events();
@@ -127,9 +196,10 @@ fn add_place<W: Sink>(
         let row_number = first + index;
         let row = part.kept.at(row_number);
         let known = texts.find(part_number, part, row_number);
-        add_kept_row(
+        add_shown_row(
             writer,
             text,
+            view,
             number + index,
             row,
             known,
@@ -168,7 +238,8 @@ fn add_piece<W: Sink>(
         add_place(
             writer,
             text,
-            number,
+            rows.view,
+            rows.first + number,
             &rows.base,
             texts,
             place.part,
@@ -231,7 +302,7 @@ fn write_rows<W: Sink>(
     requires rows { texts.now.rows ≡ rows.now }
     requires sound { IsSound rows.now }
     ensures text { Writes (W.held writer.old) (W.held writer.new) result
-        (campaign_text app.now (whole rows.now)) }
+        (report_text app.now rows.now.view rows.now.first (whole rows.now)) }
     ensures failed { W.has_failed writer.new ≡ is_err result }
 {
     let mut text = ReportWriter::new(app);
@@ -253,7 +324,7 @@ fn write_rows_by<R: Threads + Wait + Sync, W: Sink>(
     requires pieces { ArePieces spelling.now.rows.now 0 (length (whole spelling.now.rows.now)) spelling.now.pieces.items }
     requires working { W.has_failed writer.old ≡ false }
     ensures text { Writes (W.held writer.old) (W.held writer.new) result
-        (campaign_text spelling.now.app.now (whole spelling.now.rows.now)) }
+        (report_text spelling.now.app.now spelling.now.rows.now.view spelling.now.rows.now.first (whole spelling.now.rows.now)) }
     ensures failed { W.has_failed writer.new ≡ is_err result }
 {
     let mut text = ReportWriter::new(spelling.app);
@@ -269,12 +340,12 @@ fn write_rows_by<R: Threads + Wait + Sync, W: Sink>(
     write_totals(writer, &mut text, spelling.rows)
 }
 
-/// Writes the report of a campaign: its rows, numbered from 0, and the line of their totals. The report is of this application.
+/// Writes the report of a campaign: its rows as its view shows them, and the line of their totals. The report is of this application.
 /// At `Err` the writer failed or took none of some bytes, and it has taken a beginning of the text. It takes no memory.
 pub fn write_report<W: Sink>(app: &App, report: &Report, writer: &mut W) -> Result<(), WriteFault>
     requires { W.has_failed writer.old ≡ false }
     ensures text { Writes (W.held writer.old) (W.held writer.new) result
-        (campaign_text app.now report.now) }
+        (report_text app.now report.now.view report.now.first report.now.rows) }
     ensures failed { W.has_failed writer.new ≡ is_err result }
 {
     let rows = report.rows();
@@ -298,6 +369,19 @@ fn length_of_pieces(rows: &Rows, spellers: usize) -> usize
     (bytes / spellers / 4).clamp(LEAST_PIECE, MOST_PIECE)
 }
 
+// What is known of the texts of the rows; nothing, where only heads are written.
+fn texts_of<'a>(alloc: Global, app: &'a App, rows: &'a Rows) -> RowTexts<'a>
+    requires { IsSound rows.now }
+    ensures app { result.app ≡ app.now }
+    ensures rows { result.rows ≡ rows.now }
+{
+    if rows.view.heads {
+        RowTexts::new(app, rows)
+    } else {
+        RowTexts::spelled(alloc, app, rows)
+    }
+}
+
 /// Writes the report of a campaign as `write_report` does, and faster: it takes memory for the text of the base run's events,
 /// with which rows begin, and for that of rows that come again, and has so many threads spell rows, where that are several. What it gets no memory for is spelled for
 /// each row, and on this thread. The threads are at most 64.
@@ -312,11 +396,11 @@ pub(crate) fn write_report_in<R: Threads + Wait + Sync, W: Sink>(
     requires working { W.has_failed writer.old ≡ false }
     requires few { threads ≤ 64 }
     ensures text { Writes (W.held writer.old) (W.held writer.new) result
-        (campaign_text app.now report.now) }
+        (report_text app.now report.now.view report.now.first report.now.rows) }
     ensures failed { W.has_failed writer.new ≡ is_err result }
 {
     let rows = report.rows();
-    let texts = RowTexts::spelled(alloc, app, rows);
+    let texts = texts_of(alloc, app, rows);
     if threads < 2 {
         return write_rows(app, rows, &texts, writer);
     }

@@ -7,7 +7,7 @@ use byte_io::{FromReader, ToWriter};
 use campaign::{NoGate, Options, Report, campaign, expand, serve, write_report};
 use deal::{Division, Tally};
 use model::{App, HandlerId, Meter, Plan, Point, Run};
-use report::{Title, write_run};
+use report::{Shard, Title, View, write_run};
 use script::FromDocument;
 use shelf::{Row, Shelf};
 use std::alloc::Global;
@@ -121,7 +121,16 @@ pub(crate) fn served<T: Threads + Wait + Sync>(rt: &HostRuntime, threads: &T) ->
     };
     let mut reader = FromReader::new(FILE.as_bytes());
     let mut writer = ToWriter::new(rt.stdout());
-    match serve(threads, rt.alloc(), &mut reader, &mut writer, options) {
+    let served = serve(
+        threads,
+        rt.alloc(),
+        &mut reader,
+        &mut writer,
+        View::plain(),
+        Shard::whole(),
+        options,
+    );
+    match served {
         Ok(_) => Ok(()),
         Err(fault) => Err(of_serving(fault)),
     }

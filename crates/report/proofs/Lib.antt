@@ -5,5 +5,7 @@ pub mod Fronts
 pub mod Lanes
 pub mod Numbers
 pub mod Rows
+mod Shards
 pub mod Short
 pub mod Spelling
+pub mod Views

@@ -16,8 +16,11 @@ use Rattle.model.specs.declared.event.Misuse.TheVariants.{WhileSuspended, NotHol
 use Rattle.model.specs.declared.object.ObjectKind.TheVariants as kind
 use Rattle.model.specs.declared.plan.Injection.{Injection}
 use Rattle.model.specs.declared.totals.Totals.{Totals}
+use Rattle.report.specs.Shards.{Shard}
+use Rattle.report.specs.Views.{failing, plain}
 use Rattle.report.specs.declared.title.Title.{Title}
 use Rattle.report.specs.declared.title.Title.TheVariants.{Row}
+use Rattle.report.specs.declared.view.View.{View}
 
 -- an application of these tasks, from tick 0 and under no limits but the most
 abbrev pub app_of : List Definition → Application
@@ -153,6 +156,18 @@ marked_row step reached events = record {
 -- a campaign of two rows: the handler runs before step 0; step 1 isn't reached
 abbrev pub two_rows : List campaign.Row
 two_rows = marked_row 0 true (event_at 0 0 (what.IsrMark 0 2) ∷ one_mark) ∷ marked_row 1 false one_mark ∷ []
+
+-- of each row its head line
+abbrev pub heads_alone : View
+heads_alone = record plain { heads = true }
+
+-- of rows that don't pass all lines
+abbrev pub failing_rows : View
+failing_rows = record plain { ends = failing }
+
+-- the second of two parts
+abbrev pub second_half : Shard
+second_half = record { number = 2; count = 2 }
 
 -- seven rows that pass, of which one is not reached
 abbrev pub all_pass : Totals

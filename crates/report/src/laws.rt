@@ -1,9 +1,15 @@
 //! Laws of the definitions: each is the contract of a function that does nothing.
-ghost use Rattle.std.specs.Prelude.{◌≡◌, ◌++◌, codes, true, false, []};
-ghost use Rattle.report.specs.Examples.{delay_one, delay_one_run, two_unlocks, two_unlocks_row, two_unlocks_run, each_hold, each_hold_run, each_form, each_form_run, last_row, longest_row, two_marks, two_rows, all_pass, each_end};
+ghost use Rattle.std.specs.Prelude.{◌≡◌, ◌<◌, ◌++◌, ℕ, List, codes, length, map, true, false, []};
+ghost use Rattle.std.specs.List.{flat_map};
+ghost use Rattle.report.specs.Examples.{delay_one, delay_one_run, two_unlocks, two_unlocks_row, two_unlocks_run, each_hold, each_hold_run, each_form, each_form_run, last_row, longest_row, two_marks, two_rows, all_pass, each_end, failing_rows, heads_alone, second_half};
 ghost use Rattle.report.specs.Text.{head_text, run_text, verdict_text, total_text, campaign_text};
 ghost use Rattle.report.specs.declared.title.Title.TheVariants.{Base};
-ghost use Rattle.model.specs.Application.{Application};
+ghost use Rattle.report.specs.Shards.{Shard, added, first_of, part_of, shards, undivided};
+ghost use Rattle.report.specs.Views.{plain, report_text, shown_rows};
+ghost use Rattle.report.specs.declared.view.View.{View};
+ghost use Rattle.model.specs.Application.{Application, Limits};
+ghost use Rattle.model.specs.Campaign.{Row, AreRows, totals_of};
+ghost use Rattle.model.specs.declared.plan.Injection.{Injection};
 ghost use Rattle.model.specs.declared.event.End.TheVariants.{Pass, Check, Misuse};
 ghost use Rattle.model.specs.declared.event.Misuse.TheVariants.{WhileSuspended, NotSuspended, NotHolder, EndedSuspended};
 
@@ -112,4 +118,44 @@ pub fn reports_of_campaigns()
         ++ codes "0 0 mark a 1\n"
         ++ codes "0 0 run -\n"
         ++ codes "total 2: pass 2, check 0, misuse 0, ticks 0, steps 0, stuck 0, not reached 1\n" }
+{}
+
+/// The same campaign where heads alone are asked for, where rows that don't pass are, and the second of two parts of it, letter by
+/// letter.
+pub fn reports_in_views()
+    ensures heads { report_text two_marks heads_alone 0 two_rows ≡
+        codes "row 0 at 0 h: pass in 1 steps, 0 ticks\n"
+        ++ codes "row 1 at 1 h: not reached, pass in 1 steps, 0 ticks\n"
+        ++ codes "total 2: pass 2, check 0, misuse 0, ticks 0, steps 0, stuck 0, not reached 1\n" }
+    ensures failing { report_text two_marks failing_rows 0 two_rows ≡
+        codes "total 2: pass 2, check 0, misuse 0, ticks 0, steps 0, stuck 0, not reached 1\n" }
+    ensures second { report_text two_marks heads_alone (first_of second_half 2) (part_of second_half two_rows) ≡
+        codes "row 1 at 1 h: not reached, pass in 1 steps, 0 ticks\n"
+        ++ codes "total 1: pass 1, check 0, misuse 0, ticks 0, steps 0, stuck 0, not reached 1\n" }
+{}
+
+/// In the plain view, the report of all rows is that of the campaign.
+pub fn plain_view()
+    ensures { (app : Application) (rows : List Row) → report_text app plain 0 rows ≡ campaign_text app rows }
+{}
+
+/// All rows in one part are all rows, of which the first has the number 0.
+pub fn undivided_rows()
+    ensures rows { (rows : List Row) → part_of undivided rows ≡ rows }
+    ensures first { (rows : ℕ) → first_of undivided rows ≡ 0 }
+{}
+
+/// What the reports of all parts write of their rows is, one behind the other, what the report of all rows writes, and their totals
+/// add up to its totals: in each view, and however many parts there are.
+pub fn shards_join()
+    ensures rows { (app : Application) (view : View) (rows : List Row) (count : ℕ) → 0 < count
+        → flat_map (λ shard. shown_rows app view (first_of shard (length rows)) (part_of shard rows)) (shards count) ≡ shown_rows app view 0 rows }
+    ensures totals { (rows : List Row) (count : ℕ) → 0 < count
+        → added (map (λ shard. totals_of (part_of shard rows)) (shards count)) ≡ totals_of rows }
+{}
+
+/// The rows of a part of the points are that part of the rows of all points.
+pub fn rows_of_a_shard()
+    ensures { (app : Application) (limits : Limits) (points : List (List Injection)) (rows : List Row) (shard : Shard)
+        → AreRows app limits points rows → AreRows app limits (part_of shard points) (part_of shard rows) }
 {}

@@ -8,17 +8,22 @@ mod labels;
 mod laws;
 mod lines;
 mod run;
+mod shard;
 mod tens;
 mod text;
 mod title;
+mod view;
 mod writer;
 
 pub use base_events::BaseEvents;
 pub use end_state::write_run_and_end_state;
 pub use laws::{
-    heads_of_rows, lines_of_totals, report_of_delay_one, report_of_each_form, report_of_each_hold,
-    report_of_two_unlocks, reports_of_campaigns, verdicts_of_misuses,
+    heads_of_rows, lines_of_totals, plain_view, report_of_delay_one, report_of_each_form,
+    report_of_each_hold, report_of_two_unlocks, reports_in_views, reports_of_campaigns,
+    rows_of_a_shard, shards_join, undivided_rows, verdicts_of_misuses,
 };
 pub use run::write_run;
+pub use shard::Shard;
 pub use title::Title;
+pub use view::{Ends, View};
 pub use writer::ReportWriter;

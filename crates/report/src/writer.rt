@@ -213,6 +213,22 @@ impl<'a> ReportWriter<'a> {
         add_events(writer, &mut self.page, &mut self.lines, events)
     }
 
+    /// Adds the head line of a run, which begins with the title.
+    pub fn add_head<W: Sink>(
+        &mut self,
+        writer: &mut W,
+        title: Title,
+        ending: Ending,
+    ) -> Result<(), WriteFault>
+        requires { W.has_failed writer.old ≡ false }
+        ensures app { self.new.app ≡ self.old.app }
+        ensures text { Adds (W.held writer.old) (W.held writer.new) self.old.page self.new.page result
+            (head_text self.old.app title ending.steps ending.ticks ending.end) }
+        ensures failed { W.has_failed writer.new ≡ is_err result }
+    {
+        add_head(writer, &mut self.page, self.lines.app(), title, ending)
+    }
+
     /// Adds the report of a run as `add_run` does. Its events are the first so many of this base run, which is of the same
     /// application, then these of its own, and then these of its rest.
     pub fn add_run_after<W: Sink>(

@@ -6,6 +6,7 @@ use Rattle.std.proofs.sync.atomic.AtomicU64.TheSendSync as atomic
 use Rattle.model.specs.contracts.plan.Point as points
 use Rattle.model.proofs.app.App.TheSendSync as app
 use Rattle.model.proofs.plan.Point.TheSendSync as point
+use Rattle.report.proofs.view.View.TheSendSync as view
 use Rattle.deal.proofs.Crossing.{tally_sync}
 use Rattle.campaign.specs.declared.worker.Job.{Job}
 use Rattle.campaign.specs.Setup.{work_of}
@@ -33,8 +34,11 @@ map_vec-requires-sync-F g c κs within = record {
                     (
                       ((λ q. tt), shelf.the_sync.shared s.shelf.now s.shelf.ref_ptr.0 s.shelf.ref_ptr.1 there),
                       (
-                        ((λ q. (tt, (tt, tt))), ((shr_slice_sync (of_param 0) there points.the_row point.the_sync).shared s.points b o there).1),
-                        (((λ q. tt), tally_sync.shared s.tally.now s.tally.ref_ptr.0 s.tally.ref_ptr.1 there), tt),
+                        ((λ q. tt), view.the_sync.shared s.view.now s.view.ref_ptr.0 s.view.ref_ptr.1 there),
+                        (
+                          ((λ q. (tt, (tt, tt))), ((shr_slice_sync (of_param 0) there points.the_row point.the_sync).shared s.points b o there).1),
+                          (((λ q. tt), tally_sync.shared s.tally.now s.tally.ref_ptr.0 s.tally.ref_ptr.1 there), tt),
+                        ),
                       ),
                     ),
                   ),

@@ -18,5 +18,5 @@ campaign_from-requires-clause-shelf g c κs within = c.requires.shelf
 pub campaign_from-requires-clause-few : goal.campaign_from-requires-clause-few
 campaign_from-requires-clause-few g c κs within = c.requires.few
 
-pub returns : goal.returns
-returns g c = c.in_ok-finished.ensures.rows
+pub returns-clause-rows : goal.returns-clause-rows
+returns-clause-rows g c = c.in_ok-finished.ensures.rows

@@ -1,31 +1,46 @@
-use Rattle.std.proofs.Common.{◌≡◌, false, refl, rules, Err}
+use Rattle.std.proofs.Common.{◌≡◌, ◌∙◌, ap, false, refl, rules, subst, Err}
+use Rattle.byte_io.specs.Bytes.{SentFront}
+use Rattle.std.specs.Io.KnownBytes.{Appends}
 use Rattle.model.specs.Campaign.{totals_of}
-use Rattle.report.specs.Text.{campaign_text}
+use Rattle.report.specs.Views.{report_text}
 use Rattle.campaign.specs.declared.file.ServeFault.TheVariants.{Write}
-use Rattle.campaign.specs.Campaigns.{IsCampaignOf}
+use Rattle.campaign.specs.Campaigns.{IsCampaignOf, first_number}
+use Rattle.campaign.specs.Report.{Shown}
 use Rattle.campaign.proofs.Faulty.{campaign_serves_rows_fault, serves_front}
+use Rattle.campaign.proofs.Seeing.{seen_text, seen_totals}
 use Rattle.campaign.proofs.serving.serve_app.Goals as goal
 
 pub returns-in_err-report : goal.returns-in_err-report
 returns-in_err-report g c input bytes known file =
     let told : c.from_residual.result ≡ Err c.in_err-report.field-0.0 = search rules in
     rw told
-    (campaign_serves_rows_fault input false (g.W.Sink.has_failed c.args.writer.now) (g.W.Sink.held c.args.writer.now) c.in_err-report.field-0.0 c.args.app.now (bytes, known, file) c.in_err-report.ensures refl c.requires)
+    (campaign_serves_rows_fault c.args.view c.args.shard input false (g.W.Sink.has_failed c.args.writer.now) (g.W.Sink.held c.args.writer.now) c.in_err-report.field-0.0 c.args.app.now (bytes, known, file) c.in_err-report.ensures refl c.requires)
 
 pub returns-in_err-write_report_in : goal.returns-in_err-write_report_in
 returns-in_err-write_report_in g c input bytes known file =
     let app = c.args.app.now in
-    let rows = c.in_ok-report.report in
-    let is : IsCampaignOf bytes (campaign_text app rows) (totals_of rows) =
-    record { app = app; file = file; rows = rows; runs = c.in_ok-report.ensures; adds_up = refl; text = refl } in
+    let view = c.args.view in
+    let shown = c.in_ok-report.ensures in
+    let first = first_number shown.runs in
+    let whole : report_text app c.in_ok-report.report.view c.in_ok-report.report.first c.in_ok-report.report.rows ≡ report_text app view first shown.rows =
+    ap (λ (r : Shown). report_text app r.view r.first r.rows) shown.shown ∙ seen_text view app first shown.rows in
+    let is : IsCampaignOf view c.args.shard bytes (report_text app view first shown.rows) (totals_of shown.rows) =
+    record { app = app; file = file; rows = shown.rows; runs = shown.runs; adds_up = refl; text = refl } in
+    let sent = subst (SentFront (g.W.Sink.held c.args.writer.now) (g.W.Sink.held c.write_report_in.new.writer)) whole c.in_err-write_report_in.ensures.text in
     let told : c.from_residual-in_err-write_report_in.result ≡ Err Write = search rules in
     rw told
-    (serves_front _ _ _ _ _ _ _ bytes _ _ known is c.in_err-write_report_in.ensures.text refl c.in_err-write_report_in.ensures.failed)
+    (serves_front _ _ _ _ _ _ _ bytes _ _ known is sent refl c.in_err-write_report_in.ensures.failed)
 
 pub returns : goal.returns
 returns g c input bytes known file =
     let app = c.args.app.now in
-    let rows = c.in_ok-report.report in
-    let is : IsCampaignOf bytes (campaign_text app rows) c.totals-totals.result =
-    record { app = app; file = file; rows = rows; runs = c.in_ok-report.ensures; adds_up = c.totals-totals.ensures; text = refl } in
-    record { answers = (bytes, known, campaign_text app rows, is, c.in_ok-write_report_in.ensures.text); read = refl; write = c.in_ok-write_report_in.ensures.failed }
+    let view = c.args.view in
+    let shown = c.in_ok-report.ensures in
+    let first = first_number shown.runs in
+    let whole : report_text app c.in_ok-report.report.view c.in_ok-report.report.first c.in_ok-report.report.rows ≡ report_text app view first shown.rows =
+    ap (λ (r : Shown). report_text app r.view r.first r.rows) shown.shown ∙ seen_text view app first shown.rows in
+    let counted = c.totals-totals.ensures ∙ ap (λ (r : Shown). totals_of r.rows) shown.shown ∙ seen_totals view shown.rows in
+    let is : IsCampaignOf view c.args.shard bytes (report_text app view first shown.rows) c.totals-totals.result =
+    record { app = app; file = file; rows = shown.rows; runs = shown.runs; adds_up = counted; text = refl } in
+    let sent = subst (Appends (g.W.Sink.held c.args.writer.now) (g.W.Sink.held c.write_report_in.new.writer)) whole c.in_ok-write_report_in.ensures.text in
+    record { answers = (bytes, known, report_text app view first shown.rows, is, sent); read = refl; write = c.in_ok-write_report_in.ensures.failed }

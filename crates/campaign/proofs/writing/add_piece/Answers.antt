@@ -2,7 +2,7 @@ use Rattle.std.proofs.Common.{◌≡◌, ◌≤◌, ◌∙◌, ◌+◌, ◌-◌,
 use Rattle.std.proofs.lemmas.Result.{MatchResult-from_err}
 use Rattle.byte_io.specs.Bytes.{Sent, SentFront}
 use Rattle.model.specs.Campaign.{Row}
-use Rattle.report.specs.Text.{rows_text}
+use Rattle.report.specs.Views.{shown_rows}
 use Rattle.campaign.specs.declared.campaign_report.Rows.{Rows}
 use Rattle.campaign.specs.declared.rows.Part.{Part}
 use Rattle.campaign.specs.Report.{whole, rows_in}
@@ -23,7 +23,7 @@ loop-cursor-preserved g c =
     let part = c.index-part.result.now in
     let there = got rows.parts.items place.part part (within_list rows.parts.items place.part e.place.part e.place.at_part) c.index-part.ensures in
     let same : rows_in rows.base part place.first place.count ≡ some_of (whole rows) number place.count = sym (rows_there rows.base rows.parts.items place part there) ∙ e.rows in
-    let text = subst (λ (rs : List Row). Sent (g.W.Sink.held c.loop-cursor.writer) (g.W.Sink.held c.add_place.new.writer) (c.loop-cursor.text.page ++ rows_text app number rs) c.add_place.new.text.page)
+    let text = subst (λ (rs : List Row). Sent (g.W.Sink.held c.loop-cursor.writer) (g.W.Sink.held c.add_place.new.writer) (c.loop-cursor.text.page ++ shown_rows app rows.view (rows.first + number) rs) c.add_place.new.text.page)
     same (rw i.app at c.in_ok-add_place.ensures.text) in
     let low = i.low in
     let high : number + place.count ≤ piece.from.number + piece.count = omega (arith, e.few, c.loop-cursor-test.true) in
@@ -32,7 +32,7 @@ loop-cursor-preserved g c =
       at = e.at;
       low = omega (arith, e.number, i.low);
       high = omega (arith, e.number, high);
-      sent = rw e.number (some_sent app (whole rows) piece.from.number number place.count piece.count low high c.requires.piece.within _ _ _ c.args.text.now.page _ i.sent _ text);
+      sent = rw e.number (some_sent app rows.view rows.first (whole rows) piece.from.number number place.count piece.count low high c.requires.piece.within _ _ _ c.args.text.now.page _ i.sent _ text);
       working = c.in_ok-add_place.ensures.failed;
     }
 
@@ -48,11 +48,11 @@ returns-in_err-add_place-clause-text g c =
     let part = c.index-part.result.now in
     let there = got rows.parts.items place.part part (within_list rows.parts.items place.part e.place.part e.place.at_part) c.index-part.ensures in
     let same : rows_in rows.base part place.first place.count ≡ some_of (whole rows) number place.count = sym (rows_there rows.base rows.parts.items place part there) ∙ e.rows in
-    let text = subst (λ (rs : List Row). SentFront (g.W.Sink.held c.loop-cursor.writer) (g.W.Sink.held c.add_place.new.writer) (c.loop-cursor.text.page ++ rows_text app number rs))
+    let text = subst (λ (rs : List Row). SentFront (g.W.Sink.held c.loop-cursor.writer) (g.W.Sink.held c.add_place.new.writer) (c.loop-cursor.text.page ++ shown_rows app rows.view (rows.first + number) rs))
     same (rw i.app at c.in_err-add_place.ensures.text) in
     let high : number + place.count ≤ piece.from.number + piece.count = omega (arith, e.few, c.loop-cursor-test.true) in
     MatchResult-from_err c.from_residual.result _ _ c.from_residual.ensures.0
-    (λ y. some_stopped app (whole rows) piece.from.number number place.count piece.count i.low high c.requires.piece.within _ _ _ c.args.text.now.page _ i.sent text)
+    (λ y. some_stopped app rows.view rows.first (whole rows) piece.from.number number place.count piece.count i.low high c.requires.piece.within _ _ _ c.args.text.now.page _ i.sent text)
 
 pub take-place-requires : goal.take-place-requires
 take-place-requires g c =
@@ -88,8 +88,9 @@ add_place-requires g c =
 pub returns-clause-text : goal.returns-clause-text
 returns-clause-text g c =
     let i = c.loop-cursor.invariant in
+    let rows = c.args.rows.now in
     let piece = c.args.piece in
     let app = c.args.text.now.app in
     let all : c.loop-cursor.cursor.number - piece.from.number ≡ piece.count = omega (arith, i.low, i.high, c.loop-cursor-test.false) in
-    subst (λ n. Sent (g.W.Sink.held c.args.writer.now) (g.W.Sink.held c.loop-cursor.writer) (c.args.text.now.page ++ rows_text app piece.from.number (some_of (whole c.args.rows.now) piece.from.number n)) c.loop-cursor.text.page)
+    subst (λ n. Sent (g.W.Sink.held c.args.writer.now) (g.W.Sink.held c.loop-cursor.writer) (c.args.text.now.page ++ shown_rows app rows.view (rows.first + piece.from.number) (some_of (whole rows) piece.from.number n)) c.loop-cursor.text.page)
     all i.sent

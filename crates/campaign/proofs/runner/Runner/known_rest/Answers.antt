@@ -13,6 +13,6 @@ returns-then-is_at c =
     let trail = all_of c.args.self.now.trail in
     let mark = c.in-Some.mark in
     let same = c.is_at.ensures c.if-is_at.true in
-    let marked : IsRestIn app limits trail mark.kernel mark.rest = subst (λ (m : Option Mark). IsMarked app limits trail m) c.in-Some.is c.requires.mark in
-    rest_of app limits c.args.point.now c.args.self.now.kernel c.requires.way trail mark.rest c.well_formed-2.ensures c.requires.beyond
-    (subst (λ (k : Machine). IsRestIn app limits trail k mark.rest) (sym same) marked)
+    let marked : IsRestIn app limits c.args.view trail mark.kernel mark.rest = subst (λ (m : Option Mark). IsMarked app limits c.args.view trail m) c.in-Some.is c.requires.mark in
+    rest_of app limits c.args.view c.args.point.now c.args.self.now.kernel c.requires.way trail mark.rest c.well_formed-2.ensures c.requires.beyond
+    (subst (λ (k : Machine). IsRestIn app limits c.args.view trail k mark.rest) (sym same) marked)

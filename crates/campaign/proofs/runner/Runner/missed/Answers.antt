@@ -1,5 +1,8 @@
-use Rattle.std.proofs.Common.{◌∙◌, arith}
+use Rattle.std.specs.Prelude.{if◌then◌else◌}
+use Rattle.std.proofs.Common.{◌≡◌, ◌∙◌, length, subst, sym}
 use Rattle.machine.specs.Logged.{all_of}
+use Rattle.model.specs.Run.{Run}
+use Rattle.report.specs.Views.{shows_events}
 use Rattle.campaign.proofs.Keeping.{missed_row}
 use Rattle.campaign.proofs.runner.Runner.missed.Goals as goal
 
@@ -7,5 +10,6 @@ pub returns : goal.returns
 returns c =
     let shelf = c.args.shelf.now in
     let same = c.base.view_is ∙ c.base-base.ensures in
-    missed_row c.args.app.now shelf.limits shelf.base c.requires.shelf.is_base c.args.point.now (all_of c.args.self.now.trail) _ _ _ same c.requires.missed
-    (omega (arith, c.len.ensures, c.base.inside.events.ok)) c.len-end.ensures
+    let shared = subst (λ (r : Run). c.shared_by.result ≡ (if shows_events c.args.view r.end then length r.events else 0)) (sym c.base.view_is) c.shared_by.ensures in
+    missed_row c.args.app.now shelf.limits c.args.view shelf.base c.requires.shelf.is_base c.args.point.now (all_of c.args.self.now.trail) _ _ _ same c.requires.missed
+    shared c.len-end.ensures

@@ -10,7 +10,7 @@ pub loop-point-init : goal.loop-point-init
 loop-point-init c = record {
   blocks = refl;
   known = c.requires.known;
-  rows = gains_none c.args.setup.now.app.now c.args.setup.now.shelf.now.limits c.args.setup.now.shelf.now.base c.args.self.now.kept (all_of c.args.self.now.runner.trail) c.args.seat.now;
+  rows = gains_none c.args.setup.now.app.now c.args.setup.now.shelf.now.limits c.args.setup.now.view.now c.args.setup.now.shelf.now.base c.args.self.now.kept (all_of c.args.self.now.runner.trail) c.args.seat.now;
 }
 
 pub add_row-requires-clause-seat : goal.add_row-requires-clause-seat
@@ -23,7 +23,7 @@ add_row-requires-clause-room c kind l =
     let points = take (c.args.first + c.args.count - c.args.first) (drop c.args.first all) in
     let within : c.args.first + c.args.count - c.args.first ≤ length (drop c.args.first all) = omega (arith, length-drop c.args.first all, c.requires.points) in
     let long = length-take-le (c.args.first + c.args.count - c.args.first) (drop c.args.first all) within in
-    let few = gained_few c.args.setup.now.app.now shelf.limits shelf.base _ _ _ _ _ _ _ c.loop-point.invariant.rows kind l in
+    let few = gained_few c.args.setup.now.app.now shelf.limits c.args.setup.now.view.now shelf.base _ _ _ _ _ _ _ c.loop-point.invariant.rows kind l in
     let on = c.loop-point-test.true in
     let room = c.requires.room kind l in
     let count = length-take-le c.loop-point.point-index points (omega arith) in
@@ -37,7 +37,7 @@ loop-point-preserved c =
       blocks = c.in_ok-add_row.ensures.blocks ∙ c.loop-point.invariant.blocks;
       known = c.in_ok-add_row.ensures.known;
       rows = rw (next_point points c.loop-point.point-index c.point-item.result c.loop-point-test.true c.point-item.is)
-          (gains_both c.args.setup.now.app.now shelf.limits shelf.base (take c.loop-point.point-index points) (c.point-item.result ∷ []) _ _ _ _ _ _ _ _ _ c.loop-point.invariant.rows c.in_ok-add_row.ensures.row);
+          (gains_both c.args.setup.now.app.now shelf.limits c.args.setup.now.view.now shelf.base (take c.loop-point.point-index points) (c.point-item.result ∷ []) _ _ _ _ _ _ _ _ _ c.loop-point.invariant.rows c.in_ok-add_row.ensures.row);
     }
 
 pub returns-clause-rows : goal.returns-clause-rows
@@ -48,5 +48,5 @@ returns-clause-rows c =
     let end : length points ≤ c.loop-point.point-index = omega (arith, c.loop-point-test.false) in
     let count : c.args.first + c.args.count - c.args.first ≡ c.args.count = omega arith in
     let same = take_all c.loop-point.point-index points end ∙ ap (λ (n : ℕ). take n after) count in
-    subst (λ (ps : List (List Injection)). GainsRows setup.app.now setup.shelf.now.limits setup.shelf.now.base ps c.args.self.now.kept c.loop-point.self.kept (all_of c.args.self.now.runner.trail) (all_of c.loop-point.self.runner.trail) c.args.seat.now c.loop-point.seat)
+    subst (λ (ps : List (List Injection)). GainsRows setup.app.now setup.shelf.now.limits setup.view.now setup.shelf.now.base ps c.args.self.now.kept c.loop-point.self.kept (all_of c.args.self.now.runner.trail) (all_of c.loop-point.self.runner.trail) c.args.seat.now c.loop-point.seat)
     same c.loop-point.invariant.rows

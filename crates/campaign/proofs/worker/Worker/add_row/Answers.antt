@@ -14,7 +14,7 @@ returns-clause-row c =
     let shelf = setup.shelf.now in
     let keeps = c.in_ok-end.ensures.row in
     let trail = all_of c.keep_row.new.self.runner.trail in
-    gains_one setup.app.now shelf.limits shelf.base c.args.point.now c.args.self.now.kept c.keep_row.new.self.kept (all_of c.args.self.now.runner.trail) trail c.args.seat.now c.count_row.new.seat keeps.row keeps.gains
+    gains_one setup.app.now shelf.limits setup.view.now shelf.base c.args.point.now c.args.self.now.kept c.keep_row.new.self.kept (all_of c.args.self.now.runner.trail) trail c.args.seat.now c.count_row.new.seat keeps.row keeps.gains
     keeps.rows_are
     (c.count_row.ensures (row_of shelf.base trail keeps.row) (ap (λ (p : List Injection). nat_lt (first_step p) shelf.base.steps) keeps.gains.row.at_point ∙ sym c.reaches-is_reached.ensures) keeps.ends)
 
@@ -22,4 +22,4 @@ pub returns-clause-known : goal.returns-clause-known
 returns-clause-known c =
     let setup = c.args.setup.now in
     let shelf = setup.shelf.now in
-    knows_more setup.app.now shelf.limits shelf.base (c.args.point.now ∷ []) _ _ _ _ _ _ _ _ c.requires.known (returns-clause-row c) c.in_ok-end.ensures.mark
+    knows_more setup.app.now shelf.limits setup.view.now shelf.base (c.args.point.now ∷ []) _ _ _ _ _ _ _ _ c.requires.known (returns-clause-row c) c.in_ok-end.ensures.mark
