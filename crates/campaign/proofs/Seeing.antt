@@ -4,7 +4,7 @@ use Rattle.std.specs.Prelude.{Result, Ok, Err, IfOk}
 use Rattle.std.proofs.Common.{◌≡◌, ◌+◌, ◌&&◌, ℕ, Bool, true, false, cond, not, List, [], ◌∷◌, ◌++◌, filter, length, map, refl, sym, subst, ap, ap₂, ◌∙◌, arith}
 use Rattle.std.proofs.lemmas.List.{length-map}
 use Rattle.model.specs.declared.event.End.{End}
-use Rattle.model.specs.declared.event.End.TheVariants.{Pass, Check, Misuse, Ticks, Steps, Stuck}
+use Rattle.model.specs.declared.event.End.TheVariants.{Pass, Check, HandlerCheck, Misuse, Ticks, Steps, Stuck}
 use Rattle.model.specs.declared.plan.Injection.{Injection}
 use Rattle.model.specs.Application.{Application, Limits}
 use Rattle.model.specs.Campaign.{Row, AreRows, ended, is_pass, is_check, is_misuse, is_ticks, is_steps, is_stuck_end, totals_of}
@@ -99,6 +99,7 @@ module _ (app : Application) (limits : Limits) (view : View) where
 plain_shows : (end : End) → shows_events plain end ≡ true
 plain_shows Pass = refl
 plain_shows (Check task op_index) = refl
+plain_shows (HandlerCheck handler op_index) = refl
 plain_shows (Misuse task op_index kind) = refl
 plain_shows Ticks = refl
 plain_shows Steps = refl

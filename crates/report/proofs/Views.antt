@@ -3,7 +3,7 @@ use Rattle.std.proofs.Common.{◌≡◌, ℕ, ◌+◌, Bool, true, false, List, 
 use Rattle.model.specs.Application.{Application}
 use Rattle.model.specs.Campaign.{Row, totals_of}
 use Rattle.model.specs.declared.event.End.{End}
-use Rattle.model.specs.declared.event.End.TheVariants.{Pass, Check, Misuse, Ticks, Steps, Stuck}
+use Rattle.model.specs.declared.event.End.TheVariants.{Pass, Check, HandlerCheck, Misuse, Ticks, Steps, Stuck}
 use Rattle.report.specs.Text.{rows_text, total_text, campaign_text}
 use Rattle.report.specs.Views.{plain, report_text, shown_row, shown_rows, shows, text_shown}
 use Rattle.report.specs.declared.view.View.{View}
@@ -13,6 +13,7 @@ use Rattle.report.specs.declared.view.View.{View}
 shows_each : (end : End) → shows plain end ≡ true
 shows_each Pass = refl
 shows_each (Check task op_index) = refl
+shows_each (HandlerCheck handler op_index) = refl
 shows_each (Misuse task op_index kind) = refl
 shows_each Ticks = refl
 shows_each Steps = refl

@@ -56,7 +56,7 @@ impl Ends {
     {
         match end {
             End::Pass => self.pass,
-            End::Check(_, _) => self.check,
+            End::Check(_, _) | End::HandlerCheck(_, _) => self.check,
             End::Misuse(_, _, _) => self.misuse,
             End::Ticks => self.ticks,
             End::Steps => self.steps,
