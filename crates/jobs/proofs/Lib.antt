@@ -3,4 +3,6 @@ pub mod Commands
 pub mod Matches
 mod Putting
 mod Serving
+mod Listed
+mod Splitting
 pub mod Meaning

@@ -1,4 +1,5 @@
 pub mod Acting
 pub mod Obeying
 pub mod Processors
+pub mod Shown
 pub mod Words
