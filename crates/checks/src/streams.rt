@@ -3,6 +3,7 @@
 use crate::sinks::{Breaking, Holder, check_text};
 use campaign::{NoGate, Options};
 use jobs::{Job, act};
+use report::{Shard, View};
 use std::alloc::Global;
 use std::process::Abort;
 use std::sync::Wait;
@@ -80,6 +81,8 @@ fn sinks_that_take_a_byte_a_call(rt: HostRuntime) {
     check_byte_by_byte(&rt, alloc, &job, "", 3, ("", line));
     let job = Job::Campaign {
         file: "app.toml",
+        view: View::plain(),
+        shard: Shard::whole(),
         options: Options::default(),
         quiet: true,
     };

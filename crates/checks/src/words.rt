@@ -2,6 +2,7 @@
 
 use campaign::Options;
 use jobs::{Job, job_named};
+use report::{Ends, Shard, View};
 
 /// The words of `run` that name a job, and the job.
 #[derive(Clone, Copy)]
@@ -170,6 +171,8 @@ fn words_that_name_a_campaign(rt: HostRuntime) {
         let (workers, stride, block) = named.options;
         let job = Job::Campaign {
             file: "app.toml",
+            view: View::plain(),
+            shard: Shard::whole(),
             options: Options {
                 workers,
                 stride,
@@ -178,5 +181,106 @@ fn words_that_name_a_campaign(rt: HostRuntime) {
             quiet: named.quiet,
         };
         assert!(rt; job_named(rt.alloc(), named.words).ok() == Some(job));
+    }
+}
+
+/// The words of `campaign` that say what is written, and the view and the shard that they name.
+#[derive(Clone, Copy)]
+struct NamedView {
+    words: &'static [&'static str],
+    ends: Ends,
+    heads: bool,
+    shard: (u32, u32),
+}
+
+const VIEWS: [NamedView; 4] = [
+    NamedView {
+        words: &[
+            "rtosim", "campaign", "app.toml", "--only", "failing", "--heads",
+        ],
+        ends: Ends::FAILING,
+        heads: true,
+        shard: (1, 1),
+    },
+    NamedView {
+        words: &["rtosim", "campaign", "--only=stuck,pass,stuck", "app.toml"],
+        ends: Ends {
+            pass: true,
+            stuck: true,
+            ..Ends::NONE
+        },
+        heads: false,
+        shard: (1, 1),
+    },
+    NamedView {
+        words: &["rtosim", "campaign", "app.toml", "--shard", "3/3"],
+        ends: Ends::EVERY,
+        heads: false,
+        shard: (3, 3),
+    },
+    NamedView {
+        words: &[
+            "rtosim",
+            "campaign",
+            "--shard=01/1000000",
+            "--only",
+            "check,misuse,ticks,steps",
+            "app.toml",
+        ],
+        ends: Ends {
+            pass: false,
+            stuck: false,
+            ..Ends::EVERY
+        },
+        heads: false,
+        shard: (1, 1_000_000),
+    },
+];
+
+#[test]
+fn words_that_name_a_view(rt: HostRuntime) {
+    for named in VIEWS {
+        let (number, count) = named.shard;
+        let Some(shard) = Shard::new(number, count) else {
+            panic!(rt; "no shard");
+        };
+        let job = Job::Campaign {
+            file: "app.toml",
+            view: View {
+                ends: named.ends,
+                heads: named.heads,
+            },
+            shard,
+            options: Options::default(),
+            quiet: false,
+        };
+        assert!(rt; job_named(rt.alloc(), named.words).ok() == Some(job));
+    }
+}
+
+const REFUSED: [&str; 16] = [
+    "--only=",
+    "--only=good",
+    "--only=pass,",
+    "--only=,pass",
+    "--only=PASS",
+    "--only=pass;check",
+    "--shard=",
+    "--shard=1",
+    "--shard=0/3",
+    "--shard=4/3",
+    "--shard=1/0",
+    "--shard=+1/3",
+    "--shard=1/3/4",
+    "--shard=1/1000001",
+    "--shard=1/4294967297",
+    "--shard= 1/3",
+];
+
+#[test]
+fn values_that_are_refused(rt: HostRuntime) {
+    for value in REFUSED {
+        let words = ["rtosim", "campaign", "app.toml", value];
+        assert!(rt; job_named(rt.alloc(), &words).is_err(), "{value}");
     }
 }

@@ -3,5 +3,7 @@ pub mod Commands
 pub mod Matches
 mod Putting
 mod Serving
+mod Listed
+mod Splitting
 pub mod Meaning
 pub mod EndStates

@@ -2,6 +2,8 @@
 use Rattle.std.proofs.Common.{◌≡◌, ◌≢◌, ◌≤◌, ℕ, Bool, true, false, List, [], length, ◌⊎◌, inl, inr, Option, Some, None, refl}
 use Rattle.std.specs.Prelude.{Ok, Err, Result, IfSome}
 use Rattle.std.proofs.KnownBytes.{Keeps-refl}
+use Rattle.report.specs.Shards.{Shard}
+use Rattle.report.specs.declared.view.View.{View}
 use Rattle.campaign.specs.declared.at.At.{At}
 use Rattle.campaign.specs.declared.file.ServeFault.{ServeFault}
 use Rattle.campaign.specs.declared.file.ServeFault.TheVariants.{Read, NotToml, Load, UnknownHandler, TooManyPoints, Memory, Write}
@@ -32,14 +34,14 @@ module _ (input other : Option (List ℕ)) (as_known : (bytes : List ℕ) → Kn
   end_state_as_known at (Ok passes) h = (h.0, h.1, serves_as_known _ _ input other as_known rf old new wf (Ok h.0) h.2)
   end_state_as_known at (Err fault) h = serves_as_known _ _ input other as_known rf old new wf (Err fault) h
 
-  campaign_as_known : (outcome : Result Bool ServeFault) → CampaignServed input rf old new wf outcome → CampaignServed other rf old new wf outcome
-  campaign_as_known (Ok passes) h = (h.0, h.1, serves_as_known _ _ input other as_known rf old new wf (Ok h.0) h.2)
-  campaign_as_known (Err fault) h = serves_as_known _ _ input other as_known rf old new wf (Err fault) h
+  campaign_as_known : (view : View) (shard : Shard) (outcome : Result Bool ServeFault) → CampaignServed view shard input rf old new wf outcome → CampaignServed view shard other rf old new wf outcome
+  campaign_as_known view shard (Ok passes) h = (h.0, h.1, serves_as_known _ _ input other as_known rf old new wf (Ok h.0) h.2)
+  campaign_as_known view shard (Err fault) h = serves_as_known _ _ input other as_known rf old new wf (Err fault) h
 
   served_as_known : (job : Job) (outcome : Result Bool ServeFault) → Served job input rf old new wf outcome → Served job other rf old new wf outcome
   served_as_known (Run file at handler false) outcome h = run_as_known (injection_of (Run file at handler false)) outcome h
   served_as_known (Run file at handler true) outcome h = end_state_as_known (injection_of (Run file at handler true)) outcome h
-  served_as_known (Campaign file options quiet) outcome h = campaign_as_known outcome h
+  served_as_known (Campaign file view shard options quiet) outcome h = campaign_as_known view shard outcome h
 
   does_as_known : (job : Job) (outcome : Result Bool JobFault) → Does job input rf old new wf outcome → Does job other rf old new wf outcome
   does_as_known job (Ok passes) h = (h.0, served_as_known job (Ok passes) h.1)
@@ -99,10 +101,10 @@ served_fault (Run name at handler true) file rf wf old read.Failed some failed w
     end_state_file_fault (injection_of (Run name at handler true)) file rf wf old Read (reading_failed file read.Failed some) failed refl working
 served_fault (Run name at handler true) file rf wf old read.Memory some failed working =
     end_state_file_fault (injection_of (Run name at handler true)) file rf wf old Memory (reading_failed file read.Memory some) failed refl working
-served_fault (Campaign name options quiet) file rf wf old read.Failed some failed working =
-    campaign_serves_file_fault file rf wf old Read (reading_failed file read.Failed some) failed refl working
-served_fault (Campaign name options quiet) file rf wf old read.Memory some failed working =
-    campaign_serves_file_fault file rf wf old Memory (reading_failed file read.Memory some) failed refl working
+served_fault (Campaign name view shard options quiet) file rf wf old read.Failed some failed working =
+    campaign_serves_file_fault view shard file rf wf old Read (reading_failed file read.Failed some) failed refl working
+served_fault (Campaign name view shard options quiet) file rf wf old read.Memory some failed working =
+    campaign_serves_file_fault view shard file rf wf old Memory (reading_failed file read.Memory some) failed refl working
 
 pub fails_to_read : (job : Job) (file : Option (List ℕ)) (rf wf : Bool) (old : Option (List ℕ)) (fault : ServeFault)
     → FailsToRead job file rf (Serve fault) → wf ≡ false → Does job file rf old old wf (Err (Serve fault))

@@ -17,6 +17,8 @@ use Rattle.campaign.specs.Serving.{Known}
 use Rattle.campaign.specs.OneRun.{ServesRun}
 use Rattle.campaign.specs.Campaigns.{ServesCampaign}
 use Rattle.jobs.specs.EndStates.{EndStateServed}
+use Rattle.report.specs.Shards.{Shard}
+use Rattle.report.specs.declared.view.View.{View}
 use Rattle.jobs.specs.declared.acting.Job.{Job}
 use Rattle.jobs.specs.declared.acting.Job.TheVariants.{Run, Campaign}
 use Rattle.jobs.specs.declared.acting.JobFault.{JobFault}
@@ -27,12 +29,12 @@ use Rattle.jobs.specs.declared.acting.JobFault.TheVariants.{Unpaired, TooLarge, 
 -- the name of the file that a job reads
 abbrev pub file_of : Job → List ℕ
 file_of (Run file at handler state) = file.now
-file_of (Campaign file options quiet) = file.now
+file_of (Campaign file view shard options quiet) = file.now
 
 -- the name of the handler that a job injects; empty where it has none
 abbrev pub handler_of : Job → List ℕ
 handler_of (Run file at handler state) = option_map_or (λ name. name.now) handler []
-handler_of (Campaign file options quiet) = []
+handler_of (Campaign file view shard options quiet) = []
 
 -- The job has a step and no handler, or a handler and no step.
 abbrev pub is_unpaired : Job → Bool
@@ -40,16 +42,16 @@ is_unpaired (Run file (Some step) None state) = true
 is_unpaired (Run file None (Some handler) state) = true
 is_unpaired (Run file (Some step) (Some handler) state) = false
 is_unpaired (Run file None None state) = false
-is_unpaired (Campaign file options quiet) = false
+is_unpaired (Campaign file view shard options quiet) = false
 
 -- the injection that a job asks for, where it has both
 abbrev pub injection_of : Job → Option At
 injection_of (Run file (Some step) (Some handler) state) = Some (record { step = step; handler = handler })
 injection_of (Run file (Some step) None state) = None
 injection_of (Run file None handler state) = None
-injection_of (Campaign file options quiet) = None
+injection_of (Campaign file view shard options quiet) = None
 
--- Every row of a campaign passes.
+-- Every row of a campaign, or of a part of it, passes.
 abbrev pub all_pass : Totals → Bool
 all_pass totals = totals.pass == totals.rows
 
@@ -60,12 +62,12 @@ RunServed at input read_failed old new write_failed (Ok passes) =
     (end : End) × (passes ≡ is_pass end) × ServesRun at input read_failed old new write_failed (Ok end)
 RunServed at input read_failed old new write_failed (Err fault) = ServesRun at input read_failed old new write_failed (Err fault)
 
--- A campaign is served, and all its rows pass or not.
-abbrev pub CampaignServed : (input : Option (List ℕ)) → (read_failed : Bool) → (old new : Option (List ℕ)) → (write_failed : Bool)
+-- A part of a campaign is served as the view shows it, and all its rows pass or not.
+abbrev pub CampaignServed : View → Shard → (input : Option (List ℕ)) → (read_failed : Bool) → (old new : Option (List ℕ)) → (write_failed : Bool)
     → Result Bool ServeFault → Type 0
-CampaignServed input read_failed old new write_failed (Ok passes) =
-    (totals : Totals) × (passes ≡ all_pass totals) × ServesCampaign input read_failed old new write_failed (Ok totals)
-CampaignServed input read_failed old new write_failed (Err fault) = ServesCampaign input read_failed old new write_failed (Err fault)
+CampaignServed view shard input read_failed old new write_failed (Ok passes) =
+    (totals : Totals) × (passes ≡ all_pass totals) × ServesCampaign view shard input read_failed old new write_failed (Ok totals)
+CampaignServed view shard input read_failed old new write_failed (Err fault) = ServesCampaign view shard input read_failed old new write_failed (Err fault)
 
 -- What a job asks for is served, and passes or not.
 abbrev pub Served : Job → (input : Option (List ℕ)) → (read_failed : Bool) → (old new : Option (List ℕ)) → (write_failed : Bool)
@@ -74,8 +76,8 @@ Served (Run file at handler false) input read_failed old new write_failed outcom
     RunServed (injection_of (Run file at handler false)) input read_failed old new write_failed outcome
 Served (Run file at handler true) input read_failed old new write_failed outcome =
     EndStateServed (injection_of (Run file at handler true)) input read_failed old new write_failed outcome
-Served (Campaign file options quiet) input read_failed old new write_failed outcome =
-    CampaignServed input read_failed old new write_failed outcome
+Served (Campaign file view shard options quiet) input read_failed old new write_failed outcome =
+    CampaignServed view shard input read_failed old new write_failed outcome
 
 -- What doing a job comes to, over an input: what it asks for is served; or its step and its handler don't go together, and nothing is
 -- written.

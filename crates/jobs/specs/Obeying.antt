@@ -2,7 +2,7 @@
 use Rattle.std.specs.Prelude.{◌≡◌, ◌≢◌, ◌⊎◌, ℕ, Bool, true, false, List, [], Option, Result}
 use Rattle.std.specs.Io.KnownBytes.{Keeps}
 use Rattle.byte_io.specs.Shown.{shown_lines}
-use Rattle.clap.specs.Words.{IsAmong, fault_of, subcommand_of}
+use Rattle.clap.specs.Words.{IsAmong, subcommand_of}
 use Rattle.clap.specs.declared.error.kind.ErrorKind.{ErrorKind}
 use Rattle.clap.specs.declared.error.kind.ErrorKind.TheVariants.{DisplayHelp, DisplayVersion, OutOfMemory}
 use Rattle.jobs.specs.declared.acting.Job.{Job}
@@ -10,7 +10,7 @@ use Rattle.jobs.specs.declared.acting.JobFault.{JobFault}
 use Rattle.jobs.specs.declared.acting.JobFault.TheVariants.{Serve}
 use Rattle.campaign.specs.declared.file.ServeFault.TheVariants.{Memory, Write}
 use Rattle.jobs.specs.Acting.{OpensAndDoes, Tells, fault_line, status_of, told}
-use Rattle.jobs.specs.Words.{IsJobOf, rtosim_app}
+use Rattle.jobs.specs.Words.{IsJobOf, faults_of, rtosim_app}
 
 -- ---- words that name no job
 
@@ -74,7 +74,7 @@ pub record DoesJob (words : List (List ℕ)) (old new : Option (List ℕ)) (writ
     (faults_old faults_new : Option (List ℕ)) (tell_failed : Bool) (status : ℕ) : Type 0 where
   pub job : Job
   pub named : IsJobOf (subcommand_of rtosim_app words) job
-  pub taken : fault_of rtosim_app words ≡ []
+  pub taken : faults_of words ≡ []
   pub outcome : Result Bool JobFault
   pub does : OpensAndDoes job old new write_failed outcome
   pub tells : Tells faults_old faults_new tell_failed (told job outcome)
@@ -84,7 +84,7 @@ pub record DoesJob (words : List (List ℕ)) (old new : Option (List ℕ)) (writ
 pub record DoesNoJob (words : List (List ℕ)) (old new : Option (List ℕ)) (write_failed : Bool)
     (faults_old faults_new : Option (List ℕ)) (tell_failed : Bool) (status : ℕ) : Type 0 where
   pub kind : ErrorKind
-  pub due : (kind ≡ OutOfMemory) ⊎ IsAmong kind (fault_of rtosim_app words)
+  pub due : (kind ≡ OutOfMemory) ⊎ IsAmong kind (faults_of words)
   pub concludes : Concludes kind old new write_failed faults_old faults_new tell_failed status
 
 -- one of the two

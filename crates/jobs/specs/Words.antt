@@ -1,12 +1,14 @@
 -- The words that the program takes.
-use Rattle.std.specs.Prelude.{◌≡◌, ◌<◌, ◌≤◌, ◌^◌, ◌⊎◌, IfSome, Bool, true, false, ℕ, List, [], ◌∷◌, map, codes, pos, Option, Some, None, option_map}
+use Rattle.std.specs.Prelude.{◌≡◌, ◌<◌, ◌≤◌, ◌^◌, ◌⊎◌, IfSome, Bool, true, false, ℕ, List, [], ◌∷◌, map, codes, pos, Option, Some, None, option_map, if◌then◌else◌}
 use Rattle.std.specs.Borrow.{Bor}
 use Rattle.std.specs.Str.{bytes_eq}
 use Rattle.std.specs.Str.Parse.{IsNumeral, digits_value, without_leading_plus}
-use Rattle.clap.specs.Words.{App, Row, Rule, Text, new_app, new_rule, with_rule, with_subcommand, first_of, one_of, app_of, rule_of}
+use Rattle.clap.specs.Words.{App, Kinds, Row, Rule, Text, fault_of, subcommand_of, new_app, new_rule, with_rule, with_subcommand, first_of, one_of, app_of, rule_of}
+use Rattle.clap.specs.Kinds.{or_else}
 use Rattle.clap.specs.Simple.{on_top}
 use Rattle.clap.specs.declared.builder.ArgAction.TheVariants.{Set, SetTrue}
 use Rattle.clap.specs.declared.builder.value_parser.ValueParser.TheVariants.{Signed}
+use Rattle.clap.specs.declared.error.kind.ErrorKind.TheVariants.{ValueValidation}
 use Rattle.clap.specs.declared.builder.arg.Arg.{Arg}
 use Rattle.clap.specs.declared.builder.command.Command.{Command}
 use Rattle.clap.specs.declared.builder.command.Command.TheViews.{out-Command as fields_of}
@@ -14,6 +16,11 @@ use Rattle.model.specs.Scripts.{last_point}
 use Rattle.campaign.specs.declared.options.BadOption.{BadOption}
 use Rattle.campaign.specs.declared.options.Options.{Options}
 use Rattle.campaign.specs.Options.{bad_option}
+use Rattle.report.specs.Shards.{Shard, undivided}
+use Rattle.report.specs.Views.{every_end}
+use Rattle.report.specs.declared.view.Ends.{Ends}
+use Rattle.report.specs.declared.view.View.{View}
+use Rattle.jobs.specs.Shown.{ends_of, shard_named}
 use Rattle.jobs.specs.declared.acting.Job.{Job}
 use Rattle.jobs.specs.declared.acting.Job.TheVariants.{Run, Campaign}
 
@@ -32,19 +39,33 @@ at_rule = record (new_rule (codes "at")) {
 }
 
 -- any text
+abbrev pub text_rule : (name : Text) → Rule
+text_rule name = record (new_rule name) { long = Some name; value_names = 1; action = Some Set }
+
 abbrev pub handler_rule : Rule
-handler_rule = record (new_rule (codes "handler")) { long = Some (codes "handler"); value_names = 1; action = Some Set }
+handler_rule = text_rule (codes "handler")
 
 -- given or not
+abbrev pub flag_rule : (name : Text) → Rule
+flag_rule name = record (new_rule name) { long = Some name; action = Some SetTrue }
+
 abbrev pub state_rule : Rule
-state_rule = record (new_rule (codes "state")) { long = Some (codes "state"); action = Some SetTrue }
+state_rule = flag_rule (codes "state")
 
 abbrev pub run_app : App
 run_app = with_rule (with_rule (with_rule (with_rule (new_app (codes "run")) file_rule) at_rule) handler_rule) state_rule
 
--- given or not
 abbrev pub quiet_rule : Rule
-quiet_rule = record (new_rule (codes "quiet")) { long = Some (codes "quiet"); action = Some SetTrue }
+quiet_rule = flag_rule (codes "quiet")
+
+abbrev pub heads_rule : Rule
+heads_rule = flag_rule (codes "heads")
+
+abbrev pub only_rule : Rule
+only_rule = text_rule (codes "only")
+
+abbrev pub shard_rule : Rule
+shard_rule = text_rule (codes "shard")
 
 -- a number of this range, and what it is where it isn't named
 abbrev pub option_rule : (name default : Text) → (least greatest : ℕ) → Rule
@@ -67,8 +88,8 @@ block_rule = option_rule (codes "block") (codes "16") 1 1000000
 
 abbrev pub campaign_app : App
 campaign_app =
-    with_rule (with_rule (with_rule (with_rule (with_rule (new_app (codes "campaign")) file_rule) workers_rule) stride_rule) block_rule)
-    quiet_rule
+    with_rule (with_rule (with_rule (with_rule (with_rule (with_rule (with_rule (with_rule (new_app (codes "campaign")) file_rule)
+    only_rule) heads_rule) shard_rule) workers_rule) stride_rule) block_rule) quiet_rule
 
 -- the program without its commands: one of them has to be named
 abbrev pub rtosim_top : App
@@ -117,7 +138,7 @@ IsRunOf rows (Run file at handler state) =
     × IsStepOf rows at
     × (first_of (codes "handler") rows ≡ option_map (λ name. name.now) handler)
     × (is_given (first_of (codes "state") rows) ≡ state)
-IsRunOf rows (Campaign file options quiet) = ⊥
+IsRunOf rows (Campaign file view shard options quiet) = ⊥
 
 -- the number of an option
 abbrev pub number_in : (name : Text) → List Row → Option ℕ
@@ -130,11 +151,31 @@ pub record AreOptionsOf (rows : List Row) (options : Options) : Type 0 where
   pub block : number_in (codes "block") rows ≡ Some options.block
   pub within : bad_option options.workers options.stride options.block ≡ None
 
--- The job is the campaign of the file that the words of `campaign` name, with the options that they name, quiet or not.
+-- the ends of the rows that are written: those of the list, where one is named, else every end
+abbrev pub ends_in : Option Text → Option Ends
+ends_in None = Some every_end
+ends_in (Some list) = ends_of list
+
+-- the view that the words of `campaign` name, if there is such a one
+abbrev pub view_in : List Row → Option View
+view_in rows =
+    option_map (λ ends. record { ends = ends; heads = is_given (first_of (codes "heads") rows) }) (ends_in (first_of (codes "only") rows))
+
+-- the shard that is named, if there is such a one; where none is, all rows in one
+abbrev pub shard_of_words : Option Text → Option Shard
+shard_of_words None = Some undivided
+shard_of_words (Some text) = shard_named text
+
+abbrev pub shard_in_rows : List Row → Option Shard
+shard_in_rows rows = shard_of_words (first_of (codes "shard") rows)
+
+-- The job is the campaign of the file that the words of `campaign` name, with the view, the shard and the options that they name, quiet
+-- or not.
 abbrev pub IsCampaignOf : List Row → Job → Type 0
 IsCampaignOf rows (Run file at handler state) = ⊥
-IsCampaignOf rows (Campaign file options quiet) =
-    (first_of (codes "FILE") rows ≡ Some file.now) × AreOptionsOf rows options × (is_given (first_of (codes "quiet") rows) ≡ quiet)
+IsCampaignOf rows (Campaign file view shard options quiet) =
+    (first_of (codes "FILE") rows ≡ Some file.now) × (view_in rows ≡ Some view) × (shard_in_rows rows ≡ Some shard) × AreOptionsOf rows options
+    × (is_given (first_of (codes "quiet") rows) ≡ quiet)
 
 -- The job is what the words name, by the command and its own words.
 abbrev pub IsJobOf : Option (Text × List Row) → Job → Type 0
@@ -175,12 +216,30 @@ abbrev pub NamesNoOptions : List Row → Type 0
 NamesNoOptions rows =
     LacksNumber (codes "workers") rows ⊎ (LacksNumber (codes "stride") rows ⊎ (LacksNumber (codes "block") rows ⊎ AreOutOfRange rows))
 
--- The words of `campaign` name no file, or no options.
+-- The words of `campaign` name no file, no view, no shard, or no options.
 abbrev pub NamesNoCampaign : List Row → Type 0
-NamesNoCampaign rows = (first_of (codes "FILE") rows ≡ None) ⊎ NamesNoOptions rows
+NamesNoCampaign rows =
+    (first_of (codes "FILE") rows ≡ None) ⊎ ((view_in rows ≡ None) ⊎ ((shard_in_rows rows ≡ None) ⊎ NamesNoOptions rows))
 
 -- The words name no job.
 abbrev pub NamesNoJob : Option (Text × List Row) → Type 0
 NamesNoJob None = Unit {0}
 NamesNoJob (Some named) =
     (named.0 ≡ codes "run" → NamesNoRun named.1) × (named.0 ≡ codes "campaign" → NamesNoCampaign named.1)
+
+-- ---- words that are refused
+
+-- of what kind a fault is where the view or the shard is none
+abbrev pub faults_without : Option View → Option Shard → Kinds
+faults_without (Some view) (Some shard) = []
+faults_without view shard = ValueValidation ∷ []
+
+-- of what kind the fault of words is that the command takes
+abbrev pub value_faults : Option (Text × List Row) → Kinds
+value_faults None = []
+value_faults (Some named) = if bytes_eq named.0 (codes "campaign") then faults_without (view_in named.1) (shard_in_rows named.1) else []
+
+-- Of what kinds the fault of the words may be; of none, where they name a job: one of those that the command doesn't take, or else that
+-- of a list of ends or of a shard.
+abbrev pub faults_of : List (List ℕ) → Kinds
+faults_of words = or_else (fault_of rtosim_app words) (value_faults (subcommand_of rtosim_app words))

@@ -11,6 +11,7 @@ use crate::fault_line::tell;
 use byte_io::{FromReader, ReadFault, Sink, Source, read_all, read_at_most};
 use campaign::{At, Gate, NoGate, Options, ServeFault, serve_of, serve_run_of};
 use model::End;
+use report::{Shard, View};
 use std::alloc::Global;
 use std::fs::File;
 use std::io::{self, ErrorKind};
@@ -29,10 +30,12 @@ pub enum Job<'a> {
         handler: Option<&'a str>,
         state: bool,
     },
-    /// Write the report of the campaign of this file, worked off as the options say. Where it is quiet, nobody is told how far
-    /// it has come.
+    /// Write what the view shows of the campaign of this file, or of this part of it, worked off as the options say. Where it is quiet,
+    /// nobody is told how far it has come.
     Campaign {
         file: &'a str,
+        view: View,
+        shard: Shard,
         options: Options,
         quiet: bool,
     },
@@ -106,7 +109,7 @@ impl<'a> Job<'a> {
     }
 }
 
-/// The status of a job: 0 where the run that it wrote passes, or all rows do, 1 where it or some of them don't, 2 where a step
+/// The status of a job: 0 where its run passes, or all rows of its part of a campaign do, written or not, 1 where it or some of them don't, 2 where a step
 /// and a handler don't go together or the handler is unknown, 3 where the file has a fault, too many points, or can't be read, 4
 /// for want of memory, 5 where the report can't be written.
 pub fn status_of(outcome: Result<bool, JobFault>) -> u8
@@ -170,10 +173,12 @@ fn serve_run_at<W: Sink>(
     Ok(matches!(end, End::Pass))
 }
 
-// Serves a campaign. Answers whether all its rows pass.
+// Serves a part of a campaign. Answers whether all its rows pass.
 fn serve_campaign<T: Threads + Wait + Sync, W: Sink, G: Gate + Sync>(
     rt: &T,
     alloc: Global,
+    view: View,
+    shard: Shard,
     options: Options,
     quiet: bool,
     bytes: &[u8],
@@ -181,13 +186,13 @@ fn serve_campaign<T: Threads + Wait + Sync, W: Sink, G: Gate + Sync>(
     gate: &G,
 ) -> Result<bool, ServeFault>
     requires { W.has_failed writer.old ≡ false }
-    ensures { CampaignServed (Some bytes.now) false
+    ensures { CampaignServed view shard (Some bytes.now) false
         (W.held writer.old) (W.held writer.new) (W.has_failed writer.new) result }
 {
     let totals = if quiet {
-        serve_of(rt, alloc, bytes, writer, options, &NoGate)?
+        serve_of(rt, alloc, bytes, writer, view, shard, options, &NoGate)?
     } else {
-        serve_of(rt, alloc, bytes, writer, options, gate)?
+        serve_of(rt, alloc, bytes, writer, view, shard, options, gate)?
     };
     Ok(totals.pass == totals.rows)
 }
@@ -209,9 +214,13 @@ fn serve_job<T: Threads + Wait + Sync, W: Sink, G: Gate + Sync>(
     let served = match *job {
         Job::Run { state: false, .. } => serve_run_at(alloc, at, bytes, writer),
         Job::Run { state: true, .. } => serve_end_state_at(alloc, at, bytes, writer),
-        Job::Campaign { options, quiet, .. } => {
-            serve_campaign(rt, alloc, options, quiet, bytes, writer, gate)
-        }
+        Job::Campaign {
+            view,
+            shard,
+            options,
+            quiet,
+            ..
+        } => serve_campaign(rt, alloc, view, shard, options, quiet, bytes, writer, gate),
     };
     Ok(served?)
 }

@@ -7,6 +7,7 @@ mod end_state;
 mod fault_line;
 mod obeying;
 mod processors;
+mod shown;
 mod words;
 
 pub use acting::{Job, JobFault, act, conclude, open_and_act, refuse, status_of};

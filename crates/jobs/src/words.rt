@@ -1,14 +1,16 @@
 //! The words of the command line.
-ghost use Rattle.std.specs.Prelude.{◌≡◌, Some, codes, IfOk, IfErr, IfSome, IsSome, IsNone, MatchResult, true, map, option_map};
-ghost use Rattle.clap.specs.declared.builder.ArgAction.TheVariants.{Set};
+ghost use Rattle.std.specs.Prelude.{◌≡◌, Some, codes, IfOk, IfErr, IfSome, IsSome, IsNone, MatchResult, true, [], ◌∷◌, map, option_map};
 ghost use Rattle.clap.specs.declared.builder.command.Command.TheViews.{out-Command as fields_of};
-ghost use Rattle.clap.specs.Words.{new_app, new_rule, with_subcommand, takes, kind_of, subcommand_of, first_of, one_of, found_of, rows_of, subcommand_rows_of, fault_of, FailsBy};
-ghost use Rattle.clap.specs.declared.error.kind.ErrorKind.TheVariants.{OutOfMemory};
-ghost use Rattle.jobs.specs.Words.{file_rule, at_rule, handler_rule, state_rule, quiet_rule, option_rule, workers_rule, stride_rule, block_rule, run_app, campaign_app, rtosim_top, rtosim_app, texts_of, number_of, is_given, IsCommandOf, IsArgOf, IsStepOf, IsRunOf, AreOptionsOf, IsCampaignOf, IsJobOf, IsNoNumber, NamesNoStep, NamesNoRun, NamesNoOptions, NamesNoCampaign, NamesNoJob};
+ghost use Rattle.clap.specs.Words.{new_app, with_subcommand, takes, kind_of, subcommand_of, first_of, one_of, found_of, rows_of, subcommand_rows_of, FailsBy, HasKind};
+ghost use Rattle.clap.specs.declared.error.kind.ErrorKind.TheVariants.{OutOfMemory, ValueValidation};
+ghost use Rattle.jobs.specs.Words.{file_rule, at_rule, handler_rule, state_rule, only_rule, heads_rule, shard_rule, quiet_rule, flag_rule, text_rule, option_rule, workers_rule, stride_rule, block_rule, run_app, campaign_app, rtosim_top, rtosim_app, texts_of, number_of, is_given, ends_in, view_in, shard_of_words, shard_in_rows, value_faults, faults_of, IsCommandOf, IsArgOf, IsStepOf, IsRunOf, AreOptionsOf, IsCampaignOf, IsJobOf, IsNoNumber, NamesNoStep, NamesNoRun, NamesNoOptions, NamesNoCampaign, NamesNoJob};
 
 use crate::acting::Job;
+use crate::shown::{ends_of, shard_named};
 use campaign::Options;
+use clap::error::ErrorKind;
 use clap::{Arg, ArgAction, ArgMatches, Command, Error, value_parser};
+use report::{Ends, Shard, View};
 use std::alloc::{AllocError, Global};
 use std::convert::AsStr;
 use std::num::ParseIntError;
@@ -21,6 +23,12 @@ const STATUSES: &str = "Exit status:
      more than 1000000 points
   4  no memory is left
   5  the report can't be written";
+
+// What is said of a list that is none, and of a shard.
+const BAD_LIST: &str =
+    "the value of '--only' is pass, check, misuse, ticks, steps, stuck or failing, or several of them joined by commas";
+
+const BAD_SHARD: &str = "the value of '--shard' is I/N, where N is 1 to 1000000 and I is 1 to N";
 
 // The latest step before which a handler can be injected (profile).
 const MOST_STEP: u32 = 1_000_000;
@@ -36,7 +44,7 @@ fn file_argument<'a>(alloc: Global) -> Arg<'a>
 
 // An argument of this name that takes a value.
 fn valued_argument<'a>(alloc: Global, name: &'a str, value: &'a str) -> Arg<'a>
-    ensures { IsArgOf (record (new_rule name.now) { long = Some name.now; value_names = 1; action = Some Set }) result }
+    ensures { IsArgOf (text_rule name.now) result }
 {
     Arg::new(alloc, name)
         .long(name)
@@ -67,6 +75,28 @@ fn at_argument<'a>(alloc: Global) -> Arg<'a>
         .help("The step, 0 to 1000000, before which the handler is injected")
 }
 
+fn only_argument<'a>(alloc: Global) -> Arg<'a>
+    ensures { IsArgOf only_rule result }
+{
+    valued_argument(alloc, "only", "LIST").help(
+        "Ends of rows to write: pass,check,misuse,ticks,steps,stuck,failing",
+    )
+}
+
+fn heads_argument<'a>(alloc: Global) -> Arg<'a>
+    ensures { IsArgOf heads_rule result }
+{
+    flag_argument(alloc, "heads").help("Writes the head line of each row, and no events")
+}
+
+fn shard_argument<'a>(alloc: Global) -> Arg<'a>
+    ensures { IsArgOf shard_rule result }
+{
+    valued_argument(alloc, "shard", "I/N").help(
+        "Part of the points to run: the one of number I of N parts",
+    )
+}
+
 fn handler_argument<'a>(alloc: Global) -> Arg<'a>
     ensures { IsArgOf handler_rule result }
 {
@@ -75,22 +105,24 @@ fn handler_argument<'a>(alloc: Global) -> Arg<'a>
     )
 }
 
+// An argument of this name that is given or not.
+fn flag_argument<'a>(alloc: Global, name: &'a str) -> Arg<'a>
+    ensures { IsArgOf (flag_rule name.now) result }
+{
+    Arg::new(alloc, name).long(name).action(ArgAction::SetTrue)
+}
+
 fn state_argument<'a>(alloc: Global) -> Arg<'a>
     ensures { IsArgOf state_rule result }
 {
-    Arg::new(alloc, "state")
-        .long("state")
-        .action(ArgAction::SetTrue)
+    flag_argument(alloc, "state")
         .help("Adds what each task is doing at the end, and who holds which mutex")
 }
 
 fn quiet_argument<'a>(alloc: Global) -> Arg<'a>
     ensures { IsArgOf quiet_rule result }
 {
-    Arg::new(alloc, "quiet")
-        .long("quiet")
-        .action(ArgAction::SetTrue)
-        .help("Tells nobody how far the campaign has come")
+    flag_argument(alloc, "quiet").help("Hides how far the campaign has come, not rows")
 }
 
 fn workers_argument<'a>(alloc: Global) -> Arg<'a>
@@ -148,6 +180,9 @@ fn campaign_command<'a>(alloc: Global) -> Result<Command<'a>, AllocError>
 {
     let arguments = vec![in alloc;
         file_argument(alloc),
+        only_argument(alloc),
+        heads_argument(alloc),
+        shard_argument(alloc),
         workers_argument(alloc),
         stride_argument(alloc),
         block_argument(alloc),
@@ -263,16 +298,56 @@ fn options_of(matches: &ArgMatches<'_>) -> Option<Options>
     Options::new(workers, stride, block).ok()
 }
 
+// The ends of the rows that are written, where a list of them is named or not.
+fn ends_in(list: Option<&str>) -> Option<Ends>
+    ensures { result ≡ ends_in (option_map (λ list. list.now) list.entry) }
+{
+    match list {
+        Some(list) => ends_of(list),
+        None => Some(Ends::EVERY),
+    }
+}
+
+// The view that the words of `campaign` name.
+fn view_of(matches: &ArgMatches<'_>) -> Option<View>
+    ensures { result ≡ view_in (rows_of (found_of matches.now)) }
+{
+    let ends = ends_in(text(matches, "only"))?;
+    let heads = is_given(matches, "heads");
+    Some(View { ends, heads })
+}
+
+// The shard, where one is named or not.
+fn shard_in(word: Option<&str>) -> Option<Shard>
+    ensures { result ≡ shard_of_words (option_map (λ word. word.now) word.entry) }
+{
+    match word {
+        Some(word) => shard_named(word),
+        None => Some(Shard::whole()),
+    }
+}
+
+// The shard that the words of `campaign` name.
+fn shard_of(matches: &ArgMatches<'_>) -> Option<Shard>
+    ensures { result ≡ shard_in_rows (rows_of (found_of matches.now)) }
+{
+    shard_in(text(matches, "shard"))
+}
+
 // The job of the command `campaign`.
 fn campaign_job<'a>(matches: &ArgMatches<'a>) -> Option<Job<'a>>
     ensures job { IfSome result (IsCampaignOf (rows_of (found_of matches.now))) }
     ensures none { IsNone result → NamesNoCampaign (rows_of (found_of matches.now)) }
 {
     let file = text(matches, "FILE")?;
+    let view = view_of(matches)?;
+    let shard = shard_of(matches)?;
     let options = options_of(matches)?;
     let quiet = is_given(matches, "quiet");
     Some(Job::Campaign {
         file,
+        view,
+        shard,
         options,
         quiet,
     })
@@ -290,20 +365,60 @@ fn job_of<'a>(matches: &ArgMatches<'a>) -> Option<Job<'a>>
     }
 }
 
+// What is wrong with a value of words that the command takes, if one is.
+fn bad_value(matches: &ArgMatches<'_>) -> Option<&'static str>
+    ensures { IsSome result → value_faults (subcommand_rows_of matches.now) ≡ ValueValidation ∷ [] }
+{
+    let (name, inner) = matches.subcommand()?;
+    if name != "campaign" {
+        return None;
+    }
+    if view_of(inner).is_none() {
+        return Some(BAD_LIST);
+    }
+    if shard_of(inner).is_none() {
+        return Some(BAD_SHARD);
+    }
+    None
+}
+
+// The refusal of a value.
+fn refused(alloc: Global, message: &str) -> Result<Error, AllocError>
+    ensures { IfOk result (λ e. kind_of e ≡ ValueValidation) }
+{
+    let mut command = command(alloc)?;
+    command.error(ErrorKind::ValueValidation, message)
+}
+
+// Why words that the command takes name no job: a value is refused, or no memory is left.
+fn refusal(alloc: Global, matches: &ArgMatches<'_>) -> Error
+    ensures { HasKind (value_faults (subcommand_rows_of matches.now)) result }
+{
+    let Some(message) = bad_value(matches) else {
+        return Error::from(AllocError);
+    };
+    match refused(alloc, message) {
+        Ok(error) => error,
+        Err(error) => Error::from(error),
+    }
+}
+
 /// The job that the words name; the first of them is the name of the program. At `Err` help or the version was asked
-/// for, the words are refused, or no memory is left, as the kind of the error says. Words that the command takes are
-/// refused only for want of memory.
+/// for, the words are refused, or no memory is left, as the kind of the error says. Words that the command takes, and whose list of ends
+/// and shard are such, are refused only for want of memory.
 pub fn job_named<'a, S: AsStr>(alloc: Global, words: &'a [S]) -> Result<Job<'a>, Error>
     ensures job { IfOk result (IsJobOf (subcommand_of rtosim_app (map S.text words.entry.now))) }
-    ensures memory { IfErr result (λ e.
-        takes rtosim_app (map S.text words.entry.now) ≡ true → kind_of e ≡ OutOfMemory) }
+    ensures memory { IfErr result (λ e. takes rtosim_app (map S.text words.entry.now) ≡ true
+        → value_faults (subcommand_of rtosim_app (map S.text words.entry.now)) ≡ [] → kind_of e ≡ OutOfMemory) }
 
-    // `Ok` comes only where the command takes the words, and an error is of a kind that they have, or memory.
-    ensures kinds { FailsBy (fault_of rtosim_app (map S.text words.entry.now)) result }
+    // `Ok` comes only where the words have no fault, and an error is of a kind that they have, or memory.
+    ensures kinds { FailsBy (faults_of (map S.text words.entry.now)) result }
 {
     match command(alloc)?.try_get_matches_from(words) {
-        // No matches are without a job.
-        Ok(matches) => job_of(&matches).ok_or(Error::from(AllocError)),
+        Ok(matches) => match job_of(&matches) {
+            Some(job) => Ok(job),
+            None => Err(refusal(alloc, &matches)),
+        },
         Err(error) => Err(error),
     }
 }

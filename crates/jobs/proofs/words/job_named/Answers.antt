@@ -1,15 +1,25 @@
-use Rattle.clap.specs.Words.{HasKind, Kinds}
-use Rattle.jobs.proofs.Matches.{taken_as, job_as, kinds_as, kinds_of_job}
+use Rattle.std.proofs.Common.{◌∙◌, ap}
+use Rattle.clap.specs.Words.{subcommand_rows_of}
+use Rattle.jobs.specs.Words.{value_faults}
+use Rattle.jobs.proofs.Matches.{fails_as, found_as, job_as, memory_alone, no_faults, taken_as, value_as}
 use Rattle.jobs.proofs.words.job_named.Goals as goal
 
-pub returns-in-Ok-clause-job : goal.returns-in-Ok-clause-job
-returns-in-Ok-clause-job g c = rw c.ok_or.ensures.value (job_as _ _ c.in-Ok.matches _ _ c.in_ok-command.ensures.reads c.in-Ok.ensures.matches c.job_of.ensures.job)
+pub returns-in-Some-clause-job : goal.returns-in-Some-clause-job
+returns-in-Some-clause-job g c = job_as _ _ c.in-Ok.matches c.in-Some.job c.in_ok-command.ensures.reads c.in-Ok.ensures.matches c.in-Some.ensures.job
 
-pub returns-in-Ok-clause-kinds : goal.returns-in-Ok-clause-kinds
-returns-in-Ok-clause-kinds g c = rw c.ok_or.ensures.value (kinds_of_job _ _ _ _ c.in_ok-command.ensures.reads c.from.ensures c.in-Ok.ensures.kinds)
+pub returns-in-Some-clause-kinds : goal.returns-in-Some-clause-kinds
+returns-in-Some-clause-kinds g c = no_faults _ _ c.in-Some.job c.in_ok-command.ensures.reads (returns-in-Some-clause-job g c) c.in-Ok.ensures.kinds
+
+pub returns-in-None-clause-memory : goal.returns-in-None-clause-memory
+returns-in-None-clause-memory g c took none =
+    memory_alone (value_faults (subcommand_rows_of c.in-Ok.matches)) c.refusal.result c.refusal.ensures
+    (ap value_faults (found_as _ _ c.in-Ok.matches c.in_ok-command.ensures.reads c.in-Ok.ensures.matches) ∙ none)
+
+pub returns-in-None-clause-kinds : goal.returns-in-None-clause-kinds
+returns-in-None-clause-kinds g c = value_as _ _ c.in-Ok.matches c.refusal.result c.in_ok-command.ensures.reads c.in-Ok.ensures.matches c.in-Ok.ensures.kinds c.refusal.ensures
 
 pub returns-in-Err-clause-memory : goal.returns-in-Err-clause-memory
-returns-in-Err-clause-memory g c = taken_as _ _ _ _ c.in_ok-command.ensures.reads c.in-Err.ensures.passes
+returns-in-Err-clause-memory g c took none = taken_as _ _ _ _ c.in_ok-command.ensures.reads c.in-Err.ensures.passes took
 
 pub returns-in-Err-clause-kinds : goal.returns-in-Err-clause-kinds
-returns-in-Err-clause-kinds g c = kinds_as _ _ (λ (k : Kinds). HasKind k c.in-Err.error) c.in_ok-command.ensures.reads c.in-Err.ensures.kinds
+returns-in-Err-clause-kinds g c = fails_as _ _ c.in-Err.error c.in_ok-command.ensures.reads c.in-Err.ensures.kinds
