@@ -25,6 +25,7 @@ fn base_run_of(file: &str) -> Job<'_> {
         file,
         at: None,
         handler: None,
+        state: false,
     }
 }
 

@@ -10,62 +10,86 @@ struct Named {
     file: &'static str,
     at: Option<u32>,
     handler: Option<&'static str>,
+    state: bool,
 }
 
-const NAMED: [Named; 9] = [
+const NAMED: [Named; 11] = [
     Named {
         words: &["rtosim", "run", "app.toml"],
         file: "app.toml",
         at: None,
         handler: None,
+        state: false,
     },
     Named {
         words: &["rtosim", "run", "--", "-a"],
         file: "-a",
         at: None,
         handler: None,
+        state: false,
     },
     Named {
         words: &["rtosim", "run", "-"],
         file: "-",
         at: None,
         handler: None,
+        state: false,
     },
     Named {
         words: &["rtosim", "run", "a", "--at", "3", "--handler", "h"],
         file: "a",
         at: Some(3),
         handler: Some("h"),
+        state: false,
     },
     Named {
         words: &["rtosim", "run", "--handler=H_1", "--at=1000000", "a"],
         file: "a",
         at: Some(1_000_000),
         handler: Some("H_1"),
+        state: false,
     },
     Named {
         words: &["rtosim", "run", "--at", "010", "a", "--handler", ""],
         file: "a",
         at: Some(10),
         handler: Some(""),
+        state: false,
     },
     Named {
         words: &["rtosim", "run", "a", "--at=-0"],
         file: "a",
         at: Some(0),
         handler: None,
+        state: false,
     },
     Named {
         words: &["rtosim", "run", "a", "--at", "+7"],
         file: "a",
         at: Some(7),
         handler: None,
+        state: false,
     },
     Named {
         words: &["rtosim", "run", "a", "--handler", "h"],
         file: "a",
         at: None,
         handler: Some("h"),
+        state: false,
+    },
+    Named {
+        words: &["rtosim", "run", "a", "--state"],
+        file: "a",
+        at: None,
+        handler: None,
+        state: true,
+    },
+    Named {
+        words: &["rtosim", "run", "--state", "--at=2", "a", "--handler", "h"],
+        file: "a",
+        at: Some(2),
+        handler: Some("h"),
+        state: true,
     },
 ];
 
@@ -76,6 +100,7 @@ fn words_that_name_a_job(rt: HostRuntime) {
             file: named.file,
             at: named.at,
             handler: named.handler,
+            state: named.state,
         };
         assert!(rt; job_named(rt.alloc(), named.words).ok() == Some(job));
     }

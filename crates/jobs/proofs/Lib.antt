@@ -4,3 +4,4 @@ pub mod Matches
 mod Putting
 mod Serving
 pub mod Meaning
+pub mod EndStates

@@ -1,5 +1,5 @@
 -- What a job comes to over its file, of whose bytes nothing need be known.
-use Rattle.std.proofs.Common.{◌≡◌, ◌≢◌, ◌≤◌, ℕ, Bool, false, List, [], length, ◌⊎◌, inl, inr, Option, Some, None, refl}
+use Rattle.std.proofs.Common.{◌≡◌, ◌≢◌, ◌≤◌, ℕ, Bool, true, false, List, [], length, ◌⊎◌, inl, inr, Option, Some, None, refl}
 use Rattle.std.specs.Prelude.{Ok, Err, Result, IfSome}
 use Rattle.std.proofs.KnownBytes.{Keeps-refl}
 use Rattle.campaign.specs.declared.at.At.{At}
@@ -13,6 +13,8 @@ use Rattle.jobs.specs.declared.acting.Job.{Job}
 use Rattle.jobs.specs.declared.acting.Job.TheVariants.{Run, Campaign}
 use Rattle.jobs.specs.declared.acting.JobFault.{JobFault}
 use Rattle.jobs.specs.declared.acting.JobFault.TheVariants.{Serve, TooLarge, Unpaired}
+use Rattle.jobs.specs.EndStates.{EndStateServed}
+use Rattle.jobs.proofs.EndStates.{end_state_file_fault}
 use Rattle.jobs.specs.Acting.{RunServed, CampaignServed, Served, Does, DoesOverFile, FailsToRead, LacksFile, OpensAndDoes, ReadsFor, injection_of, is_unpaired, most_bytes}
 
 -- A file that could not be opened.
@@ -26,12 +28,17 @@ module _ (input other : Option (List ℕ)) (as_known : (bytes : List ℕ) → Kn
   run_as_known at (Ok passes) h = (h.0, h.1, serves_as_known _ _ input other as_known rf old new wf (Ok h.0) h.2)
   run_as_known at (Err fault) h = serves_as_known _ _ input other as_known rf old new wf (Err fault) h
 
+  end_state_as_known : (at : Option At) (outcome : Result Bool ServeFault) → EndStateServed at input rf old new wf outcome → EndStateServed at other rf old new wf outcome
+  end_state_as_known at (Ok passes) h = (h.0, h.1, serves_as_known _ _ input other as_known rf old new wf (Ok h.0) h.2)
+  end_state_as_known at (Err fault) h = serves_as_known _ _ input other as_known rf old new wf (Err fault) h
+
   campaign_as_known : (outcome : Result Bool ServeFault) → CampaignServed input rf old new wf outcome → CampaignServed other rf old new wf outcome
   campaign_as_known (Ok passes) h = (h.0, h.1, serves_as_known _ _ input other as_known rf old new wf (Ok h.0) h.2)
   campaign_as_known (Err fault) h = serves_as_known _ _ input other as_known rf old new wf (Err fault) h
 
   served_as_known : (job : Job) (outcome : Result Bool ServeFault) → Served job input rf old new wf outcome → Served job other rf old new wf outcome
-  served_as_known (Run file at handler) outcome h = run_as_known (injection_of (Run file at handler)) outcome h
+  served_as_known (Run file at handler false) outcome h = run_as_known (injection_of (Run file at handler false)) outcome h
+  served_as_known (Run file at handler true) outcome h = end_state_as_known (injection_of (Run file at handler true)) outcome h
   served_as_known (Campaign file options quiet) outcome h = campaign_as_known outcome h
 
   does_as_known : (job : Job) (outcome : Result Bool JobFault) → Does job input rf old new wf outcome → Does job other rf old new wf outcome
@@ -84,10 +91,14 @@ does_over_all job input bytes rf old new wf outcome reads h = rw reads.0 (does_a
 -- A fault of reading is one of what is asked for.
 served_fault : (job : Job) (file : Option (List ℕ)) (rf wf : Bool) (old : Option (List ℕ)) (e : ReadFault) → (e ≡ read.Memory → file ≢ Some [])
     → rf ≡ is_read_fault {A = Bool} (Err (of_reading e)) → wf ≡ false → Served job file rf old old wf (Err (of_reading e))
-served_fault (Run name at handler) file rf wf old read.Failed some failed working =
-    serves_file_fault (injection_of (Run name at handler)) file rf wf old Read (reading_failed file read.Failed some) failed refl working
-served_fault (Run name at handler) file rf wf old read.Memory some failed working =
-    serves_file_fault (injection_of (Run name at handler)) file rf wf old Memory (reading_failed file read.Memory some) failed refl working
+served_fault (Run name at handler false) file rf wf old read.Failed some failed working =
+    serves_file_fault (injection_of (Run name at handler false)) file rf wf old Read (reading_failed file read.Failed some) failed refl working
+served_fault (Run name at handler false) file rf wf old read.Memory some failed working =
+    serves_file_fault (injection_of (Run name at handler false)) file rf wf old Memory (reading_failed file read.Memory some) failed refl working
+served_fault (Run name at handler true) file rf wf old read.Failed some failed working =
+    end_state_file_fault (injection_of (Run name at handler true)) file rf wf old Read (reading_failed file read.Failed some) failed refl working
+served_fault (Run name at handler true) file rf wf old read.Memory some failed working =
+    end_state_file_fault (injection_of (Run name at handler true)) file rf wf old Memory (reading_failed file read.Memory some) failed refl working
 served_fault (Campaign name options quiet) file rf wf old read.Failed some failed working =
     campaign_serves_file_fault file rf wf old Read (reading_failed file read.Failed some) failed refl working
 served_fault (Campaign name options quiet) file rf wf old read.Memory some failed working =

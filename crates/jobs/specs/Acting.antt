@@ -16,6 +16,7 @@ use Rattle.campaign.specs.declared.file.ServeFault.TheVariants.{Read, NotToml, L
 use Rattle.campaign.specs.Serving.{Known}
 use Rattle.campaign.specs.OneRun.{ServesRun}
 use Rattle.campaign.specs.Campaigns.{ServesCampaign}
+use Rattle.jobs.specs.EndStates.{EndStateServed}
 use Rattle.jobs.specs.declared.acting.Job.{Job}
 use Rattle.jobs.specs.declared.acting.Job.TheVariants.{Run, Campaign}
 use Rattle.jobs.specs.declared.acting.JobFault.{JobFault}
@@ -25,27 +26,27 @@ use Rattle.jobs.specs.declared.acting.JobFault.TheVariants.{Unpaired, TooLarge, 
 
 -- the name of the file that a job reads
 abbrev pub file_of : Job → List ℕ
-file_of (Run file at handler) = file.now
+file_of (Run file at handler state) = file.now
 file_of (Campaign file options quiet) = file.now
 
 -- the name of the handler that a job injects; empty where it has none
 abbrev pub handler_of : Job → List ℕ
-handler_of (Run file at handler) = option_map_or (λ name. name.now) handler []
+handler_of (Run file at handler state) = option_map_or (λ name. name.now) handler []
 handler_of (Campaign file options quiet) = []
 
 -- The job has a step and no handler, or a handler and no step.
 abbrev pub is_unpaired : Job → Bool
-is_unpaired (Run file (Some step) None) = true
-is_unpaired (Run file None (Some handler)) = true
-is_unpaired (Run file (Some step) (Some handler)) = false
-is_unpaired (Run file None None) = false
+is_unpaired (Run file (Some step) None state) = true
+is_unpaired (Run file None (Some handler) state) = true
+is_unpaired (Run file (Some step) (Some handler) state) = false
+is_unpaired (Run file None None state) = false
 is_unpaired (Campaign file options quiet) = false
 
 -- the injection that a job asks for, where it has both
 abbrev pub injection_of : Job → Option At
-injection_of (Run file (Some step) (Some handler)) = Some (record { step = step; handler = handler })
-injection_of (Run file (Some step) None) = None
-injection_of (Run file None handler) = None
+injection_of (Run file (Some step) (Some handler) state) = Some (record { step = step; handler = handler })
+injection_of (Run file (Some step) None state) = None
+injection_of (Run file None handler state) = None
 injection_of (Campaign file options quiet) = None
 
 -- Every row of a campaign passes.
@@ -69,8 +70,10 @@ CampaignServed input read_failed old new write_failed (Err fault) = ServesCampai
 -- What a job asks for is served, and passes or not.
 abbrev pub Served : Job → (input : Option (List ℕ)) → (read_failed : Bool) → (old new : Option (List ℕ)) → (write_failed : Bool)
     → Result Bool ServeFault → Type 0
-Served (Run file at handler) input read_failed old new write_failed outcome =
-    RunServed (injection_of (Run file at handler)) input read_failed old new write_failed outcome
+Served (Run file at handler false) input read_failed old new write_failed outcome =
+    RunServed (injection_of (Run file at handler false)) input read_failed old new write_failed outcome
+Served (Run file at handler true) input read_failed old new write_failed outcome =
+    EndStateServed (injection_of (Run file at handler true)) input read_failed old new write_failed outcome
 Served (Campaign file options quiet) input read_failed old new write_failed outcome =
     CampaignServed input read_failed old new write_failed outcome
 

@@ -35,8 +35,12 @@ at_rule = record (new_rule (codes "at")) {
 abbrev pub handler_rule : Rule
 handler_rule = record (new_rule (codes "handler")) { long = Some (codes "handler"); value_names = 1; action = Some Set }
 
+-- given or not
+abbrev pub state_rule : Rule
+state_rule = record (new_rule (codes "state")) { long = Some (codes "state"); action = Some SetTrue }
+
 abbrev pub run_app : App
-run_app = with_rule (with_rule (with_rule (new_app (codes "run")) file_rule) at_rule) handler_rule
+run_app = with_rule (with_rule (with_rule (with_rule (new_app (codes "run")) file_rule) at_rule) handler_rule) state_rule
 
 -- given or not
 abbrev pub quiet_rule : Rule
@@ -100,18 +104,20 @@ IsNumber text = IsNumeral 10 (without_leading_plus text) × (number_of text < 2 
 abbrev pub IsStepOf : List Row → Option ℕ → Type 0
 IsStepOf rows at = (option_map number_of (one_of (codes "at") rows) ≡ at) × IfSome at (λ step. step ≤ last_point)
 
--- The job is to run the file that the words of `run` name, with the step and the handler that they name.
-abbrev pub IsRunOf : List Row → Job → Type 0
-IsRunOf rows (Run file at handler) =
-    (first_of (codes "FILE") rows ≡ Some file.now)
-    × IsStepOf rows at
-    × (first_of (codes "handler") rows ≡ option_map (λ name. name.now) handler)
-IsRunOf rows (Campaign file options quiet) = ⊥
-
 -- A flag that is given has the value `true`, one that is not given `false`.
 abbrev pub is_given : Option Text → Bool
 is_given None = false
 is_given (Some text) = bytes_eq text (codes "true")
+
+-- The job is to run the file that the words of `run` name, with the step and the handler that they name, and to tell what stands at the
+-- end or not.
+abbrev pub IsRunOf : List Row → Job → Type 0
+IsRunOf rows (Run file at handler state) =
+    (first_of (codes "FILE") rows ≡ Some file.now)
+    × IsStepOf rows at
+    × (first_of (codes "handler") rows ≡ option_map (λ name. name.now) handler)
+    × (is_given (first_of (codes "state") rows) ≡ state)
+IsRunOf rows (Campaign file options quiet) = ⊥
 
 -- the number of an option
 abbrev pub number_in : (name : Text) → List Row → Option ℕ
@@ -126,7 +132,7 @@ pub record AreOptionsOf (rows : List Row) (options : Options) : Type 0 where
 
 -- The job is the campaign of the file that the words of `campaign` name, with the options that they name, quiet or not.
 abbrev pub IsCampaignOf : List Row → Job → Type 0
-IsCampaignOf rows (Run file at handler) = ⊥
+IsCampaignOf rows (Run file at handler state) = ⊥
 IsCampaignOf rows (Campaign file options quiet) =
     (first_of (codes "FILE") rows ≡ Some file.now) × AreOptionsOf rows options × (is_given (first_of (codes "quiet") rows) ≡ quiet)
 

@@ -6,6 +6,7 @@ ghost use Rattle.jobs.specs.declared.acting.JobFault.{JobFault};
 ghost use Rattle.jobs.specs.declared.acting.JobFault.TheVariants as job_fault;
 ghost use Rattle.jobs.specs.Acting.{RunServed, CampaignServed, Does, DoesOverFile, OpensAndDoes, ReadsFor, FailsToRead, Tells, fault_line, is_unpaired, most_bytes, told, status_of};
 
+use crate::end_state::serve_end_state_at;
 use crate::fault_line::tell;
 use byte_io::{FromReader, ReadFault, Sink, Source, read_all, read_at_most};
 use campaign::{At, Gate, NoGate, Options, ServeFault, serve_of, serve_run_of};
@@ -21,11 +22,12 @@ use std::thread::Threads;
 #[derive(Clone, Copy, PartialEq, Eq)]
 pub enum Job<'a> {
     /// Write the report of the run of this file's application: the base run, or row 0, where the handler of this name is
-    /// injected before this step. A step and a handler go together.
+    /// injected before this step. A step and a handler go together. What stands at the end is told too, or isn't.
     Run {
         file: &'a str,
         at: Option<u32>,
         handler: Option<&'a str>,
+        state: bool,
     },
     /// Write the report of the campaign of this file, worked off as the options say. Where it is quiet, nobody is told how far
     /// it has come.
@@ -205,7 +207,8 @@ fn serve_job<T: Threads + Wait + Sync, W: Sink, G: Gate + Sync>(
 {
     let at = job.injection()?;
     let served = match *job {
-        Job::Run { .. } => serve_run_at(alloc, at, bytes, writer),
+        Job::Run { state: false, .. } => serve_run_at(alloc, at, bytes, writer),
+        Job::Run { state: true, .. } => serve_end_state_at(alloc, at, bytes, writer),
         Job::Campaign { options, quiet, .. } => {
             serve_campaign(rt, alloc, options, quiet, bytes, writer, gate)
         }

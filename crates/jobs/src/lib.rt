@@ -3,6 +3,7 @@
 #![tactic(auto)]
 
 mod acting;
+mod end_state;
 mod fault_line;
 mod obeying;
 mod processors;

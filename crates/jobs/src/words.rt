@@ -4,7 +4,7 @@ ghost use Rattle.clap.specs.declared.builder.ArgAction.TheVariants.{Set};
 ghost use Rattle.clap.specs.declared.builder.command.Command.TheViews.{out-Command as fields_of};
 ghost use Rattle.clap.specs.Words.{new_app, new_rule, with_subcommand, takes, kind_of, subcommand_of, first_of, one_of, found_of, rows_of, subcommand_rows_of, fault_of, FailsBy};
 ghost use Rattle.clap.specs.declared.error.kind.ErrorKind.TheVariants.{OutOfMemory};
-ghost use Rattle.jobs.specs.Words.{file_rule, at_rule, handler_rule, quiet_rule, option_rule, workers_rule, stride_rule, block_rule, run_app, campaign_app, rtosim_top, rtosim_app, texts_of, number_of, is_given, IsCommandOf, IsArgOf, IsStepOf, IsRunOf, AreOptionsOf, IsCampaignOf, IsJobOf, IsNoNumber, NamesNoStep, NamesNoRun, NamesNoOptions, NamesNoCampaign, NamesNoJob};
+ghost use Rattle.jobs.specs.Words.{file_rule, at_rule, handler_rule, state_rule, quiet_rule, option_rule, workers_rule, stride_rule, block_rule, run_app, campaign_app, rtosim_top, rtosim_app, texts_of, number_of, is_given, IsCommandOf, IsArgOf, IsStepOf, IsRunOf, AreOptionsOf, IsCampaignOf, IsJobOf, IsNoNumber, NamesNoStep, NamesNoRun, NamesNoOptions, NamesNoCampaign, NamesNoJob};
 
 use crate::acting::Job;
 use campaign::Options;
@@ -75,6 +75,15 @@ fn handler_argument<'a>(alloc: Global) -> Arg<'a>
     )
 }
 
+fn state_argument<'a>(alloc: Global) -> Arg<'a>
+    ensures { IsArgOf state_rule result }
+{
+    Arg::new(alloc, "state")
+        .long("state")
+        .action(ArgAction::SetTrue)
+        .help("Adds what each task is doing at the end, and who holds which mutex")
+}
+
 fn quiet_argument<'a>(alloc: Global) -> Arg<'a>
     ensures { IsArgOf quiet_rule result }
 {
@@ -124,6 +133,7 @@ fn run_command<'a>(alloc: Global) -> Result<Command<'a>, AllocError>
         file_argument(alloc),
         at_argument(alloc),
         handler_argument(alloc),
+        state_argument(alloc),
     ]?;
     described_command(
         alloc,
@@ -217,7 +227,13 @@ fn run_job<'a>(matches: &ArgMatches<'a>) -> Option<Job<'a>>
     let file = text(matches, "FILE")?;
     let at = step_of(matches)?;
     let handler = text(matches, "handler");
-    Some(Job::Run { file, at, handler })
+    let state = is_given(matches, "state");
+    Some(Job::Run {
+        file,
+        at,
+        handler,
+        state,
+    })
 }
 
 // Whether a flag is given.

@@ -2,6 +2,7 @@ pub mod BranchExamples
 pub mod Branches
 pub mod Choice
 pub mod DaemonExamples
+pub mod EndStateExamples
 pub mod EndlessExamples
 pub mod Examples
 pub mod HandlerExamples

@@ -10,6 +10,7 @@ ghost use Rattle.laws.specs.BranchExamples.{branch_examples};
 ghost use Rattle.laws.specs.EndlessExamples.{endless_examples};
 ghost use Rattle.laws.specs.LookingExamples.{looking_examples};
 ghost use Rattle.laws.specs.StampExamples.{stamp_examples};
+ghost use Rattle.laws.specs.EndStateExamples.{StandsSo, end_states};
 
 /// Each application of the table of worked examples runs as the table says: round robin, `delay 0` that yields, `delay 1`
 /// that sleeps, sleepers of one time past the wrap of the tick; a receive that times out, a peek that passes a wake on, a send
@@ -91,4 +92,12 @@ pub fn examples_with_handlers_that_look_run()
 /// the tick, and while the scheduler is held; one that measures as much as an answer can be; one that misses its deadline.
 pub fn examples_with_stamps_run()
     ensures { AllByRecursion RunsWith stamp_examples }
+{}
+
+/// What stands after the steps of each of these is what the table says: a receive that has tried, that waits and isn't in its list yet, that
+/// waits there, that a handler woke through the locked queue, and that runs on once the queue is unlocked; two tasks that wait for each
+/// other's mutex, for ever and until a tick; a task that is suspended, one that sleeps, two that are Ready, and those whose scripts are done;
+/// a daemon without a command.
+pub fn end_states_of_examples()
+    ensures { AllByRecursion StandsSo end_states }
 {}

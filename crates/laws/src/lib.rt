@@ -19,7 +19,7 @@ pub use endless::{
     endless_tasks_alone_never_pass, endless_tasks_are_not_awaited, passing_runs_end_what_is_awaited,
 };
 pub use examples::{
-    examples_run, examples_with_a_daemon_run, examples_with_branches_run,
+    end_states_of_examples, examples_run, examples_with_a_daemon_run, examples_with_branches_run,
     examples_with_endless_tasks_run, examples_with_handlers_run,
     examples_with_handlers_that_look_run, examples_with_holds_run, examples_with_mutexes_run,
     examples_with_stamps_run, rows_of_one_receive, rows_of_two_injections, tickless_examples_run,

@@ -1,0 +1,48 @@
+-- What a run of a file comes to where what stands at its end is asked for too.
+use Rattle.std.specs.Prelude.{◌≡◌, ℕ, Bool, List, [], ◌++◌, Option, Result, Ok, Err}
+use Rattle.model.specs.declared.event.End.{End}
+use Rattle.model.specs.declared.plan.Injection.{Injection}
+use Rattle.model.specs.Application.{Application}
+use Rattle.model.specs.Campaign.{is_pass}
+use Rattle.model.specs.Run.{Run, plan_of, state_after}
+use Rattle.outcome.specs.EndStates.{EndState, end_state_of}
+use Rattle.report.specs.declared.title.Title.{Title}
+use Rattle.report.specs.declared.title.Title.TheVariants.{Base, Row}
+use Rattle.report.specs.EndStates.{end_state_text}
+use Rattle.report.specs.Text.{run_text}
+use Rattle.campaign.specs.declared.at.At.{At}
+use Rattle.campaign.specs.declared.file.ServeFault.{ServeFault}
+use Rattle.campaign.specs.OneRun.{HasFault, IsAsked}
+use Rattle.campaign.specs.Serving.{IsFileOf, Serves}
+
+-- the injections of the run whose report has this title: none of the base run, which is also the row of a point that isn't reached
+abbrev pub plan_titled : Title → List Injection
+plan_titled Base = []
+plan_titled (Row number point reached) = plan_of reached point
+
+-- what stands after the last step of this run, whose report has this title
+abbrev pub end_state_of_run : Application → Title → Run → EndState
+end_state_of_run app title run = end_state_of (state_after app app.limits (plan_titled title) run.steps)
+
+-- The bytes are a file where the run that is asked for has this report, behind which stands what stands at its end, and this end.
+pub record IsEndStateReportOf (at : Option At) (bytes report : List ℕ) (end : End) : Type 0 where
+  pub app : Application
+  pub file : IsFileOf bytes app
+  pub title : Title
+  pub run : Run
+  pub runs : IsAsked at app title run
+  pub ends : run.end ≡ end
+  pub text : report ≡ run_text app title run ++ end_state_text app (end_state_of_run app title run)
+
+-- a call that serves the run that is asked for and what stands at its end, and answers how it ends
+abbrev pub ServesEndState : Option At → Option (List ℕ) → (read_failed : Bool) → (old new : Option (List ℕ)) → (write_failed : Bool)
+    → Result End ServeFault → Type 0
+ServesEndState at input read_failed old new write_failed outcome =
+    Serves End (IsEndStateReportOf at) (HasFault at) input read_failed old new write_failed outcome
+
+-- The same, with the answer whether it passes.
+abbrev pub EndStateServed : Option At → (input : Option (List ℕ)) → (read_failed : Bool) → (old new : Option (List ℕ)) → (write_failed : Bool)
+    → Result Bool ServeFault → Type 0
+EndStateServed at input read_failed old new write_failed (Ok passes) =
+    (end : End) × (passes ≡ is_pass end) × ServesEndState at input read_failed old new write_failed (Ok end)
+EndStateServed at input read_failed old new write_failed (Err fault) = ServesEndState at input read_failed old new write_failed (Err fault)

@@ -1,0 +1,131 @@
+//! A run of a file, with what stands at its end.
+ghost use Rattle.std.specs.Prelude.{◌≡◌, ℕ, List, Some, false, IfOk, MatchResult};
+ghost use Rattle.model.specs.Run.{IsRow, IsRun, plan_of, state_after};
+ghost use Rattle.outcome.specs.EndStates.{end_state_of};
+ghost use Rattle.campaign.specs.OneRun.{IsAsked, IsRunFault};
+ghost use Rattle.campaign.specs.Serving.{HasFileFault, IsFileOf, is_read_fault, is_write_fault};
+ghost use Rattle.jobs.specs.EndStates.{EndStateServed, ServesEndState, end_state_of_run};
+
+use byte_io::Sink;
+use campaign::{At, ServeFault};
+use kernel::run_to_end_state;
+use model::{App, End, Memory, Meter, Plan, Point, Run};
+use outcome::EndState;
+use report::{Title, write_run_and_end_state};
+use script::FromDocument;
+use std::alloc::Global;
+
+// The application of a file.
+fn app_in(alloc: Global, bytes: &[u8]) -> Result<App, ServeFault>
+    ensures app { MatchResult result (IsFileOf bytes.now) (HasFileFault bytes.now) }
+    ensures read { is_read_fault result ≡ false }
+    ensures write { is_write_fault result ≡ false }
+{
+    let document = match toml::table_from_slice(alloc, bytes) {
+        Ok(document) => document,
+        Err(error) if error.is_memory() => return Err(ServeFault::Memory),
+        Err(_) => return Err(ServeFault::NotToml),
+    };
+    Ok(App::from_document(alloc, &document)?)
+}
+
+// The run of this plan, and what stands at its end.
+fn ended_run(alloc: Global, app: &App, plan: &Plan) -> Result<(Run, EndState), Memory>
+    ensures run { IfOk result (λ ended. IsRun app.now plan.now app.now.limits ended.0) }
+    ensures end_state { IfOk result (λ ended.
+        ended.1 ≡ end_state_of (state_after app.now app.now.limits plan.now ended.0.steps)) }
+{
+    run_to_end_state(alloc, app, plan, app.limits(), &mut Meter::new())
+}
+
+// Whether the point is reached, its row, and what stands at its end. The base run comes first, and is the row where it ends before
+// the point's first injection.
+fn ended_row(alloc: Global, app: &App, point: &Point) -> Result<(bool, Run, EndState), Memory>
+    ensures row { IfOk result (λ row. IsRow app.now app.now.limits point.now row.0 row.1) }
+    ensures end_state { IfOk result (λ row.
+        row.2 ≡ end_state_of (state_after app.now app.now.limits (plan_of row.0 point.now) row.1.steps)) }
+{
+    let nothing = Plan::none(alloc);
+    let (base, end_state) = ended_run(alloc, app, &nothing)?;
+    if point.first_step() >= base.steps {
+        return Ok((false, base, end_state));
+    }
+    let plan = Plan::of(alloc, point)?;
+    let (run, end_state) = ended_run(alloc, app, &plan)?;
+    Ok((true, run, end_state))
+}
+
+// The run that is asked for, what its report is of, and what stands at its end.
+fn asked_run(
+    alloc: Global,
+    app: &App,
+    at: Option<At<'_>>,
+) -> Result<(Title, Run, EndState), ServeFault>
+    ensures { MatchResult result
+        (λ asked. IsAsked at.entry app.now asked.0 asked.1 × (asked.2 ≡ end_state_of_run app.now asked.0 asked.1))
+        (IsRunFault at.entry app.now) }
+{
+    let Some(at) = at else {
+        let nothing = Plan::none(alloc);
+        let (run, end_state) = ended_run(alloc, app, &nothing)?;
+        return Ok((Title::Base, run, end_state));
+    };
+    let Some(handler) = app.handler_named(at.handler) else {
+        return Err(ServeFault::UnknownHandler);
+    };
+    let point = Point::one(at.step, handler);
+    let (reached, run, end_state) = ended_row(alloc, app, &point)?;
+    let title = Title::Row {
+        number: 0,
+        point,
+        reached,
+    };
+    Ok((title, run, end_state))
+}
+
+// Runs an application as it is asked for, and writes the report of the run and what stands at its end, as its last deed.
+fn serve_app<W: Sink>(
+    alloc: Global,
+    app: &App,
+    writer: &mut W,
+    at: Option<At<'_>>,
+) -> Result<End, ServeFault>
+    requires { W.has_failed writer.old ≡ false }
+    ensures { (bytes : List ℕ) → IsFileOf bytes app.now
+        → ServesEndState at.entry (Some bytes) false (W.held writer.old) (W.held writer.new)
+        (W.has_failed writer.new) result }
+{
+    let (title, run, end_state) = asked_run(alloc, app, at)?;
+    write_run_and_end_state(writer, app, title, &run, &end_state)?;
+    Ok(run.end)
+}
+
+// Serves the run of the file of these bytes that is asked for, and what stands at its end. Answers how it ends.
+fn serve_end_state<W: Sink>(
+    alloc: Global,
+    bytes: &[u8],
+    writer: &mut W,
+    at: Option<At<'_>>,
+) -> Result<End, ServeFault>
+    requires { W.has_failed writer.old ≡ false }
+    ensures { ServesEndState at.entry (Some bytes.now) false
+        (W.held writer.old) (W.held writer.new) (W.has_failed writer.new) result }
+{
+    let app = app_in(alloc, bytes)?;
+    serve_app(alloc, &app, writer, at)
+}
+
+/// Serves a run, and what stands at its end. Answers whether it passes.
+pub(crate) fn serve_end_state_at<W: Sink>(
+    alloc: Global,
+    at: Option<At<'_>>,
+    bytes: &[u8],
+    writer: &mut W,
+) -> Result<bool, ServeFault>
+    requires { W.has_failed writer.old ≡ false }
+    ensures { EndStateServed at.entry (Some bytes.now) false
+        (W.held writer.old) (W.held writer.new) (W.has_failed writer.new) result }
+{
+    let end = serve_end_state(alloc, bytes, writer, at)?;
+    Ok(matches!(end, End::Pass))
+}

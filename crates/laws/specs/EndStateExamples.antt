@@ -1,0 +1,114 @@
+-- Worked examples of what stands at the end: applications, what is injected, and what stands after so many steps.
+use Rattle.std.specs.Prelude.{◌≡◌, ℕ, List, [], ◌∷◌, Some, None, codes}
+use Rattle.model.specs.declared.object.ObjectKind.TheVariants.{Queue, Mutex}
+use Rattle.model.specs.declared.op.Access.TheVariants.{Receive}
+use Rattle.model.specs.declared.op.Op.TheVariants.{Work, Delay, Suspend, Time}
+use Rattle.model.specs.declared.op.IsrOp.TheVariants as isr_op
+use Rattle.model.specs.declared.plan.Injection.{Injection}
+use Rattle.model.specs.Application.{Application}
+use Rattle.model.specs.Run.{state_after}
+use Rattle.outcome.specs.declared.end_state.Situation.TheVariants.{Runs, Ready, Awake, Waits, Sleeps, Suspended, Ended}
+use Rattle.outcome.specs.EndStates.{EndState, end_state_of, held_by}
+use Rattle.laws.specs.Examples.{a_task, a_task_of, on_queue, a, b, c, with_objects}
+use Rattle.laws.specs.HandlerExamples.{point_at, sends, with_handler}
+use Rattle.laws.specs.MutexExamples.{lock, lock_forever, m, n}
+use Rattle.laws.specs.DaemonExamples.{deferred}
+
+-- ---- words
+
+-- an application, what is injected, and what stands after so many steps
+pub record Stopped : Type 0 where
+  pub app : Application
+  pub plan : List Injection
+  pub steps : ℕ
+  pub stands : EndState
+
+-- That stands after the steps.
+abbrev pub StandsSo : Stopped → Type 0
+StandsSo e = end_state_of (state_after e.app e.app.limits e.plan e.steps) ≡ e.stands
+
+-- ---- in a call
+
+-- a receive that waits until tick 9, and a handler that sends
+abbrev pub one_wait : Application
+one_wait = with_handler (Queue 1 ∷ []) (sends 0 7 ∷ []) (a_task (codes "a") (on_queue Receive 9 ∷ []) ∷ [])
+
+-- The task has tried, and runs on.
+abbrev pub tried : Stopped
+tried = record { app = one_wait; plan = []; steps = 1; stands = record { situations = Runs 0 ∷ []; held = [] } }
+
+-- It has decided to wait, and isn't in its list yet.
+abbrev pub decided : Stopped
+decided = record { app = one_wait; plan = []; steps = 2; stands = record { situations = Waits 0 (Some 9) ∷ []; held = [] } }
+
+-- It is in its list, and the queue is locked.
+abbrev pub placed : Stopped
+placed = record { app = one_wait; plan = []; steps = 3; stands = record { situations = Waits 0 (Some 9) ∷ []; held = [] } }
+
+-- The handler has sent, before it was put into its list.
+abbrev pub woken : Stopped
+woken = record { app = one_wait; plan = point_at 2; steps = 3; stands = record { situations = Awake 0 ∷ []; held = [] } }
+
+-- The queue is unlocked, and the call holds the scheduler still.
+abbrev pub unlocked : Stopped
+unlocked = record { app = one_wait; plan = point_at 2; steps = 4; stands = record { situations = Runs 0 ∷ []; held = [] } }
+
+-- ---- mutexes
+
+-- Two tasks lock two mutexes in opposite order.
+abbrev pub opposite_locks : Application
+opposite_locks = with_objects (Mutex ∷ Mutex ∷ []) (
+    a_task_of 2 (codes "a") (Delay 1 ∷ lock_forever n ∷ lock_forever m ∷ [])
+    ∷ a_task_of 1 (codes "b") (lock m 0 ∷ Work 2 ∷ lock_forever n ∷ []) ∷ [])
+
+abbrev pub stuck : Stopped
+stuck = record {
+  app = opposite_locks;
+  plan = [];
+  steps = 15;
+  stands = record { situations = Waits 2 None ∷ Waits 2 None ∷ []; held = held_by m b ∷ held_by n a ∷ [] };
+}
+
+-- the same beside a task that suspends itself, one that only asks the time, and one that computes; the handler resumes the first of these
+abbrev pub five_tasks : Application
+five_tasks =
+    let app = with_objects (Mutex ∷ Mutex ∷ []) (
+    a_task_of 2 (codes "a") (Delay 1 ∷ lock_forever n ∷ lock_forever m ∷ []) ∷ a_task_of 1 (codes "b") (lock m 0 ∷ Work 2 ∷ lock n 5 ∷ [])
+    ∷ a_task_of 3 (codes "c") (Suspend c ∷ Delay 7 ∷ []) ∷ a_task_of 1 (codes "e") (Time ∷ []) ∷ a_task_of 0 (codes "f") (Work 50 ∷ []) ∷ []) in
+    record app { handlers = record { name = codes "h"; ops = isr_op.Resume c ∷ [] } ∷ [] }
+
+-- A task is suspended, and another sleeps, while two are Ready.
+abbrev pub begun : Stopped
+begun = record {
+  app = five_tasks;
+  plan = [];
+  steps = 3;
+  stands = record { situations = Sleeps 1 1 ∷ Runs 1 ∷ Suspended 1 ∷ Ready 0 ∷ Ready 0 ∷ []; held = held_by m b ∷ [] };
+}
+
+abbrev pub waiting : Stopped
+waiting = record {
+  app = five_tasks;
+  plan = [];
+  steps = 19;
+  stands = record { situations = Waits 2 None ∷ Waits 2 (Some 7) ∷ Suspended 1 ∷ Ended ∷ Runs 0 ∷ []; held = held_by m b ∷ held_by n a ∷ [] };
+}
+
+abbrev pub resumed : Stopped
+resumed = record {
+  app = five_tasks;
+  plan = point_at 3;
+  steps = 20;
+  stands = record { situations = Waits 2 None ∷ Waits 2 (Some 7) ∷ Ended ∷ Ended ∷ Runs 0 ∷ []; held = held_by m b ∷ held_by n a ∷ [] };
+}
+
+-- ---- bits
+
+-- The daemon waits for a command, and the task for bits.
+abbrev pub nobody_sets : Stopped
+nobody_sets = record { app = deferred; plan = []; steps = 7; stands = record { situations = Waits 0 None ∷ Waits 0 None ∷ []; held = [] } }
+
+-- ---- the table
+
+abbrev pub end_states : List Stopped
+end_states = tried ∷ decided ∷ placed ∷ woken ∷ unlocked ∷ stuck ∷ begun ∷ waiting ∷ resumed ∷ nobody_sets ∷ []
