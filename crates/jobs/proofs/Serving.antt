@@ -6,6 +6,8 @@ use Rattle.campaign.specs.declared.at.At.{At}
 use Rattle.campaign.specs.declared.file.ServeFault.{ServeFault}
 use Rattle.campaign.specs.declared.file.ServeFault.TheVariants.{Read, NotToml, Load, UnknownHandler, TooManyPoints, Memory, Write}
 use Rattle.campaign.specs.Serving.{Known, of_reading, is_read_fault}
+use Rattle.report.specs.Shards.{undivided}
+use Rattle.report.specs.Views.{plain}
 use Rattle.campaign.proofs.Faulty.{campaign_serves_file_fault, reading_failed, serves_as_known, serves_file_fault}
 use Rattle.byte_io.specs.declared.read.ReadFault.{ReadFault}
 use Rattle.byte_io.specs.declared.read.ReadFault.TheVariants as read
@@ -100,9 +102,9 @@ served_fault (Run name at handler true) file rf wf old read.Failed some failed w
 served_fault (Run name at handler true) file rf wf old read.Memory some failed working =
     end_state_file_fault (injection_of (Run name at handler true)) file rf wf old Memory (reading_failed file read.Memory some) failed refl working
 served_fault (Campaign name options quiet) file rf wf old read.Failed some failed working =
-    campaign_serves_file_fault file rf wf old Read (reading_failed file read.Failed some) failed refl working
+    campaign_serves_file_fault plain undivided file rf wf old Read (reading_failed file read.Failed some) failed refl working
 served_fault (Campaign name options quiet) file rf wf old read.Memory some failed working =
-    campaign_serves_file_fault file rf wf old Memory (reading_failed file read.Memory some) failed refl working
+    campaign_serves_file_fault plain undivided file rf wf old Memory (reading_failed file read.Memory some) failed refl working
 
 pub fails_to_read : (job : Job) (file : Option (List ℕ)) (rf wf : Bool) (old : Option (List ℕ)) (fault : ServeFault)
     → FailsToRead job file rf (Serve fault) → wf ≡ false → Does job file rf old old wf (Err (Serve fault))

@@ -16,6 +16,8 @@ use Rattle.campaign.specs.declared.file.ServeFault.TheVariants.{Read, NotToml, L
 use Rattle.campaign.specs.Serving.{Known}
 use Rattle.campaign.specs.OneRun.{ServesRun}
 use Rattle.campaign.specs.Campaigns.{ServesCampaign}
+use Rattle.report.specs.Shards.{undivided}
+use Rattle.report.specs.Views.{plain}
 use Rattle.jobs.specs.EndStates.{EndStateServed}
 use Rattle.jobs.specs.declared.acting.Job.{Job}
 use Rattle.jobs.specs.declared.acting.Job.TheVariants.{Run, Campaign}
@@ -64,8 +66,8 @@ RunServed at input read_failed old new write_failed (Err fault) = ServesRun at i
 abbrev pub CampaignServed : (input : Option (List ℕ)) → (read_failed : Bool) → (old new : Option (List ℕ)) → (write_failed : Bool)
     → Result Bool ServeFault → Type 0
 CampaignServed input read_failed old new write_failed (Ok passes) =
-    (totals : Totals) × (passes ≡ all_pass totals) × ServesCampaign input read_failed old new write_failed (Ok totals)
-CampaignServed input read_failed old new write_failed (Err fault) = ServesCampaign input read_failed old new write_failed (Err fault)
+    (totals : Totals) × (passes ≡ all_pass totals) × ServesCampaign plain undivided input read_failed old new write_failed (Ok totals)
+CampaignServed input read_failed old new write_failed (Err fault) = ServesCampaign plain undivided input read_failed old new write_failed (Err fault)
 
 -- What a job asks for is served, and passes or not.
 abbrev pub Served : Job → (input : Option (List ℕ)) → (read_failed : Bool) → (old new : Option (List ℕ)) → (write_failed : Bool)

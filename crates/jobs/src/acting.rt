@@ -10,6 +10,7 @@ use crate::end_state::serve_end_state_at;
 use crate::fault_line::tell;
 use byte_io::{FromReader, ReadFault, Sink, Source, read_all, read_at_most};
 use campaign::{At, Gate, NoGate, Options, ServeFault, serve_of, serve_run_of};
+use report::{Shard, View};
 use model::End;
 use std::alloc::Global;
 use std::fs::File;
@@ -185,9 +186,27 @@ fn serve_campaign<T: Threads + Wait + Sync, W: Sink, G: Gate + Sync>(
         (W.held writer.old) (W.held writer.new) (W.has_failed writer.new) result }
 {
     let totals = if quiet {
-        serve_of(rt, alloc, bytes, writer, options, &NoGate)?
+        serve_of(
+            rt,
+            alloc,
+            bytes,
+            writer,
+            View::plain(),
+            Shard::whole(),
+            options,
+            &NoGate,
+        )?
     } else {
-        serve_of(rt, alloc, bytes, writer, options, gate)?
+        serve_of(
+            rt,
+            alloc,
+            bytes,
+            writer,
+            View::plain(),
+            Shard::whole(),
+            options,
+            gate,
+        )?
     };
     Ok(totals.pass == totals.rows)
 }
