@@ -56,7 +56,7 @@ none_if false = refl
 no_fault : (named : Option (List ℕ × List Row)) (job : Job) → IsJobOf named job → value_faults named ≡ []
 no_fault None job is = absurd is
 no_fault (Some named) job (inl is) = rw is.0 refl
-no_fault (Some named) (Run file at handler) (inr is) = absurd is.1
+no_fault (Some named) (Run file at handler state) (inr is) = absurd is.1
 no_fault (Some named) (Campaign file view shard options quiet) (inr is) =
     rw (is.1.1, is.1.2) (none_if (bytes_eq named.0 (codes "campaign")))
 
