@@ -64,17 +64,17 @@ impl<'a> Job<'a> {
     ghost use Rattle.jobs.specs.Acting.{file_of, handler_of, injection_of, is_unpaired, name_told};
 
     /// The name of the file that it reads.
-    pub fn file(self) -> &'a str
-        ensures { result.now ≡ file_of self.entry }
+    pub fn file(&self) -> &'a str
+        ensures { result.now ≡ file_of self.now }
     {
         match self {
-            Job::Run { file, .. } | Job::Campaign { file, .. } => file,
+            Job::Run { file, .. } | Job::Campaign { file, .. } => *file,
         }
     }
 
     // The name of the handler that it injects; empty where it has none.
-    fn handler(self) -> &'a str
-        ensures { result.now ≡ handler_of self.entry }
+    fn handler(&self) -> &'a str
+        ensures { result.now ≡ handler_of self.now }
     {
         match self {
             Job::Run { handler, .. } => handler.unwrap_or(""),
@@ -83,8 +83,8 @@ impl<'a> Job<'a> {
     }
 
     // The name that the line of this fault tells.
-    fn name_told(self, fault: JobFault) -> &'a str
-        ensures { result.now ≡ name_told self.entry fault }
+    fn name_told(&self, fault: JobFault) -> &'a str
+        ensures { result.now ≡ name_told self.now fault }
     {
         match fault {
             JobFault::Serve(ServeFault::UnknownHandler) => self.handler(),
@@ -93,15 +93,15 @@ impl<'a> Job<'a> {
     }
 
     // The injection that it asks for, if it asks for one. The error is `Unpaired`.
-    fn injection(self) -> Result<Option<At<'a>>, JobFault>
+    fn injection(&self) -> Result<Option<At<'a>>, JobFault>
         ensures { MatchResult result
-            (λ at. (is_unpaired self.entry ≡ false) × (at ≡ injection_of self.entry))
-            (λ fault. (is_unpaired self.entry ≡ true) × (fault ≡ job_fault.Unpaired)) }
+            (λ at. (is_unpaired self.now ≡ false) × (at ≡ injection_of self.now))
+            (λ fault. (is_unpaired self.now ≡ true) × (fault ≡ job_fault.Unpaired)) }
     {
         let Job::Run { at, handler, .. } = self else {
             return Ok(None);
         };
-        match (at, handler) {
+        match (*at, *handler) {
             (None, None) => Ok(None),
             (Some(step), Some(handler)) => Ok(Some(At { step, handler })),
             _ => Err(JobFault::Unpaired),
@@ -211,7 +211,7 @@ fn serve_job<T: Threads + Wait + Sync, W: Sink, G: Gate + Sync>(
         (W.held writer.old) (W.held writer.new) (W.has_failed writer.new) result }
 {
     let at = job.injection()?;
-    let served = match *job {
+    let served = match job {
         Job::Run { state: false, .. } => serve_run_at(alloc, at, bytes, writer),
         Job::Run { state: true, .. } => serve_end_state_at(alloc, at, bytes, writer),
         Job::Campaign {
@@ -220,7 +220,9 @@ fn serve_job<T: Threads + Wait + Sync, W: Sink, G: Gate + Sync>(
             options,
             quiet,
             ..
-        } => serve_campaign(rt, alloc, view, shard, options, quiet, bytes, writer, gate),
+        } => serve_campaign(
+            rt, alloc, *view, *shard, *options, *quiet, bytes, writer, gate,
+        ),
     };
     Ok(served?)
 }
