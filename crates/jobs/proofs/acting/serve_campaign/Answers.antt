@@ -7,7 +7,7 @@ returns g c = (
   c.if-quiet.totals,
   refl,
   elim c.if-quiet.branch [
-    | then-quiet+in_ok-totals w ↦ rw (w.writer-is, w.totals-is) (rw (w.plain.ensures, w.whole.ensures) at w.in_ok-totals.ensures)
-    | else-quiet+in_ok-totals-2 w ↦ rw (w.writer-is, w.totals-is) (rw (w.plain-else-quiet.ensures, w.whole-else-quiet.ensures) at w.in_ok-totals-2.ensures)
+    | then-quiet+in_ok-totals w ↦ rw (w.writer-is, w.totals-is) w.in_ok-totals.ensures
+    | else-quiet+in_ok-totals-2 w ↦ rw (w.writer-is, w.totals-is) w.in_ok-totals-2.ensures
   ],
 )
