@@ -11,7 +11,7 @@ from .end_state import state_of
 from .endings import Endings
 from .escaping import plain
 from .faults import STATUS_OUTPUT, Fault, WordsFault, counted
-from .output import ReaderLeft, output_file, standard_output
+from .output import ReaderLeft, direct_output, output_file, standard_output
 from .reading import lone_run_of
 from .source import base_source, campaign_source, file_source, standard_input, state_source
 from .table import Given
@@ -163,6 +163,12 @@ def named(name):
     return {"application": name if is_application else None, "report": None if is_application else name}
 
 
+def do_join(words, output):
+    from .joining import join
+
+    join(words.parts, words.of, output)
+
+
 def do_show(job, output):
     from . import show
 
@@ -268,6 +274,14 @@ def add_compare(commands):
     parser.set_defaults(do=do_compare, by=By.CAUSE, application=None, report=None, base=None)
 
 
+def add_join(commands):
+    parser = commands.add_parser("join", help="the report of a campaign, of those of its shards")
+    parser.add_argument("parts", nargs="+", metavar="PART", help="the report of a shard, 1 to N in this order")
+    parser.add_argument("--of", type=int, metavar="N", help="how many shards there are; else as many as parts are named")
+    parser.add_argument("--output", "-o", metavar="FILE", help="write to this file, when all of it is there")
+    parser.set_defaults(do=do_join, report=None, application=None, base=None, workers=None, accept=None)
+
+
 def add_show(commands):
     parser = commands.add_parser("show", help="a row beside the base run")
     parser.add_argument("row", type=int, metavar="N", help="the row's number")
@@ -311,6 +325,7 @@ def parsed(words):
     add_classes(commands)
     add_show(commands)
     add_compare(commands)
+    add_join(commands)
     add_formats(commands)
     found = parser.parse_args(words)
     if getattr(found, "campaign", False):
@@ -334,12 +349,23 @@ def check_together(parser, found):
         parser.error("--accept goes with classes by cause")
 
 
+# These take the words themselves, and not a report.
+OF_SEVERAL_REPORTS = (do_compare, do_join)
+
+
+def output_of(found):
+    """Where the result goes."""
+    if found.output:
+        return output_file(found.output)
+    return direct_output() if found.do is do_join else standard_output()
+
+
 def main(words=None):
     """Does what the words ask for, and returns the status."""
     found = parsed(words)
     try:
-        with output_file(found.output) if found.output else standard_output() as output:
-            status = found.do(found if found.do is do_compare else Job(found), output)
+        with output_of(found) as output:
+            status = found.do(found if found.do in OF_SEVERAL_REPORTS else Job(found), output)
         return status or 0
     except ReaderLeft:
         return STATUS_OUTPUT

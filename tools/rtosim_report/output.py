@@ -33,6 +33,18 @@ def standard_output():
             raise OutputFault(f"cannot write: {getattr(why, 'strerror', None) or 'standard output is closed'}") from None
 
 
+@contextlib.contextmanager
+def direct_output():
+    """Standard output itself, for what is known to be right before its first byte is written."""
+    try:
+        yield Text(sys.stdout.buffer)
+        sys.stdout.buffer.flush()
+    except BrokenPipeError:
+        raise ReaderLeft() from None
+    except (OSError, AttributeError) as why:
+        raise OutputFault(f"cannot write: {getattr(why, 'strerror', None) or 'standard output is closed'}") from None
+
+
 def output_file(name):
     """A file of texts that goes to the file of this name when all of it is there."""
     return output_device(name) if os.path.exists(name) and not os.path.isfile(name) else output_beside(name)

@@ -79,9 +79,26 @@ class Tally:
         self.not_reached += not head.is_reached
         self.by_kind[head.verdict.kind] += 1
 
+    def add_counts(self, other):
+        self.rows += other.rows
+        self.not_reached += other.not_reached
+        for kind, count in other.by_kind.items():
+            self.by_kind[kind] += count
+
     def text(self):
         kinds = ", ".join(f"{kind} {count}" for kind, count in self.by_kind.items())
         return f"total {self.rows}: {kinds}, not reached {self.not_reached}"
+
+
+def tally_of(line):
+    """What a total line counts; None where it is none, or its ends aren't as many as its rows."""
+    match = grammar.TOTAL.fullmatch(line)
+    if match is None:
+        return None
+    found = Tally()
+    found.rows, *ends, found.not_reached = map(int, match.groups())
+    found.by_kind.update(zip(grammar.VERDICT_KINDS, ends))
+    return found if sum(ends) == found.rows >= found.not_reached else None
 
 
 class Reader:
@@ -130,13 +147,21 @@ class Reader:
             at = self.line_number + kept.count(b"\n")
             raise BadReport(at, AFTER_A_HEAD, kept[kept.rfind(b"\n") + 1 :] + more[:80])
 
+    def is_next(self, row):
+        """Whether a row of this number may follow."""
+        return row == self.tally.rows
+
+    def next_row(self):
+        """The row that may follow, in words."""
+        return grammar.a_row(self.tally.rows)
+
     def row_of(self, text):
         """The row whose head, without its first word, and lines this is."""
         match = grammar.ROW_HEAD.match(text)
         head = None if match is None else row_head(match)
         tally = self.tally
-        if head is None or head.row != tally.rows:
-            raise BadReport(self.line_number, grammar.a_row(tally.rows), b"row " + first_line(text))
+        if head is None or not self.is_next(head.row):
+            raise BadReport(self.line_number, self.next_row(), b"row " + first_line(text))
         body = text[match.end() :]
         run = Run(head, body, self.line_number)
         tally.add(head)
@@ -184,8 +209,8 @@ class Reader:
         if lines:
             match = grammar.ROW_HEAD.match(lines[0], 4)
             head = None if match is None else row_head(match)
-            if head is None or head.row != self.tally.rows:
-                raise BadReport(self.line_number, grammar.a_row(self.tally.rows), lines[0])
+            if head is None or not self.is_next(head.row):
+                raise BadReport(self.line_number, self.next_row(), lines[0])
             Run(head, b"".join(it + b"\n" for it in lines[1:]), self.line_number).lines()
         self.is_cut_off = True
         if not self.partial:
