@@ -115,8 +115,9 @@ fn flag_argument<'a>(alloc: Global, name: &'a str) -> Arg<'a>
 fn state_argument<'a>(alloc: Global) -> Arg<'a>
     ensures { IsArgOf state_rule result }
 {
-    flag_argument(alloc, "state")
-        .help("Adds what each task is doing at the end, and who holds which mutex")
+    flag_argument(alloc, "state").help(
+        "Adds what each task is doing at the end, and who holds which mutex",
+    )
 }
 
 fn quiet_argument<'a>(alloc: Global) -> Arg<'a>
