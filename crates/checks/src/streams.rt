@@ -20,6 +20,17 @@ const MANY_MARKS: &str =
 
 const MANY_MARKS_SIZE: usize = 95_097;
 
+/// The job that writes the whole report of the campaign of this file.
+fn campaign_of(file: &str) -> Job<'_> {
+    Job::Campaign {
+        file,
+        view: View::plain(),
+        shard: Shard::whole(),
+        options: Options::default(),
+        quiet: true,
+    }
+}
+
 /// The job that writes the base run of this file.
 fn base_run_of(file: &str) -> Job<'_> {
     Job::Run {
@@ -75,17 +86,16 @@ fn check_byte_by_byte<R: Abort + Threads + Wait + Sync>(
 #[test]
 fn sinks_that_take_a_byte_a_call(rt: HostRuntime) {
     let alloc = rt.alloc();
-    let job = base_run_of("app.toml");
+    let job = Job::Run {
+        file: "app.toml",
+        at: None,
+        handler: None,
+        state: false,
+    };
     check_byte_by_byte(&rt, alloc, &job, ONE_MARK, 0, (ONE_MARK_REPORT, ""));
     let line = "rtosim: 1 Missing: task\n";
     check_byte_by_byte(&rt, alloc, &job, "", 3, ("", line));
-    let job = Job::Campaign {
-        file: "app.toml",
-        view: View::plain(),
-        shard: Shard::whole(),
-        options: Options::default(),
-        quiet: true,
-    };
+    let job = campaign_of("app.toml");
     check_byte_by_byte(&rt, alloc, &job, TWO_ROWS, 1, (TWO_ROWS_REPORT, ""));
 }
 
