@@ -21,7 +21,13 @@ fn a_loop_that_is_closed_makes_no_difference(rt: HostRuntime) {
     let snapshot = machine.snapshot(rt.alloc()).ok().expect(&rt, "memory");
     assert!(rt; machine.is_at(&snapshot));
     let task = TaskId { number: 0 };
-    machine.push_loop(task, Loop { start: 0, left: Some(1) });
+    machine.push_loop(
+        task,
+        Loop {
+            start: 0,
+            left: Some(1),
+        },
+    );
     assert!(rt; !machine.is_at(&snapshot));
     assert!(rt; machine.end_turn(task).is_none());
     assert!(rt; machine.is_at(&snapshot));
