@@ -73,7 +73,7 @@ module _ (app : Application) (view : View) (rows : List Row) (count : ℕ) (some
 
 -- ---- their totals
 
--- a number that is told of lists, and of two lists one behind the other is the sum of theirs
+-- a number of each list; that of two lists, one behind the other, is the sum of theirs
 module _ (f : List Row → ℕ) (none : f [] ≡ 0) (both : (xs ys : List Row) → f (xs ++ ys) ≡ f xs + f ys) (rows : List Row) (count : ℕ) (some : 0 < count) where
   front_numbers : (n : ℕ) → n ≤ count → sum (map (λ (shard : Shard). f (part_of shard rows)) (first_shards count n)) ≡ f (take (cut_at count (length rows) n) rows)
   front_numbers zero l = sym (ap (λ (n : ℕ). f (take n rows)) (cut_none count (length rows) some) ∙ none)

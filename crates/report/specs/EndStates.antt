@@ -1,4 +1,4 @@
--- The lines of what stands at the end of a run.
+-- The lines of the end state of a run.
 use Rattle.std.specs.Prelude.{ℕ, ◌+◌, List, [], ◌∷◌, ◌++◌, codes, decimal, Option, Some, None}
 use Rattle.std.specs.List.{flat_map}
 use Rattle.model.specs.Application.{Application}
@@ -36,6 +36,6 @@ task_lines app task (s ∷ ss) = task_line app task s ++ task_lines app (task + 
 abbrev pub held_line : Application → HeldMutex → List ℕ
 held_line app held = codes "held " ++ decimal held.object ++ codes " " ++ name_of app held.holder ++ codes "\n"
 
--- what stands at the end of a run: a line for each task, and one for each mutex that is held
+-- the end state of a run: a line for each task, and one for each mutex that is held
 abbrev pub end_state_text : Application → EndState → List ℕ
 end_state_text app s = task_lines app 0 s.situations ++ flat_map (held_line app) s.held

@@ -90,7 +90,7 @@ each_hold = record (app_of (a_task (codes "a") (
       handlers = record { name = codes "h"; ops = isr_op.GetBits 0 ∷ isr_op.Resume 0 ∷ command false ∷ command true ∷ [] } ∷ [];
     }
 
--- one event of each of their ops; no run tells these events
+-- one event of each of their ops; no run reports these events
 abbrev pub each_hold_run : Run
 each_hold_run = record {
   events =
@@ -108,7 +108,7 @@ each_hold_run = record {
 abbrev pub a_handler : Handler
 a_handler = record { name = codes "ABCDEFGHIJKLMNOP"; ops = isr_op.Do 0 (SendFront 1) ∷ [] }
 
--- one event of each form, with the largest numbers; no run tells these events
+-- one event of each form, with the largest numbers; no run reports these events
 abbrev pub each_form : Application
 each_form = record (app_of (a_task (codes "abcdefghijklmnop") (DelayUntil 1 ∷ []) ∷ [])) { handlers = a_handler ∷ [] }
 

@@ -1,4 +1,4 @@
--- The front of a line: all of what it tells but its number.
+-- The front of a line: all that it reports except its number.
 use Rattle.std.specs.Prelude.{◌≡◌, ℕ, ◌≤◌, ◌<◌, List, ◌++◌, take, codes, slice_index_or, replicate}
 use Rattle.model.specs.Application.{Application}
 use Rattle.model.specs.Words.{name_of, handler_name_of}
@@ -37,7 +37,7 @@ blank = record { text = replicate 48 0; len = 0 }
 abbrev pub blank_op : OpLabel
 blank_op = record { owner = 0; op_index = 0; label = blank }
 
--- Each label is right for what it stands for.
+-- Each label is right for what it is the label of.
 pub record AreLabels (app : Application) (runs marks : List Label) (calls isrs : List OpLabel) : Type 0 where
   pub of_runs : (task : ℕ) → IsLabel (slice_index_or runs task blank) (run_front app task)
   pub of_marks : (task : ℕ) → IsLabel (slice_index_or marks task blank) (mark_front app task)

@@ -1,8 +1,8 @@
--- Shards of a campaign: its rows in so many parts, of which each can be made by itself.
+-- Shards of a campaign: its rows in parts, each of which can be made by itself.
 use Rattle.std.specs.Prelude.{ℕ, zero, suc, ◌-◌, ◌*◌, ◌/◌, ◌≤◌, List, [], ◌∷◌, ◌++◌, length, map, slice_range, sum}
 use Rattle.model.specs.declared.totals.Totals.{Totals}
 
--- the part of this number, from 1 on, of so many
+-- the part of this number, from 1 on, of this many parts
 pub record Shard : Type 0 where
   pub number : ℕ
   pub count : ℕ
@@ -39,7 +39,7 @@ part_of shard xs = slice_range xs (first_of shard (length xs)) (next_of shard (l
 
 -- ---- all parts
 
--- the first so many of them, in order
+-- the first of them, this many, in order
 abbrev pub first_shards : (count : ℕ) → ℕ → List Shard
 first_shards count zero = []
 first_shards count (suc n) = first_shards count n ++ record { number = suc n; count = count } ∷ []

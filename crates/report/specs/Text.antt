@@ -27,7 +27,7 @@ abbrev pub call_front : Application → (task op_index : ℕ) → List ℕ
 call_front app task op_index =
     codes "call " ++ name_of app task ++ codes " " ++ decimal op_index ++ codes " " ++ word_at app task op_index ++ codes " = "
 
--- the same of a command that the daemon has done, which is told as an op of index 1 (profile)
+-- the same of a command that the daemon has done, which is printed as an op of index 1 (profile)
 abbrev pub obeyed_front : Application → (task : ℕ) → (clear : Bool) → List ℕ
 obeyed_front app task clear =
     codes "call " ++ name_of app task ++ codes " 1 " ++ (if clear then codes "clear" else codes "set") ++ codes " = "
@@ -47,7 +47,7 @@ abbrev pub runner_text : Application → Option ℕ → List ℕ
 runner_text app None = codes "-"
 runner_text app (Some task) = name_of app task
 
--- what an event tells
+-- what an event reports
 abbrev pub what_text : Application → What → List ℕ
 what_text app (what.Call task op_index answer) = call_front app task op_index ++ decimal answer
 what_text app (what.CallNone task op_index) = call_front app task op_index ++ codes "none"
@@ -58,7 +58,7 @@ what_text app (what.IsrNone handler op_index) = isr_front app handler op_index +
 what_text app (what.IsrMark handler mark) = codes "mark " ++ handler_name_of app handler ++ codes " " ++ decimal mark
 what_text app (what.Run task) = codes "run " ++ runner_text app task
 
--- the line of an event: step, tick, and what it tells
+-- the line of an event: step, tick, and what it reports
 abbrev pub event_text : Application → Event → List ℕ
 event_text app event =
     decimal event.step ++ codes " " ++ decimal event.tick ++ codes " " ++ what_text app event.what ++ codes "\n"

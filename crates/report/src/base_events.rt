@@ -1,5 +1,5 @@
-//! The events of a campaign's base run, with which its rows begin, and their text.
-ghost use Rattle.std.specs.Prelude.{◌≡◌, ◌≤◌, ◌+◌, ◌∷◌, ◌++◌, [], length, take, vec_len, IfOk, OnOk};
+//! The events of a campaign's base run, with which its rows begin and many end, and their text.
+ghost use Rattle.std.specs.Prelude.{◌≡◌, ◌≤◌, ◌+◌, ◌∷◌, ◌++◌, [], length, take, drop, slice_index_or, vec_len, IfOk, OnOk};
 ghost use Rattle.std.specs.List.{flat_map};
 ghost use Rattle.report.specs.Text.{event_text};
 ghost use Rattle.report.specs.Writing.{IsSpelled};
@@ -10,7 +10,7 @@ use model::{App, Event, Memory};
 use std::alloc::Global;
 use std::marker::Model;
 
-// Where the text ends is kept for each group of so many events.
+// Where the text ends is kept for each group of this many events.
 const GROUP: usize = 8;
 
 // No group is added to a text that is longer than this, in bytes.
@@ -23,10 +23,18 @@ pub(crate) struct Spelled {
     ends: Vec<u32>,
 }
 
+/// Events in three parts: some, others by their text, and those behind them.
+#[derive(Drop)]
+pub(crate) struct Tail<'a> {
+    pub(crate) before: &'a [Event],
+    pub(crate) text: &'a [u8],
+    pub(crate) behind: &'a [Event],
+}
+
 /// The events of the base run of an application, and the text of the first of them.
 ///
-/// The events of a row begin with some of these, so they are spelled once for all rows: as far as there is memory for their text,
-/// and about 64 MiB of it at most. The others are spelled for each row.
+/// The events of a row begin with some of these, and where it comes back to the base run they end with some, so they are spelled
+/// once for all rows: as far as there is memory for their text, and about 64 MiB of it at most. The others are spelled for each row.
 #[derive(Drop)]
 pub struct BaseEvents<'a> {
     app: &'a App,
@@ -71,6 +79,18 @@ impl Spelled {
         self.text.extend_from_slice(page.bytes())?;
         self.ends.push(self.text.len() as u32)?;
         Ok(())
+    }
+
+    // Where the text of the first so many groups ends.
+    fn end_of(&self, groups: usize) -> usize
+        requires { groups ≤ length self.now.ends.items }
+        ensures { result ≡ slice_index_or (0 ∷ self.now.ends.items) groups 0 }
+    {
+        if groups == 0 {
+            0
+        } else {
+            self.ends[groups - 1] as usize
+        }
     }
 }
 
@@ -123,7 +143,7 @@ impl<'a> BaseEvents<'a> {
         self.events
     }
 
-    /// The text of a front of the first so many events, and how many events these are.
+    /// The text of some of the first events, from the first on and at most this many, and how many events these are.
     pub(crate) fn front(&self, count: usize) -> (&[u8], usize)
         ensures within { result.1 ≤ count }
         ensures text { result.0.now ≡ flat_map (event_text self.now.app) (take result.1 self.now.events) }
@@ -132,10 +152,28 @@ impl<'a> BaseEvents<'a> {
             return (&[], 0);
         };
         let groups = (count / GROUP).min(spelled.ends.len());
-        if groups == 0 {
-            return (&[], 0);
-        }
-        let end = spelled.ends[groups - 1] as usize;
+        let end = spelled.end_of(groups);
         (&spelled.text[..end], groups * GROUP)
+    }
+
+    /// The events from this one on: those up to the next group, the text of all groups that are spelled behind them, and the others.
+    pub(crate) fn tail(&self, from: usize) -> Tail<'_>
+        requires { from ≤ length self.now.events }
+        ensures { flat_map (event_text self.now.app) result.before.now ++ (result.text.now ++ flat_map (event_text self.now.app) result.behind.now)
+            ≡ flat_map (event_text self.now.app) (drop from self.now.events) }
+    {
+        let first = from.div_ceil(GROUP);
+        match &self.spelled {
+            Some(spelled) if first < spelled.ends.len() => Tail {
+                before: &self.events[from..first * GROUP],
+                text: &spelled.text[spelled.end_of(first)..],
+                behind: &self.events[spelled.ends.len() * GROUP..],
+            },
+            _ => Tail {
+                before: &[],
+                text: &[],
+                behind: &self.events[from..],
+            },
+        }
     }
 }

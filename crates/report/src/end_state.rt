@@ -1,4 +1,4 @@
-//! The lines of what stands at the end of a run.
+//! The lines of the end state of a run.
 ghost use Rattle.std.specs.Prelude.{◌≡◌, ◌≤◌, ◌+◌, ◌*◌, ◌++◌, length, false};
 ghost use Rattle.std.specs.List.{flat_map};
 ghost use Rattle.std.specs.Result.{is_err};
@@ -112,7 +112,7 @@ fn push_held_lines(page: &mut Page, app: &App, held: &[HeldMutex])
     }
 }
 
-// Writes the lines of what stands at the end of a run.
+// Writes the lines of the end state of a run.
 fn write_end_state<W: Sink>(
     writer: &mut W,
     app: &App,

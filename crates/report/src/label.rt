@@ -2,7 +2,7 @@
 ghost use Rattle.std.specs.Prelude.{◌≡◌, ◌<◌, ◌≤◌, ◌+◌, drop, length, true};
 ghost use Rattle.report.specs.Fronts.{IsLabel};
 
-/// The front of a line: none yet, or so many bytes at the front of these.
+/// The front of a line: none yet, or this many bytes at the front of these.
 #[derive(Clone, Copy)]
 pub(crate) struct Label {
     pub(crate) text: [u8; 48],

@@ -20,7 +20,7 @@ const ISRS: usize = 128;
 /// The fronts of lines of an application: that of a task that runs and of a task's marks at the task's number, and that of
 /// a call, or of a handler's op, at a place that several share, so it says which op it is of.
 ///
-/// Each is right at all times. One that isn't there is spelled, and kept. They stand where this value stands, and take no
+/// Each is right at all times. One that isn't there is spelled, and kept. They are where this value is, and take no
 /// memory. They are put into bytes at a place, and where they end is answered, as `byte_io::place` does it.
 #[derive(Drop)]
 pub(crate) struct Labels<'a> {

@@ -57,7 +57,7 @@ pub fn report_of_each_hold()
         ++ codes "9 0 call a 1 clear = 1\n" }
 {}
 
-/// How each misuse is told, letter by letter.
+/// How each misuse is printed, letter by letter.
 pub fn verdicts_of_misuses()
     ensures while_suspended { verdict_text each_form (Misuse 0 65535 WhileSuspended) ≡
         codes "misuse abcdefghijklmnop 65535 1" }

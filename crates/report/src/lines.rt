@@ -76,7 +76,7 @@ impl<'a> Lines<'a> {
         self.labels.app()
     }
 
-    // Puts what an event tells, and the line's end.
+    // Puts what an event reports, and the line's end.
     #[inline]
     fn put_what(&mut self, bytes: &mut [u8], at: usize, what: &What) -> usize
         requires { at + 64 ≤ length bytes.old }
@@ -135,7 +135,7 @@ impl<'a> Lines<'a> {
 
     // Puts the lines of the events.
     //
-    // It stands out of line, so that its loop has the processor's registers for itself. The loop goes by the events that are
+    // It is out of line, so that its loop has the processor's registers for itself. The loop goes by the events that are
     // left, since an index beside all of them would take one register more.
     #[inline(never)]
     fn put_all(&mut self, bytes: &mut [u8], at: usize, events: &[Event]) -> usize

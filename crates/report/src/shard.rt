@@ -5,8 +5,8 @@ ghost use Rattle.report.specs.Shards.{cut_at, first_of, most_shards, next_of, un
 
 use std::marker::Model;
 
-/// One of so many parts of a campaign's rows, which are as long as each other, but for one row. It is the part of this number, from
-/// 1 on. There are at most 1,000,000 parts (profile).
+/// One of the parts of a campaign's rows, whose lengths differ by one row at most: how many parts there are, and the number of this one,
+/// from 1 on. There are at most 1,000,000 parts (profile).
 #[derive(Clone, Copy, PartialEq, Eq)]
 pub struct Shard {
     number: u32,
@@ -27,7 +27,7 @@ impl Model for Shard {
     ghost inverse = { λ shard. record { number = shard.number; count = shard.count } };
 }
 
-// How many of so many rows there are up to the end of the part of this number.
+// Of this many rows, those up to the end of the part of this number: how many they are.
 fn cut_at(count: u32, rows: usize, number: u32) -> usize
     requires count { (1 ≤ count) × (count ≤ most_shards) }
     requires number { number ≤ count }
@@ -42,7 +42,7 @@ impl Shard {
     /// The most parts.
     pub const MOST: u32 = 1_000_000;
 
-    /// The part of this number of so many; `None` where there is no such part.
+    /// The part of this number, of this many parts; `None` where there is no such part.
     pub fn new(number: u32, count: u32) -> Option<Shard>
         ensures known { IsSome result ↔ IsShard number count }
         ensures value { IfSome result (λ shard. shard ≡ record { number = number; count = count }) }
@@ -64,7 +64,7 @@ impl Shard {
         }
     }
 
-    /// The number of its first row, where a campaign has so many.
+    /// The number of its first row, where a campaign has this many.
     pub fn first(self, rows: usize) -> usize
         requires { rows ≤ most_points }
         ensures first { result ≡ first_of self rows }

@@ -16,7 +16,7 @@ pub struct Ends {
 }
 
 /// Which rows of a campaign's report are written: those that end in one of these ways. Where heads are asked for, each is its head
-/// line alone, else its events follow. The totals count all rows.
+/// line alone, otherwise its events follow. The totals count all rows.
 #[derive(Clone, Copy, PartialEq, Eq)]
 pub struct View {
     pub ends: Ends,

@@ -1,5 +1,5 @@
 //! The text of one run after another, to a sink.
-ghost use Rattle.std.specs.Prelude.{◌≡◌, ◌≤◌, ◌++◌, [], length, take, false, OnOk};
+ghost use Rattle.std.specs.Prelude.{◌≡◌, ◌≤◌, ◌++◌, [], length, take, drop, false, OnOk};
 ghost use Rattle.std.specs.List.{flat_map};
 ghost use Rattle.std.specs.Result.{is_err};
 ghost use Rattle.byte_io.specs.Bytes.{Writes, Adds};
@@ -22,7 +22,7 @@ const FIRST: usize = b"row 0".len();
 
 /// The report of a campaign or of one run, as it is being written: what is still to go out, and what lines have in common.
 ///
-/// It takes no memory, and stands in about 75 kB: make it once for a report. Each call on a writer requires that this has not
+/// It takes no memory, and is some 75 kB large: make it once for a report. Each call on a writer requires that this has not
 /// failed. At `Err` the writer failed or took none of some bytes, it has taken a beginning of what was still to go out and of
 /// what was added, and the report is of no more use.
 #[derive(Drop)]
@@ -81,7 +81,7 @@ fn add_events<W: Sink>(
     Ok(())
 }
 
-// Adds the lines of the first so many events of a base run, of which those that are spelled are sent as they stand.
+// Adds the lines of a base run's first events, this many, of which those that are spelled are sent as they are.
 fn add_shared<W: Sink>(
     writer: &mut W,
     page: &mut Page,
@@ -102,44 +102,26 @@ fn add_shared<W: Sink>(
     add_events(writer, page, lines, &base.events()[count..shared])
 }
 
-// Adds the lines of a row's own events, and of its rest.
-fn add_own<W: Sink>(
-    writer: &mut W,
-    page: &mut Page,
-    lines: &mut Lines<'_>,
-    own: &[Event],
-    rest: &[Event],
-) -> Result<(), WriteFault>
-    requires { W.has_failed writer.old ≡ false }
-    ensures app { lines.new ≡ lines.old }
-    ensures text { Adds (W.held writer.old) (W.held writer.new) page.old page.new result
-        (flat_map (event_text lines.old) (own.now ++ rest.now)) }
-    ensures failed { W.has_failed writer.new ≡ is_err result }
-{
-    add_events(writer, page, lines, own)?;
-    add_events(writer, page, lines, rest)
-}
-
-// Adds the lines of the first so many events of a base run, of a row's own, and of its rest.
-fn add_after<W: Sink>(
+// Adds the lines of a base run's events from this one on, of which those that are spelled are sent as they stand.
+fn add_base_from<W: Sink>(
     writer: &mut W,
     page: &mut Page,
     lines: &mut Lines<'_>,
     base: &BaseEvents<'_>,
-    shared: usize,
-    own: &[Event],
-    rest: &[Event],
+    from: usize,
 ) -> Result<(), WriteFault>
     requires working { W.has_failed writer.old ≡ false }
     requires app { base.now.app ≡ lines.old }
-    requires within { shared ≤ length base.now.events }
+    requires within { from ≤ length base.now.events }
     ensures app { lines.new ≡ lines.old }
     ensures text { Adds (W.held writer.old) (W.held writer.new) page.old page.new result
-        (flat_map (event_text lines.old) (take shared base.now.events ++ (own.now ++ rest.now))) }
+        (flat_map (event_text lines.old) (drop from base.now.events)) }
     ensures failed { W.has_failed writer.new ≡ is_err result }
 {
-    add_shared(writer, page, lines, base, shared)?;
-    add_own(writer, page, lines, own, rest)
+    let tail = base.tail(from);
+    add_events(writer, page, lines, tail.before)?;
+    add_text(writer, page, tail.text)?;
+    add_events(writer, page, lines, tail.behind)
 }
 
 fn add_row_number<W: Sink>(writer: &mut W, page: &mut Page, number: u32) -> Result<(), WriteFault>
@@ -229,6 +211,63 @@ impl<'a> ReportWriter<'a> {
         add_head(writer, &mut self.page, self.lines.app(), title, ending)
     }
 
+    /// Begins the report of a row: adds its head line, which begins with the title, and the lines of the first so many events of
+    /// this base run, which is of the same application.
+    pub fn begin_row<W: Sink>(
+        &mut self,
+        writer: &mut W,
+        title: Title,
+        ending: Ending,
+        base: &BaseEvents<'_>,
+        shared: usize,
+    ) -> Result<(), WriteFault>
+        requires working { W.has_failed writer.old ≡ false }
+        requires app { base.now.app ≡ self.old.app }
+        requires within { shared ≤ length base.now.events }
+        ensures app { self.new.app ≡ self.old.app }
+        ensures text { Adds (W.held writer.old) (W.held writer.new) self.old.page self.new.page result
+            (head_text self.old.app title ending.steps ending.ticks ending.end
+            ++ flat_map (event_text self.old.app) (take shared base.now.events)) }
+        ensures failed { W.has_failed writer.new ≡ is_err result }
+    {
+        add_head(writer, &mut self.page, self.lines.app(), title, ending)?;
+        add_shared(writer, &mut self.page, &mut self.lines, base, shared)
+    }
+
+    /// Adds the lines of the next events of a run.
+    pub fn add_events<W: Sink>(
+        &mut self,
+        writer: &mut W,
+        events: &[Event],
+    ) -> Result<(), WriteFault>
+        requires { W.has_failed writer.old ≡ false }
+        ensures app { self.new.app ≡ self.old.app }
+        ensures text { Adds (W.held writer.old) (W.held writer.new) self.old.page self.new.page result
+            (flat_map (event_text self.old.app) events.now) }
+        ensures failed { W.has_failed writer.new ≡ is_err result }
+    {
+        add_events(writer, &mut self.page, &mut self.lines, events)
+    }
+
+    /// Adds the lines of the events of this base run from this one on: a row that comes back to it ends as it does. It is of the
+    /// same application.
+    pub fn add_base_from<W: Sink>(
+        &mut self,
+        writer: &mut W,
+        base: &BaseEvents<'_>,
+        from: usize,
+    ) -> Result<(), WriteFault>
+        requires working { W.has_failed writer.old ≡ false }
+        requires app { base.now.app ≡ self.old.app }
+        requires within { from ≤ length base.now.events }
+        ensures app { self.new.app ≡ self.old.app }
+        ensures text { Adds (W.held writer.old) (W.held writer.new) self.old.page self.new.page result
+            (flat_map (event_text self.old.app) (drop from base.now.events)) }
+        ensures failed { W.has_failed writer.new ≡ is_err result }
+    {
+        add_base_from(writer, &mut self.page, &mut self.lines, base, from)
+    }
+
     /// Adds the report of a run as `add_run` does. Its events are the first so many of this base run, which is of the same
     /// application, then these of its own, and then these of its rest.
     pub fn add_run_after<W: Sink>(
@@ -250,16 +289,9 @@ impl<'a> ReportWriter<'a> {
             (record { events = take shared base.now.events ++ (own.now ++ rest.now); steps = ending.steps; ticks = ending.ticks; end = ending.end })) }
         ensures failed { W.has_failed writer.new ≡ is_err result }
     {
-        add_head(writer, &mut self.page, self.lines.app(), title, ending)?;
-        add_after(
-            writer,
-            &mut self.page,
-            &mut self.lines,
-            base,
-            shared,
-            own,
-            rest,
-        )
+        self.begin_row(writer, title, ending, base, shared)?;
+        self.add_events(writer, own)?;
+        self.add_events(writer, rest)
     }
 
     /// Adds the report of a row once more, under this number: the text is that of the row under the number 0.

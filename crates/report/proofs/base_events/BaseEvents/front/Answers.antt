@@ -1,4 +1,4 @@
-use Rattle.std.proofs.Common.{arith, ◌<◌, ◌≤◌, length}
+use Rattle.std.proofs.Common.{arith, ◌≤◌, length}
 use Rattle.report.proofs.Spelling.{groups_text, groups_within}
 use Rattle.report.proofs.base_events.BaseEvents.front.Goals as goal
 
@@ -6,14 +6,12 @@ pub slice_bounds-result-end-2 : goal.slice_bounds-result-end-2
 slice_bounds-result-end-2 c =
     let spelled = c.in-Some.spelled in
     let is = rw c.in-Some.is at c.self.invariant in
-    let some : 0 < c.min-groups.result = grind arith in
     let within : c.min-groups.result ≤ length spelled.ends.items = grind arith in
-    rw c.deref.ensures.value (groups_within c.self.inside.app.now c.self.inside.events.now spelled.text.items spelled.ends.items is c.min-groups.result c.index.result.now some within c.index.ensures)
+    rw c.deref.ensures.value (groups_within c.self.inside.app.now c.self.inside.events.now spelled.text.items spelled.ends.items is c.min-groups.result c.end_of-end.result within c.end_of-end.ensures)
 
 pub returns-clause-text : goal.returns-clause-text
 returns-clause-text c =
     let spelled = c.in-Some.spelled in
     let is = rw c.in-Some.is at c.self.invariant in
-    let some : 0 < c.min-groups.result = grind arith in
     let within : c.min-groups.result ≤ length spelled.ends.items = grind arith in
-    rw (← c.self.view_is, c.deref.ensures.value) (groups_text c.self.inside.app.now c.self.inside.events.now spelled.text.items spelled.ends.items is c.min-groups.result c.index.result.now some within c.index.ensures)
+    rw (← c.self.view_is, c.deref.ensures.value) (groups_text c.self.inside.app.now c.self.inside.events.now spelled.text.items spelled.ends.items is c.min-groups.result c.end_of-end.result within c.end_of-end.ensures)

@@ -7,7 +7,7 @@ use Rattle.report.specs.Text.{call_front, isr_front, obeyed_front, what_text}
 use Rattle.report.specs.Fronts.{mark_front, isr_mark_front}
 use Rattle.report.proofs.lines.Lines.put_what.Goals as goal
 
--- What an event tells, after its front and its answer, and the line's end.
+-- What an event reports, after its front and its answer, and the line's end.
 told : (app seen : Application) (event said : What) (start front mid answer end : List ℕ) → app ≡ seen → said ≡ event
     → what_text app event ≡ front ++ answer → mid ≡ start ++ front → end ≡ (mid ++ answer) ++ codes "\n"
     → end ≡ (start ++ what_text seen said) ++ codes "\n"
