@@ -50,7 +50,7 @@ is_suspend_all op = false
 other_op : (op : Op) → is_suspend_all op ≡ false → op ≢ SuspendAll
 other_op op other e = true≢false (ap is_suspend_all (sym e) ∙ other)
 
--- the same of an op that is told by its form
+-- the same of an op that is known by its form
 module _ (app : Application) (old new : Machine) (old_log new_log : Logged) (task : ℕ) (op form : Op) (is : op ≡ form) (none : old.suspensions ≡ 0) (fine : (s : State) → own_misuse s task form ≡ None) (other : is_suspend_all form ≡ false) where
   pub any_by_form : (count : ℕ) → count ≤ 65 → DoesAny count old old_log new new_log (act app task form) → DoesAny 65 old old_log new new_log (λ s. act_unless app task (misuse s task op) op s)
   any_by_form count within d =

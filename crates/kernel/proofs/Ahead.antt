@@ -29,7 +29,7 @@ tail_none tick i is e = by_test (eqb i.tick tick) (λ t. absurd (let f = rw t at
 head_not : (i : Interrupt) (is : List Interrupt) → those_at i.tick (i ∷ is) ≡ [] → ⊥
 head_not i is e = let f = rw (eqb-refl i.tick) at e in absurd (cc)
 
--- none comes within so many ticks
+-- none comes within this many ticks
 all_later : (now n : ℕ) (is : List Interrupt) → ((tick : ℕ) → now < tick → tick ≤ now + n → those_at tick is ≡ []) → AllByRecursion (λ x. n + 1 ≤ x) (ticks_from now is)
 all_later now n [] none = tt
 all_later now n (i ∷ is) none =
@@ -41,7 +41,7 @@ all_later now n (i ∷ is) none =
     rw t (omega arith, rest))
     (λ t. rw t rest)
 
--- one comes in so many
+-- one comes in this many
 one_then : (now n : ℕ) (is : List Interrupt) → 0 < n → those_at (now + n) is ≢ [] → list_any (λ x. eqb x n) (ticks_from now is) ≡ true
 one_then now n [] some ne = absurd (ne refl)
 one_then now n (i ∷ is) some ne = by_test (eqb i.tick (now + n))
@@ -60,7 +60,7 @@ one_then now n (i ∷ is) some ne = by_test (eqb i.tick (now + n))
       or_later true b t = refl
       or_later false b t = t
 
--- none comes at all, where all would come within so many
+-- none comes at all, where all would come within this many
 none_ever : (app : Application) (now n : ℕ) (is : List Interrupt) → AllByRecursion (IsInterrupt app) is → 1000000 ≤ now + n → ((tick : ℕ) → now < tick → tick ≤ now + n → those_at tick is ≡ []) → ticks_from now is ≡ []
 none_ever app now n [] within far none = refl
 none_ever app now n (i ∷ is) within far none =

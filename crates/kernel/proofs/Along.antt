@@ -37,7 +37,7 @@ free_sooner {app} {limits} {until} {k} {plan} sooner within f = record {
   free = λ n from below going. f.free n from (within n from below) going;
 }
 
--- Up to a step before which no limit is reached, each run without an injection is so.
+-- Up to a step before which no limit is reached, each run without an injection is free (`IsFree`).
 pub free_of_limits : (app : Application) (limits : Limits) (until : ℕ) (k : Machine) (plan : List Injection) → IsUnderWay app plan limits k
     → ((n : ℕ) → k.steps ≤ n → n < until → injected plan n ≡ [])
     → (app.tickless ≡ false → k.steps < until → k.clock.age + k.clock.held + until ≤ limits.ticks + k.steps) → (k.steps < until → until ≤ limits.steps) → IsFree app limits until k plan
@@ -126,7 +126,7 @@ module _ (app : Application) (formed : IsWellFormed app) (limits : Limits) (are 
     pub one_further : next.steps ≡ suc k.steps
     one_further = one_on app formed limits are until k next short stands plan f (going plan f)
 
-    -- where the step tells something, so has the run
+    -- where the step reports something, so has the run
     pub some_further : ((s : State) → Stands k s → 0 < length (step app limits [] s).log) → 0 < length (events_after app limits plan next.steps)
     some_further = some_on app formed limits are until k next short stands plan f (going plan f)
 
@@ -212,7 +212,7 @@ tells_on {app} {limits} {until} {first} {middle} {last} {before} {between} {afte
   events = λ plan f. more_from app limits plan first.steps middle.steps last.steps g.to.on h.on before between after (g.events plan f) (h.events plan (record { free = free_next g.to f; going = going plan f }));
 }
 
--- a stretch that tells nothing, behind any events
+-- a stretch that reports nothing, behind any events
 pub behind : {app : Application} {limits : Limits} {until : ℕ} {old new : Machine} (kept : List Event) → GoesOn app limits until old new [] [] → GoesOn app limits until old new kept kept
 behind {app} {limits} {until} {old} {new} kept g = record {
   to = g.to;

@@ -178,11 +178,11 @@ not_another a e = same_true the_type (search rules) a NextOp (unequal (sameb the
   unequal true e = refl
   unequal false e = absurd (cc)
 
--- Of a log that has told nothing in this step there is what was told before.
+-- A log that has reported nothing in this step holds what was reported before.
 pub all_before : (log : Logged) → log.told ≡ [] → all_of log ≡ log.before
 all_before log e = told_after log log.before [] refl e ∙ append-nil log.before
 
--- A deed that tells nothing, in a step that has told nothing yet.
+-- A deed that reports nothing, in a step that has reported nothing yet.
 pub silently : (k new : Machine) (old_log new_log : Logged) (deed : State → State) → DoesAny 65 k old_log new new_log deed → old_log.told ≡ [] → new_log ≡ old_log → (s : State) → AtAny k [] s → AtAny new [] (deed s)
 silently k new old_log new_log deed does begun silent s h =
     subst (λ (es : List Event). AtAny new es (deed s)) (ap (λ (l : Logged). l.told) silent ∙ begun) (does.at s (subst (λ (es : List Event). AtAny k es s) (sym begun) h))

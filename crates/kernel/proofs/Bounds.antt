@@ -157,7 +157,7 @@ once_held : (n : ℕ) (b : Bool) (depth : ℕ) → depth ≡ n + (if b then 1 el
 once_held n true depth e z t = omega (arith, e, z)
 once_held n false depth e z t = absurd (cc)
 
--- the kernel stands for a state of a run, early enough
+-- the kernel represents a state of a run, early enough
 module _ (app : Application) (formed : IsWellFormed app) (k : Machine) (state : State) (reached : IsState app state) (stands : Stands k state) (early : state.elapsed < 281474976710656) (little : state.held_ticks < 1000000) where
   time_low : k.clock.now < 4294967296 + 281474976710656
   time_low = let e = now_is k state stands in let l = early in let m = reached.sound.time.1 in let n = formed.start in omega arith
@@ -301,7 +301,7 @@ module _ (app : Application) (formed : IsWellFormed app) (k : Machine) (state : 
       can_leave : k.suspensions ≡ 0 → (call_at state task).phase ≡ Leave → CanLeave k task
       can_leave awake e = record { call = in_call Leave e (λ q. absurd (cc)); held = held_once awake (held_in Leave e refl); awake = awake }
 
-    -- a call on an object that waits there, at most for so many ticks
+    -- a call on an object that waits there, at most for this many ticks
     module _ (object : ℕ) (access : Access) (ticks : Option ℕ) (op : Op) (is : op_at app task (progress_in k.progress task).op_index ≡ Some op) (way : course (Some op) ≡ OnObject object) (fit : fits_object app object access ≡ true) (range : is_wait ticks ≡ true) (awake : k.suspensions ≡ 0) where
       can_try : state.call_hold ≡ false → CanTry k task object access
       can_try free = record { runs = runs_on op is free; agrees = (state, placed free); free = no_lock free; depth = not_held awake free; room = rooms object access fit }
@@ -341,7 +341,7 @@ module _ (app : Application) (formed : IsWellFormed app) (k : Machine) (state : 
       goes_on Leave e = can_leave op is awake e
       goes_on Final e = absurd (subst (λ (c : Course). IsPhaseOf (hold_of state) c Final) way (fits_phase op is Final e))
 
-    -- a set of bits, by an op that goes so
+    -- a set of bits, by an op of that course
     sets : (op : Op) → op_at app task (progress_in k.progress task).op_index ≡ Some op → course (Some op) ≡ ToSetBits → k.suspensions ≡ 0 → (phase : Phase) → (call_at state task).phase ≡ phase → CanSetBits k task phase
     sets op is goes awake Start e = can_decide op is (free_in Start e refl) awake
     sets op is goes awake Leave e =

@@ -1,4 +1,4 @@
--- What stands at the end of a run, as a kernel has it.
+-- The end state of a run, as a kernel has it.
 use Rattle.std.proofs.Common.{◌≡◌, ◌≢◌, ◌<◌, ◌+◌, ◌||◌, ℕ, zero, suc, Bool, true, false, eqb, List, [], ◌∷◌, ◌++◌, length, map, take, get_or, set, Option, Some, None, refl, ap, ap₂, sym, subst, ◌∙◌, arith}
 use Rattle.std.specs.Prelude.{if◌then◌else◌}
 use Rattle.std.specs.List.{cons_option, list_any, range_with_len}
@@ -82,7 +82,7 @@ module _ (app : Application) (s : State) (reached : IsState app s) (k : Machine)
           deadline = deadline_ahead (ap (λ (p : Progress). p.call.phase) (sym (progress_is k s h task)) ∙ e);
         }
 
--- ---- the same is told of both
+-- ---- the same is reported of both
 
 map_same : {X Y : Type 0} (f g : X → Y) → ((x : X) → f x ≡ g x) → (xs : List X) → map f xs ≡ map g xs
 map_same f g same [] = refl
@@ -234,7 +234,7 @@ told_waiting op b (Asleep w n) until a e t = absurd (cc)
 told_waiting op b Suspended until a e t = absurd (cc)
 told_waiting op b Ended until a e t = absurd (cc)
 
--- what is known of a status of none of these
+-- what is known of a status of none of these kinds
 pub record IsElsewhere (u : Status) : Type 0 where
   pub suspended : can_resume u ≡ false
   pub ready : is_some (ticket_if_ready u) ≡ false

@@ -462,7 +462,7 @@ module _ (app : Application) (limits : Limits) (s : State) where
   pub not_over_if_going : end_of app limits s ≡ None → is_over app limits s ≡ false
   not_over_if_going on = over_not s.stopped app.tickless (are_all_ended app s) (leb limits.ticks s.elapsed) (leb limits.steps s.steps) (is_stuck app s) on
 
--- A step begins with no event told, and ends with one step more.
+-- A step begins with no event reported, and ends with one step more.
 
 pub begun : (k : Machine) (log : List Event) (s : State) → Stands k s → log ≡ [] → AtAny k log (record s { log = [] })
 begun k log s h e = record { stands = renewed k s h [] s.steps k.steps (steps_are k s h); log = e }

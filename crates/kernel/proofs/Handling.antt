@@ -99,7 +99,7 @@ behind_is ops i l = take_all (length ops - (i + 1)) (drop (i + 1) ops) (let e = 
 pub behind_short : (ops : List IsrOp) (i : ℕ) → i < length ops → length ops ≤ 16 → length (take (length ops - (i + 1)) (drop (i + 1) ops)) ≤ 16
 behind_short ops i l few = rw (behind_is ops i l) (let e = length-drop (i + 1) ops in omega (arith, e))
 
--- A handler of which the ops before this index are done goes on so: over so many ops it jumps, this is its last answer, and this the state.
+-- A handler whose ops before this index are done goes on so: it jumps over this many ops, this is its last answer, and this the state.
 abbrev pub GoesOnSo : Application → (handler : ℕ) → List IsrOp → State → (op_index over : ℕ) → (last : Option ℕ) → State → Type 0
 GoesOnSo app handler ops s op_index over last t = isr_each app handler 0 0 None ops s ≡ isr_each app handler op_index over last (drop op_index ops) t
 
@@ -120,7 +120,7 @@ module _ (app : Application) (handler : ℕ) (ops : List IsrOp) (i : ℕ) (op : 
       → GoesOnSo app handler ops s (i + 1) (isr_jump op last (drop (i + 1) ops)) (isr_answer app t op last) (isr app handler i op t)
   op_done f h = ahead 0 h ∙ rw (sym f) refl
 
--- The kernel stands for such states, and so many events at most are told.
+-- The kernel represents such states, and at most this many events are reported.
 pub record IsAmid (app : Application) (handler : ℕ) (ops : List IsrOp) (old : Machine) (old_log : Logged) (op_index over : ℕ) (last : Option ℕ) (new : Machine) (new_log : Logged) : Type 0 where
   pub at : (s : State) → At old old_log.told s → (t : State) × At new new_log.told t × GoesOnSo app handler ops s op_index over last t
   pub any : (s : State) → AtAny old old_log.told s → (t : State) × AtAny new new_log.told t × GoesOnSo app handler ops s op_index over last t
@@ -246,14 +246,14 @@ mapped_at f [] i x l e = absurd (omega arith)
 mapped_at f (y ∷ ys) zero x l e = ap f e
 mapped_at f (y ∷ ys) (suc i) x l e = mapped_at f ys i x (omega arith) e
 
--- ---- the guess at the next base interrupt is nothing that the kernel stands for
+-- ---- the guess at the next base interrupt is no part of what the kernel represents
 
 pub guessed : (k : Machine) (n : ℕ) (log : List Event) (s : State) → At k log s → At (record k { next_interrupt = n }) log s
 guessed k n log s h = record { stands = record { sched = h.stands.sched; rest = rest_again h.stands.rest h.stands.rest.clock h.stands.rest.queues h.stands.rest.groups }; log = h.log }
 
 -- ---- the bits of a group
 
--- The groups stand for the state, whether or not a task is still to be placed.
+-- The groups represent the state, whether or not a task is still to be placed.
 pub groups_stand : (k : Machine) (s : State) → Stands k s → groups.StandsFor k.groups s
 groups_stand k s (Placed h) = h.rest.groups
 groups_stand k s (Placing task list b) = b.groups

@@ -1,4 +1,5 @@
--- While a `suspend_all` is in force: what a tick that is held, the end of a script and a misuse make of the states that the kernel stands for.
+-- While a `suspend_all` is in force: what a tick that is held, the end of a script and a misuse make of the states that the kernel
+-- represents.
 use Rattle.std.proofs.Common.{◌≡◌, ◌≢◌, ◌<◌, ◌≤◌, ◌+◌, ℕ, zero, suc, true, false, List, Option, Some, None, refl, sym, subst, ◌∙◌, arith}
 use Rattle.std.proofs.lemmas.Bool.{lt-ltb, le-ltb}
 use Rattle.model.specs.declared.event.Event.{Event}
@@ -158,7 +159,7 @@ module _ (app : Application) (new : Machine) (log : List Event) (s : State) (i :
   pub acted_at : misuse s i op ≡ None → At new log (judge i (progress_at s i).op_index (act app i op s)) → At new log (act_unless app i (misuse s i op) op s)
   acted_at e h = rw e h
 
--- ---- told of less than may be told
+-- ---- fewer events than may be reported
 
 pub does_up : (count more : ℕ) (old new : Machine) (old_log new_log : Logged) (deed : State → State) → count ≤ more → Does count old old_log new new_log deed → Does more old old_log new new_log deed
 does_up count more old new old_log new_log deed l d = record { at = d.at; few = let f = d.few in omega arith; before = d.before }

@@ -38,7 +38,7 @@ use Rattle.kernel.proofs.Ending.{begun, handled_before, stepped}
 use Rattle.kernel.proofs.Running.{acts}
 use Rattle.kernel.proofs.Silent.{not_over_silently}
 
--- A call tells nothing in three phases: in all but the first the scheduler is held before it too.
+-- A call reports nothing in three phases: in all but the first the scheduler is held before it too.
 pub holds_silently : (phase : Phase) → IsSilent phase → phase ≢ Decide → holds phase ≡ true
 holds_silently Start s a = absurd s
 holds_silently Try s a = absurd s
@@ -126,7 +126,7 @@ module _ (app : Application) (limits : Limits) (k : Machine) (task object : ℕ)
         let one : DoesAny 2 k told new told (await app task object access c.ticks phase) = record { at = does log; few = omega arith; before = refl } in
         (acts_in_phase past new told told one).at s h
 
-    -- as it tells nothing, and switches nothing.
+    -- as it reports nothing, and switches nothing.
     module _ (held : 0 < new.sched.depth) (s : State) (h : Stands k s) where
       there : AtAny new [] (unless_held settle (act_current app limits (before_step app [] s).current (before_step app [] s)))
       there = still_held new [] _ held (acts_there [] (before_step app [] s) (handled_before app [] s k [] (begun k [] s h refl)))

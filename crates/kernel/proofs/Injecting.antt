@@ -50,8 +50,8 @@ module _ (app : Application) (limits : Limits) (point : List Injection) (formed 
     };
   }
 
-  -- Where the base run goes on at the first injection, the row doesn't end there: it is behind it where it has an end, or has come to
-  -- a later step.
+  -- Where the base run goes on at the first injection, the row doesn't end there. Where it has an end, or has come to a later step,
+  -- it is behind that injection.
   pub past_it : end_of app limits (state_after app limits [] (first_step point)) ≡ None → (n : ℕ) → first_step point ≤ n
       → (end : Option End) → end ≡ end_of app limits (state_after app limits point n) → (until : ℕ) → (end ≡ None → n ≡ until) → first_step point < until → first_step point < n
   past_it on n l end is until there beyond = by_test (eqb n (first_step point))

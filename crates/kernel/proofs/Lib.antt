@@ -16,7 +16,7 @@ pub mod Counting
 pub mod LettingGo
 pub mod Setting
 pub mod Along
-pub mod Resting
+pub mod Leading
 pub mod Ahead
 pub mod Amid
 pub mod EndStates

@@ -54,7 +54,7 @@ module _ (app : Application) (limits : Limits) (k : Machine) (task : ℕ) (runs 
     before = refl;
   }
 
--- a log after a step: what it had before, and what the step tells
+-- a log after a step: what it had before, and what the step reports
 pub told_after : (log : Logged) (before told : List Event) → log.before ≡ before → log.told ≡ told → all_of log ≡ before ++ told
 told_after log before told e f = rw (e, f) refl
 
@@ -116,11 +116,11 @@ module _ (app : Application) (formed : IsWellFormed app) (plan : List Injection)
     pub more_counted : (told : List Event) → told ≡ (step app limits (injected plan k.steps) (state_after app limits plan k.steps)).log → length (events_after app limits plan next.steps) ≡ length (events_after app limits plan k.steps) + length told
     more_counted told e = rw (steps_more, e) (length-append (events_after app limits plan k.steps) (step app limits (injected plan k.steps) (state_after app limits plan k.steps)).log)
 
-    -- where the step tells something, so has the run
+    -- where the step reports something, so has the run
     pub told_more : 0 < length (step app limits (injected plan k.steps) (state_after app limits plan k.steps)).log → 0 < length (events_after app limits plan next.steps)
     told_more one = rw steps_more (omega (arith, length-append (events_after app limits plan k.steps) (step app limits (injected plan k.steps) (state_after app limits plan k.steps)).log))
 
--- ---- steps that told nothing
+-- ---- steps that reported nothing
 
 module _ (app : Application) (limits : Limits) (plan : List Injection) (n m : ℕ) (l : n ≤ m) (silent : events_from app limits plan n m ≡ []) where
   pub same_events : events_after app limits plan m ≡ events_after app limits plan n
@@ -173,7 +173,7 @@ more_from app limits plan first n m l le begin events all e g =
 pub extends_on : (begin events all more : List Event) → events ≡ begin ++ more → Extends events all → Extends begin all
 extends_on begin events all more e x = (more ++ x.0, x.1 ∙ ap (λ (es : List Event). es ++ x.0) e ∙ append_assoc begin more x.0)
 
--- In so many steps no more ticks pass.
+-- In this many steps no more ticks pass.
 pub ticks_between : (app : Application) (limits : Limits) (plan : List Injection) → app.tickless ≡ false → (n m : ℕ) → n ≤ m → (state_after app limits plan m).elapsed + n ≤ (state_after app limits plan n).elapsed + m
 ticks_between app limits plan off n zero le = let z : n ≡ 0 = omega arith in rw z (omega arith)
 ticks_between app limits plan off n (suc m) le = by_test (eqb n (suc m))

@@ -1,4 +1,4 @@
--- A phase of a call in which it tells nothing ends neither a task nor the run.
+-- A phase of a call in which it reports nothing ends neither a task nor the run.
 use Rattle.std.proofs.Common.{◌≡◌, ◌≢◌, ◌||◌, ◌&&◌, leb, ℕ, true, false, eqb, ltb, List, [], ◌∷◌, ◌++◌, Option, Some, None, refl, ap, sym, subst, ◌∙◌}
 use Rattle.std.specs.Option.{is_some}
 use Rattle.model.specs.declared.event.End.{End}

@@ -161,7 +161,7 @@ works_on app limits s task n free runs is =
     ∙ acts_calm app task (Work n) s free refl (λ e. cc)
 
 module _ (app : Application) (limits : Limits) (count : ℕ) (k : Machine) (q : IsQuiet app limits (suc count) k) (clock : Timeline) (a : Advances k.clock clock []) where
-  -- what the step comes to, but for its number
+  -- what the step comes to, except for its number
   abbrev after : Machine
   after = record k { clock = clock; progress = used_by k.sched.current k.progress }
 
@@ -200,7 +200,7 @@ module _ (app : Application) (limits : Limits) (count : ℕ) (k : Machine) (q : 
   passed : (s : State) → Stands k s → Stands (record after { steps = k.steps + 1 }) (step app limits [] s)
   passed s h = stepped app limits [] s after [] k.steps (steps_are k s h) (any after [] (unless_held settle (act_current app limits (before_step app [] s).current (before_step app [] s))) (came s h))
 
-  -- it tells nothing
+  -- it reports nothing
   pub silent : (s : State) → Stands k s → [] ≡ (step app limits [] s).log
   unfolding step
   silent s h = (came s h).log
@@ -314,7 +314,7 @@ module _ (app : Application) (limits : Limits) (count : ℕ) (k : Machine) (q : 
   pub used_once : (task : ℕ) → k.sched.current ≡ Some task → (progress_in k.progress task).used + 1 < 2 ^ 32
   used_once task e = let w : WorksOn app (suc count) k (Some task) = subst (WorksOn app (suc count) k) e q.works in let fits = w.1 in omega arith
 
--- so many steps are quiet, and so are fewer
+-- this many steps are quiet, and so are fewer
 pub quiet_fewer : (app : Application) (limits : Limits) (count few : ℕ) (k : Machine) → few ≤ count → IsQuiet app limits count k → IsQuiet app limits few k
 quiet_fewer app limits count few k le q =
     let ticks = q.ticks in

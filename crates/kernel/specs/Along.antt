@@ -23,7 +23,7 @@ pub record GoesTo (app : Application) (limits : Limits) (until : ℕ) (old new :
   pub on : old.steps ≤ new.steps
   pub far : old.steps ≤ until → new.steps ≤ until
 
--- What each of them told on the way came behind the events that were kept before.
+-- What each of them reported on the way came behind the events that were kept before.
 pub record GoesOn (app : Application) (limits : Limits) (until : ℕ) (old new : Machine) (before after : List Event) : Type 0 where
   pub to : GoesTo app limits until old new
   pub events : (plan : List Injection) → IsFree app limits until old plan → after ≡ before ++ events_from app limits plan old.steps new.steps
@@ -37,8 +37,8 @@ pub record IsGoing (app : Application) (limits : Limits) (until : ℕ) (k : Mach
   pub free : IsFree app limits until k plan
   pub going : is_over app limits (state_after app limits plan k.steps) ≡ false
 
--- The kernel has gone on, no further than to this step, along each run that was so at the old one, and what each told on the way came
--- behind the events that were kept before.
+-- The kernel has gone on, no further than to this step, along each run that was so at the old one. What each of them reported on the way
+-- came behind the events that were kept before.
 pub record GoesFurther (app : Application) (limits : Limits) (until : ℕ) (old new : Machine) (before after : List Event) : Type 0 where
   pub way : (plan : List Injection) → IsGoing app limits until old plan → IsUnderWay app plan limits new
   pub on : old.steps ≤ new.steps

@@ -1,4 +1,4 @@
--- What a kernel is, while it is looked up what stands at the end of a run.
+-- What a kernel is while the end state of a run is looked up in it.
 use Rattle.std.specs.Prelude.{◌≡◌, ℕ, false, ◌++◌, None, length}
 use Rattle.model.specs.Application.{Application}
 use Rattle.model.specs.State.{State, progress_at, status_at}
@@ -14,7 +14,8 @@ use Rattle.machine.specs.declared.machine.Machine.{Machine}
 use Rattle.machine.specs.StandsFor.{StandsFor, progress_in}
 use Rattle.outcome.specs.EndStates.{end_state_of}
 
--- The kernel stands for a state of the application, in which each task is in its lists, and what is told of it is what is told of this one.
+-- The kernel represents a state of the application, in which each task is in its lists, and what is reported of it is what is reported of
+-- this one.
 pub record Settles (app : Application) (k : Machine) (s : State) : Type 0 where
   pub state : State
   pub stands : StandsFor k state
@@ -22,14 +23,14 @@ pub record Settles (app : Application) (k : Machine) (s : State) : Type 0 where
   pub objects : length state.objects ≡ length app.objects
   pub same : end_state_of state ≡ end_state_of s
 
--- The Awake tasks are these, and the queues stand for a state in which each of the others is doing what it did.
+-- The Awake tasks are these, and the queues represent a state in which each of the others is doing what it did.
 pub record IsOpened (v : Exchange) (awake : Unlocked) (s : State) : Type 0 where
   pub woken : (task : ℕ) → is_among task (awake.to_receive.items ++ awake.to_send.items) ≡ is_awake s task
   pub opened : State
   pub stands : queues.StandsFor v None opened
   pub others : (task : ℕ) → is_awake s task ≡ false → status_at opened task ≡ status_at s task
 
--- The kernel stands for the state, but that these, the Awake tasks, were taken out of the waiting lists.
+-- The kernel represents the state, except that these, the Awake tasks, were taken out of the waiting lists.
 pub record StandsOpened (k : Machine) (awake : Unlocked) (s : State) : Type 0 where
   pub sched : sched.StandsFor k.sched s
   pub clock : clock.StandsFor k.clock s

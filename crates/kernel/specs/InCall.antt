@@ -10,7 +10,7 @@ use Rattle.model.specs.Application.{Application, op_at}
 use Rattle.machine.specs.declared.machine.Machine.{Machine}
 use Rattle.machine.specs.StandsFor.{progress_in}
 
--- The op is a call on this object that waits for so many ticks, or for ever: that of a task, or the daemon's receive.
+-- The op is a call on this object that waits for this many ticks, or for ever: that of a task, or the daemon's receive.
 pub data IsCallOn (op : Op) (object : ℕ) (access : Access) (ticks : Option ℕ) : Type 0 where
   Awaits : op ≡ Await object access ticks → IsCallOn op object access ticks
   Receives : op ≡ NextCommand object → access ≡ Receive → ticks ≡ None → IsCallOn op object access ticks

@@ -6,7 +6,7 @@ use Rattle.model.specs.Application.{Application, op_at}
 use Rattle.machine.specs.declared.machine.Machine.{Machine}
 use Rattle.machine.specs.StandsFor.{progress_in}
 
--- an op of the script alone that tells nothing
+-- an op of the script alone that reports nothing
 abbrev pub is_of_script : Op → Bool
 is_of_script (Expect condition) = true
 is_of_script (Repeat turns) = true

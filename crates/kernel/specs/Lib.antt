@@ -2,6 +2,7 @@ pub mod Blocked
 pub mod Can
 pub mod Rows
 pub mod Rests
+pub mod Leads
 pub mod Along
 pub mod Quiet
 pub mod Over

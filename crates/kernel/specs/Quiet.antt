@@ -11,7 +11,7 @@ use Rattle.machine.specs.declared.machine.Machine.{Machine}
 use Rattle.machine.specs.StandsFor.{progress_in}
 use Rattle.kernel.specs.Left.{IsAnyLeft}
 
--- The running task has more than so much of a `work` before it; or idle runs, which lets one tick pass in a
+-- The running task has more than this much of a `work` before it; or idle runs, which lets one tick pass in a
 -- step, and somebody sleeps.
 abbrev pub WorksOn : Application → ℕ → Machine → Option ℕ → Type 0
 WorksOn app count k None = (k.clock.delayed_list ≢ []) × (app.tickless ≡ false)
@@ -19,7 +19,7 @@ WorksOn app count k (Some task) =
     (is_ready k.sched task ≡ true) × ((progress_in k.progress task).used + count < 2 ^ 32)
     × (ticks : ℕ) × (op_at app task (progress_in k.progress task).op_index ≡ Some (Work ticks)) × ((progress_in k.progress task).used + count < ticks)
 
--- So many steps only let a tick pass, each before the end under these limits: nobody's sleep ends, the tick that is shown
+-- This many steps only let a tick pass, each before the end under these limits: nobody's sleep ends, the tick that is shown
 -- doesn't become 0, no base interrupt comes, and nothing switches.
 pub record IsQuiet (app : Application) (limits : Limits) (count : ℕ) (k : Machine) : Type 0 where
   pub stopped : k.stopped ≡ None

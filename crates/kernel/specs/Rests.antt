@@ -8,13 +8,13 @@ use Rattle.model.specs.Run.{Run, IsRun, events_after, injected}
 use Rattle.machine.specs.declared.machine.Machine.{Machine}
 use Rattle.machine.specs.Can.{IsUnderWay}
 
--- The rest of every run that comes to this kernel, and into which nothing is injected from there on: it tells these events, and
--- the run ends so, after so many steps and ticks in all.
+-- The rest of every run that comes to this kernel, and into which nothing is injected from there on. It reports these events, and
+-- the run has this end, after this many steps and ticks in all.
 pub record IsRest (app : Application) (limits : Limits) (k : Machine) (rest : Run) : Type 0 where
   pub of_each : (plan : List Injection) → IsUnderWay app plan limits k → ((n : ℕ) → k.steps ≤ n → injected plan n ≡ [])
       → IsRun app plan limits (record { events = events_after app limits plan k.steps ++ rest.events; steps = rest.steps; ticks = rest.ticks; end = rest.end })
 
--- The rest from this kernel ends so. Its events came behind the others that were kept.
+-- The rest from this kernel has this end. Its events came behind the others that were kept.
 pub record IsRestFrom (app : Application) (limits : Limits) (k : Machine) (old new : List Event) (ending : RestEnding) : Type 0 where
   pub own : List Event
   pub kept : new ≡ old ++ own

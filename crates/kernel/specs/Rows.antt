@@ -15,8 +15,8 @@ events_from app limits plan first next = drop (length (events_after app limits p
 abbrev pub Extends : (old new : List Event) → Type 0
 Extends old new = (more : List Event) × (new ≡ old ++ more)
 
--- The run with this point's injections ends so. Of its events those from the first injection on came behind the others that were kept;
--- those before it are the base run's.
+-- The run with this point's injections has this end. Of its events those from the first injection on came behind the others that were
+-- kept; those before it are the base run's.
 pub record IsRowFrom (app : Application) (point : List Injection) (limits : Limits) (old new : List Event) (ending : RowEnding) : Type 0 where
   pub own : List Event
   pub kept : new ≡ old ++ own

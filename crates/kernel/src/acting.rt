@@ -22,7 +22,7 @@ use ops::script::{branch, close_turn, end_if, expect, leave_loop, mark, open_loo
 use ops::suspension::{call_resume, call_suspend};
 use ops::time::{call_yield, delay, delay_until, since, stamp, time, use_up};
 
-/// What may come behind a step that told nothing, and is done with the step's parts at hand.
+/// What may come behind a step that reported nothing, and is done with the step's parts at hand.
 #[derive(Clone, Copy, PartialEq)]
 pub(crate) enum Following {
     /// Nothing: any other step.
@@ -63,7 +63,7 @@ impl Following {
         }
     }
 
-    /// Those of a command, if one was received, or else those of the call that waits for one.
+    /// Those of a command, if one was received, otherwise those of the call that waits for one.
     #[inline(always)]
     fn command_if(received: bool) -> Following
         ensures { result ≢ following.NextOp }

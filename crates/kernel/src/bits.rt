@@ -1,4 +1,4 @@
-//! The steps in which a call on an event group lets go of the scheduler. Each comes after a step that told nothing, in which the call
+//! The steps in which a call on an event group lets go of the scheduler. Each comes after a step that reported nothing, in which the call
 //! has taken hold of it, and is done with the call in hand.
 ghost use Rattle.std.specs.Prelude.{◌≡◌, ◌<◌, ◌≤◌, [], IfSome, Some, length};
 ghost use Rattle.model.specs.declared.call.Phase.TheVariants.{Leave};
@@ -164,8 +164,8 @@ pub(crate) fn pass_bits_on(
     step_letting_go(kernel, app, task, op, trail);
 }
 
-/// The steps after one that told nothing, if such come as are done one after another (`pass_on` tells which), and the one in which a
-/// call lets go of the scheduler: none where an op is done behind which none may follow.
+/// Does the steps after one that reported nothing, if they are such as are done one after another (see `pass_on`), and the one
+/// in which a call lets go of the scheduler. It does none where an op is done that nothing may follow.
 #[inline(always)]
 pub(crate) fn pass_more(
     kernel: &mut Machine,

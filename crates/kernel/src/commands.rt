@@ -71,8 +71,8 @@ fn step_setting<L: Log>(
     machine.steps += 1;
 }
 
-/// The same along a run that is under way and not over: not where that step is of this number, where the plan may have an injection or a
-/// limit may be reached. The run isn't over then either, if a task runs.
+/// The same along a run that is under way and not over. Nothing is done where that step is of this number: there the plan may have an
+/// injection, or a limit may be reached. The run isn't over then either, if a task runs.
 #[inline(always)]
 fn pass_set(
     kernel: &mut Machine,
@@ -100,9 +100,9 @@ fn pass_set(
     step_setting(kernel, app, task, command, trail);
 }
 
-/// Does the two steps in which the daemon sets the bits of the command that it has just received, if it is one that sets: none of this
-/// number, where the plan may have an injection or a limit may be reached. Whether the run is over is asked once, since the first of
-/// them ends no task.
+/// Does the two steps in which the daemon sets the bits of the command that it has just received, if it is one that sets. It stops
+/// before the step of this number, where the plan may have an injection or a limit may be reached. Whether the run is over is asked
+/// once, since the first of the two ends no task.
 #[inline(never)]
 pub(crate) fn pass_command(
     kernel: &mut Machine,

@@ -1,4 +1,4 @@
-//! What stands at the end of a run.
+//! The end state of a run.
 ghost use Rattle.std.specs.Prelude.{◌≡◌, ◌≤◌, ◌<◌, ◌+◌, ◌^◌, ◌++◌, ◌||◌, [], Some, None, IfOk, is_some, length, option_map, if◌then◌else◌};
 ghost use Rattle.std.specs.List.{cons_option};
 ghost use Rattle.arrayvec.specs.ArrayVec.{array_vec_len};
@@ -138,7 +138,7 @@ fn situation(machine: &Machine, awake: &Unlocked, task: TaskId) -> Situation
     }
 }
 
-/// What each of so many tasks is doing; these were Awake.
+/// What each of this many tasks is doing; these were Awake.
 fn situations(machine: &Machine, awake: &Unlocked, count: usize) -> ArrayVec<Situation, 32>
     requires { count ≤ 32 }
     ensures { (s : State) → StandsOpened machine.now awake.now s → length s.tasks ≡ count → result.items ≡ situations_of s }
@@ -164,7 +164,7 @@ fn push_held(held: &mut ArrayVec<HeldMutex, 33>, object: ObjectId, holder: Optio
     }
 }
 
-/// Of so many objects the mutexes that are held.
+/// The mutexes that are held, of this many objects.
 fn held_mutexes(queues: &Queues, count: usize) -> ArrayVec<HeldMutex, 33>
     requires { count ≤ 33 }
     ensures { (s : State) → QueuesStandFor queues.now None s → length s.objects ≡ count → result.items ≡ held_from 0 s.objects }
@@ -179,7 +179,7 @@ fn held_mutexes(queues: &Queues, count: usize) -> ArrayVec<HeldMutex, 33>
     held
 }
 
-/// What stands in the state for which the kernel stands, which is one of a run. The kernel is of no more use.
+/// The end state that the kernel represents, which is one of a run. After it the kernel is of no use.
 fn end_state(machine: &mut Machine, app: &App) -> EndState
     requires { (s : State) × IsState app.now s × Stands machine.old s }
     ensures { (s : State) → IsState app.now s → Stands machine.old s → result ≡ end_state_of s }
@@ -192,7 +192,7 @@ fn end_state(machine: &mut Machine, app: &App) -> EndState
     EndState { situations, held }
 }
 
-/// The run of an application with this plan, as `run` has it, and what stands after its last step.
+/// The run of an application with this plan, as `run` has it, and the end state after its last step.
 ///
 /// The meter, which is below 2^62, rises by the steps of the run. `Memory` is answered only where a growth was refused.
 pub fn run_to_end_state(

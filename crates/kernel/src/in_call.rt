@@ -150,8 +150,9 @@ fn pass_if_next(
     pass_phase(kernel, app, injections, task, call, next, limits);
 }
 
-/// Does the steps of the running task's call, which has come to decide, until it lets go of the scheduler next, and answers the task
-/// where it has come to that: none where the plan may have an injection, or a limit may be reached, before three steps are done.
+/// Does the steps of the running task's call, which has come to decide, until it lets go of the scheduler next. It answers the task
+/// where the call has come to that. It does none where the plan may have an injection, or a limit may be reached, before three steps
+/// are done.
 // Before it decides the task is Ready, so the run is over only if it has been stopped, or if the task is endless and left alone; and
 // none of these steps ends it.
 #[inline(never)]
@@ -198,8 +199,8 @@ pub(crate) fn pass_call(
     Some(task)
 }
 
-/// Does the step in which the running task's call lets go of the scheduler, to which it has come along a run that isn't over (`pass_call`
-/// tells): not where it is of this number, where the plan may have an injection or a limit may be reached.
+/// Does the step in which the running task's call lets go of the scheduler, to which it has come along a run that isn't over (see
+/// `pass_call`). It does none where that step is of this number: there the plan may have an injection, or a limit may be reached.
 #[inline(always)]
 pub(crate) fn pass_leave(
     kernel: &mut Machine,

@@ -69,7 +69,7 @@ impl Kernel {
         self.machine.set_from(&other.machine);
     }
 
-    /// The kernel as it stands now. It takes some 6 kB, and four bytes of memory for each item that the queues can hold.
+    /// The kernel as it is now. It takes some 6 kB, and four bytes of memory for each item that the queues can hold.
     ///
     /// `Memory` is answered only where a growth was refused.
     pub fn snapshot(&self, alloc: Global) -> Result<Snapshot, Memory>
@@ -85,12 +85,17 @@ impl Kernel {
         self.machine.restore(snapshot);
     }
 
-    /// Whether it stands as it did in this snapshot: for the same states, and before the same step. How many places its lists and
-    /// items have gone round tells nothing.
+    /// Whether it is as it was in this snapshot: for the same states, and before the same step. How many places its lists and
+    /// items have gone round doesn't count.
     pub fn is_at(&self, snapshot: &Snapshot) -> bool
         ensures { result ≡ true → self.now ≡ snapshot.now }
     {
         self.machine.is_at(snapshot)
+    }
+
+    /// A number that kernels have in common which are the same (`is_at`), and most others don't. It is a hint, on which nothing rests.
+    pub fn hint(&self) -> u64 {
+        self.machine.hint()
     }
 
     /// How many steps are done, at most 1,000,000 in a run.
@@ -107,7 +112,7 @@ impl Kernel {
         self.machine.clock.elapsed()
     }
 
-    /// The scheduler, as it stands for each state that the kernel stands for. A task that is still to be placed is among
+    /// The scheduler, which represents each state that the kernel represents. A task that is still to be placed is among
     /// its Ready tasks.
     pub fn sched(&self) -> &Sched
         ensures stands { (s : State) → StandsFor self.now s → ScheduleStandsFor result.now s }
@@ -117,7 +122,7 @@ impl Kernel {
         &self.machine.sched
     }
 
-    /// The clock, as it stands for each state that the kernel stands for. A task that is still to be placed does not sleep.
+    /// The clock, which represents each state that the kernel represents. A task that is still to be placed does not sleep.
     pub fn clock(&self) -> &Clock
         ensures stands { (s : State) → StandsFor self.now s → ClockStandsFor result.now s }
         ensures before { (task : ℕ) (list : definitions.WaitList) (s : State)
@@ -127,7 +132,7 @@ impl Kernel {
         &self.machine.clock
     }
 
-    /// The queues, as they stand for each state that the kernel stands for. A task that is still to be placed is in no
+    /// The queues, which represent each state that the kernel represents. A task that is still to be placed is in no
     /// waiting list.
     pub fn queues(&self) -> &Queues
         ensures stands { (s : State) → StandsFor self.now s → QueuesStandFor result.now None s }
@@ -138,7 +143,7 @@ impl Kernel {
         &self.machine.queues
     }
 
-    /// The event groups, as they stand for each state that the kernel stands for, also where a task is still to be placed in
+    /// The event groups, which represent each state that the kernel represents, also where a task is still to be placed in
     /// a waiting list.
     pub fn groups(&self) -> &Groups
         ensures stands { (s : State) → StandsFor self.now s → GroupsStandFor result.now s }
@@ -148,9 +153,9 @@ impl Kernel {
         &self.machine.groups
     }
 
-    /// One step of the run: these handlers, three at most, and then the running task's op, or idle, which lets a tick pass, or in an
-    /// application that is tickless all up to the next thing to happen, but none past the limit (profile). The
-    /// events that it tells are then in the log, in order, and nothing else. It takes no memory.
+    /// One step of the run: these handlers, three at most, and then the running task's op, or idle. Idle lets a tick pass; in an
+    /// application that is tickless it lets all pass up to the next thing to happen, but none past the limit (profile). The events
+    /// that it reports are then in the log, in order, and nothing else. It takes no memory.
     ///
     /// The kernel is of this application, and its run has not ended under these limits. The meter, which rises by 1, is
     /// below 2^63.
@@ -173,8 +178,9 @@ impl Kernel {
         step(&mut self.machine, app, handlers, limits, meter, log);
     }
 
-    /// The end of the run before its next step, under these limits: the first that holds of a failed `expect` or a misuse,
-    /// every task Ended, the ticks, the steps, stuck (profile). `None` where the run goes on.
+    /// The end of the run before its next step, under these limits (profile). It is the first of these that holds: a
+    /// failed `expect` or a misuse; every task but the endless ones is Ended; the ticks; the steps; stuck. `None` where
+    /// the run goes on.
     #[inline(always)]
     pub fn ended(&self, app: &App, limits: &Limits) -> Option<End>
         ensures { (s : State) → Stands self.now s → result ≡ end_of app.now limits.now s }

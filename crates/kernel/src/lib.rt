@@ -19,6 +19,6 @@ mod suspended;
 pub use end_state::run_to_end_state;
 pub use kernel::Kernel;
 pub use machine::{Snapshot, StepLog, Trail};
-pub use rests::{RestEnding, run_rest};
+pub use rests::{RestEnding, go_far, run_rest};
 pub use rows::{RowBeginning, RowEnding, begin_row, run_row};
-pub use steps::{follow, run};
+pub use steps::run;

@@ -30,7 +30,8 @@ pub(crate) fn isr_jump(op: &IsrOp, behind: &[IsrOp], last: Option<u32>) -> usize
     }
 }
 
-/// How many `if` are open in a branch behind an op that is this to the blocks, where so many are before it; `None` where it ends the branch.
+/// How many `if` are open in a branch behind an op that is this to the blocks, where this many are before it; `None` where it ends the
+/// branch.
 #[inline(always)]
 fn inner_behind(inner: usize, edge: Edge) -> Option<usize>
     requires { inner < 2 ^ 63 }

@@ -1,11 +1,12 @@
 //! The rest of a run, into which nothing is injected any more. It is the same for each run that comes to the same kernel.
-ghost use Rattle.std.specs.Prelude.{◌≡◌, ◌<◌, ◌≤◌, ◌+◌, ◌^◌, ℕ, [], IfOk, OnErr, length};
+ghost use Rattle.std.specs.Prelude.{◌≡◌, ◌<◌, ◌≤◌, ◌+◌, ◌^◌, ℕ, [], None, IfOk, IfSome, OnErr, OnOk, length};
 ghost use Rattle.model.specs.Run as definition;
-ghost use Rattle.model.specs.Run.{IsRun, injected};
+ghost use Rattle.model.specs.Run.{IsRun, end_of, injected, state_after};
 ghost use Rattle.machine.specs.Logged.{all_of};
 ghost use Rattle.machine.specs.Can.{IsUnderWay};
 ghost use Rattle.kernel.specs.Rows.{Extends};
 ghost use Rattle.kernel.specs.Rests.{IsRestFrom};
+ghost use Rattle.kernel.specs.Leads.{IsEnd, IsLed};
 
 use crate::kernel::Kernel;
 use crate::quiet::free_until;
@@ -24,12 +25,66 @@ pub struct RestEnding {
     pub end: End,
 }
 
+/// Goes on along a run that is under way, into which no handler is injected any more, up to this step or to the run's end before it. The
+/// trail gains the events from there on, behind those that it has. Each run that was at this kernel, and into which nothing is injected
+/// from there on, whatever injections it has had, comes to where the kernel is then, with the same events on the way. The answer is how
+/// it ended there; `None` where it goes on. The log is for the events of a step; what it has doesn't matter.
+///
+/// The meter, which is below 2^62 and the steps that the run has done, rises by the steps that are done here. At `Err(Memory)`,
+/// answered only where a growth was refused, so never where the run reports nothing, the run has come no further than to its end; the
+/// trail then has those events that it had, and some of the run's behind them.
+pub fn go_far(
+    kernel: &mut Kernel,
+    app: &App,
+    injections: &[Injection],
+    until: u32,
+    limits: &Limits,
+    meter: &mut Meter,
+    log: &mut StepLog,
+    trail: &mut Trail,
+) -> Result<Option<RestEnding>, Memory>
+    requires way { IsUnderWay app.now injections.now limits.now kernel.old }
+    requires past { (n : ℕ) → kernel.old.steps ≤ n → injected injections.now n ≡ [] }
+    requires ahead { kernel.old.steps ≤ until }
+    requires meter { meter.old < 2 ^ 62 + kernel.old.steps }
+    ensures way { IsUnderWay app.now injections.now limits.now kernel.new }
+    ensures on { kernel.old.steps ≤ kernel.new.steps }
+    ensures far { kernel.new.steps ≤ until }
+    ensures led { OnOk result (IsLed app.now limits.now kernel.old kernel.new (all_of trail.old) (all_of trail.new)) }
+    ensures end { IfOk result (λ ending. IfSome ending (IsEnd app.now limits.now kernel.new)) }
+    ensures there { IfOk result (λ ending. ending ≡ None → kernel.new.steps ≡ until) }
+    ensures goes { IfOk result (λ ending. ending ≡ None
+        → end_of app.now limits.now (state_after app.now limits.now injections.now until) ≡ None) }
+    ensures meter { meter.new + kernel.old.steps ≡ meter.old + kernel.new.steps }
+    ensures kept { OnErr result (Extends (all_of trail.old) (all_of trail.new)) }
+    ensures refused { OnErr result ((run : definition.Run) → IsRun app.now injections.now limits.now run
+        → (kernel.new.steps ≤ run.steps) × (0 < length run.events)) }
+{
+    app.well_formed();
+    limits.well_formed();
+    let machine = &mut kernel.machine;
+    'steps: loop {
+        if let Some(end) = ended(machine, app, limits) {
+            return Ok(Some(RestEnding {
+                steps: machine.steps,
+                ticks: machine.clock.elapsed(),
+                end,
+            }));
+        }
+        if machine.steps == until {
+            return Ok(None);
+        }
+        let stop = free_until(machine, app, until, limits);
+        go_on(machine, app, injections, stop, limits, meter, log, trail)?;
+    }
+}
+
 /// Goes on to the end of a run that is under way, into which no handler is injected any more. The trail gains the events from there
 /// on, behind those that it has. They and the ending are the same for each run that comes to this kernel and into which nothing is
 /// injected from there on, whatever injections it has had. The log is for the events of a step; what it has doesn't matter.
 ///
 /// The meter, which is below 2^62 and the steps that the run has done, rises by the steps that are done here. At `Err(Memory)`,
-/// answered only where a growth was refused, so never where the run tells nothing, it has risen by no more than that; the trail then
+/// answered only where a growth was refused, so never where the run reports nothing, it has risen by no more than that; the trail then
 /// has those that it had, and some of the run's behind them.
 pub fn run_rest(
     kernel: &mut Kernel,
@@ -51,18 +106,10 @@ pub fn run_rest(
     ensures refused { OnErr result ((run : definition.Run) → IsRun app.now injections.now limits.now run
         → (meter.new + kernel.old.steps ≤ meter.old + run.steps) × (0 < length run.events)) }
 {
-    app.well_formed();
     limits.well_formed();
-    let machine = &mut kernel.machine;
-    'steps: loop {
-        if let Some(end) = ended(machine, app, limits) {
-            return Ok(RestEnding {
-                steps: machine.steps,
-                ticks: machine.clock.elapsed(),
-                end,
-            });
-        }
-        let until = free_until(machine, app, u32::MAX, limits);
-        go_on(machine, app, injections, until, limits, meter, log, trail)?;
+    match go_far(kernel, app, injections, u32::MAX, limits, meter, log, trail)? {
+        Some(ending) => Ok(ending),
+        // No run comes so far (profile).
+        None => unreachable!(),
     }
 }

@@ -67,14 +67,14 @@ fn advance(
     count
 }
 
-/// Runs a row to its end, on a kernel that has come along the base run: the steps before the point's first injection are the base
-/// run's, so their events are only counted; then its handlers come before their steps, and the run goes on to its end. The trail
+/// Runs a row to its end, on a kernel that has come along the base run. The steps before the point's first injection are the base
+/// run's, so their events are only counted. Then its handlers come before their steps, and the run goes on to its end. The trail
 /// gains the events from the first injection on, behind those that it has. The log is for the events of a step; what it has doesn't
 /// matter.
 ///
 /// The base run gets beyond the step of the first injection, which the kernel hasn't passed. The meter, which is below 2^62, rises by the
-/// steps that are done here. At `Err(Memory)`, answered only where a growth was refused, so never where the row tells
-/// nothing, it has risen by no more than that; the trail then has those that it had, and some of the row's behind them.
+/// steps that are done here. `Err(Memory)` is answered only where a growth was refused, so never where the row reports nothing. The meter
+/// has then risen by no more than that, and the trail has the events that it had, and some of the row's behind them.
 pub fn run_row(
     kernel: &mut Kernel,
     app: &App,
@@ -120,15 +120,14 @@ pub fn run_row(
     })
 }
 
-/// Runs the first part of a row, up to this step or to the row's end before it, on a kernel that has come along the base run: the
-/// steps before the point's first injection are the base run's, so their events are only counted; then its handlers come before their
+/// Runs the first part of a row, up to this step or to the row's end before it, on a kernel that has come along the base run. The
+/// steps before the point's first injection are the base run's, so their events are only counted. Then its handlers come before their
 /// steps, and the run goes on. The trail gains the events from the first injection on, behind those that it has. The log is for the
 /// events of a step; what it has doesn't matter.
 ///
 /// The base run gets beyond the step of the first injection, which the kernel hasn't passed, and which comes before this one. The
-/// meter, which is
-/// below 2^62, rises by the steps that are done here. At `Err(Memory)`, answered only where a growth was refused, so never where
-/// the row tells nothing, the trail has those events that it had, and some of the row's behind them.
+/// meter, which is below 2^62, rises by the steps that are done here. `Err(Memory)` is answered only where a growth was refused,
+/// so never where the row reports nothing. The trail then has the events that it had, and some of the row's behind them.
 pub fn begin_row(
     kernel: &mut Kernel,
     app: &App,

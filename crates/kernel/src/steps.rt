@@ -130,7 +130,7 @@ fn step_onto<L: Log>(
 {
     app.well_formed();
     inject_all(machine, app, handlers, log);
-    // The end of the step stands twice, so that nothing is asked behind an op behind which nothing may follow.
+    // The end of the step is here twice, so that nothing is asked behind an op that nothing may follow.
     let following = act_current(machine, app, limits, log);
     if following == Following::Nothing {
         machine.settle(log);
@@ -169,8 +169,8 @@ fn step_at<L: Log>(
     app.well_formed();
     let _ = limits;
     let following = act(machine, app, task, op, log);
-    // The end of the step stands thrice, so that nothing is asked behind an op behind which nothing may follow, and none switches that only
-    // takes its task to another.
+    // The end of the step is here three times, so that nothing is asked behind an op that nothing may follow, and no switch is looked for
+    // behind one that only takes its task to another op.
     if following == Following::NextOp {
         machine.steps += 1;
         return Following::NextOp;
@@ -213,7 +213,7 @@ fn step_otherwise<L: Log>(
 }
 
 /// One step of the run: these handlers, three at most, and then the running task's op, or a tick of idle (profile). The
-/// events that it tells are then in the log, in order, and nothing else. It takes no memory.
+/// events that it reports are then in the log, in order, and nothing else. It takes no memory.
 ///
 /// The kernel is of this application, and its run has not ended under some limits. The meter, which rises by 1, is
 /// below 2^63.
@@ -359,8 +359,9 @@ pub(crate) fn is_at_tick_limit(machine: &Machine, app: &App, limits: &Limits) ->
     limits.ticks <= machine.clock.elapsed()
 }
 
-/// Whether the run is over before its next step, whatever its limit of steps: an `expect` failed or a misuse came, every task but the
-/// endless ones is Ended, the ticks are at their limit, which is asked only where idle may jump, or it is stuck.
+/// Whether the run is over before its next step, whatever its limit of steps. So it is where an `expect` failed or a misuse came,
+/// where every task but the endless ones is Ended, where the ticks are at their limit, or where it is stuck. The limit of ticks is
+/// looked at only where idle may jump.
 #[inline(always)]
 pub(crate) fn is_over(machine: &Machine, app: &App, limits: &Limits) -> bool
     ensures { (s : State) → Stands machine.now s → result ≡ is_over app.now limits.now s }
@@ -392,9 +393,9 @@ pub(crate) fn is_over_running(machine: &Machine, app: &App, task: TaskId, limits
     is_at_tick_limit(machine, app, limits)
 }
 
-/// The running task and the op that it is at, if nothing holds the scheduler in a state that a run comes to; or any task and none, where
-/// something does or idle runs. Where the run is over there, nothing at all. A task that runs there while nothing holds the scheduler is
-/// Ready, so the run is over only if it has been stopped, or that task is endless and left alone.
+/// The running task and the op that it is at, if nothing holds the scheduler in a state that a run comes to. Where something holds it,
+/// or idle runs, it answers any task and no op; and where the run is over, nothing at all. A task that runs while nothing holds the
+/// scheduler is Ready, so the run is over only if it has been stopped, or that task is endless and left alone.
 #[inline(always)]
 fn op_if_going<'a>(
     machine: &Machine,
@@ -431,8 +432,9 @@ fn op_if_going<'a>(
     Some((task, op_of(app, task, machine.progress(task).op_index)))
 }
 
-/// The end of the run before its next step, under these limits: the first that holds of a failed `expect` or a misuse,
-/// every task but the endless ones Ended, the ticks, the steps, stuck (profile). `None` where the run goes on.
+/// The end of the run before its next step, under these limits (profile). It is the first of these that holds: a
+/// failed `expect` or a misuse; every task but the endless ones is Ended; the ticks; the steps; stuck. `None` where
+/// the run goes on.
 #[inline(always)]
 pub(crate) fn ended(machine: &Machine, app: &App, limits: &Limits) -> Option<End>
     ensures { (s : State) → Stands machine.now s → result ≡ end_of app.now limits.now s }
@@ -456,8 +458,8 @@ pub(crate) fn ended(machine: &Machine, app: &App, limits: &Limits) -> Option<End
 }
 
 /// One step of the run, whose events go to this log first, in place of what it has: memory is taken only for those that the step
-/// tells. So it is done where the trail has less room than a step may need, and where handlers come before it, as they do
-/// before few. At `Err(Memory)`, answered only where the trail had less room for them and that growth was refused, it is done all the
+/// reports. So it is done where the trail has less room than a step may need, and where handlers come before it, as they do before
+/// few. `Err(Memory)` is answered only where the trail had less room for them and that growth was refused. The step is done all the
 /// same.
 #[cold]
 #[inline(never)]
@@ -489,8 +491,8 @@ fn step_apart(
     trail.append(log.as_slice())
 }
 
-/// One step of the run, after these handlers, whose events go to the end of the trail. At `Err(Memory)`, answered only where a
-/// growth was refused, so never where the step tells nothing, it is done all the same.
+/// One step of the run, after these handlers, whose events go to the end of the trail. `Err(Memory)` is answered only where a
+/// growth was refused, so never where the step reports nothing. The step is done all the same.
 #[inline(always)]
 pub(crate) fn step_along(
     kernel: &mut Machine,
@@ -572,7 +574,7 @@ fn step_by_plan<'a>(
     Ok(later)
 }
 
-/// Counts so many steps.
+/// Counts this many steps.
 // The compiler makes one addition of it.
 pub(crate) fn count_steps(meter: &mut Meter, steps: u32)
     requires { meter.old + steps ≤ 2 ^ 63 }
@@ -583,9 +585,9 @@ pub(crate) fn count_steps(meter: &mut Meter, steps: u32)
     }
 }
 
-/// The steps in which the running task only goes on amid its script, beginning with this op, and the next, which does more; but none from
-/// the step before this one on. The run is under way, and isn't over; the trail has no event of this step yet. It answers what may come
-/// behind the last of them (`pass_more`).
+/// Does the steps in which the running task only goes on amid its script, beginning with this op, and the next one, which does more. It
+/// does none from the step before `until` on. The run is under way, and isn't over; the trail has no event of this step yet. It answers
+/// what may come behind the last of them (`pass_more`).
 #[inline(always)]
 fn step_along_script(
     kernel: &mut Machine,
@@ -622,9 +624,9 @@ fn step_along_script(
     }
 }
 
-/// The next step, and those before it in which the running task only goes on amid its script; but none from the step before this one on. The
-/// running task is at this op, if at any, the run is under way, and isn't over; the trail has no event of this step yet. It answers what may
-/// come behind the last of them (`pass_more`).
+/// Does the next step, and those before it in which the running task only goes on amid its script. It does none from the step before
+/// `until` on. The running task is at this op, if at any, the run is under way, and isn't over; the trail has no event of this step yet. It
+/// answers what may come behind the last of them (`pass_more`).
 #[inline(always)]
 fn step_on(
     kernel: &mut Machine,
@@ -655,7 +657,7 @@ fn step_on(
     }
 }
 
-/// Goes on as `go_on` does, but counts nothing, and also stops before the last step, so that two steps may be done at once, and where
+/// Goes on as `go_on` does, but counts nothing. It also stops before the last step, so that two steps may be done at once, and where
 /// the trail has less room than a step may need and gets no more.
 #[inline(never)]
 fn go_on_in_room(
@@ -686,9 +688,9 @@ fn go_on_in_room(
     }
 }
 
-/// Goes on along a run that is under way, up to this step or to an end before it, and keeps the events from there on. The plan
-/// has no injections before that step, and neither limit is reached before it, so none of this is looked at on the way; and so it does
-/// the same for every such run that comes to this kernel.
+/// Goes on along a run that is under way, up to this step or to an end before it, and keeps the events from there on. The plan has no
+/// injections before that step, and neither limit is reached before it, so none of this is looked at on the way. It does the same for
+/// every such run that comes to this kernel.
 pub(crate) fn go_on(
     kernel: &mut Machine,
     app: &App,
@@ -806,50 +808,11 @@ pub(crate) fn finish(
     }
 }
 
-/// Goes along a run without injections up to this step, and keeps the events from where it is. It answers how the run ends
-/// there; `None` where it goes on. Where it ends before, it has come to that end.
-///
-/// The meter, which is below 2^62, rises by the steps that are done here. At `Err(Memory)`, answered only where a growth was
-/// refused, so never where the run tells nothing, it has come to some step before, and the trail is of no more use.
-pub fn follow(
-    kernel: &mut Kernel,
-    app: &App,
-    step: u32,
-    limits: &Limits,
-    meter: &mut Meter,
-    log: &mut StepLog,
-    trail: &mut Trail,
-) -> Result<Option<End>, Memory>
-    requires way { IsUnderWay app.now [] limits.now kernel.old }
-    requires ahead { kernel.old.steps ≤ step }
-    requires meter { meter.old < 2 ^ 62 }
-    ensures way { IsUnderWay app.now [] limits.now kernel.new }
-    ensures on { kernel.old.steps ≤ kernel.new.steps }
-    ensures far { kernel.new.steps ≤ step }
-    ensures events { OnOk result
-        (all_of trail.new ≡ all_of trail.old ++ events_from app.now limits.now [] kernel.old.steps kernel.new.steps) }
-    ensures end { IfOk result (λ end. end ≡ end_of app.now limits.now (state_after app.now limits.now [] kernel.new.steps)) }
-    ensures there { IfOk result (λ end. end ≡ None → kernel.new.steps ≡ step) }
-    ensures meter { meter.new + kernel.old.steps ≡ meter.old + kernel.new.steps }
-    ensures memory { OnErr result (0 < length (events_after app.now limits.now [] kernel.new.steps)) }
-{
-    go_to_step(
-        &mut kernel.machine,
-        app,
-        &[],
-        step,
-        limits,
-        meter,
-        log,
-        trail,
-    )
-}
-
 /// The run of an application with this plan, from reset to its end under these limits. An injection of the plan past the end of
 /// the run does nothing.
 ///
-/// The meter, which is below 2^62, rises by the steps of the run. At `Err(Memory)`, answered only where a growth was
-/// refused, so never where the run tells nothing, it has risen by no more than that.
+/// The meter, which is below 2^62, rises by the steps of the run. `Err(Memory)` is answered only where a growth was
+/// refused, so never where the run reports nothing. The meter has then risen by no more than that.
 pub fn run(
     alloc: Global,
     app: &App,

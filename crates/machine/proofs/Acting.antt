@@ -1,4 +1,4 @@
--- A task goes on, and its call answers: what that makes of the states that the kernel stands for.
+-- A task goes on, and its call answers: what that makes of the states that the kernel represents.
 use Rattle.std.proofs.Common.{◌≡◌, ◌≢◌, ◌<◌, ◌+◌, ℕ, Bool, true, set, List, length, get_or-set_same, Option, Some, refl, ap, sym, subst, ◌∙◌}
 use Rattle.std.specs.Option.{is_some, option_or, IfSome}
 use Rattle.std.proofs.lemmas.Bool.{eq-eqb, ne_eqb}
@@ -67,7 +67,7 @@ module _ (app : Application) (k mid new : Machine) (log : List Event) (s : State
       let one : progress_at (state.with_progress i q s) i ≡ q = ap (λ (t : Task). t.progress) (get_or-set_same s.tasks i (record (task_at s i) { progress = q }) no_task l) in
       subst (λ (x : State). At new log x) (go_to_after app s i (q.op_index + 1) q l) (subst P one (g log (state.with_progress i q s) at_mid))
 
--- a call is complete, and its event is told
+-- a call is complete, and its event is reported
 pub answered : (app : Application) (k mid new : Machine) (log told : List Event) (s : State) → At k log s → (i : ℕ) → k.sched.current ≡ Some i → (v : Progress) → v ≡ progress_in k.progress i → (a : Option ℕ)
     → (w : What) → w ≡ called i v.op_index a → At k told (write w s) → mid ≡ with_progress i (record (progress_in k.progress i) { answer = a }) k → Completes app mid i new → At new told (answer app i a s)
 unfolding answer
@@ -79,7 +79,7 @@ answered app k mid new log told s h i r v e a w one written is g =
     completes app k mid new told (write (called i p.op_index a) s) (subst W told_is written) i r (record (progress_in k.progress i) { answer = a }) (record p { answer = a }) is
     (ap (λ (x : Progress). record x { answer = a }) (h.stands.rest.progress i)) (h.stands.rest.placed i) refl g
 
--- an op is complete with an answer, and tells nothing
+-- an op is complete with an answer, and reports nothing
 pub received_at : (app : Application) (k mid new : Machine) (log : List Event) (s : State) → At k log s → (i : ℕ) → k.sched.current ≡ Some i → (a : Option ℕ)
     → mid ≡ with_progress i (record (progress_in k.progress i) { answer = a }) k → Completes app mid i new → At new log (received app i a s)
 unfolding received
@@ -87,7 +87,7 @@ received_at app k mid new log s h i r a is g =
     completes app k mid new log s h i r (record (progress_in k.progress i) { answer = a }) (record (progress_at s i) { answer = a }) is
     (ap (λ (x : Progress). record x { answer = a }) (h.stands.rest.progress i)) (h.stands.rest.placed i) refl g
 
--- a command is done, and its event is told
+-- a command is done, and its event is reported
 pub obeyed_at : (app : Application) (k mid new : Machine) (told : List Event) (s : State) (i : ℕ) → k.sched.current ≡ Some i → (clear : Bool) (bits : ℕ) → At k told (write (what.Obeyed i clear bits) s)
     → mid ≡ with_progress i (record (progress_in k.progress i) { answer = Some bits }) k → Goes app mid i 0 new → At new told (obeyed app i clear bits s)
 unfolding obeyed

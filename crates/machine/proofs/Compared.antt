@@ -1,4 +1,4 @@
--- Two calls that a comparison tells to be the same.
+-- Two calls that a comparison finds to be the same.
 use denote.Enum.Bare.{sameb, same_true}
 use mathlib.Core.Bool.{beq}
 use Rattle.std.proofs.Common.{Bool, rules}

@@ -1,4 +1,4 @@
--- A task's call goes on: what that makes of the states that the kernel stands for.
+-- A task's call goes on: what that makes of the states that the kernel represents.
 use Rattle.std.proofs.Common.{◌≡◌, ◌≢◌, ◌+◌, ℕ, true, List, Option, Some, refl, ap, sym, subst, ◌∙◌}
 use Rattle.std.specs.Option.{is_some, option_map}
 use Rattle.model.specs.declared.call.CallProgress.{CallProgress}

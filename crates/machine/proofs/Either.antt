@@ -65,7 +65,7 @@ does_any count old new old_log new_log deed a d = record {
   before = d.before;
 }
 
--- or is told of less than it may tell
+-- or reports fewer events than it may
 pub does_more : (count more : ℕ) (old new : Machine) (old_log new_log : Logged) (deed : State → State) → count ≤ more → DoesAny count old old_log new new_log deed → DoesAny more old old_log new new_log deed
 does_more count more old new old_log new_log deed l d = record { at = d.at; few = let f = d.few in omega arith; before = d.before }
 

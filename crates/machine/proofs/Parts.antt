@@ -1,4 +1,4 @@
--- What the parts of the kernel make of the states that it stands for.
+-- What the parts of the kernel make of the states that it represents.
 use Rattle.std.proofs.Common.{◌≡◌, ◌≢◌, ◌<◌, ◌≤◌, ℕ, zero, suc, Bool, true, false, eqb, List, [], ◌∷◌, ◌++◌, length, get_or, set, Option, Some, None, refl, ap, sym, subst, ◌∙◌, arith, get_or-set_same, get_or-set_other}
 use Rattle.std.specs.List.{filter}
 use Rattle.std.specs.Option.{option_eq, is_some}
@@ -58,7 +58,7 @@ progress-kept ts i t e = each-set no_task (λ j (u : Task). u.progress ≡ (get_
 
 -- ---- the scheduler
 
--- The scheduler stands for each state of the same tasks, where the same one runs and it is held as often.
+-- The scheduler represents each state of the same tasks, where the same one runs and it is held as often.
 pub sched-same : {v : Schedule} {s new : State} → sched.StandsFor v s → IsTable new → new.tasks ≡ s.tasks → new.current ≡ s.current → depth_of new ≡ depth_of s → sched.StandsFor v new
 sched-same h table tasks current depth = record {
   ready = h.ready ∙ sym (ap (λ ts. with_priorities (list_by ready_key ts)) tasks);
@@ -76,7 +76,7 @@ sched-same h table tasks current depth = record {
 asleep_until : List Task → ℕ → List ℕ
 asleep_until ts m = tasks_of (filter (λ (e : Entry). option_eq eqb (wake_time_of (get_or ts e.task no_task).status) (Some m)) (list_by delayed_key ts))
 
--- The clock stands for each state of the same table and time.
+-- The clock represents each state of the same table and time.
 pub clock-same : (t : Timeline) (s new : State) → clock.StandsFor t s → new.tasks ≡ s.tasks → new.time ≡ s.time → ticks_of new ≡ ticks_of s → IsTable new → clock.StandsFor t new
 unfolding asleep_until
 clock-same t s new h tasks time ticks table = record {
@@ -142,7 +142,7 @@ Kept = ℕ × ℕ × Option End
 abbrev pub kept_of : State → Kept
 kept_of s = (s.suspensions, s.steps, s.stopped)
 
--- The clock stands for the new state; each task is where it was in its script, and what is kept beside the parts stays.
+-- The clock represents the new state; each task is where it was in its script, and what is kept beside the parts stays.
 module _ {k : Machine} {s new : State} {v : Schedule} {t : Timeline} (h : RestStandsFor k s) (on : clock.StandsFor t new) (progress : (i : ℕ) → progress_at new i ≡ progress_at s i) (kept : kept_of new ≡ kept_of s) where
   -- the queues and the groups are given too; the guess at the next interrupt may be another
   pub rest_with : {q : Exchange} {g : EventGroups} {next : ℕ} → queues.StandsFor q None new → AtLocked None new → groups.StandsFor g new → RestStandsFor (record k { sched = v; clock = t; queues = q; groups = g; next_interrupt = next }) new
@@ -171,7 +171,7 @@ module _ {k : Machine} {s new : State} {v : Schedule} {t : Timeline} (h : RestSt
   pub rest_with_clock : SameWaits s new → SameBitWaits s new → RestStandsFor (record k { sched = v; clock = t }) new
   rest_with_clock waits bits = rest_with_groups waits (on_groups.stands_same k.groups s new h.groups bits on.table)
 
--- Other parts stand for the same state, and the guess may be another.
+-- Other parts represent the same state, and the guess may be another.
 pub rest_again : {k : Machine} {s : State} {v : Schedule} {t : Timeline} {q : Exchange} {g : EventGroups} {next : ℕ} → RestStandsFor k s → clock.StandsFor t s → queues.StandsFor q None s → groups.StandsFor g s → RestStandsFor (record k { sched = v; clock = t; queues = q; groups = g; next_interrupt = next }) s
 rest_again h on left there = rest_with h on (λ _. refl) refl left h.awake there
 
@@ -220,7 +220,7 @@ rest_unseen {k} {s} {new} h table same suspended steps stopped =
       placed = h.placed;
     }
 
--- No part sees which events were told, how many steps are done, and which end one has brought about.
+-- No part sees which events were reported, how many steps are done, and which end one has brought about.
 pub stands-unseen : (k : Machine) (s : State) → StandsFor k s → (log : List Event) (steps n : ℕ) (stopped end : Option End) → n ≡ steps → end ≡ stopped → StandsFor (record k { steps = n; stopped = end }) (record s { log = log; steps = steps; stopped = stopped })
 stands-unseen k s h log steps n stopped end same same_end =
     let new : State = record s { log = log; steps = steps; stopped = stopped } in
@@ -282,7 +282,7 @@ module _ (k : Machine) (s : State) (h : StandsFor k s) (i : ℕ) (l : i < length
         rest = rest_moved h.rest c refl i t l h.sched.table.few refl off (same_progress i p s) (bits_kept.same_task i t s refl wants);
       }
 
-  -- it goes on at an op of so many, which isn't past the last one
+  -- it goes on at an op, of this many, which isn't past the last one
   pub stands-gone : (count op_index : ℕ) (p : Progress) → eqb op_index count ≡ false → is_ready s i ≡ true → StandsFor (with_progress i (record p { op_index = op_index; used = 0; call = no_call }) k) (with_task i (moved_to count op_index p (task_at s i)) s)
   stands-gone count op_index p off ready = rw off (stands-changed (record p { op_index = op_index; used = 0; call = no_call }) (λ e. absurd (cc)) (not_for_bits s i ready))
 
@@ -299,7 +299,7 @@ module _ (k : Machine) (s : State) (h : StandsFor k s) (i : ℕ) (l : i < length
         rest = rest_moved h.rest c refl i t l h.sched.table.few refl (λ e. absurd (cc)) (same_free i t s refl (ready_free u ready)) (bits_kept.same_free i t s refl (ready_waits_not s i ready));
       })
 
--- An event is told.
+-- An event is reported.
 pub at_written : (k : Machine) (log new_log : List Event) (s : State) (e : Event) → At k log s → new_log ≡ log ++ e ∷ [] → e.step ≡ k.steps → e.tick ≡ printed k.clock.now → At k new_log (write e.what s)
 at_written k log new_log s e h told step tick = record {
   stands = stands-told k s h.stands (write e.what s).log;

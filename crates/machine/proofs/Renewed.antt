@@ -1,4 +1,4 @@
--- Steps and events are another's: what that makes of the states that the kernel stands for.
+-- Steps and events are another's: what that makes of the states that the kernel represents.
 use Rattle.std.proofs.Common.{◌≡◌, ℕ, List, [], ◌∷◌, ◌++◌, Option, Some, refl, ap, ◌∙◌}
 use Rattle.std.specs.Option.{option_or}
 use Rattle.model.specs.declared.event.End.{End}
@@ -58,7 +58,7 @@ failed_any k s (Placed h) check =
 failed_any k s (Placing task list b) check =
     Placing task list (begun_before k s task list b s.log s.steps k.steps (option_or s.stopped (Some check)) (option_or k.stopped (Some check)) b.steps (ap (λ (o : Option End). option_or o (Some check)) b.stopped))
 
--- an event is told
+-- an event is reported
 pub any_written : (k : Machine) (log new_log : List Event) (s : State) (e : Event) → AtAny k log s → new_log ≡ log ++ e ∷ [] → e.step ≡ k.steps → e.tick ≡ printed k.clock.now → AtAny k new_log (write e.what s)
 any_written k log new_log s e h told step tick = record {
   stands = renewed k s h.stands (write e.what s).log s.steps k.steps (steps_are k s h.stands);
@@ -67,7 +67,7 @@ any_written k log new_log s e h told step tick = record {
   event_same : (e : Event) (n m : ℕ) → e.step ≡ n → e.tick ≡ m → e ≡ record { step = n; tick = m; what = e.what }
   event_same e n m a b = ap (λ (x : ℕ). record e { step = x }) a ∙ ap (λ (x : ℕ). record e { step = n; tick = x }) b
 
--- It stands for some state after a deed, as before it.
+-- It represents some state after a deed, as before it.
 pub stood_after : (count : ℕ) (old new : Machine) (old_log new_log : Logged) (deed : State → State) → StandsForSome old → DoesAny count old old_log new new_log deed → StandsForSome new
 stood_after count old new old_log new_log deed h d =
     let s : State = record (h.0) { log = old_log.told } in

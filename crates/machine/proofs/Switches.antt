@@ -1,4 +1,4 @@
--- Who runs: what changes of the processor make of the states that the kernel stands for.
+-- Who runs: what changes of the processor make of the states that the kernel represents.
 use Rattle.std.proofs.Common.{◌≡◌, ◌<◌, ℕ, Bool, true, false, not, cond, ◌||◌, List, [], ◌∷◌, ◌++◌, length, Option, Some, None, refl, ap, sym, subst, ◌∙◌, append-nil}
 use Rattle.std.specs.Prelude.{nat_lt}
 use Rattle.std.specs.Option.{IfSome}
@@ -32,7 +32,7 @@ same_self (Some i) = eqb-refl i
 same_runs : (s : State) → change s.steps s.time s.current s.current ≡ []
 same_runs s = rw same_self refl
 
--- What a switch tells: who runs, where that is a change.
+-- What a switch reports: who runs, where that is a change.
 abbrev Tells : State → State → Type 0
 Tells s new = new.log ≡ s.log ++ change s.steps s.time s.current new.current
 
@@ -71,7 +71,7 @@ log-preempt s = by_test (is_outranked s)
     (λ t. rw t (log-yield_now s))
     (λ t. rw t (sym (append-nil s.log) ∙ ap (λ l. s.log ++ l) (sym (same_runs s))))
 
--- Where no task is above the running one, nothing is told.
+-- Where no task is above the running one, nothing is reported.
 pub none_above : (v new : Schedule) → new ≡ schedule.preempt v → schedule.is_outranked v ≡ false → new.current ≡ v.current
 none_above v new is none = ap (λ (w : Schedule). w.current) is ∙ rw none refl
 
@@ -82,7 +82,7 @@ none_in_turn v new is none = ap (λ (w : Schedule). w.current) is ∙ rw none re
 pub nothing_told : (log : List Event) (step time : ℕ) (before now : Option ℕ) → now ≡ before → log ≡ log ++ change step time before now
 nothing_told log step time before now e = rw (e, same_self before) (sym (append-nil log))
 
--- all but the scheduler stands as it stood
+-- all but the scheduler is as it was
 
 rest-choose : (k : Machine) (s : State) → RestStandsFor k s → IsTable (choose s) → RestStandsFor k (choose s)
 unfolding choose dispatch
@@ -111,7 +111,7 @@ rest-preempt k s h table = by_test (is_outranked s)
     (λ t. rw t (rest-yield_now k s h (rw t at table)))
     (λ t. rw t h.rest)
 
--- The scheduler has changed, and the event that tells of it is written.
+-- The scheduler has changed, and the event that reports it is written.
 module _ (k : Machine) (log new_log : List Event) (s : State) (v : Schedule) (before : Option ℕ) (h : At k log s) (b : before ≡ k.sched.current) (told : new_log ≡ log ++ change k.steps k.clock.now before v.current) where
   changed : (new : State) → sched.StandsFor v new → RestStandsFor k new → Tells s new → At (record k { sched = v }) new_log new
   changed new on rest tells = record {
@@ -145,7 +145,7 @@ module _ (k : Machine) (log : List Event) (s : State) (h : At k log s) where
   unfolding settle
   settled_idle r = let Q : Option ℕ → Type 0 = λ o. At k log (cond (is_off s o) (choose s) s) in subst Q (sym r) h
 
--- The event that tells who runs is written, or there is no change to tell.
+-- The event that reports who runs is written, or there is no change to report.
 pub change_told : (n t : ℕ) (before now current : Option ℕ) → now ≡ current → is_same now before ≡ false → record { step = n; tick = printed t; what = what.Run now } ∷ [] ≡ change n t before current
 change_told n t before now current e q = rw (← e, q) refl
 
@@ -171,7 +171,7 @@ settled_held k log s held a = subst (At k log) (sym (when_held settle s held)) a
 pub sliced_free : (k : Machine) (log : List Event) (s : State) → is_held s ≡ false → At k log (slice s) → At k log (unless_held slice s)
 sliced_free k log s none a = subst (At k log) (sym (when_free slice s none)) a
 
--- Where it stands for the state, and for that settled, it is all one.
+-- Where it represents both the state and the settled one, it doesn't matter whether the scheduler is held.
 pub settled_either : (k : Machine) (log : List Event) (s : State) → At k log s → At k log (settle s) → At k log (unless_held settle s)
 settled_either k log s held free = by_test (is_held s) (λ t. settled_held k log s t held) (λ t. settled_free k log s t free)
 

@@ -13,11 +13,11 @@ use Rattle.objects.specs.Queues as objects
 use Rattle.machine.specs.declared.machine.Machine.{Machine}
 use Rattle.machine.specs.StandsFor.{StandsFor, Stands, progress_in}
 
--- The parts of the kernel agree: it stands for some state, in which each task is in its lists.
+-- The parts of the kernel agree: it represents some state, in which each task is in its lists.
 abbrev pub Agrees : Machine → Type 0
 Agrees k = (s : State) × StandsFor k s
 
--- It stands for some state, in which a task may be still to be placed.
+-- It represents some state, in which a task may be still to be placed.
 abbrev pub StandsForSome : Machine → Type 0
 StandsForSome k = (s : State) × Stands k s
 
@@ -38,7 +38,7 @@ pub record CanAdvance (k : Machine) : Type 0 where
   pub age : k.clock.age < 2 ^ 62
   pub awake : k.suspensions ≡ 0
 
--- It can rise by so many at once: before the last of them nobody's wake time comes.
+-- It can rise by this many at once: before the last of them nobody's wake time comes.
 pub record CanJump (ticks : ℕ) (k : Machine) : Type 0 where
   pub advance : CanAdvance k
   pub soon : Each (λ e. k.clock.now + ticks ≤ e.1) k.clock.delayed_list
@@ -52,7 +52,7 @@ pub record IsInCall (k : Machine) (task : ℕ) : Type 0 where
 abbrev pub IsAhead : ℕ → Option ℕ → Type 0
 IsAhead now deadline = IfSome deadline (λ time. (now < time) × (time < now + 2 ^ 32))
 
--- A run of which so many steps are done is under way: the kernel stands for the state after them, and none of them came
+-- A run of which this many steps are done is under way: the kernel represents the state after them, and none of them came
 -- after the end.
 pub record IsUnderWay (app : Application) (plan : List Injection) (limits : Limits) (k : Machine) : Type 0 where
   pub stands : Stands k (state_after app limits plan k.steps)

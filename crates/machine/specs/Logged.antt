@@ -1,8 +1,8 @@
--- What a log holds while a step tells its events.
+-- What a log holds while a step reports its events.
 use Rattle.std.specs.Prelude.{ℕ, List, ◌++◌}
 use Rattle.model.specs.declared.event.Event.{Event}
 
--- the events that it held before this step, those that this step has told so far, and how many more it takes
+-- the events that it held before this step, those that this step has reported so far, and how many more it takes
 pub record Logged : Type 0 where
   pub before : List Event
   pub told : List Event

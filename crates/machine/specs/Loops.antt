@@ -2,7 +2,7 @@
 use Rattle.std.specs.Prelude.{ℕ, zero, suc, ◌-◌, Bool, false, List, [], ◌∷◌, Option, Some, None, option_map, nat_le, if◌then◌else◌, slice_index_or}
 use Rattle.model.specs.declared.loops.Loop.{Loop}
 
--- what stands in a cell that holds no loop
+-- what is in a cell that holds no loop
 abbrev pub no_loop : Loop
 no_loop = record { start = 0; left = None }
 

@@ -1,4 +1,4 @@
--- What a kernel stands for: a state of the definitions, whose tickets it doesn't have.
+-- What a kernel represents: a state of the definitions, whose tickets it doesn't have.
 use Rattle.std.specs.Prelude.{◌≡◌, ◌≢◌, ℕ, ◌+◌, ◌≤◌, true, List, [], ◌∷◌, Option, Some, None, length, slice_index_or, slice_set, if◌then◌else◌}
 use Rattle.model.specs.declared.call.Phase.TheVariants.{Place}
 use Rattle.model.specs.declared.call.WaitList.{WaitList}
@@ -31,9 +31,9 @@ pub record RestStandsFor (k : Machine) (s : State) : Type 0 where
   pub stopped : k.stopped ≡ s.stopped
   pub placed : (task : ℕ) → (progress_in k.progress task).call.phase ≢ Place
 
--- Where each task is in its script is kept as it is; the scheduler stands for who is Ready and who runs, the clock for
--- the time and who wakes when, the queues for what they hold, who waits at them, and which one is locked, the groups for
--- their bits and who waits for them; how many `suspend_all` are in force is kept as it is.
+-- Where each task is in its script is kept as it is. The scheduler represents who is Ready and who runs, and the clock
+-- the time and who wakes when. The queues represent what they hold, who waits at them, and which one is locked, and the groups
+-- their bits and who waits for them. How many `suspend_all` are in force is kept as it is.
 pub record StandsFor (k : Machine) (s : State) : Type 0 where
   pub sched : sched.StandsFor k.sched s
   pub rest : RestStandsFor k s
@@ -42,8 +42,8 @@ pub record StandsFor (k : Machine) (s : State) : Type 0 where
 abbrev pub decider : ℕ → WaitList → State → Decider
 decider task list s = record { task = task; list = list; priority = (task_at s task).priority }
 
--- The same, but that the running task has begun to wait in this list, and is not placed yet: it is still among the
--- scheduler's Ready tasks, and neither in its waiting list nor among those who wake by themselves.
+-- The same, except that the running task has begun to wait in this list, and is not placed yet. It is still among
+-- the scheduler's Ready tasks, and neither in its waiting list nor among those who wake by themselves.
 pub record StandsBefore (task : ℕ) (list : WaitList) (k : Machine) (s : State) : Type 0 where
   pub sched : sched.StandsBefore task k.sched s
   pub clock : clock.StandsBefore task (call_at s task).deadline k.clock s
@@ -61,12 +61,12 @@ pub record StandsBefore (task : ℕ) (list : WaitList) (k : Machine) (s : State)
   pub wait_list : k.wait_list ≡ list
   pub placed : (other : ℕ) → other ≢ task → (progress_in k.progress other).call.phase ≢ Place
 
--- The kernel stands for the state, in which each task is in its lists, or one is still to be placed there.
+-- The kernel represents the state, in which each task is in its lists, or one is still to be placed there.
 pub data Stands (k : Machine) (s : State) : Type 0 where
   Placed : StandsFor k s → Stands k s
   Placing : (task : ℕ) → (list : WaitList) → StandsBefore task list k s → Stands k s
 
--- It stands for the state, and the step has told these events so far.
+-- It represents the state, and the step has reported these events so far.
 pub record At (k : Machine) (told : List Event) (s : State) : Type 0 where
   pub stands : StandsFor k s
   pub log : told ≡ s.log
@@ -76,8 +76,8 @@ pub record AtAny (k : Machine) (told : List Event) (s : State) : Type 0 where
   pub stands : Stands k s
   pub log : told ≡ s.log
 
--- The deed is done and at most so many events are told, each of which takes room of the log: for every state that the
--- old kernel stands for, the new one stands for what the deed makes of it. The events before this step stay.
+-- The deed is done: for every state that the old kernel represents, the new one represents what the deed makes of it. At
+-- most this many events are reported, each of which takes room of the log. The events before this step stay.
 pub record Does (count : ℕ) (old : Machine) (old_log : Logged) (new : Machine) (new_log : Logged) (deed : State → State) : Type 0 where
   pub at : (s : State) → At old old_log.told s → At new new_log.told (deed s)
   pub few : old_log.room ≤ new_log.room + count
@@ -89,7 +89,7 @@ pub record DoesAny (count : ℕ) (old : Machine) (old_log : Logged) (new : Machi
   pub few : old_log.room ≤ new_log.room + count
   pub before : new_log.before ≡ old_log.before
 
--- the same of a deed that tells nothing
+-- the same of a deed that reports nothing
 abbrev pub Moves : Machine → Machine → (State → State) → Type 0
 Moves old new deed = (log : List Event) (s : State) → At old log s → At new log (deed s)
 

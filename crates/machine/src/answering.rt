@@ -12,7 +12,7 @@ use crate::log::Log;
 use crate::machine::Machine;
 use model::{App, End, Misuse, TaskId, What};
 
-// What a complete call tells.
+// What a complete call reports.
 fn called(task: TaskId, op_index: u16, given: Option<u32>) -> What
     ensures { result ≡ called task op_index given }
 {
@@ -99,7 +99,7 @@ impl Machine {
         self.answer_given(app, task, Some(number), log);
     }
 
-    /// The op of the running task is complete with this answer, and tells nothing.
+    /// The op of the running task is complete with this answer, and reports nothing.
     pub fn received(&mut self, app: &App, task: TaskId, given: Option<u32>)
         requires { Runs self.old task }
         ensures does { Moves self.old self.new (received app.now task given) }

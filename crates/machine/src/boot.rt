@@ -23,7 +23,7 @@ use objects::Queues;
 use sched::Sched;
 use std::array;
 
-/// What stands where no wait at an object has begun yet.
+/// What is kept where no wait at an object has begun yet.
 const NO_WAIT_LIST: WaitList = WaitList::ToReceive(ObjectId { number: 0 });
 
 /// The progress where there are no tasks: a value made for each place, since they are not copied.

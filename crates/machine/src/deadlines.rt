@@ -36,7 +36,7 @@ pub fn place_sleeper(clock: &mut Clock, deadline: Option<u64>, task: TaskId)
     }
 }
 
-/// A task that has begun to wait for so many ticks, or for ever, is put among those who wake by themselves, where it is not for ever.
+/// A task has begun to wait for this many ticks, or for ever. Where it is not for ever, the task is put among those who wake by themselves.
 // Where the ticks are still at hand, the time needn't be asked.
 #[inline(always)]
 pub fn place_sleeper_for(clock: &mut Clock, ticks: Option<u32>, task: TaskId)
@@ -51,7 +51,7 @@ pub fn place_sleeper_for(clock: &mut Clock, ticks: Option<u32>, task: TaskId)
 }
 
 impl Machine {
-    /// The call of the running task, which begins, may wait for so many ticks from now, or for ever.
+    /// The call of the running task, which begins, may wait for this many ticks from now, or for ever.
     // Mostly it is for ever, for which the time needn't be asked.
     pub fn set_deadline(&mut self, task: TaskId, ticks: Option<u32>)
         requires can { IsInCall self.old task }

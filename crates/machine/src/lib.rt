@@ -4,6 +4,7 @@
 mod answering;
 mod boot;
 mod deadlines;
+mod hint;
 mod log;
 mod loops;
 mod machine;

@@ -1,11 +1,11 @@
-//! Where a step tells its events.
+//! Where a step reports its events.
 ghost use Rattle.std.specs.Prelude.{◌≡◌, ◌<◌, ◌+◌, ◌++◌, ◌∷◌, []};
 ghost use Rattle.machine.specs.Logged.{Logged};
 
 use arrayvec::ArrayVec;
 use model::Event;
 
-/// The events that one step tells: there is room for 128, and no step tells more.
+/// The events that one step reports: there is room for 128, and no step reports more.
 pub type StepLog = ArrayVec<Event, 128>;
 
 /// What takes the events of a step, one after the other.

@@ -2,6 +2,7 @@
 ghost use Rattle.std.specs.Prelude.{◌≡◌, ◌<◌, ◌∷◌, [], length, drop, true};
 ghost use Rattle.machine.specs.Loops.{after_turn, next_turn};
 
+use crate::hint::numbered;
 use model::Loop;
 use std::marker::Model;
 
@@ -47,7 +48,7 @@ impl Loops {
         self.nesting = other.nesting;
     }
 
-    /// Whether the same loops are open in the other. What a loop that is closed has left tells nothing.
+    /// Whether the same loops are open in the other. What a loop that is closed has left doesn't count.
     pub(crate) fn is_same(&self, other: &Self) -> bool
         ensures { result ≡ true → self.now ≡ other.now }
     {
@@ -60,6 +61,15 @@ impl Loops {
             }
         }
         true
+    }
+
+    /// What distinguishes them from most others: how many are open, and how many turns of the innermost one are left.
+    pub(crate) fn hint(&self) -> u64 {
+        let Some(innermost) = self.nesting.checked_sub(1) else {
+            return 0;
+        };
+        let left = self.cells[innermost as usize].left;
+        numbered(left.map(u64::from)).wrapping_add(self.nesting as u64)
     }
 
     /// Opens one more, the innermost.

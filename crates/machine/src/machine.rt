@@ -116,12 +116,12 @@ impl Machine {
         &self.progress[task.number as usize]
     }
 
-    /// Tells an event.
+    /// Reports an event.
     pub fn write<L: Log>(&self, log: &mut L, what: What)
         requires { 0 < (L.logged log.old).room }
         ensures does { Does 1 self.now (L.logged log.old) self.now (L.logged log.new) (write what) }
         ensures any { DoesAny 1 self.now (L.logged log.old) self.now (L.logged log.new) (write what) }
-        // which one it is, for callers that tell one event or none
+        // which one it is, for callers that report one event or none
         ensures event { (L.logged log.new).told ≡ (L.logged log.old).told
             ++ record { step = self.now.steps; tick = printed self.now.clock.now; what = what } ∷ [] }
     {

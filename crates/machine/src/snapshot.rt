@@ -1,4 +1,4 @@
-//! A kernel as it stood once.
+//! A kernel as it once was.
 ghost use Rattle.std.specs.Prelude.{◌≡◌, true, IfOk};
 
 use crate::machine::{Machine, copy_progress, is_same_progress, set_progress_from};
@@ -11,7 +11,7 @@ use sched::Sched;
 use std::alloc::Global;
 use std::marker::Model;
 
-/// A kernel as it stood between two steps. It is smaller than a kernel, which has room for the most items that there can be:
+/// A kernel as it was between two steps. It is smaller than a kernel, which has room for the most items that there can be:
 /// a snapshot has room for those of its application's queues.
 #[derive(Drop)]
 pub struct Snapshot {
@@ -46,7 +46,7 @@ impl Snapshot {
 }
 
 impl Machine {
-    /// The kernel as it stands now. It takes some 6 kB, and four bytes of memory for each item that the queues can hold.
+    /// The kernel as it is now. It takes some 6 kB, and four bytes of memory for each item that the queues can hold.
     ///
     /// `Memory` is answered only where a growth was refused.
     pub fn snapshot(&self, alloc: Global) -> Result<Snapshot, Memory>
@@ -82,8 +82,8 @@ impl Machine {
         self.stopped = snapshot.stopped;
     }
 
-    /// Whether the kernel stands as it did in this snapshot. What its lists, queues and loops have kept of entries, items and
-    /// turns that are gone tells nothing.
+    /// Whether the kernel is as it was in this snapshot. What its lists, queues and loops have kept of entries, items and
+    /// turns that are gone doesn't count.
     pub fn is_at(&self, snapshot: &Snapshot) -> bool
         ensures { result ≡ true → self.now ≡ snapshot.now }
     {

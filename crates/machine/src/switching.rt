@@ -42,8 +42,8 @@ fn make_all_ready(sched: &mut Sched, queues: &mut Queues, groups: &mut Groups, t
     }
 }
 
-/// Each of these tasks, which stand in no waiting list any more, is woken before its time: it becomes Ready, one after the
-/// other, and no longer sleeps, if it has a deadline.
+/// These tasks, which are in no waiting list any more, are woken before their time. One after the other they become
+/// Ready, and those that have a deadline no longer sleep.
 pub fn wake_all(sched: &mut Sched, clock: &mut Clock, tasks: &[TaskId])
     requires { AreToWake sched.old tasks.now }
     ensures ready { (s : State) → ScheduleStandsFor sched.old s
@@ -63,9 +63,9 @@ pub fn wake_all(sched: &mut Sched, clock: &mut Clock, tasks: &[TaskId])
 }
 
 impl Machine {
-    /// Tells who runs now, where that is a change.
-    // This, the slice and the end of a step come in most steps, and stand several times in the program, so the compiler doesn't inline them
-    // by itself.
+    /// Reports who runs now, where that is a change.
+    // This, the slice and the end of a step come in most steps, and are at several places of the program, so the compiler doesn't inline
+    // them by itself.
     #[inline(always)]
     fn write_change<L: Log>(&self, before: Option<TaskId>, log: &mut L)
         requires { 0 < (L.logged log.old).room }
@@ -120,8 +120,8 @@ impl Machine {
         self.write_change(before, log);
     }
 
-    /// The end of a tick: a task above the running one runs, or else the next of equal priority.
-    // Mostly nothing switches, and the tick that asks has what tells so at hand.
+    /// The end of a tick: a task above the running one runs, otherwise the next of equal priority.
+    // Mostly nothing switches, and the tick that asks has at hand what shows it.
     #[inline(always)]
     pub fn slice<L: Log>(&mut self, log: &mut L)
         requires room { 0 < (L.logged log.old).room }
@@ -135,7 +135,7 @@ impl Machine {
     }
 
     /// A task above the running one runs, if there is one.
-    // Mostly there is none, and nothing is to be told.
+    // Mostly there is none, and nothing is to be reported.
     #[inline(always)]
     pub fn preempt<L: Log>(&mut self, log: &mut L)
         requires room { 0 < (L.logged log.old).room }
@@ -168,7 +168,7 @@ impl Machine {
     }
 
     /// A tick of the clock: who is due becomes Ready, in the order in which they began to sleep.
-    // The step stands twice in the program, so the compiler doesn't inline this by itself.
+    // The step is twice in the program, so the compiler doesn't inline this by itself.
     #[inline(always)]
     pub fn increment_tick(&mut self)
         requires { CanAdvance self.old }
@@ -197,8 +197,8 @@ impl Machine {
         );
     }
 
-    /// So many ticks of the clock at once, 0 to 4294967295, before the last of which nobody's wake time comes: who is due then becomes
-    /// Ready, in the order in which they began to sleep.
+    /// This many ticks of the clock at once, 0 to 4294967295; nobody's wake time comes before the last of them. Those who are due then
+    /// become Ready, in the order in which they began to sleep.
     #[inline(never)]
     pub fn jump(&mut self, ticks: u32)
         requires { CanJump ticks self.old }

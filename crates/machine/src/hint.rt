@@ -1,0 +1,46 @@
+//! A number by which kernels that may be the same are looked for.
+use crate::machine::Machine;
+use crate::progress::Progress;
+
+// A hash of a hash so far and one more number.
+fn mixed(hash: u64, number: u64) -> u64 {
+    (hash ^ number)
+        .wrapping_mul(0x9E37_79B9_7F4A_7C15)
+        .rotate_left(29)
+}
+
+// A number of its own for no number, and for each below 2^64 - 1.
+pub(crate) fn numbered(number: Option<u64>) -> u64 {
+    match number {
+        None => 0,
+        Some(number) => number.wrapping_add(1),
+    }
+}
+
+impl Progress {
+    // What distinguishes it from most others.
+    fn hint(&self) -> u64 {
+        let place = (self.op_index as u64) << 32 | self.used as u64;
+        let times = self.stamp ^ self.previous_wake.rotate_left(32);
+        let waits = numbered(self.call.deadline)
+            ^ numbered(self.answer.map(u64::from)).rotate_left(32);
+        mixed(
+            mixed(place, times),
+            waits ^ self.loops.hint().rotate_left(48),
+        )
+    }
+}
+
+impl Machine {
+    /// A number that kernels have in common which are the same (`is_at`), and most others don't: it is made of nothing else than what
+    /// `is_at` compares. It is a hint, on which nothing rests.
+    pub fn hint(&self) -> u64 {
+        let runs = self.sched.current().map(|task| task.number as u64);
+        let time = mixed(self.clock.now(), self.clock.elapsed());
+        let mut hash = mixed(mixed(time, self.steps as u64), numbered(runs));
+        for progress in &self.progress {
+            hash = mixed(hash, progress.hint());
+        }
+        hash
+    }
+}
