@@ -17,24 +17,14 @@ use Rattle.model.proofs.Injected.{same_state, begins_with, none_before}
 use Rattle.kernel.specs.declared.rows.RowEnding.{RowEnding}
 use Rattle.kernel.specs.Rows.{IsRowFrom}
 use Rattle.shelf.specs.declared.stops.Stop.{Stop}
+use Rattle.shelf.proofs.Joining.{each_more}
 use Rattle.shelf.specs.Shelves.{IsStop, AreStops, Shelved, IsShelf, cost_of}
 
 -- ---- putting stops
 
 pub one_more : (app : Application) (limits : Limits) (stride : ℕ) (stops more : List Stop) (stop : Stop) → AreStops app limits stride stops
     → more ≡ stops ++ stop ∷ [] → IsStop app limits (length stops * stride) stop → AreStops app limits stride more
-one_more app limits stride stops more stop h is last n = rw is (elim (cases_lt n (length stops)) [
-  | inl less ↦ subst (λ o. IfSome o (IsStop app limits (n * stride)))
-      (slice_get-get_or stops n stop less ∙ ap Some (sym (get_or_append_left stops (stop ∷ []) stop n less)) ∙ sym (slice_get-get_or (stops ++ stop ∷ []) n stop (omega (arith, less, length-append stops (stop ∷ []))))) (h n)
-  | inr more ↦ elim (cases_lt (length stops) n) [
-    | inl past ↦ subst (λ o. IfSome o (IsStop app limits (n * stride))) (sym (slice_get_past (stops ++ stop ∷ []) n (omega (arith, past, length-append stops (stop ∷ []))))) tt
-    | inr at_most ↦
-        let same : n ≡ length stops = omega (arith, more, at_most) in
-        let seam = get_or-append_seam stops stop [] stop in
-        let within : length stops < length (stops ++ stop ∷ []) = omega (arith, length-append stops (stop ∷ [])) in
-        rw same (subst (λ o. IfSome o (IsStop app limits (length stops * stride))) (sym (slice_get-get_or (stops ++ stop ∷ []) (length stops) stop within ∙ ap Some seam)) last)
-  ]
-])
+one_more app limits stride stops more stop h is last = subst (AreStops app limits stride) (sym is) (each_more (λ n. IsStop app limits (n * stride)) stops stop h last)
 
 -- how many stops there are
 pub put_more : (stops more : List Stop) (stop : Stop) (stride next : ℕ) → more ≡ stops ++ stop ∷ [] → next ≡ length stops * stride → next + stride ≡ length more * stride

@@ -1,4 +1,4 @@
--- The first part of a row: before its first injection it tells what the base run tells.
+-- The first part of a row: before its first injection it reports what the base run reports.
 use Rattle.std.proofs.Common.{◌≡◌, ◌<◌, ℕ, List, [], ◌++◌, None, ap, sym, subst, ◌∙◌, arith}
 use Rattle.model.specs.declared.event.Event.{Event}
 use Rattle.model.specs.declared.plan.Injection.{Injection}

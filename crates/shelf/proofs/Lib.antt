@@ -1,2 +1,3 @@
 pub mod Along
 mod Begun
+pub mod Joining

@@ -1,4 +1,4 @@
--- A base run with the kernel as it stood along it, and what rows cost from there.
+-- A base run with the kernel as it was along it, and what rows cost from there.
 use Rattle.std.specs.Prelude.{◌≡◌, ℕ, ◌+◌, ◌-◌, ◌*◌, ◌%◌, ◌<◌, ◌≤◌, List, [], IfSome, length, nat_lt, slice_get, if◌then◌else◌}
 use Rattle.model.specs.declared.plan.Injection.{Injection}
 use Rattle.model.specs.Points.{first_step}
@@ -6,8 +6,9 @@ use Rattle.model.specs.Application.{Application, Limits}
 use Rattle.model.specs.Run.{Run, IsRun, events_after}
 use Rattle.machine.specs.Can.{IsUnderWay}
 use Rattle.shelf.specs.declared.stops.Stop.{Stop}
+use Rattle.shelf.specs.Rests.{AreRests}
 
--- The kernel stood so before this step of the base run, which had told so many events by then.
+-- The kernel was so before this step of the base run, which had reported this many events by then.
 pub record IsStop (app : Application) (limits : Limits) (step : ℕ) (stop : Stop) : Type 0 where
   pub way : IsUnderWay app [] limits stop.kernel
   pub there : stop.kernel.steps ≡ step
@@ -24,14 +25,15 @@ pub record Shelved : Type 0 where
   pub stride : ℕ
   pub stops : List Stop
 
--- It is the application's base run, with stops as far as it goes.
+-- It is the application's base run, with stops as far as it goes, at which other runs join it.
 pub record IsShelf (app : Application) (shelf : Shelved) : Type 0 where
   pub is_base : IsRun app [] shelf.limits shelf.base
   pub apart : 0 < shelf.stride
   pub are_stops : AreStops app shelf.limits shelf.stride shelf.stops
+  pub rests : AreRests app shelf.limits shelf.base shelf.stops
   pub enough : shelf.base.steps ≤ length shelf.stops * shelf.stride
 
--- How many steps are done for the row of a point, which ends after so many: those from the stop before its first injection on; none
+-- How many steps are done for the row of a point, which ends after this many: those from the stop before its first injection on; none
 -- where the base run doesn't reach that.
 abbrev pub cost_of : Shelved → List Injection → ℕ → ℕ
 cost_of shelf point steps =

@@ -2,7 +2,7 @@
 use model::{Point, Run};
 use std::marker::Model;
 
-/// A row of a campaign: the run with its point's injections where the base run reaches the first of them, and else the base run.
+/// A row of a campaign: the run with its point's injections where the base run reaches the first of them, and otherwise the base run.
 #[derive(Drop)]
 pub struct Row {
     pub point: Point,

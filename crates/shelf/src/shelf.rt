@@ -1,12 +1,14 @@
 //! Rows from the nearest stop before their point.
-ghost use Rattle.std.specs.Prelude.{◌≡◌, Bool, true, false, nat_lt, ◌<◌, ◌≤◌, ◌+◌, ◌%◌, ◌^◌, ◌++◌, [], min, take, length, None, IfOk, OnErr, OnOk};
+ghost use Rattle.std.specs.Prelude.{◌≡◌, Bool, true, false, nat_lt, ◌<◌, ◌≤◌, ◌+◌, ◌%◌, ◌^◌, ◌++◌, [], min, take, length, None, IfOk, IfSome, OnErr, OnOk};
 ghost use Rattle.model.specs.Points.{first_step, last_step};
+ghost use Rattle.model.specs.Application.{Application};
 ghost use Rattle.model.specs.Run as definition;
 ghost use Rattle.model.specs.Run.{IsRun, IsRow, events_after};
 ghost use Rattle.machine.specs.Logged.{all_of};
 ghost use Rattle.machine.specs.Can.{IsUnderWay};
 ghost use Rattle.kernel.specs.Rows.{Extends, IsRowFrom};
 ghost use Rattle.shelf.specs.Begun.{HasBegun};
+ghost use Rattle.shelf.specs.Rests.{JoinsBase};
 ghost use Rattle.shelf.specs.Shelves.{IsShelf, cost_of};
 
 use crate::row::Row;
@@ -16,7 +18,7 @@ use model::{App, Event, Limits, Memory, Meter, Point, Run};
 use std::alloc::Global;
 use std::marker::Model;
 
-/// The base run of an application, and the kernel as it stood along it: before steps 0, `stride`, 2 `stride` and so on. No row
+/// The base run of an application, and the kernel as it was along it: before steps 0, `stride`, 2 `stride` and so on. No row
 /// changes it.
 #[derive(Drop)]
 pub struct Shelf {
@@ -36,7 +38,7 @@ impl Model for Shelf {
 }
 
 impl Shelf {
-    /// Runs an application to its end under these limits, without injections, and keeps the kernel as it stands before every
+    /// Runs an application to its end under these limits, without injections, and keeps the kernel as it is before every
     /// `stride`-th step: 1 to 65,536. Each of these snapshots takes some 6 kB and four bytes for each item that the queues of
     /// the application can hold.
     ///
@@ -49,24 +51,8 @@ impl Shelf {
         ensures stride { IfOk result (λ shelf. shelf.stride ≡ stride) }
     {
         limits.well_formed();
-        let mut kernel = Kernel::boot(app);
-        let mut trail = Trail::new(alloc);
         let mut stops = Vec::new(alloc);
-        let end = put_stops(
-            alloc,
-            app,
-            &limits,
-            stride,
-            &mut kernel,
-            &mut trail,
-            &mut stops,
-        )?;
-        let base = Run {
-            events: trail.into_events(),
-            steps: kernel.steps(),
-            ticks: kernel.ticks(),
-            end,
-        };
+        let base = put_stops(alloc, app, &limits, stride, &mut stops)?;
         Ok(Shelf {
             base,
             limits,
@@ -96,6 +82,13 @@ impl Shelf {
         self.limits
     }
 
+    /// How many steps are between two stops: 1 to 65,536.
+    pub fn stride(&self) -> u32
+        ensures { result ≡ self.now.stride }
+    {
+        self.stride
+    }
+
     /// Whether the base run gets beyond the step of the point's first injection.
     pub fn reaches(&self, point: &Point) -> bool
         ensures { result ≡ nat_lt (first_step point.now) self.now.base.steps }
@@ -117,8 +110,23 @@ impl Shelf {
         self.base.events.len()
     }
 
+    /// How many events the base run had reported at the stop where this kernel is, if it is at one. Each run that comes to this kernel, and
+    /// into which nothing is injected from there on, goes on as the base run does behind these.
+    pub fn known(&self, kernel: &Kernel) -> Option<usize>
+        requires apart { 0 < self.now.stride }
+        ensures joins { IfSome result (λ before. (app : Application) → IsShelf app self.now
+            → JoinsBase app self.now.limits self.now.base kernel.now before) }
+    {
+        let stop = self.stops.get((kernel.steps() / self.stride) as usize)?;
+        if kernel.is_at(&stop.kernel) {
+            Some(stop.before)
+        } else {
+            None
+        }
+    }
+
     /// Makes the kernel that of the stop before the first injection of a point that the base run reaches, and answers how many events
-    /// the base run had told by then.
+    /// the base run had reported by then.
     fn go_to_stop(&self, app: &App, point: &Point, kernel: &mut Kernel) -> usize
         requires shelf { IsShelf app.now self.now }
         requires reached { first_step point.now < self.now.base.steps }
@@ -132,11 +140,11 @@ impl Shelf {
     }
 
     /// Runs the row of a point that the base run reaches, from the nearest stop before its first injection. The trail gains the
-    /// row's events from that injection on; those before it are the base run's, and the answer tells how many they are. What the
+    /// row's events from that injection on; those before it are the base run's, and the answer says how many they are. What the
     /// kernel and the log have doesn't matter.
     ///
     /// The meter, which is below 2^62, rises by the steps from that stop to the row's end. At `Err(Memory)`, answered only
-    /// where a growth was refused, so never where the row tells nothing, it has risen by no more than that, and the trail is
+    /// where a growth was refused, so never where the row reports nothing, it has risen by no more than that, and the trail is
     /// as it was.
     pub fn run_reached(
         &self,
@@ -178,11 +186,11 @@ impl Shelf {
 
     /// Begins the row of a point that the base run reaches, from the nearest stop before its first injection, and goes along it up to
     /// the step `until`, which is behind the last injection or no less than the limit of steps, or to its end before that. The trail
-    /// gains the row's events from the first injection on; those before it are the base run's, and the answer tells how many they
+    /// gains the row's events from the first injection on; those before it are the base run's, and the answer says how many they
     /// are. What the kernel and the log have doesn't matter.
     ///
     /// The meter, which is below 2^62, rises by the steps that are done. At `Err(Memory)`, answered only where a growth was refused,
-    /// so never where the row tells nothing, it has risen by no more than the row's steps from that stop on; the trail then has those
+    /// so never where the row reports nothing, it has risen by no more than the row's steps from that stop on; the trail then has those
     /// events that it had, and some of the row's behind them.
     pub fn begin_row(
         &self,
@@ -293,12 +301,12 @@ impl Shelf {
         })
     }
 
-    /// The row of a point: the run with all its injections where the base run gets beyond the step of the first, and else the base
+    /// The row of a point: the run with all its injections where the base run gets beyond the step of the first, and otherwise the base
     /// run.
     ///
     /// The meter, which is below 2^62, rises by the steps from the nearest stop before the first injection to the row's end; by
     /// none where the point isn't reached. At `Err(Memory)`, answered only where a growth was refused, so never where the row
-    /// tells nothing, it has risen by no more than that.
+    /// reports nothing, it has risen by no more than that.
     pub fn run_point(
         &self,
         alloc: Global,

@@ -1,39 +1,57 @@
-use Rattle.std.proofs.Common.{◌++◌, ℕ, List, [], length, ap, sym, subst, ◌∙◌, arith}
-use Rattle.model.specs.declared.event.Event.{Event}
-use Rattle.model.specs.Run.{events_after}
+use Rattle.std.proofs.Common.{◌≡◌, ℕ, [], Option, None, length, refl, ap, sym, subst, ◌∙◌, arith}
+use Rattle.std.specs.Prelude.{IfSome}
+use Rattle.model.specs.Run.{end_of, events_after, state_after}
 use Rattle.machine.specs.declared.machine.Machine.{Machine}
+use Rattle.machine.specs.Logged.{all_of}
 use Rattle.machine.specs.Can.{IsUnderWay}
-use Rattle.kernel.specs.Rows.{events_from}
+use Rattle.kernel.specs.Leads.{IsEnd}
+use Rattle.kernel.specs.declared.rests.RestEnding.{RestEnding}
 use Rattle.kernel.proofs.Running.{steps_below}
-use Rattle.model.proofs.Injected.{goes_on_with}
 use Rattle.shelf.proofs.Along.{one_more, put_more}
+use Rattle.shelf.proofs.Joining.{all_join, all_on, base_is, put_behind, told_on}
 use Rattle.shelf.proofs.stops.put_stops.Goals as goal
 
-pub returns-in-Some-clause-events : goal.returns-in-Some-clause-events
-returns-in-Some-clause-events c =
-    c.in_ok-end.ensures.events
-    ∙ ap (λ (events : List Event). events ++ events_from c.args.app.now c.args.limits.now [] c.stops.kernel.steps c.follow.new.kernel.steps) c.stops.invariant.events
-    ∙ goes_on_with c.args.app.now c.args.limits.now [] c.stops.kernel.steps c.follow.new.kernel.steps c.in_ok-end.ensures.on
+pub go_far-requires-clause-past : goal.go_far-requires-clause-past
+go_far-requires-clause-past c = λ n from. refl
+
+pub returns-in-Some-clause-base : goal.returns-in-Some-clause-base
+returns-in-Some-clause-base c =
+    let end = subst (λ (e : Option RestEnding). IfSome e (IsEnd c.args.app.now c.args.limits.now c.go_far.new.kernel)) c.in-Some.is c.in_ok-ending.ensures.end in
+    base_is c.args.app.now c.args.limits.now c.go_far.new.kernel c.in-Some.ending end (all_of c.go_far.new.trail) c.into_events.result.items c.into_events.ensures c.go_far.ensures.way
+    (told_on c.args.app.now c.args.limits.now c.stops.kernel c.go_far.new.kernel (all_of c.stops.trail) (all_of c.go_far.new.trail) c.in_ok-ending.ensures.led c.stops.invariant.way c.stops.invariant.events)
+
+pub returns-in-Some-clause-rests : goal.returns-in-Some-clause-rests
+returns-in-Some-clause-rests c =
+    let end = subst (λ (e : Option RestEnding). IfSome e (IsEnd c.args.app.now c.args.limits.now c.go_far.new.kernel)) c.in-Some.is c.in_ok-ending.ensures.end in
+    all_join c.args.app.now c.args.limits.now c.go_far.new.kernel c.in-Some.ending end (all_of c.go_far.new.trail) c.into_events.result.items c.into_events.ensures c.stops.stops.items
+    (all_on c.args.app.now c.args.limits.now (all_of c.stops.trail) (all_of c.go_far.new.trail) c.stops.kernel c.go_far.new.kernel c.in_ok-ending.ensures.led c.stops.stops.items c.stops.invariant.behind)
+
+pub returns-in-Some-clause-enough : goal.returns-in-Some-clause-enough
+returns-in-Some-clause-enough c =
+    let end = subst (λ (e : Option RestEnding). IfSome e (IsEnd c.args.app.now c.args.limits.now c.go_far.new.kernel)) c.in-Some.is c.in_ok-ending.ensures.end in
+    let here = end.here in
+    let far = c.go_far.ensures.far in
+    let next = c.stops.invariant.next in
+    omega (arith, here, far, next)
 
 pub stops-smaller : goal.stops-smaller
 stops-smaller c =
-    let on = sym c.in_ok-end.ensures.end ∙ c.in_default.is in
-    let below = steps_below c.args.app.now c.well_formed-2.ensures [] c.args.limits.now c.well_formed-3.ensures c.follow.new.kernel c.in_ok-end.ensures.way on in
-    let there = c.in_ok-end.ensures.there c.in_default.is in
+    let there = c.in_ok-ending.ensures.there c.in_default.is in
+    let on : end_of c.args.app.now c.args.limits.now (state_after c.args.app.now c.args.limits.now [] c.go_far.new.kernel.steps) ≡ None = ap (λ n. end_of c.args.app.now c.args.limits.now (state_after c.args.app.now c.args.limits.now [] n)) there ∙ c.in_ok-ending.ensures.goes c.in_default.is in
+    let way = c.go_far.ensures.way in
+    let below = steps_below c.args.app.now c.well_formed-2.ensures [] c.args.limits.now c.well_formed-3.ensures c.go_far.new.kernel way on in
     let apart = c.requires.apart in
     omega (arith, below, there, apart)
 
 pub stops-preserved : goal.stops-preserved
 stops-preserved c =
-    let on = sym c.in_ok-end.ensures.end ∙ c.in_default.is in
-    let way = c.in_ok-end.ensures.way in
-    let below = steps_below c.args.app.now c.well_formed-2.ensures [] c.args.limits.now c.well_formed-3.ensures c.follow.new.kernel way on in
-    let there = c.in_ok-end.ensures.there c.in_default.is in
+    let there = c.in_ok-ending.ensures.there c.in_default.is in
+    let on : end_of c.args.app.now c.args.limits.now (state_after c.args.app.now c.args.limits.now [] c.go_far.new.kernel.steps) ≡ None = ap (λ n. end_of c.args.app.now c.args.limits.now (state_after c.args.app.now c.args.limits.now [] n)) there ∙ c.in_ok-ending.ensures.goes c.in_default.is in
+    let way = c.go_far.ensures.way in
+    let below = steps_below c.args.app.now c.well_formed-2.ensures [] c.args.limits.now c.well_formed-3.ensures c.go_far.new.kernel way on in
     let put = there ∙ c.stops.invariant.next in
-    let events = c.in_ok-end.ensures.events
-    ∙ ap (λ (events : List Event). events ++ events_from c.args.app.now c.args.limits.now [] c.stops.kernel.steps c.follow.new.kernel.steps) c.stops.invariant.events
-    ∙ goes_on_with c.args.app.now c.args.limits.now [] c.stops.kernel.steps c.follow.new.kernel.steps c.in_ok-end.ensures.on in
-    let metered = c.in_ok-end.ensures.meter in
+    let events = told_on c.args.app.now c.args.limits.now c.stops.kernel c.go_far.new.kernel (all_of c.stops.trail) (all_of c.go_far.new.trail) c.in_ok-ending.ensures.led c.stops.invariant.way c.stops.invariant.events in
+    let metered = c.go_far.ensures.meter in
     let meter = c.stops.invariant.meter in
     let low = c.stops.invariant.low in
     record {
@@ -45,6 +63,8 @@ stops-preserved c =
         there = ap (λ (k : Machine). k.steps) c.in_ok-snapshot.ensures ∙ put;
         before = c.len.ensures ∙ ap length events ∙ ap (λ (n : ℕ). length (events_after c.args.app.now c.args.limits.now [] n)) put;
       });
+      behind = put_behind c.args.app.now c.args.limits.now c.go_far.new.kernel (all_of c.go_far.new.trail) c.stops.stops.items c.push.new.self.items _ c.in_ok-push.ensures.items c.in_ok-snapshot.ensures c.len.ensures
+          (all_on c.args.app.now c.args.limits.now (all_of c.stops.trail) (all_of c.go_far.new.trail) c.stops.kernel c.go_far.new.kernel c.in_ok-ending.ensures.led c.stops.stops.items c.stops.invariant.behind);
       next = put_more c.stops.stops.items c.push.new.self.items _ c.args.stride c.stops.next c.in_ok-push.ensures.items c.stops.invariant.next;
       meter = omega (arith, metered, meter);
       low = omega (arith, below, there);
