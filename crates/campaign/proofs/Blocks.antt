@@ -4,7 +4,6 @@ use Rattle.std.proofs.Common.{◌≡◌, ◌≢◌, ◌≤◌, ◌<◌, ◌+◌,
 use Rattle.std.specs.List.{AllByRecursion}
 use Rattle.std.proofs.lemmas.List.{map-append, take-append-le, drop-append-le, length-drop, length-append, length-take, length-take-le, length-map, drop_at, take_all}
 use Rattle.std.proofs.lemmas.List.Sums.{sum_by_more_le}
-use Rattle.model.specs.declared.event.Event.{Event}
 use Rattle.model.specs.Campaign.{Row}
 use Rattle.campaign.specs.Seen.{AreSeen}
 use Rattle.deal.specs.Divisions.{IsBlock}
@@ -17,28 +16,31 @@ use Rattle.campaign.specs.declared.rows.KeptBlock.{KeptBlock}
 use Rattle.campaign.specs.declared.worker.Job.{Job}
 use Rattle.campaign.specs.declared.worker.Done.{Done}
 use Rattle.deal.specs.Sharing.{HasSeenAll}
-use Rattle.machine.specs.Logged.{all_of}
 use Rattle.campaign.specs.Kinds.{kind_in}
-use Rattle.campaign.specs.Report.{row_of, rows_of, IsKept}
+use Rattle.campaign.specs.Links.{Store, AreLegs, Grows}
+use Rattle.campaign.specs.Report.{row_of, rows_of, store_of, IsKept}
 use Rattle.campaign.specs.Working.{Work, GainsRows, HasRoom, block_points, IsKeptBlock, AreKeptBlocks, numbers_of, CountsBlocks, IsDone}
 use Rattle.campaign.proofs.Keeping.{all-append, same_rows, still_kept, gained_few}
 use Rattle.campaign.proofs.Determined.{one_list}
+use Rattle.campaign.proofs.Linked.{without_legs}
 use Rattle.campaign.proofs.Multiplicity.{total_within, total_places}
 
 -- Rows of the blocks that were answered are kept, and the seat counted them.
-pub record HasWorked (work : Work) (kept : List KeptRow) (trail : List Event) (blocks : List KeptBlock) (answered : List ℕ) (old seat : Tallied) : Type 0 where
-  pub rows : AllByRecursion (IsKept work.base trail) kept
-  pub made : AreKeptBlocks work kept trail blocks
+pub record HasWorked (work : Work) (kept : List KeptRow) (store : Store) (blocks : List KeptBlock) (answered : List ℕ) (old seat : Tallied) : Type 0 where
+  pub rows : AllByRecursion (IsKept work.base store) kept
+  pub legs : AreLegs work.base.events store
+  pub made : AreKeptBlocks work kept store blocks
   pub numbers : numbers_of blocks ≡ answered
   pub same : seat.sheet ≡ old.sheet
   pub counts : CountsBlocks work answered old seat
   pub once : (x : ℕ) → times x answered ≤ times x (range 0 (length work.lengths))
   pub few : (kind : ℕ) → kind < 7 → slice_index seat.added kind ≤ slice_index old.added kind + total (λ b. slice_index work.lengths b) answered
 
-pub none_worked : (work : Work) (kept : List KeptRow) (trail : List Event) (blocks : List KeptBlock) (answered : List ℕ) (seat : Tallied)
-    → kept ≡ [] → blocks ≡ [] → answered ≡ [] → HasWorked work kept trail blocks answered seat seat
-none_worked work kept trail blocks answered seat no_rows no_blocks none = rw (no_rows, no_blocks, none) (record {
+pub none_worked : (work : Work) (kept : List KeptRow) (store : Store) (blocks : List KeptBlock) (answered : List ℕ) (seat : Tallied)
+    → kept ≡ [] → store.legs ≡ [] → blocks ≡ [] → answered ≡ [] → HasWorked work kept store blocks answered seat seat
+none_worked work kept store blocks answered seat no_rows no_legs no_blocks none = rw (no_rows, no_blocks, none) (record {
   rows = tt;
+  legs = without_legs work.base.events store no_legs;
   made = tt;
   numbers = refl;
   same = refl;
@@ -49,8 +51,8 @@ none_worked work kept trail blocks answered seat no_rows no_blocks none = rw (no
 
 -- ---- the next block
 
-module _ (work : Work) (kept : List KeptRow) (trail : List Event) (blocks : List KeptBlock) (answered : List ℕ) (old seat : Tallied)
-    (worked : HasWorked work kept trail blocks answered old seat) (number first count : ℕ)
+module _ (work : Work) (kept : List KeptRow) (store : Store) (blocks : List KeptBlock) (answered : List ℕ) (old seat : Tallied)
+    (worked : HasWorked work kept store blocks answered old seat) (number first count : ℕ)
     (block : IsBlock work.lengths number first count) (new : times number answered ≡ 0) (whole : sum work.lengths ≡ length work.points) where
   pub points_within : first + count ≤ length work.points
   points_within =
@@ -101,58 +103,57 @@ all-drop P zero xs h = h
 all-drop P (suc n) [] h = tt
 all-drop P (suc n) (x ∷ xs) h = all-drop P n xs h.1
 
-old_block : (work : Work) (kept more : List KeptRow) (trail own : List Event) (block : KeptBlock) → AllByRecursion (IsKept work.base trail) kept
-    → IsKeptBlock work kept trail block → IsKeptBlock work (kept ++ more) (trail ++ own) block
-old_block work kept more trail own block rows is =
-    let part = take block.count (drop block.first kept) in
-    let same : rows_of work.base (trail ++ own) (take block.count (drop block.first (kept ++ more))) ≡ rows_of work.base trail part =
-    ap (rows_of work.base (trail ++ own)) (part_same kept more block.first block.count is.within)
-    ∙ same_rows work.base trail own part (all-take _ block.count _ (all-drop _ block.first kept rows)) in
-    record {
-      is_block = is.is_block;
-      within = (let within = is.within in omega (arith, length-append kept more));
-      made = subst (λ r. AreSeen work.app work.limits work.view (block_points work block.number) r) (sym same) is.made;
-    }
+module _ (work : Work) (kept more : List KeptRow) (store new : Store) (legs : AreLegs work.base.events store) (grown : Grows store new) (rows : AllByRecursion (IsKept work.base store) kept) where
+  old_block : (block : KeptBlock) → IsKeptBlock work kept store block → IsKeptBlock work (kept ++ more) new block
+  old_block block is =
+      let part = take block.count (drop block.first kept) in
+      let same : rows_of work.base new (take block.count (drop block.first (kept ++ more))) ≡ rows_of work.base store part =
+      ap (rows_of work.base new) (part_same kept more block.first block.count is.within)
+      ∙ same_rows work.base store new legs grown part (all-take _ block.count _ (all-drop _ block.first kept rows)) in
+      record {
+        is_block = is.is_block;
+        within = (let within = is.within in omega (arith, length-append kept more));
+        made = subst (λ r. AreSeen work.app work.limits work.view (block_points work block.number) r) (sym same) is.made;
+      }
 
-old_blocks : (work : Work) (kept more : List KeptRow) (trail own : List Event) (blocks : List KeptBlock) → AllByRecursion (IsKept work.base trail) kept
-    → AreKeptBlocks work kept trail blocks → AreKeptBlocks work (kept ++ more) (trail ++ own) blocks
-old_blocks work kept more trail own [] rows all = tt
-old_blocks work kept more trail own (block ∷ blocks) rows all = (old_block work kept more trail own block rows all.0, old_blocks work kept more trail own blocks rows all.1)
+  old_blocks : (blocks : List KeptBlock) → AreKeptBlocks work kept store blocks → AreKeptBlocks work (kept ++ more) new blocks
+  old_blocks [] all = tt
+  old_blocks (block ∷ blocks) all = (old_block block all.0, old_blocks blocks all.1)
 
-module _ (work : Work) (kept kept' : List KeptRow) (trail trail' : List Event) (blocks blocks' : List KeptBlock) (answered : List ℕ) (old seat read seat' : Tallied)
-    (worked : HasWorked work kept trail blocks answered old seat) (number first count : ℕ)
+module _ (work : Work) (kept kept' : List KeptRow) (store store' : Store) (blocks blocks' : List KeptBlock) (answered : List ℕ) (old seat read seat' : Tallied)
+    (worked : HasWorked work kept store blocks answered old seat) (number first count : ℕ)
     (block : IsBlock work.lengths number first count) (new : times number answered ≡ 0) (whole : sum work.lengths ≡ length work.points)
     (same : read.sheet ≡ seat.sheet) (same_counts : read.added ≡ seat.added)
-    (gains : GainsRows work.app work.limits work.view work.base (take count (drop first work.points)) kept kept' trail trail' read seat')
+    (gains : GainsRows work.app work.limits work.view work.base (take count (drop first work.points)) kept kept' store store' read seat')
     (pushed : blocks' ≡ blocks ++ record { number = number; first = length kept; count = count } ∷ []) where
   its_points : block_points work number ≡ take count (drop first work.points)
   its_points = ap₂ (λ (n : ℕ) (m : ℕ). take n (drop m work.points)) (sym block.2) (sym block.1)
 
-  its_rows : AreSeen work.app work.limits work.view (block_points work number) (rows_of work.base trail' gains.more)
+  its_rows : AreSeen work.app work.limits work.view (block_points work number) (rows_of work.base store' gains.more)
   its_rows = rw its_points gains.made
 
   many : length gains.more ≡ count
   many =
-      let within = points_within work kept trail blocks answered old seat worked number first count block new whole in
+      let within = points_within work kept store blocks answered old seat worked number first count block new whole in
       let long : count ≤ length (drop first work.points) = omega (arith, length-drop first work.points) in
-      sym (length-map gains.more (row_of work.base trail')) ∙ sym (length-map (rows_of work.base trail' gains.more) (λ (row : Row). row.point)) ∙ ap length gains.made.one_each
+      sym (length-map gains.more (row_of work.base store')) ∙ sym (length-map (rows_of work.base store' gains.more) (λ (row : Row). row.point)) ∙ ap length gains.made.one_each
       ∙ length-take-le count (drop first work.points) long
 
   last : take count (drop (length kept) kept') ≡ gains.more
   last = rw (gains.rows_are, drop_at kept gains.more (length kept) refl) (take_all count gains.more (let n = many in omega arith))
 
-  new_block : IsKeptBlock work kept' trail' (record { number = number; first = length kept; count = count })
+  new_block : IsKeptBlock work kept' store' (record { number = number; first = length kept; count = count })
   new_block = record {
     is_block = block.0;
     within = (let long = ap length gains.rows_are in let n = many in omega (arith, length-append kept gains.more));
     made = rw last its_rows;
   }
 
-  old_ones : AreKeptBlocks work kept' trail' blocks
-  old_ones = rw (gains.rows_are, gains.trail_is) (old_blocks work kept gains.more trail gains.own blocks worked.rows worked.made)
+  old_ones : AreKeptBlocks work kept' store' blocks
+  old_ones = rw gains.rows_are (old_blocks work kept gains.more store store' worked.legs gains.grows worked.rows blocks worked.made)
 
-  still : AllByRecursion (IsKept work.base trail') kept
-  still = rw gains.trail_is (still_kept work.base trail gains.own kept worked.rows)
+  still : AllByRecursion (IsKept work.base store') kept
+  still = still_kept work.base store store' worked.legs gains.grows kept worked.rows
 
   counts_more : CountsBlocks work (answered ++ number ∷ []) old seat'
   counts_more rows are = record {
@@ -162,19 +163,20 @@ module _ (work : Work) (kept kept' : List KeptRow) (trail trail' : List Event) (
         let first = (worked.counts rows are).rises kind l in
         let its_gain = gains.gained.rises kind l in
         let at = ap (λ (xs : List ℕ). slice_index xs kind) same_counts in
-        let its = ap (λ (r : List Row). kind_in r kind) (one_list work.app work.limits work.view (block_points work number) (rows_of work.base trail' gains.more) (rows number) its_rows (are number block.0)) in
+        let its = ap (λ (r : List Row). kind_in r kind) (one_list work.app work.limits work.view (block_points work number) (rows_of work.base store' gains.more) (rows number) its_rows (are number block.0)) in
         let split = total_append f answered (number ∷ []) in
         omega arith);
   }
 
-  pub worked_more : HasWorked work kept' trail' blocks' (answered ++ number ∷ []) old seat'
+  pub worked_more : HasWorked work kept' store' blocks' (answered ++ number ∷ []) old seat'
   worked_more = record {
     rows = rw gains.rows_are (all-append _ kept gains.more still gains.sound);
+    legs = gains.legs;
     made = rw pushed (all-append _ blocks _ old_ones (new_block, tt));
     numbers = ap numbers_of pushed ∙ map-append (λ (b : KeptBlock). b.number) blocks _ ∙ ap (λ (xs : List ℕ). xs ++ number ∷ []) worked.numbers;
     same = gains.gained.same ∙ same ∙ worked.same;
     counts = counts_more;
-    once = still_once work kept trail blocks answered old seat worked number first count block new whole;
+    once = still_once work kept store blocks answered old seat worked number first count block new whole;
     few = λ kind l. (
         let before = worked.few kind l in
         let more = gained_few work.app work.limits work.view work.base _ _ _ _ _ _ _ gains kind l in
@@ -191,12 +193,12 @@ pub done_refused : (work : Work) (job : Job) (done : Done) → done.refused ≡ 
 done_refused work job done is e = absurd (cc)
 
 pub done_whole : (work : Work) (job : Job) (done : Done) → done.lane.game ≡ job.lane.game → HasSeenAll done.lane
-    → HasWorked work done.part.kept (all_of done.part.trail) done.part.blocks.items done.lane.answered job.seat done.seat → IsDone work job done
+    → HasWorked work done.part.kept (store_of done.part) done.part.blocks.items done.lane.answered job.seat done.seat → IsDone work job done
 done_whole work job done lane all worked e = record {
   lane = lane;
   seat = worked.same;
   all = all;
-  part = record { rows = worked.rows; blocks = worked.made };
+  part = record { rows = record { rows = worked.rows; legs = worked.legs }; blocks = worked.made };
   numbers = worked.numbers;
   counts = worked.counts;
 }

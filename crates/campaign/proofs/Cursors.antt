@@ -2,12 +2,11 @@
 use Rattle.std.specs.List.{flat_map}
 use Rattle.std.proofs.Common.{◌≡◌, ◌<◌, ◌≤◌, ◌+◌, ◌-◌, ℕ, zero, suc, List, [], ◌∷◌, ◌++◌, length, map, take, drop, slice_index_or, refl, sym, ap, ◌∙◌, length-append, arith}
 use Rattle.std.proofs.lemmas.List.{drop_all, drop_at, drop_more, drop-drop, drop-append-le, drop-map, drop-take, length-drop, take-append-le, take-map, take-take}
-use Rattle.machine.specs.Logged.{all_of}
 use Rattle.model.specs.Campaign.{Row}
 use Rattle.campaign.specs.declared.campaign_report.Rows.{Rows}
 use Rattle.campaign.specs.declared.cursor.Cursor.{Cursor}
 use Rattle.campaign.specs.declared.rows.Place.{Place}
-use Rattle.campaign.specs.Report.{row_of, rows_at, whole, IsPlace, IsSound}
+use Rattle.campaign.specs.Report.{row_of, rows_at, store_of, whole, IsPlace, IsSound}
 use Rattle.campaign.specs.Pieces.{some_of, IsAt}
 use Rattle.campaign.proofs.Placed.{each_at}
 use Rattle.campaign.proofs.Totalling.{length_at, rows_there}
@@ -107,7 +106,7 @@ module _ (rows : Rows) (cursor : Cursor) (at : IsAt rows cursor) where
       pub over_rows : f (record { part = place.part; first = place.first + cursor.row; count = count }) ≡ some_of (whole rows) cursor.number count
       over_rows =
           let part = its_place.part in
-          let row = row_of rows.base (all_of part.trail) in
+          let row = row_of rows.base (store_of part) in
           let them = rows_there rows.base rows.parts.items place part its_place.at_part in
           let some_them = rows_there rows.base rows.parts.items (record { part = place.part; first = place.first + cursor.row; count = count }) part its_place.at_part in
           some_them ∙ sym (some_of_some row part.kept place.first place.count cursor.row count some)

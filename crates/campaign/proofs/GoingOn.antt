@@ -1,121 +1,213 @@
 -- How rows go on from a kernel that they have come to.
-use Rattle.std.proofs.Common.{◌≡◌, ◌≤◌, ◌<◌, ℕ, Bool, false, List, [], ◌++◌, Option, Some, None, inl, inr, length, refl, sym, ap, subst, ◌∙◌, append-nil, arith}
-use Rattle.std.specs.Prelude.{IfSome, option_map}
+use Rattle.std.proofs.Common.{◌≡◌, ◌≤◌, ◌<◌, ℕ, true, false, Some, List, [], ◌∷◌, ◌++◌, drop, length, length-append, refl, sym, ap, subst, ◌∙◌, append-nil, arith}
+use Rattle.std.specs.List.{AllByRecursion}
+use Rattle.std.proofs.lemmas.List.{drop-append-le}
+use Rattle.std.proofs.Math.Seq.{drop-length}
 use Rattle.model.specs.declared.event.Event.{Event}
 use Rattle.model.specs.declared.event.End.{End}
 use Rattle.model.specs.declared.plan.Injection.{Injection}
 use Rattle.model.specs.Points.{IsPoint, last_step}
 use Rattle.model.specs.Application.{Application, Limits}
 use Rattle.model.specs.Run.{Run, end_of, events_after, injected, state_after}
+use Rattle.model.proofs.Injected.{none_past}
 use Rattle.machine.specs.declared.machine.Machine.{Machine}
 use Rattle.machine.specs.Can.{IsUnderWay}
-use Rattle.kernel.specs.Rows.{Extends}
 use Rattle.report.specs.Views.{shows_events}
 use Rattle.report.specs.declared.view.View.{View}
-use Rattle.kernel.specs.Rests.{IsRestFrom}
-use Rattle.kernel.specs.declared.rests.RestEnding.{RestEnding}
+use Rattle.kernel.specs.Leads.{IsLed}
+use Rattle.kernel.specs.Rests.{IsRest}
+use Rattle.kernel.proofs.Leading.{leads_here, leads_then, rest_before}
 use Rattle.deal.specs.Tallies.{Tallied}
+use Rattle.campaign.specs.declared.link.Ahead.{Ahead}
+use Rattle.campaign.specs.declared.link.Link.{Link}
+use Rattle.campaign.specs.declared.link.Link.TheVariants as link
 use Rattle.campaign.specs.declared.mark.Mark.{Mark}
-use Rattle.campaign.specs.declared.mark.Rest.{Rest}
-use Rattle.campaign.specs.declared.rows.Stretch.{Stretch}
-use Rattle.campaign.specs.Report.{told_in}
-use Rattle.model.proofs.Injected.{none_past}
+use Rattle.campaign.specs.declared.mark.Passed.{Passed}
 use Rattle.campaign.specs.declared.rows.KeptRow.{KeptRow}
-use Rattle.campaign.specs.Working.{AreThere, GainsRows, IsRestIn, IsRestOf, IsMarked, Knows, StaysOrEnds}
-use Rattle.campaign.proofs.Keeping.{there_if, still_there_if, last_told, gained_stretch, known_more, none}
+use Rattle.campaign.specs.Links.{Store, AreLegs, Grows, Tells}
+use Rattle.campaign.specs.Marks.{rest_from, AreBehind, AreMarked, ArePut, IsBehind, IsPutAt, Knows}
+use Rattle.campaign.specs.Working.{GainsRows, IsPassed, IsRestIn, IsRestOf}
+use Rattle.campaign.proofs.Keeping.{known_more}
+use Rattle.campaign.proofs.Linked.{closed_tells, still_tells, told_no_more}
 
-module _ (app : Application) (limits : Limits) (view : View) where
-  -- a mark stays right when the trail grows
-  pub still_rest : (trail more : List Event) (k : Machine) (rest : Rest) → IsRestIn app limits view trail k rest → IsRestIn app limits view (trail ++ more) k rest
-  still_rest trail more k rest is = record {
-    events = is.events;
-    there = still_there_if (shows_events view rest.end) trail more rest.told is.events is.there;
-    is_rest = is.is_rest;
-  }
+-- behind the last injection nothing is injected
+pub none_from : (point : List Injection) → IsPoint point → (k : Machine) → last_step point < k.steps → (n : ℕ) → k.steps ≤ n → injected point n ≡ []
+none_from point formed k l n from = none_past point formed.in_order n (omega arith)
 
-  pub still_marked : (trail new : List Event) (mark : Option Mark) → Extends trail new → IsMarked app limits view trail mark → IsMarked app limits view new mark
-  still_marked trail new None grown is = tt
-  still_marked trail new (Some mark) (more, grown) is = rw grown (still_rest trail more mark.kernel mark.rest is)
+pub all_more : {X : Type 0} (P : X → Type 0) (xs : List X) (x : X) → AllByRecursion P xs → P x → AllByRecursion P (xs ++ x ∷ [])
+all_more P [] x all is = (is, tt)
+all_more P (y ∷ xs) x all is = (all.0, all_more P xs x all.1 is)
 
-  -- the events that came behind the others are the rest's
-  pub gained_rest : (old new : List Event) (k : Machine) (ending : RestEnding) → IsRestFrom app limits k old new ending → (from to : ℕ) → from ≡ length old → to ≡ length new
-      → IsRestIn app limits view new k (record { told = record { from = from; to = to }; steps = ending.steps; ticks = ending.ticks; end = ending.end })
-  gained_rest old new k ending is from to e f =
-      let told : Stretch = record { from = from; to = to } in
-      let long : to ≡ length (old ++ is.own) = f ∙ ap length is.kept in
-      let last : told_in new told ≡ is.own = rw is.kept (last_told old is.own told e long) in
-      record {
-        events = is.own;
-        there = there_if (shows_events view ending.end) new told is.own (rw is.kept (gained_stretch old is.own told e long)) last;
-        is_rest = is.rest;
-      }
+-- ---- kernels on the way
+
+module _ (app : Application) (limits : Limits) where
+  -- a kernel is behind itself, where nothing is told yet
+  pub behind_here : (trail : List Event) (p : Passed) → p.from ≡ length trail → IsBehind app limits trail p.kernel.value p
+  behind_here trail p at =
+      let none : drop p.from trail ≡ [] = ap (λ (n : ℕ). drop n trail) at ∙ drop-length trail in
+      record { within = omega arith; leads = rw none (leads_here app limits p.kernel.value) }
+
+  -- those that are behind stay so, when the row goes on
+  pub behind_on : (trail after : List Event) (old new : Machine) → IsLed app limits old new trail after → (ps : List Passed) → AreBehind app limits trail old ps → AreBehind app limits after new ps
+  behind_on trail after old new led [] all = tt
+  behind_on trail after old new led (p ∷ ps) all =
+      let within = all.0.within in
+      let more : drop p.from after ≡ drop p.from trail ++ led.own = rw led.kept (drop-append-le p.from trail led.own within) in (
+        record {
+          within = rw led.kept (omega (arith, length-append trail led.own));
+          leads = rw more (leads_then app limits p.kernel.value old new (drop p.from trail) led.own all.0.leads led.leads);
+        },
+        behind_on trail after old new led ps all.1,
+      )
+
+module _ (app : Application) (limits : Limits) (view : View) (base : Run) where
+  -- ---- marks
+
+  -- marks stay right when the store becomes more
+  pub still_marked : (store new : Store) → AreLegs base.events store → Grows store new → (marks : List Mark) → AreMarked app limits view base store marks → AreMarked app limits view base new marks
+  still_marked store new legs grown [] are = tt
+  still_marked store new legs grown (mark ∷ marks) are = (
+    record {
+      events = are.0.events;
+      told = λ shown. still_tells base.events store legs new grown mark.rest.told are.0.events (are.0.told shown);
+      is_rest = are.0.is_rest;
+    },
+    still_marked store new legs grown marks are.1,
+  )
 
   -- what is known stays known, and so is what was gained
-  pub knows_more : (base : Run) (points : List (List Injection)) (a b : List KeptRow) (t u : List Event) (x y : Tallied) (mark mark' : Option Mark) → Knows app limits view base a t mark
-      → GainsRows app limits view base points a b t u x y → IsMarked app limits view u mark' → Knows app limits view base b u mark'
-  knows_more base points a b t u x y mark mark' knows gains is = record {
-    rows = known_more app limits view base points a b t u x y knows.rows gains;
-    marked = is;
+  pub knows_more : (points : List (List Injection)) (a b : List KeptRow) (t u : Store) (x y : Tallied) (marks marks' : List Mark) → Knows app limits view base a t marks
+      → GainsRows app limits view base points a b t u x y → AreMarked app limits view base u marks' → Knows app limits view base b u marks'
+  knows_more points a b t u x y marks marks' knows gains are = record {
+    rows = known_more app limits view base points a b t u x y knows.legs knows.rows gains;
+    legs = gains.legs;
+    marked = are;
   }
 
-  -- past the last injection nothing is injected
-  pub none_from : (point : List Injection) → IsPoint point → (k : Machine) → last_step point < k.steps → (n : ℕ) → k.steps ≤ n → injected point n ≡ []
-  none_from point formed k l n from = none_past point formed.in_order n (omega arith)
+  -- ---- a row on its way
+
+  -- how a run goes on from this kernel behind the end of the base run: no more
+  pub rest_over : (store : Store) (k : Machine) (told : Link) (steps ticks : ℕ) (end : End) → told ≡ link.Base (length base.events)
+      → IsRest app limits k (record { events = []; steps = steps; ticks = ticks; end = end })
+      → IsRestIn app limits view base store k (record { told = told; steps = steps; ticks = ticks; end = end })
+  rest_over store k told steps ticks end to is = record {
+    events = [];
+    told = λ shown. subst (λ (l : Link). Tells base.events store l []) (sym to) (told_no_more base.events store (length base.events) refl);
+    is_rest = is;
+  }
+
+  -- how one goes on that the base run's kernel was: as that does
+  pub rest_of_base : (store : Store) (k : Machine) (from : ℕ) → from ≤ length base.events
+      → IsRest app limits k (record base { events = drop from base.events })
+      → IsRestIn app limits view base store k (record { told = link.Base from; steps = base.steps; ticks = base.ticks; end = base.end })
+  rest_of_base store k from within is = record {
+    events = drop from base.events;
+    told = λ shown. record { there = within; are = refl };
+    is_rest = is;
+  }
 
   module _ (point : List Injection) (k : Machine) (way : IsUnderWay app point limits k) where
-    -- the row of a point that has come to the kernel, behind its last injection, goes on as each does
-    pub rest_of : (trail : List Event) (rest : Rest) → IsPoint point → last_step point < k.steps → IsRestIn app limits view trail k rest → IsRestOf app limits view trail point k rest
-    rest_of trail rest formed l is = record {
-      events = is.events;
-      there = is.there;
-      is_row = is.is_rest.of_each point way (none_from point formed k l);
-    }
-
-    -- one that has come to its end tells no more
-    pub ended_rest : (trail : List Event) (at steps ticks : ℕ) (end : End) → end_of app limits (state_after app limits point k.steps) ≡ Some end → at ≡ length trail
-        → steps ≡ k.steps → ticks ≡ (state_after app limits point k.steps).elapsed
-        → IsRestOf app limits view trail point k (record { told = record { from = at; to = at }; steps = steps; ticks = ticks; end = end })
-    ended_rest trail at steps ticks end ends e same t =
-        let all : events_after app limits point k.steps ++ [] ≡ events_after app limits point k.steps = append-nil (events_after app limits point k.steps) in
-        let told : Stretch = record { from = at; to = at } in
+    -- the row of a point that has come to the kernel, behind its last injection, goes on to another one, and from there as each does
+    pub led_rest : (old new : Store) (now : Machine) (rest : Ahead) → IsPoint point → last_step point < k.steps → IsLed app limits k now old.trail new.trail
+        → IsRestIn app limits view base new now rest → IsRestOf app limits view base old new point k rest
+    led_rest old new now rest formed l led is =
+        let ahead : Run = record { events = is.events; steps = rest.steps; ticks = rest.ticks; end = rest.end } in
         record {
-          events = [];
-          there = there_if (shows_events view end) trail told [] (record { rises = omega arith; within = omega arith }) (none trail at);
-          is_row = rw same (record {
-            goes_on = way.goes_on;
-            ends = ends;
-            trace = all;
-            elapsed = t;
-          });
+          own = led.own;
+          trail = led.kept;
+          events = is.events;
+          told = is.told;
+          is_row = (rest_before app limits k now led.own ahead led.leads is.is_rest).of_each point way (none_from point formed k l);
         }
 
-  -- the mark that is put at a kernel
-  pub marked_at : (trail : List Event) (k : Machine) (rest : Rest) (kernel : Option Machine) (mark : Option Mark) → IfSome kernel (λ found. found ≡ k)
-      → mark ≡ option_map (λ (found : Machine). record { kernel = found; rest = rest }) kernel → IsRestIn app limits view trail k rest → IsMarked app limits view trail mark
-  marked_at trail k rest None mark found put is = rw put tt
-  marked_at trail k rest (Some kernel) mark found put is = rw (put, found) is
+    -- one that has come to its end tells no more
+    pub ended_rest : (store : Store) (told : Link) (steps ticks : ℕ) (end : End) → end_of app limits (state_after app limits point k.steps) ≡ Some end → told ≡ link.Base (length base.events)
+        → steps ≡ k.steps → ticks ≡ (state_after app limits point k.steps).elapsed
+        → IsRestOf app limits view base store store point k (record { told = told; steps = steps; ticks = ticks; end = end })
+    ended_rest store told steps ticks end ends to same t = record {
+      own = [];
+      trail = sym (append-nil store.trail);
+      events = [];
+      told = λ shown. subst (λ (l : Link). Tells base.events store l []) (sym to) (told_no_more base.events store (length base.events) refl);
+      is_row = rw same (record {
+        goes_on = way.goes_on;
+        ends = ends;
+        trace = append-nil (events_after app limits point k.steps);
+        elapsed = t;
+      });
+    }
 
-  -- it ends as its row does
-  pub mark_ends : (rest : Rest) (kernel : Option Machine) (mark : Option Mark) → mark ≡ option_map (λ (found : Machine). record { kernel = found; rest = rest }) kernel
-      → IfSome mark (λ m. m.rest.end ≡ rest.end)
-  mark_ends rest None mark put = rw put tt
-  mark_ends rest (Some kernel) mark put = rw put refl
+  -- each that comes to a kernel behind goes on by the trail from there on, and then so
+  pub all_passed : (store : Store) (now : Machine) (rest : Ahead) → IsRestIn app limits view base store now rest → (ps : List Passed) → AreBehind app limits store.trail now ps
+      → AllByRecursion (IsPassed app limits view base store rest) ps
+  all_passed store now rest is [] all = tt
+  all_passed store now rest is (p ∷ ps) all =
+      let ahead : Run = record { events = is.events; steps = rest.steps; ticks = rest.ticks; end = rest.end } in (
+        record {
+          within = all.0.within;
+          events = is.events;
+          told = is.told;
+          is_rest = rest_before app limits p.kernel.value now (drop p.from store.trail) ahead all.0.leads is.is_rest;
+        },
+        all_passed store now rest is ps all.1,
+      )
 
-  -- a mark of rows that are not shown is right whatever stands in the trail
-  bare_mark : (trail new : List Event) (mark : Option Mark) (end : End) → shows_events view end ≡ false → IsMarked app limits view new mark → IfSome mark (λ m. m.rest.end ≡ end)
-      → IsMarked app limits view trail mark
-  bare_mark trail new None end hidden is ends = tt
-  bare_mark trail new (Some mark) end hidden is ends =
-      let not_shown : shows_events view mark.rest.end ≡ false = ap (shows_events view) ends ∙ hidden in
-      record {
-        events = is.events;
-        there = subst (λ (shown : Bool). AreThere shown trail mark.rest.told is.events) (sym not_shown) tt;
-        is_rest = is.is_rest;
-      }
+  -- ---- a row that is over
 
-  pub mark_stays : (trail new : List Event) (old mark : Option Mark) (end : End) → shows_events view end ≡ false → IsMarked app limits view trail old → IsMarked app limits view new mark
-      → StaysOrEnds old mark end → IsMarked app limits view trail mark
-  mark_stays trail new old mark end hidden was is stays = elim stays [
-    | inl same ↦ subst (λ (m : Option Mark). IsMarked app limits view trail m) (sym same) was
-    | inr ends ↦ bare_mark trail new mark end hidden is ends
-  ]
+  -- From each kernel that it passed it is told by its leg.
+  pub all_closed : (over new : Store) (rest : Ahead) → AreLegs base.events over → new.trail ≡ over.trail → new.legs ≡ over.legs ++ record { to = length over.trail; next = rest.told } ∷ []
+      → (ps : List Passed) → AllByRecursion (IsPassed app limits view base over rest) ps
+      → AllByRecursion (λ (p : Passed). IsRestIn app limits view base new p.kernel.value (rest_from (length over.legs) rest p)) ps
+  all_closed over new rest legs trail pushed [] all = tt
+  all_closed over new rest legs trail pushed (p ∷ ps) all =
+      let is = all.0 in (
+        record {
+          events = drop p.from over.trail ++ is.events;
+          told = λ shown. closed_tells base.events over new legs (record { to = length over.trail; next = rest.told }) trail pushed refl is.events (is.told shown) p.from is.within;
+          is_rest = is.is_rest;
+        },
+        all_closed over new rest legs trail pushed ps all.1,
+      )
+
+  -- where its events are not shown, nothing need be told
+  pub all_bare : (over new : Store) (number : ℕ) (rest : Ahead) → shows_events view rest.end ≡ false → (ps : List Passed) → AllByRecursion (IsPassed app limits view base over rest) ps
+      → AllByRecursion (λ (p : Passed). IsRestIn app limits view base new p.kernel.value (rest_from number rest p)) ps
+  all_bare over new number rest hidden [] all = tt
+  all_bare over new number rest hidden (p ∷ ps) all =
+      let is = all.0 in (
+        record {
+          events = drop p.from over.trail ++ is.events;
+          told = λ shown. absurd (cc (shown, hidden));
+          is_rest = is.is_rest;
+        },
+        all_bare over new number rest hidden ps all.1,
+      )
+
+-- ---- marks are put, one after another
+
+-- Where the marks are right, and each row that comes to one of the kernels that were passed goes on so, the same holds of what is left
+-- of them and the marks that there are then.
+pub record LeavesRight (number : ℕ) (rest : Ahead) (passed : List Passed) (marks : List Mark) (left : List Passed) (more : List Mark) : Type 0 where
+  pub marked : ArePut number rest passed marks more
+  pub still : (app : Application) (limits : Limits) (view : View) (base : Run) (store : Store)
+      → AllByRecursion (λ (p : Passed). IsRestIn app limits view base store p.kernel.value (rest_from number rest p)) passed
+      → AllByRecursion (λ (p : Passed). IsRestIn app limits view base store p.kernel.value (rest_from number rest p)) left
+
+all_last : {X : Type 0} (P : X → Type 0) (xs : List X) (x : X) → AllByRecursion P (xs ++ x ∷ []) → AllByRecursion P xs × P x
+all_last P [] x all = (tt, all.0)
+all_last P (y ∷ xs) x all = let more = all_last P xs x all.1 in ((all.0, more.0), more.1)
+
+module _ (number : ℕ) (rest : Ahead) (passed : List Passed) (marks : List Mark) where
+  pub right_here : LeavesRight number rest passed marks passed marks
+  right_here = record { marked = λ app limits view base store are all. are; still = λ app limits view base store all. all }
+
+  -- the last one that was passed becomes a mark
+  pub right_then : (left : List Passed) (before : List Mark) (p : Passed) (fewer : List Passed) (more : List Mark) → LeavesRight number rest passed marks left before → left ≡ fewer ++ p ∷ []
+      → IsPutAt before more (record { kernel = p.kernel; hint = p.hint; rest = rest_from number rest p }) → LeavesRight number rest passed marks fewer more
+  right_then left before p fewer more right is put = record {
+    marked = λ app limits view base store are all.
+        let its = all_last (λ (q : Passed). IsRestIn app limits view base store q.kernel.value (rest_from number rest q)) fewer p (rw is at (right.still app limits view base store all)) in
+        put app limits view base store (right.marked app limits view base store are all) its.1;
+    still = λ app limits view base store all.
+        (all_last (λ (q : Passed). IsRestIn app limits view base store q.kernel.value (rest_from number rest q)) fewer p (rw is at (right.still app limits view base store all))).0;
+  }

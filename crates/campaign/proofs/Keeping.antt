@@ -14,20 +14,23 @@ use Rattle.model.specs.Run.{Run, IsRun, events_after}
 use Rattle.model.proofs.Injected.{begins_with, no_fewer}
 use Rattle.machine.specs.declared.machine.Machine.{Machine}
 use Rattle.kernel.specs.declared.rows.RowBeginning.{RowBeginning}
-use Rattle.kernel.specs.Rows.{Extends}
 use Rattle.shelf.specs.Begun.{HasBegun}
 use Rattle.model.specs.Campaign.{Row}
 use Rattle.report.specs.Views.{shows_events}
 use Rattle.report.specs.declared.view.View.{View}
 use Rattle.deal.specs.Tallies.{Tallied}
 use Rattle.campaign.specs.declared.rows.KeptRow.{KeptRow}
-use Rattle.campaign.specs.declared.rows.Stretch.{Stretch}
-use Rattle.campaign.specs.declared.mark.Rest.{Rest}
+use Rattle.campaign.specs.declared.link.Ahead.{Ahead}
+use Rattle.campaign.specs.declared.link.Leg.{Leg}
+use Rattle.campaign.specs.declared.link.Link.{Link}
+use Rattle.campaign.specs.declared.link.Link.TheVariants as link
 use Rattle.campaign.specs.Kinds.{kind_in}
-use Rattle.campaign.specs.Report.{row_of, rows_of, told_in, IsStretch, IsKept}
+use Rattle.campaign.specs.Links.{Store, told_at, AreLegs, Grows, Tells}
+use Rattle.campaign.specs.Report.{row_of, rows_of, IsKept}
 use Rattle.campaign.specs.Seen.{AreSeen, IsSeen, row_with}
-use Rattle.campaign.specs.Working.{AreKnown, AreThere, IsAmong, IsKeptRow, IsRestOf, GainsRow, Gained, GainsRows, KeepsRow}
+use Rattle.campaign.specs.Working.{AreKnown, IsAmong, IsKeptRow, IsRestOf, GainsRow, Gained, GainsRows, KeepsRow}
 use Rattle.campaign.proofs.Ends.{kind_in-append, kind_in-few}
+use Rattle.campaign.proofs.Linked.{closed_grows, closed_legs, closed_tells, grows_here, grows_then, same_legs, same_told, still_link, told_no_more}
 use Rattle.campaign.proofs.LookedUp.{all_got}
 
 less : (a b : ℕ) → a < b → nat_lt a b ≡ true
@@ -36,54 +39,17 @@ less a b l = grind (arith, nat_tests)
 no_less : (a b : ℕ) → b ≤ a → nat_lt a b ≡ false
 no_less a b l = grind (arith, nat_tests)
 
--- ---- events of a trail
-
--- those of a stretch stay where they are when the trail grows
-pub same_told : (trail more : List Event) (stretch : Stretch) → IsStretch trail stretch → told_in (trail ++ more) stretch ≡ told_in trail stretch
-same_told trail more stretch is =
-    let rises = is.rises in
-    let within = is.within in
-    let long : stretch.to - stretch.from ≤ length (drop stretch.from trail) = omega (arith, length-drop stretch.from trail) in
-    let begun : stretch.from ≤ length trail = omega arith in
-    rw (drop-append-le stretch.from trail more begun) (take-append-le (stretch.to - stretch.from) (drop stretch.from trail) more long)
-
-pub still_there : (trail more : List Event) (stretch : Stretch) → IsStretch trail stretch → IsStretch (trail ++ more) stretch
-still_there trail more stretch is = record { rises = is.rises; within = (let within = is.within in omega (arith, length-append trail more)) }
-
--- the events that a trail has gained
-pub last_told : (trail own : List Event) (stretch : Stretch) → stretch.from ≡ length trail → stretch.to ≡ length (trail ++ own) → told_in (trail ++ own) stretch ≡ own
-last_told trail own stretch e f =
-    let long : length own ≤ stretch.to - stretch.from = omega (arith, length-append trail own) in
-    rw (drop_at trail own stretch.from (sym e)) (take_all (stretch.to - stretch.from) own long)
-
-pub gained_stretch : (trail own : List Event) (stretch : Stretch) → stretch.from ≡ length trail → stretch.to ≡ length (trail ++ own) → IsStretch (trail ++ own) stretch
-gained_stretch trail own stretch e f = record { rises = omega (arith, length-append trail own); within = omega arith }
-
-pub none : (trail : List Event) (i : ℕ) → told_in trail (record { from = i; to = i }) ≡ []
-none trail i = let e : i - i ≡ 0 = omega arith in rw e refl
-
--- a trail that is cut back to what it was
-pub cut_back : (old mid new after own : List Event) → mid ≡ old ++ own → Extends mid new → (from : ℕ) → from ≡ length old → after ≡ take from new → after ≡ old
-cut_back old mid new after own begun (more, grown) from e cut =
-    let mid_more : new ≡ (old ++ own) ++ more = grown ∙ ap (λ (es : List Event). es ++ more) begun in
-    let whole : new ≡ old ++ (own ++ more) = mid_more ∙ append_assoc old own more in
-    cut ∙ ap₂ (λ (n : ℕ) (es : List Event). take n es) e whole ∙ take-append_seam old (own ++ more)
-
 -- ---- a row of its own
 
--- what stands there, where it is to be shown
-pub there_if : (shown : Bool) (trail : List Event) (stretch : Stretch) (events : List Event) → IsStretch trail stretch → told_in trail stretch ≡ events → AreThere shown trail stretch events
-there_if true trail stretch events is same = (is, same)
-there_if false trail stretch events is same = tt
+-- a trail that is cut back to what it was
+cut_back : (old mid over after own more : List Event) → mid ≡ old ++ own → over ≡ mid ++ more → (from : ℕ) → from ≡ length old → after ≡ take from over → after ≡ old
+cut_back old mid over after own more begun grown from e cut =
+    let whole : over ≡ old ++ (own ++ more) = grown ∙ ap (λ (es : List Event). es ++ more) begun ∙ append_assoc old own more in
+    cut ∙ ap₂ (λ (n : ℕ) (es : List Event). take n es) e whole ∙ take-append_seam old (own ++ more)
 
-pub there_where : (shown : Bool) (trail : List Event) (stretch : Stretch) (events : List Event) → shown ≡ true → AreThere shown trail stretch events
-    → IsStretch trail stretch × (told_in trail stretch ≡ events)
-there_where true trail stretch events e are = are
-there_where false trail stretch events e are = absurd (cc)
-
-pub still_there_if : (shown : Bool) (trail more : List Event) (stretch : Stretch) (events : List Event) → AreThere shown trail stretch events → AreThere shown (trail ++ more) stretch events
-still_there_if true trail more stretch events are = (still_there trail more stretch are.0, same_told trail more stretch are.0 ∙ are.1)
-still_there_if false trail more stretch events are = tt
+-- what is gained where nothing is
+pub grows_by_none : (old new : Store) → new.trail ≡ old.trail → new.legs ≡ old.legs → Grows old new
+grows_by_none old new trail legs = record { own = []; trail = trail ∙ sym (append-nil old.trail); more = []; legs = legs ∙ sym (append-nil old.legs) }
 
 -- as many of the base run's events as a row has that is the base run
 abbrev own_of_all : (shown : Bool) → List Event → List Event
@@ -99,111 +65,123 @@ with_own true row = refl
 with_own false row = refl
 
 module _ (app : Application) (limits : Limits) (view : View) (base : Run) (is : IsRun app [] limits base) (point : List Injection) where
-  -- a row that is reached begins as the base run does, and is kept with what it told from its first injection on, and with its rest
-  pub reached_row : (old mid new : List Event) (k : Machine) (beginning : RowBeginning) → HasBegun app point limits k old mid beginning → Extends mid new
-      → beginning.before ≡ length (events_after app limits [] (first_step point)) → (rest : Rest) → IsRestOf app limits view new point k rest → first_step point < base.steps
-      → shows_events view rest.end ≡ true → (from to : ℕ) → from ≡ length old → to ≡ length mid
-      → GainsRow app limits view base point old new (record { point = point; shared = beginning.before; own = record { from = from; to = to }; rest = rest.told; steps = rest.steps; ticks = rest.ticks; end = rest.end })
-  reached_row old mid new k beginning begun (more, grown) before rest goes l shown from to e f =
-      let own : Stretch = record { from = from; to = to } in
-      let kept : KeptRow = record { point = point; shared = beginning.before; own = own; rest = rest.told; steps = rest.steps; ticks = rest.ticks; end = rest.end } in
-      let long : to ≡ length (old ++ begun.own) = f ∙ ap length begun.kept in
-      let whole : new ≡ (old ++ begun.own) ++ more = rw begun.kept at grown in
-      let there : IsStretch (old ++ begun.own) own = gained_stretch old begun.own own e long in
-      let its_rest = there_where (shows_events view rest.end) new rest.told goes.events shown goes.there in
-      let within : first_step point ≤ base.steps = omega arith in
-      let first : take beginning.before base.events ≡ events_after app limits [] (first_step point) = rw (before, is.trace) (begins_with app limits [] (first_step point) base.steps within) in
-      let last : told_in new own ≡ begun.own = rw whole (same_told (old ++ begun.own) more own there ∙ last_told old begun.own own e long) in
-      let reaches = less (first_step point) base.steps l in
-      let events : events_after app limits point k.steps ++ goes.events ≡ take beginning.before base.events ++ (told_in new own ++ told_in new rest.told) =
-      rw (begun.events, first, last, its_rest.1) (append_assoc (events_after app limits [] (first_step point)) begun.own goes.events) in
-      record {
-        own = begun.own ++ more;
-        trail = whole ∙ append_assoc old begun.own more;
-        row = record {
-          at_point = refl;
-          is_kept = record {
-            shared = rw (before, is.trace) (no_fewer app limits [] (first_step point) base.steps within);
-            own = rw whole (still_there (old ++ begun.own) more own there);
-            rest = its_rest.0;
-          };
-          is_seen = record {
-            whole = row_of base new kept;
-            is_row = record {
-              base = base;
-              is_base = is;
-              is_reached = refl;
-              is_row = rw reaches (subst (λ (told : List Event). IsRun app point limits (record { events = told; steps = rest.steps; ticks = rest.ticks; end = rest.end })) events goes.is_row);
-            };
-            is = ap (λ (with_events : Bool). row_with with_events (row_of base new kept)) (sym shown);
-          };
-        };
-      }
+  -- The row on its way, which began so and goes on so.
+  module _ (old mid over : Store) (k : Machine) (beginning : RowBeginning) (legs : AreLegs base.events old) (begun : HasBegun app point limits k old.trail mid.trail beginning) (same : mid.legs ≡ old.legs)
+      (rest : Ahead) (goes : IsRestOf app limits view base mid over point k rest) (still : over.legs ≡ mid.legs) where
+    its_events : over.trail ≡ old.trail ++ (begun.own ++ goes.own)
+    its_events = goes.trail ∙ ap (λ (es : List Event). es ++ goes.own) begun.kept ∙ append_assoc old.trail begun.own goes.own
 
-  -- one whose events are not shown is kept without them
-  pub bare_row : (old mid new after : List Event) (k : Machine) (beginning : RowBeginning) → HasBegun app point limits k old mid beginning → Extends mid new
-      → (rest : Rest) → IsRestOf app limits view new point k rest → first_step point < base.steps → shows_events view rest.end ≡ false
-      → (from : ℕ) → from ≡ length old → after ≡ take from new
-      → GainsRow app limits view base point old after (record { point = point; shared = 0; own = record { from = from; to = from }; rest = record { from = from; to = from }; steps = rest.steps; ticks = rest.ticks; end = rest.end })
-  bare_row old mid new after k beginning begun grown rest goes l hidden from e cut =
-      let none_own : Stretch = record { from = from; to = from } in
-      let kept : KeptRow = record { point = point; shared = 0; own = none_own; rest = none_own; steps = rest.steps; ticks = rest.ticks; end = rest.end } in
-      let same = cut_back old mid new after begun.own begun.kept grown from e cut in
-      let long = ap length same in
-      let there : IsStretch after none_own = record { rises = omega arith; within = omega (arith, e, long) } in
-      let empty : told_in after none_own ≡ [] = none after from in
-      let reaches = less (first_step point) base.steps l in
-      let its_row : Row = record {
-        point = point;
-        reached = nat_lt (first_step point) base.steps;
-        run = record { events = events_after app limits point k.steps ++ goes.events; steps = rest.steps; ticks = rest.ticks; end = rest.end };
-      } in
-      record {
-        own = [];
-        trail = same ∙ sym (append-nil old);
-        row = record {
-          at_point = refl;
-          is_kept = record { shared = omega arith; own = there; rest = there };
-          is_seen = record {
-            whole = its_row;
-            is_row = record {
-              base = base;
-              is_base = is;
-              is_reached = refl;
-              is_row = rw reaches goes.is_row;
+    pub its_growth : Grows old over
+    its_growth = record { own = begun.own ++ goes.own; trail = its_events; more = []; legs = still ∙ same ∙ sym (append-nil old.legs) }
+
+    pub its_legs : AreLegs base.events over
+    its_legs = same_legs base.events old legs over its_growth (still ∙ same)
+
+    -- the trail when the row is dropped
+    pub dropped : (after : List Event) (from : ℕ) → from ≡ length old.trail → after ≡ take from over.trail → after ≡ old.trail
+    dropped after from e cut = cut_back old.trail mid.trail over.trail after begun.own goes.own begun.kept goes.trail from e cut
+
+    -- a row that is reached begins as the base run does, and goes on by the leg with which it is closed
+    pub reached_row : (new : Store) → beginning.before ≡ length (events_after app limits [] (first_step point)) → first_step point < base.steps → shows_events view rest.end ≡ true
+        → new.trail ≡ over.trail → new.legs ≡ over.legs ++ record { to = length over.trail; next = rest.told } ∷ [] → (from : ℕ) → from ≡ length old.trail
+        → (told : Link) → told ≡ link.Leg (length over.legs) from
+        → GainsRow app limits view base point old new (record { point = point; shared = beginning.before; told = told; steps = rest.steps; ticks = rest.ticks; end = rest.end })
+    reached_row new before l shown trail pushed from e told to =
+        let leg : Leg = record { to = length over.trail; next = rest.told } in
+        let next = goes.told shown in
+        let kept : KeptRow = record { point = point; shared = beginning.before; told = told; steps = rest.steps; ticks = rest.ticks; end = rest.end } in
+        let low : from ≤ length over.trail = omega (arith, ap length its_events, length-append old.trail (begun.own ++ goes.own)) in
+        let closed : Tells base.events new told (drop from over.trail ++ goes.events) =
+        subst (λ (l : Link). Tells base.events new l (drop from over.trail ++ goes.events)) (sym to) (closed_tells base.events over new its_legs leg trail pushed refl goes.events next from low) in
+        let behind : drop from over.trail ≡ begun.own ++ goes.own = ap (drop from) its_events ∙ drop_at old.trail (begun.own ++ goes.own) from (sym e) in
+        let within : first_step point ≤ base.steps = omega arith in
+        let front = events_after app limits [] (first_step point) in
+        let first : take beginning.before base.events ≡ front = rw (before, is.trace) (begins_with app limits [] (first_step point) base.steps within) in
+        let reaches = less (first_step point) base.steps l in
+        let events : events_after app limits point k.steps ++ (goes.own ++ goes.events) ≡ take beginning.before base.events ++ told_at base.events new told =
+        ap (λ (es : List Event). es ++ (goes.own ++ goes.events)) begun.events ∙ append_assoc front begun.own (goes.own ++ goes.events)
+        ∙ ap₂ (λ (xs ys : List Event). xs ++ ys) (sym first) (sym (append_assoc begun.own goes.own goes.events) ∙ ap (λ (es : List Event). es ++ goes.events) (sym behind) ∙ sym closed.are) in
+        record {
+          grows = grows_then old over new its_growth (closed_grows base.events over new its_legs leg trail pushed);
+          legs = closed_legs base.events over new its_legs leg trail pushed next.there;
+          row = record {
+            at_point = refl;
+            is_kept = record {
+              shared = rw (before, is.trace) (no_fewer app limits [] (first_step point) base.steps within);
+              link = closed.there;
             };
-            is = ap₂ (λ (xs ys : List Event). record its_row { run = record its_row.run { events = xs ++ ys } }) empty empty
-                ∙ ap (λ (with_events : Bool). row_with with_events its_row) (sym hidden);
+            is_seen = record {
+              whole = row_of base new kept;
+              is_row = record {
+                base = base;
+                is_base = is;
+                is_reached = refl;
+                is_row = rw reaches (subst (λ (told : List Event). IsRun app point limits (record { events = told; steps = rest.steps; ticks = rest.ticks; end = rest.end })) events goes.is_row);
+              };
+              is = ap (λ (with_events : Bool). row_with with_events (row_of base new kept)) (sym shown);
+            };
           };
-        };
-      }
+        }
+
+    -- one whose events are not shown is kept without them
+    pub bare_row : (new : Store) → first_step point < base.steps → shows_events view rest.end ≡ false
+        → (from : ℕ) → from ≡ length old.trail → new.trail ≡ take from over.trail → new.legs ≡ over.legs → (told : Link) → told ≡ link.Base (length base.events)
+        → GainsRow app limits view base point old new (record { point = point; shared = 0; told = told; steps = rest.steps; ticks = rest.ticks; end = rest.end })
+    bare_row new l hidden from e cut gone told to =
+        let back : new.trail ≡ old.trail = dropped new.trail from e cut in
+        let as_it_was : new.legs ≡ old.legs = gone ∙ still ∙ same in
+        let grown = grows_by_none old new back as_it_was in
+        let nothing : Tells base.events new told [] = subst (λ (l : Link). Tells base.events new l []) (sym to) (told_no_more base.events new (length base.events) refl) in
+        let reaches = less (first_step point) base.steps l in
+        let its_row : Row = record {
+          point = point;
+          reached = nat_lt (first_step point) base.steps;
+          run = record { events = events_after app limits point k.steps ++ (goes.own ++ goes.events); steps = rest.steps; ticks = rest.ticks; end = rest.end };
+        } in
+        record {
+          grows = grown;
+          legs = same_legs base.events old legs new grown as_it_was;
+          row = record {
+            at_point = refl;
+            is_kept = record { shared = omega arith; link = nothing.there };
+            is_seen = record {
+              whole = its_row;
+              is_row = record {
+                base = base;
+                is_base = is;
+                is_reached = refl;
+                is_row = rw reaches goes.is_row;
+              };
+              is = ap (λ (es : List Event). record its_row { run = record its_row.run { events = es } }) nothing.are
+                  ∙ ap (λ (with_events : Bool). row_with with_events its_row) (sym hidden);
+            };
+          };
+        }
 
   -- one that isn't reached is the base run
-  pub missed_row : (trail : List Event) (b : Run) (shared end : ℕ) → b ≡ base → base.steps ≤ first_step point → shared ≡ (if shows_events view b.end then length b.events else 0) → end ≡ length trail
-      → GainsRow app limits view base point trail trail (record { point = point; shared = shared; own = record { from = end; to = end }; rest = record { from = end; to = end }; steps = b.steps; ticks = b.ticks; end = b.end })
-  missed_row trail b shared end same l count e = subst
-      (λ (r : Run). GainsRow app limits view base point trail trail (record { point = point; shared = shared; own = record { from = end; to = end }; rest = record { from = end; to = end }; steps = r.steps; ticks = r.ticks; end = r.end }))
-      (sym same) (its_row (subst (λ (r : Run). shared ≡ (if shows_events view r.end then length r.events else 0)) same count))
+  pub missed_row : (store : Store) → AreLegs base.events store → (b : Run) (shared : ℕ) (told : Link) → b ≡ base → base.steps ≤ first_step point → shared ≡ (if shows_events view b.end then length b.events else 0)
+      → told ≡ link.Base (length b.events)
+      → GainsRow app limits view base point store store (record { point = point; shared = shared; told = told; steps = b.steps; ticks = b.ticks; end = b.end })
+  missed_row store legs b shared told same l count to = subst
+      (λ (r : Run). GainsRow app limits view base point store store (record { point = point; shared = shared; told = told; steps = r.steps; ticks = r.ticks; end = r.end }))
+      (sym same) (its_row (subst (λ (r : Run). shared ≡ (if shows_events view r.end then length r.events else 0)) same count) (subst (λ (r : Run). told ≡ link.Base (length r.events)) same to))
     where
-      its_row : shared ≡ (if shows_events view base.end then length base.events else 0)
-          → GainsRow app limits view base point trail trail (record { point = point; shared = shared; own = record { from = end; to = end }; rest = record { from = end; to = end }; steps = base.steps; ticks = base.ticks; end = base.end })
-      its_row count =
+      its_row : shared ≡ (if shows_events view base.end then length base.events else 0) → told ≡ link.Base (length base.events)
+          → GainsRow app limits view base point store store (record { point = point; shared = shared; told = told; steps = base.steps; ticks = base.ticks; end = base.end })
+      its_row count to =
           let shown = shows_events view base.end in
           let taken = taken_by shown base.events shared count in
-          let nothing : Stretch = record { from = end; to = end } in
-          let kept : KeptRow = record { point = point; shared = shared; own = nothing; rest = nothing; steps = base.steps; ticks = base.ticks; end = base.end } in
-          let there : IsStretch trail nothing = record { rises = omega arith; within = omega (arith, e) } in
-          let empty : told_in trail nothing ≡ [] = none trail end in
-          let its : take shared base.events ++ (told_in trail nothing ++ told_in trail nothing) ≡ own_of_all shown base.events =
-          rw (taken.1, empty) (append-nil (own_of_all shown base.events)) in
+          let nothing : Tells base.events store told [] = subst (λ (l : Link). Tells base.events store l []) (sym to) (told_no_more base.events store (length base.events) refl) in
+          let its : take shared base.events ++ told_at base.events store told ≡ own_of_all shown base.events =
+          ap₂ (λ (xs ys : List Event). xs ++ ys) taken.1 nothing.are ∙ append-nil (own_of_all shown base.events) in
           let whole : Row = record { point = point; reached = nat_lt (first_step point) base.steps; run = base } in
           let misses = no_less (first_step point) base.steps l in
           record {
-            own = [];
-            trail = sym (append-nil trail);
+            grows = grows_here store;
+            legs = legs;
             row = record {
               at_point = refl;
-              is_kept = record { shared = taken.0; own = there; rest = there };
+              is_kept = record { shared = taken.0; link = nothing.there };
               is_seen = record {
                 whole = whole;
                 is_row = record {
@@ -223,16 +201,29 @@ pub all-append : {X : Type 0} (P : X → Type 0) (xs ys : List X) → AllByRecur
 all-append P [] ys h k = k
 all-append P (x ∷ xs) ys h k = (h.0, all-append P xs ys h.1 k)
 
--- a longer trail has the same rows
-pub same_rows : (base : Run) (trail more : List Event) (kept : List KeptRow) → AllByRecursion (IsKept base trail) kept → rows_of base (trail ++ more) kept ≡ rows_of base trail kept
-same_rows base trail more [] all = refl
-same_rows base trail more (k ∷ kept) all =
-    rw (same_told trail more k.own all.0.own, same_told trail more k.rest all.0.rest, same_rows base trail more kept all.1) refl
+-- a store that became more has the same rows
+module _ (base : Run) (store new : Store) (legs : AreLegs base.events store) (grown : Grows store new) where
+  pub same_rows : (kept : List KeptRow) → AllByRecursion (IsKept base store) kept → rows_of base new kept ≡ rows_of base store kept
+  same_rows [] all = refl
+  same_rows (k ∷ kept) all = rw (same_told base.events store legs new grown k.told all.0.link, same_rows kept all.1) refl
 
-pub still_kept : (base : Run) (trail more : List Event) (kept : List KeptRow) → AllByRecursion (IsKept base trail) kept → AllByRecursion (IsKept base (trail ++ more)) kept
-still_kept base trail more [] all = tt
-still_kept base trail more (k ∷ kept) all =
-    (record { shared = all.0.shared; own = still_there trail more k.own all.0.own; rest = still_there trail more k.rest all.0.rest }, still_kept base trail more kept all.1)
+  still_one : (k : KeptRow) → IsKept base store k → IsKept base new k
+  still_one k is = record { shared = is.shared; link = still_link base.events store legs new grown k.told is.link }
+
+  pub still_kept : (kept : List KeptRow) → AllByRecursion (IsKept base store) kept → AllByRecursion (IsKept base new) kept
+  still_kept [] all = tt
+  still_kept (k ∷ kept) all = (still_one k all.0, still_kept kept all.1)
+
+  pub still_known : (app : Application) (limits : Limits) (view : View) (kept : List KeptRow) → AreKnown app limits view base kept store → AreKnown app limits view base kept new
+  still_known app limits view [] known = tt
+  still_known app limits view (k ∷ kept) known = (
+    record {
+      at_point = refl;
+      is_kept = still_one k known.0.is_kept;
+      is_seen = rw (same_told base.events store legs new grown k.told known.0.is_kept.link) known.0.is_seen;
+    },
+    still_known app limits view kept known.1,
+  )
 
 -- rows of some points, and of others
 pub rows-append : (app : Application) (limits : Limits) (view : View) (points others : List (List Injection)) (rows after : List Row)
@@ -244,25 +235,25 @@ rows-append app limits view points others rows after are behind = record {
 
 module _ (app : Application) (limits : Limits) (view : View) (base : Run) where
   -- nothing is gained of no points
-  pub gains_none : (kept : List KeptRow) (trail : List Event) (seat : Tallied) → GainsRows app limits view base [] kept kept trail trail seat seat
-  gains_none kept trail seat = record {
+  pub gains_none : (kept : List KeptRow) (store : Store) (seat : Tallied) → AreLegs base.events store → GainsRows app limits view base [] kept kept store store seat seat
+  gains_none kept store seat legs = record {
     more = [];
     rows_are = sym (append-nil kept);
-    own = [];
-    trail_is = sym (append-nil trail);
+    grows = grows_here store;
+    legs = legs;
     sound = tt;
     made = record { one_each = refl; each = tt };
     gained = record { same = refl; rises = λ kind l. let few = kind_in-few [] kind in omega arith };
   }
 
   -- one row is pushed and counted
-  pub gains_one : (point : List Injection) (kept kept' : List KeptRow) (trail trail' : List Event) (seat seat' : Tallied) (row : KeptRow) (g : GainsRow app limits view base point trail trail' row)
-      → kept' ≡ kept ++ row ∷ [] → Gained (kind_in (row_of base trail' row ∷ [])) seat seat' → GainsRows app limits view base (point ∷ []) kept kept' trail trail' seat seat'
-  gains_one point kept kept' trail trail' seat seat' row g pushed counted = record {
+  pub gains_one : (point : List Injection) (kept kept' : List KeptRow) (store store' : Store) (seat seat' : Tallied) (row : KeptRow) (g : GainsRow app limits view base point store store' row)
+      → kept' ≡ kept ++ row ∷ [] → Gained (kind_in (row_of base store' row ∷ [])) seat seat' → GainsRows app limits view base (point ∷ []) kept kept' store store' seat seat'
+  gains_one point kept kept' store store' seat seat' row g pushed counted = record {
     more = row ∷ [];
     rows_are = pushed;
-    own = g.own;
-    trail_is = g.trail;
+    grows = g.grows;
+    legs = g.legs;
     sound = (g.row.is_kept, tt);
     made = record {
       one_each = ap (λ (p : List Injection). p ∷ []) g.row.at_point;
@@ -272,17 +263,17 @@ module _ (app : Application) (limits : Limits) (view : View) (base : Run) where
   }
 
   -- rows, and then other rows
-  pub gains_both : (points others : List (List Injection)) (a b c : List KeptRow) (t u v : List Event) (x y z : Tallied)
+  pub gains_both : (points others : List (List Injection)) (a b c : List KeptRow) (t u v : Store) (x y z : Tallied)
       → GainsRows app limits view base points a b t u x y → GainsRows app limits view base others b c u v y z → GainsRows app limits view base (points ++ others) a c t v x z
   gains_both points others a b c t u v x y z g h =
-      let same : rows_of base v g.more ≡ rows_of base u g.more = rw h.trail_is (same_rows base u h.own g.more g.sound) in
+      let same : rows_of base v g.more ≡ rows_of base u g.more = same_rows base u v g.legs h.grows g.more g.sound in
       let both : rows_of base v (g.more ++ h.more) ≡ rows_of base u g.more ++ rows_of base v h.more = map-append (row_of base v) g.more h.more ∙ ap (λ rows. rows ++ rows_of base v h.more) same in
       record {
         more = g.more ++ h.more;
         rows_are = h.rows_are ∙ ap (λ rows. rows ++ h.more) g.rows_are ∙ append_assoc a g.more h.more;
-        own = g.own ++ h.own;
-        trail_is = h.trail_is ∙ ap (λ events. events ++ h.own) g.trail_is ∙ append_assoc t g.own h.own;
-        sound = all-append _ g.more h.more (rw h.trail_is (still_kept base u h.own g.more g.sound)) h.sound;
+        grows = grows_then t u v g.grows h.grows;
+        legs = h.legs;
+        sound = all-append _ g.more h.more (still_kept base u v g.legs h.grows g.more g.sound) h.sound;
         made = rw both (rows-append app limits view points others _ _ g.made h.made);
         gained = record {
           same = h.gained.same ∙ g.gained.same;
@@ -295,7 +286,7 @@ module _ (app : Application) (limits : Limits) (view : View) (base : Run) where
       }
 
   -- how much the seat added at most
-  pub gained_few : (points : List (List Injection)) (a b : List KeptRow) (t u : List Event) (x y : Tallied) (g : GainsRows app limits view base points a b t u x y)
+  pub gained_few : (points : List (List Injection)) (a b : List KeptRow) (t u : Store) (x y : Tallied) (g : GainsRows app limits view base points a b t u x y)
       → (kind : ℕ) → kind < 7 → slice_index y.added kind ≤ slice_index x.added kind + length points
   gained_few points a b t u x y g kind l =
       let few = kind_in-few (rows_of base u g.more) kind in
@@ -309,53 +300,41 @@ next_point points index point l is = take_more points index point l ∙ ap (λ (
 
 -- ---- a point that was run before
 
--- there are so many rows
+-- there are this many rows
 pub among_within : (rows : List KeptRow) (point : List Injection) (number : ℕ) → IsAmong rows point number → number < length rows
 among_within rows point number among = slice_get_within rows number among.row among.is
 
 module _ (app : Application) (limits : Limits) (view : View) (base : Run) where
   -- its row is kept
-  row_again : (point : List Injection) (trail : List Event) (kept : List KeptRow) (number : ℕ) → AreKnown app limits view base kept trail → (among : IsAmong kept point number)
-      → GainsRow app limits view base point trail trail among.row
-  row_again point trail kept number known among = record {
-    own = [];
-    trail = sym (append-nil trail);
-    row = subst (λ (p : List Injection). IsKeptRow app limits view base trail p among.row) among.at_point (all_got _ kept number among.row among.is known);
+  row_again : (point : List Injection) (store : Store) (kept : List KeptRow) (number : ℕ) → AreLegs base.events store → AreKnown app limits view base kept store → (among : IsAmong kept point number)
+      → GainsRow app limits view base point store store among.row
+  row_again point store kept number legs known among = record {
+    grows = grows_here store;
+    legs = legs;
+    row = subst (λ (p : List Injection). IsKeptRow app limits view base store p among.row) among.at_point (all_got _ kept number among.row among.is known);
   }
 
   -- and kept once more
-  pub kept_again : (point : List Injection) (trail : List Event) (kept kept' : List KeptRow) (number : ℕ) → AreKnown app limits view base kept trail
+  pub kept_again : (point : List Injection) (store : Store) (kept kept' : List KeptRow) (number : ℕ) → AreLegs base.events store → AreKnown app limits view base kept store
       → (among : IsAmong kept point number) → ((row : KeptRow) → slice_get kept number ≡ Some row → kept' ≡ kept ++ row ∷ [])
-      → (row : KeptRow) → slice_get kept number ≡ Some row → KeepsRow app limits view base point kept kept' trail trail row.end
-  kept_again point trail kept kept' number known among more row is =
+      → (row : KeptRow) → slice_get kept number ≡ Some row → KeepsRow app limits view base point kept kept' store store row.end
+  kept_again point store kept kept' number legs known among more row is =
       let same : Some among.row ≡ Some row = sym among.is ∙ is in
       record {
         row = among.row;
         rows_are = more among.row among.is;
         ends = cc;
-        gains = row_again point trail kept number known among;
+        gains = row_again point store kept number legs known among;
       }
 
-  still_known : (kept : List KeptRow) (trail more : List Event) → AreKnown app limits view base kept trail → AreKnown app limits view base kept (trail ++ more)
-  still_known [] trail more known = tt
-  still_known (k ∷ kept) trail more known =
-      let is = known.0.is_kept in (
-        record {
-          at_point = refl;
-          is_kept = record { shared = is.shared; own = still_there trail more k.own is.own; rest = still_there trail more k.rest is.rest };
-          is_seen = rw (same_told trail more k.own is.own, same_told trail more k.rest is.rest) known.0.is_seen;
-        },
-        still_known kept trail more known.1,
-      )
-
-  made_known : (kept : List KeptRow) (trail : List Event) → AllByRecursion (IsKept base trail) kept
-      → AllByRecursion (IsSeen app limits view) (rows_of base trail kept) → AreKnown app limits view base kept trail
-  made_known [] trail sound made = tt
-  made_known (k ∷ kept) trail sound made =
-      (record { at_point = refl; is_kept = sound.0; is_seen = made.0 }, made_known kept trail sound.1 made.1)
+  made_known : (kept : List KeptRow) (store : Store) → AllByRecursion (IsKept base store) kept
+      → AllByRecursion (IsSeen app limits view) (rows_of base store kept) → AreKnown app limits view base kept store
+  made_known [] store sound made = tt
+  made_known (k ∷ kept) store sound made =
+      (record { at_point = refl; is_kept = sound.0; is_seen = made.0 }, made_known kept store sound.1 made.1)
 
   -- rows that were gained are known too
-  pub known_more : (points : List (List Injection)) (a b : List KeptRow) (t u : List Event) (x y : Tallied) → AreKnown app limits view base a t
+  pub known_more : (points : List (List Injection)) (a b : List KeptRow) (t u : Store) (x y : Tallied) → AreLegs base.events t → AreKnown app limits view base a t
       → GainsRows app limits view base points a b t u x y → AreKnown app limits view base b u
-  known_more points a b t u x y known g =
-      rw g.rows_are (all-append _ a g.more (rw g.trail_is (still_known a t g.own known)) (made_known g.more u g.sound g.made.each))
+  known_more points a b t u x y legs known g =
+      rw g.rows_are (all-append _ a g.more (still_known base t u legs g.grows app limits view a known) (made_known g.more u g.sound g.made.each))

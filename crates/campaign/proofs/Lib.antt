@@ -8,6 +8,7 @@ pub mod Faulty
 mod GoingOn
 mod Jobs
 mod Keeping
+mod Linked
 mod LookedUp
 mod Multiplicity
 mod Pieces
@@ -15,6 +16,7 @@ mod Placed
 mod Seeing
 mod Sending
 mod Started
+mod Telling
 mod Texts
 mod Totalling
 mod Whole

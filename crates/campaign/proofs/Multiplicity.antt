@@ -1,4 +1,4 @@
--- Sums over lists in which the same numbers stand.
+-- Sums over lists with the same numbers in them.
 use Rattle.std.specs.Prelude.{nat_lt}
 use Rattle.std.proofs.Common.{◌≡◌, ◌≢◌, ◌≤◌, ◌<◌, ◌+◌, ℕ, zero, suc, Bool, true, false, cond, List, [], ◌∷◌, ◌++◌, length, slice_index, sum, add-one, refl, sym, ap, ◌∙◌, arith, ⊎_elim}
 use Rattle.std.proofs.lemmas.Bool.Decides.{nat_tests}
@@ -7,7 +7,7 @@ use Rattle.deal.specs.Totals.{total, range, one_at, times, HasEachOnce}
 use Rattle.deal.proofs.Once.{here, elsewhere, same_or, none_above, once_within}
 use Rattle.deal.proofs.Sums.{total_append}
 
--- a list, and a place in it where a number stands
+-- a list, and a place in it where a number is
 record Split (x : ℕ) (ys : List ℕ) : Type 0 where
   front : List ℕ
   back : List ℕ
@@ -34,7 +34,7 @@ total_within (x ∷ xs) ys within h =
     let split : total h ys ≡ total h at.front + (h x + total h at.back) = ap (total h) at.whole ∙ total_append h at.front (x ∷ at.back) in
     omega (arith, total_within xs (at.front ++ at.back) rest h, split, total_append h at.front at.back)
 
--- the numbers below n stand in their range
+-- the numbers below n are in their range
 pub times_range : (n x : ℕ) → times x (range 0 n) ≡ cond (nat_lt x n) 1 0
 times_range n x = go (nat_lt x n) refl
   where

@@ -3,29 +3,28 @@ use Rattle.std.specs.Prelude.{slice_get, Some, Option}
 use Rattle.std.specs.List.{AllByRecursion, flat_map}
 use Rattle.std.proofs.Common.{◌≡◌, ◌<◌, ◌≤◌, ◌+◌, ℕ, zero, suc, List, [], ◌∷◌, ◌++◌, length, take, drop, slice_index_or, refl, sym, subst, ap, ◌∙◌, append_assoc, append-nil, length-append, add-one, arith}
 use Rattle.std.proofs.lemmas.List.{length-take, length-drop, length-map, take_more, map-append}
-use Rattle.model.specs.declared.event.Event.{Event}
 use Rattle.model.specs.Run.{Run}
 use Rattle.model.specs.Campaign.{Row}
-use Rattle.machine.specs.Logged.{all_of}
 use Rattle.campaign.specs.declared.rows.KeptRow.{KeptRow}
 use Rattle.campaign.specs.declared.rows.Part.{Part}
 use Rattle.campaign.specs.declared.rows.Place.{Place}
-use Rattle.campaign.specs.Report.{row_of, rows_of, rows_in, rows_in_some, rows_at, AreKept, IsPlace}
+use Rattle.campaign.specs.Links.{Store}
+use Rattle.campaign.specs.Report.{row_of, rows_of, store_of, rows_in, rows_in_some, rows_at, AreKept, IsPlace}
 
 -- ---- the rows of a part
 
-module _ (base : Run) (trail : List Event) (slice : List KeptRow) where
+module _ (base : Run) (store : Store) (slice : List KeptRow) where
   pub one_row_more : (rows : List Row) (index : ℕ) (row : KeptRow) → index < length slice → row ≡ slice_index_or slice index row
-      → (rows ++ rows_of base trail (take index slice)) ++ row_of base trail row ∷ [] ≡ rows ++ rows_of base trail (take (index + 1) slice)
+      → (rows ++ rows_of base store (take index slice)) ++ row_of base store row ∷ [] ≡ rows ++ rows_of base store (take (index + 1) slice)
   one_row_more rows index row l is =
       let next : take (index + 1) slice ≡ take index slice ++ row ∷ [] = take_more slice index row l ∙ ap (λ (r : KeptRow). take index slice ++ r ∷ []) (sym is) in
-      append_assoc rows (rows_of base trail (take index slice)) (row_of base trail row ∷ [])
-      ∙ ap (λ (rs : List Row). rows ++ rs) (sym (map-append (row_of base trail) (take index slice) (row ∷ [])) ∙ ap (rows_of base trail) (sym next))
+      append_assoc rows (rows_of base store (take index slice)) (row_of base store row ∷ [])
+      ∙ ap (λ (rs : List Row). rows ++ rs) (sym (map-append (row_of base store) (take index slice) (row ∷ [])) ∙ ap (rows_of base store) (sym next))
 
-  pub rows_few : (rows : List Row) (index count : ℕ) → index < length slice → length slice ≤ count → length (rows ++ rows_of base trail (take index slice)) ≤ length rows + count
+  pub rows_few : (rows : List Row) (index count : ℕ) → index < length slice → length slice ≤ count → length (rows ++ rows_of base store (take index slice)) ≤ length rows + count
   rows_few rows index count l few =
-      let long = length-append rows (rows_of base trail (take index slice)) in
-      let same = length-map (take index slice) (row_of base trail) in
+      let long = length-append rows (rows_of base store (take index slice)) in
+      let same = length-map (take index slice) (row_of base store) in
       let within = length-take index slice in
       omega arith
 
@@ -71,7 +70,7 @@ flat_few f (y ∷ xs) (suc index) x l is =
     let part = length-append (f y) (flat_map f (take index xs)) in
     omega arith
 
--- an element is what it is whatever stands for none
+-- an element that is there is read alike, whatever the value for none
 pub any_default : {X : Type 0} (xs : List X) (i : ℕ) (d e : X) → i < length xs → slice_index_or xs i d ≡ slice_index_or xs i e
 any_default [] i d e l = absurd (omega arith)
 any_default (y ∷ xs) zero d e l = refl
@@ -82,7 +81,7 @@ length_at base parts place is =
     let items = is.part.kept in
     let within = is.within in
     let there = ap length (rows_there base parts place is.part is.at_part) in
-    let same = length-map (take place.count (drop place.first items)) (row_of base (all_of is.part.trail)) in
+    let same = length-map (take place.count (drop place.first items)) (row_of base (store_of is.part)) in
     let cut = length-take place.count (drop place.first items) in
     let rest = length-drop place.first items in
     omega arith

@@ -5,7 +5,6 @@ use Rattle.std.proofs.Common.{Result, Ok, Err, IfOk, ◌≡◌, ◌≢◌, ◌<�
 use Rattle.std.proofs.lemmas.List.{take_all, length-set, length-map, length-replicate}
 use Rattle.std.proofs.lemmas.Bool.Decides.{nat_tests}
 use Rattle.std.proofs.lemmas.List.Sums.{sum_by_more}
-use Rattle.machine.specs.Logged.{all_of}
 use Rattle.model.specs.Run.{Run}
 use Rattle.model.specs.Campaign.{Row, totals_of}
 use Rattle.campaign.specs.Seen.{AreSeen}
@@ -19,6 +18,7 @@ use Rattle.campaign.proofs.Multiplicity.{total_each}
 use Rattle.deal.proofs.Once.{same_or, elsewhere}
 use Rattle.campaign.specs.declared.gathering.Apart.{Apart}
 use Rattle.campaign.specs.declared.rows.KeptBlock.{KeptBlock}
+use Rattle.campaign.specs.declared.rows.KeptRow.{KeptRow}
 use Rattle.campaign.specs.declared.rows.Part.{Part}
 use Rattle.campaign.specs.declared.rows.Place.{Place}
 use Rattle.campaign.specs.declared.worker.Job.{Job}
@@ -26,7 +26,8 @@ use Rattle.campaign.specs.declared.worker.Done.{Done}
 use Rattle.campaign.specs.declared.worker.Setup.{Setup}
 use Rattle.campaign.specs.Setup.{work_of}
 use Rattle.campaign.specs.Kinds.{kind_in}
-use Rattle.campaign.specs.Report.{rows_at, IsPlace, AreKept, IsSound, whole as whole_rows}
+use Rattle.campaign.specs.Links.{Store}
+use Rattle.campaign.specs.Report.{rows_at, store_of, IsPlace, AreKept, IsSound, whole as whole_rows}
 use Rattle.campaign.specs.Kinds.{RiseBy}
 use Rattle.campaign.specs.Made.{IsWhole, BringsWhole, IsBrought, IsMade, rows_placed}
 use Rattle.campaign.specs.declared.making.Made.{Made}
@@ -122,13 +123,13 @@ counts_are work rows are kind l (job ∷ jobs) (done ∷ dones) all =
 
 -- ---- places
 
-below_of : (work : Work) (kept : List _) (trail : List _) (blocks : List KeptBlock) → AreKeptBlocks work kept trail blocks → AllByRecursion (λ (b : KeptBlock). b.number < length work.lengths) blocks
-below_of work kept trail [] all = tt
-below_of work kept trail (b ∷ blocks) all = (all.0.is_block, below_of work kept trail blocks all.1)
+below_of : (work : Work) (kept : List KeptRow) (store : Store) (blocks : List KeptBlock) → AreKeptBlocks work kept store blocks → AllByRecursion (λ (b : KeptBlock). b.number < length work.lengths) blocks
+below_of work kept store [] all = tt
+below_of work kept store (b ∷ blocks) all = (all.0.is_block, below_of work kept store blocks all.1)
 
 pub parts_below : (work : Work) (parts : List Part) → AllByRecursion (IsKeptPart work) parts → AreBelow (length work.lengths) parts
 parts_below work [] all = tt
-parts_below work (part ∷ parts) all = (below_of work part.kept (all_of part.trail) part.blocks.items all.0.blocks, parts_below work parts all.1)
+parts_below work (part ∷ parts) all = (below_of work part.kept (store_of part) part.blocks.items all.0.blocks, parts_below work parts all.1)
 
 pub parts_kept : (work : Work) (parts : List Part) → AllByRecursion (IsKeptPart work) parts → AllByRecursion (AreKept work.base) parts
 parts_kept work [] all = tt
@@ -145,7 +146,7 @@ module _ (work : Work) (parts : List Part) where
   HavePlaces blocks places = (b : ℕ) (d : Place) → 0 < times b blocks → IsPlaceOf work parts b (slice_index_or places b d)
 
   -- a block more
-  put_one : (n : ℕ) (part : Part) → slice_get parts n ≡ Some part → (block : KeptBlock) → IsKeptBlock work part.kept (all_of part.trail) block
+  put_one : (n : ℕ) (part : Part) → slice_get parts n ≡ Some part → (block : KeptBlock) → IsKeptBlock work part.kept (store_of part) block
       → (places : List Place) → length work.lengths ≤ length places → (blocks : List ℕ) → HavePlaces blocks places → HavePlaces (blocks ++ block.number ∷ []) (set places block.number (place_of n block))
   put_one n part at block is places long blocks have b d there =
       let place = place_of n block in
@@ -165,7 +166,7 @@ module _ (work : Work) (parts : List Part) where
       rw same (have b d before))
       (same_or b block.number)
 
-  put_all : (n : ℕ) (part : Part) → slice_get parts n ≡ Some part → (own : List KeptBlock) → AreKeptBlocks work part.kept (all_of part.trail) own
+  put_all : (n : ℕ) (part : Part) → slice_get parts n ≡ Some part → (own : List KeptBlock) → AreKeptBlocks work part.kept (store_of part) own
       → (places : List Place) → length work.lengths ≤ length places → (blocks : List ℕ) → HavePlaces blocks places → HavePlaces (blocks ++ numbers_of own) (placed n own places)
   put_all n part at [] all places long blocks have = rw (append-nil blocks) have
   put_all n part at (block ∷ own) all places long blocks have =

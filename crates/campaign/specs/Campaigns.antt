@@ -1,5 +1,5 @@
 -- What the campaign of a file comes to: the report of one row for each of its points, or of a part of these, as a view shows it; or the
--- fault that stands in the way.
+-- fault that prevents it.
 use Rattle.std.specs.Prelude.{◌≡◌, ◌<◌, ◌≤◌, ℕ, Bool, List, [], length, map, Option, Result}
 use Rattle.model.specs.Application.{Application}
 use Rattle.model.specs.Scripts.{most_points}
@@ -17,7 +17,7 @@ use Rattle.campaign.specs.Report.{Shown}
 use Rattle.campaign.specs.Seen.{seen}
 use Rattle.campaign.specs.Serving.{IsFileOf, HasFileFault, Serves}
 
--- The rows are those of a part of the application's own points, which are few enough, under its own limits; `all` stands for every
+-- The rows are those of a part of the application's own points, which are few enough, under its own limits; `all` means every
 -- step of the base run.
 pub record AreRowsOf (app : Application) (shard : Shard) (rows : List Row) : Type 0 where
   pub base : Run

@@ -1,6 +1,8 @@
 pub mod Campaigns
 pub mod Kinds
+pub mod Links
 pub mod Made
+pub mod Marks
 pub mod OneRun
 pub mod Options
 pub mod Pieces

@@ -1,4 +1,4 @@
--- Pieces of a report's rows: rows that stand one after the other, and their texts.
+-- Pieces of a report's rows: rows that come one after the other, and their texts.
 use Rattle.std.specs.Prelude.{◌≡◌, ℕ, ◌+◌, ◌≤◌, false, List, [], ◌∷◌, length, take, drop, slice_index_or}
 use Rattle.std.specs.List.{AllByRecursion, flat_map}
 use Rattle.rtrb.specs.Ring.{sent, received, IsPair, SameConsumer}
@@ -15,13 +15,13 @@ use Rattle.campaign.specs.declared.speller.Speller.{Speller}
 use Rattle.campaign.specs.declared.speller.Spelling.{Spelling}
 use Rattle.campaign.specs.Report.{rows_at, whole, IsSound}
 
--- The rows behind the cursor are those of its place, but for so many, and those of the places after it.
+-- The rows behind the cursor are those of its place, without the first `row` of them, and those of the places after it.
 pub record IsAt (rows : Rows) (cursor : Cursor) : Type 0 where
   pub within : cursor.number ≤ length (whole rows)
   pub behind : drop cursor.number (whole rows)
       ≡ drop cursor.row (flat_map (rows_at rows.base rows.parts.items) (drop cursor.place rows.places.items))
 
--- so many rows, from the one of this number on
+-- this many rows, from the one of this number on
 abbrev pub some_of : List Row → (number count : ℕ) → List Row
 some_of rows number count = take count (drop number rows)
 

@@ -6,7 +6,7 @@ use Rattle.model.specs.Campaign.{points_in}
 use Rattle.campaign.specs.declared.points.ExpandFault.{ExpandFault}
 use Rattle.campaign.specs.declared.points.ExpandFault.TheVariants.{TooManyPoints, Memory}
 
--- Why the points of a file are not listed, where the base run has so many steps: there are more than there may be (profile), or
+-- Why the points of a file are not listed, where the base run has this many steps: there are more than there may be (profile), or
 -- no memory is left for them.
 abbrev pub IsExpandFault : Application → (steps : ℕ) → ExpandFault → Type 0
 IsExpandFault app steps TooManyPoints = most_points < length (points_in app steps)

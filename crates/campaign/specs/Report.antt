@@ -1,8 +1,7 @@
 -- The rows of a campaign, as they are kept.
-use Rattle.std.specs.Prelude.{◌≡◌, ℕ, ◌+◌, ◌≤◌, List, [], ◌++◌, length, map, take, drop, slice_range, slice_get, nat_lt, Option, Some, None}
+use Rattle.std.specs.Prelude.{◌≡◌, ℕ, ◌+◌, ◌≤◌, List, [], ◌++◌, length, map, take, drop, slice_get, nat_lt, Option, Some, None}
 use Rattle.std.specs.List.{AllByRecursion, flat_map}
 use Rattle.machine.specs.Logged.{all_of}
-use Rattle.model.specs.declared.event.Event.{Event}
 use Rattle.model.specs.Points.{first_step}
 use Rattle.model.specs.Run.{Run}
 use Rattle.model.specs.Campaign.{Row, totals_of}
@@ -10,47 +9,40 @@ use Rattle.model.specs.Scripts.{most_points}
 use Rattle.report.specs.declared.view.View.{View}
 use Rattle.campaign.specs.declared.rows.KeptRow.{KeptRow}
 use Rattle.campaign.specs.declared.rows.Part.{Part}
-use Rattle.campaign.specs.declared.rows.Stretch.{Stretch}
 use Rattle.campaign.specs.declared.rows.Place.{Place}
 use Rattle.campaign.specs.declared.campaign_report.Rows.{Rows}
+use Rattle.campaign.specs.Links.{Store, told_at, AreLegs, IsLink}
 
--- the events of a stretch of a trail
-abbrev pub told_in : (trail : List Event) → Stretch → List Event
-told_in trail stretch = slice_range trail stretch.from stretch.to
-
--- A row that is kept begins as the base run does, with so many of its events, goes on with its own, and ends with those of its
--- rest, both of which stand in a trail.
-abbrev pub row_of : (base : Run) (trail : List Event) → KeptRow → Row
-row_of base trail kept = record {
+-- A row that is kept begins as the base run does, with so many of its events, and goes on with those behind its link.
+abbrev pub row_of : (base : Run) → Store → KeptRow → Row
+row_of base store kept = record {
   point = kept.point;
   reached = nat_lt (first_step kept.point) base.steps;
   run = record {
-    events = take kept.shared base.events ++ (told_in trail kept.own ++ told_in trail kept.rest);
+    events = take kept.shared base.events ++ told_at base.events store kept.told;
     steps = kept.steps;
     ticks = kept.ticks;
     end = kept.end;
   };
 }
 
-abbrev pub rows_of : (base : Run) (trail : List Event) → List KeptRow → List Row
-rows_of base trail kept = map (row_of base trail) kept
-
--- the events of the stretch are there
-pub record IsStretch (trail : List Event) (stretch : Stretch) : Type 0 where
-  pub rises : stretch.from ≤ stretch.to
-  pub within : stretch.to ≤ length trail
+abbrev pub rows_of : (base : Run) → Store → List KeptRow → List Row
+rows_of base store kept = map (row_of base store) kept
 
 -- the events of the row are there
-pub record IsKept (base : Run) (trail : List Event) (kept : KeptRow) : Type 0 where
+pub record IsKept (base : Run) (store : Store) (kept : KeptRow) : Type 0 where
   pub shared : kept.shared ≤ length base.events
-  pub own : IsStretch trail kept.own
-  pub rest : IsStretch trail kept.rest
+  pub link : IsLink base.events store kept.told
 
 -- ---- the rows as a whole
 
+-- what the worker of a part kept
+abbrev pub store_of : Part → Store
+store_of part = record { trail = all_of part.trail; legs = part.legs.items }
+
 -- so many rows of a part, from the first on
 abbrev pub rows_in : Run → Part → (first count : ℕ) → List Row
-rows_in base part first count = rows_of base (all_of part.trail) (take count (drop first part.kept))
+rows_in base part first count = rows_of base (store_of part) (take count (drop first part.kept))
 
 abbrev pub rows_in_some : Run → Option Part → (first count : ℕ) → List Row
 rows_in_some base (Some part) first count = rows_in base part first count
@@ -70,8 +62,10 @@ pub record IsPlace (parts : List Part) (place : Place) : Type 0 where
 abbrev pub whole : Rows → List Row
 whole rows = flat_map (rows_at rows.base rows.parts.items) rows.places.items
 
-abbrev pub AreKept : Run → Part → Type 0
-AreKept base part = AllByRecursion (IsKept base (all_of part.trail)) part.kept
+-- The events of each row of the part are there.
+pub record AreKept (base : Run) (part : Part) : Type 0 where
+  pub rows : AllByRecursion (IsKept base (store_of part)) part.kept
+  pub legs : AreLegs base.events (store_of part)
 
 -- Each row is there, the last one's number is no greater than there may be rows, and they add up to these totals.
 pub record IsSound (rows : Rows) : Type 0 where

@@ -1,4 +1,4 @@
--- What serving a file comes to, whatever is asked for of it: the report that is asked for, or the fault that stands in the way.
+-- What serving a file comes to, whatever is asked for of it: the report that is asked for, or the fault that prevents it.
 use Rattle.std.specs.Prelude.{◌≡◌, ◌≢◌, ℕ, Bool, true, false, List, [], Option, Some, None, Result, Ok, Err, IfSome}
 use Rattle.std.specs.Str.{IsUtf8}
 use Rattle.std.specs.Io.KnownBytes.{Appends, Keeps}

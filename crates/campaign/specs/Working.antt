@@ -1,5 +1,5 @@
 -- What workers make: the rows of blocks.
-use Rattle.std.specs.Prelude.{◌≡◌, ℕ, ◌+◌, ◌<◌, ◌≤◌, ◌^◌, false, List, [], ◌∷◌, ◌++◌, length, map, take, drop, sum, slice_get, slice_index, ◌⊎◌, Bool, true, Option, Some, IfSome}
+use Rattle.std.specs.Prelude.{◌≡◌, ℕ, ◌+◌, ◌<◌, ◌≤◌, ◌^◌, false, List, [], ◌∷◌, ◌++◌, length, map, take, drop, sum, slice_get, slice_index, true, Option, None, Some, IfSome}
 use Rattle.std.specs.List.{AllByRecursion}
 use Rattle.machine.specs.Logged.{all_of}
 use Rattle.machine.specs.declared.machine.Machine.{Machine}
@@ -18,13 +18,17 @@ use Rattle.deal.specs.Totals.{total}
 use Rattle.campaign.specs.declared.rows.KeptRow.{KeptRow}
 use Rattle.campaign.specs.declared.rows.KeptBlock.{KeptBlock}
 use Rattle.campaign.specs.declared.rows.Part.{Part}
-use Rattle.campaign.specs.declared.rows.Stretch.{Stretch}
+use Rattle.campaign.specs.declared.link.Ahead.{Ahead}
+use Rattle.campaign.specs.declared.link.Link.{Link}
+use Rattle.campaign.specs.declared.link.Link.TheVariants as link
 use Rattle.campaign.specs.declared.mark.Mark.{Mark}
-use Rattle.campaign.specs.declared.mark.Rest.{Rest}
+use Rattle.campaign.specs.declared.mark.Passed.{Passed}
+use Rattle.campaign.specs.declared.runner.Runner.{Runner}
 use Rattle.campaign.specs.declared.worker.Job.{Job}
 use Rattle.campaign.specs.declared.worker.Done.{Done}
 use Rattle.campaign.specs.Kinds.{kind_in}
-use Rattle.campaign.specs.Report.{row_of, rows_of, told_in, IsStretch, IsKept, AreKept}
+use Rattle.campaign.specs.Links.{Store, AreLegs, Grows, Tells}
+use Rattle.campaign.specs.Report.{row_of, rows_of, store_of, IsKept, AreKept}
 use Rattle.campaign.specs.Seen.{AreSeen, IsSeen}
 
 -- What there is to be done: rows of the application under these limits, for this view, with this base run, at these points, which are
@@ -40,20 +44,20 @@ pub record Work : Type 0 where
 -- ---- one row
 
 -- The row of this point is kept so, as far as the view shows it.
-pub record IsKeptRow (app : Application) (limits : Limits) (view : View) (base : Run) (trail : List Event) (point : List Injection) (kept : KeptRow) : Type 0 where
+pub record IsKeptRow (app : Application) (limits : Limits) (view : View) (base : Run) (store : Store) (point : List Injection) (kept : KeptRow) : Type 0 where
   pub at_point : kept.point ≡ point
-  pub is_kept : IsKept base trail kept
-  pub is_seen : IsSeen app limits view (row_of base trail kept)
+  pub is_kept : IsKept base store kept
+  pub is_seen : IsSeen app limits view (row_of base store kept)
 
--- A trail gains some events, with which a row is kept.
-pub record GainsRow (app : Application) (limits : Limits) (view : View) (base : Run) (point : List Injection) (old new : List Event) (kept : KeptRow) : Type 0 where
-  pub own : List Event
-  pub trail : new ≡ old ++ own
+-- A store gains some events and legs, with which a row is kept.
+pub record GainsRow (app : Application) (limits : Limits) (view : View) (base : Run) (point : List Injection) (old new : Store) (kept : KeptRow) : Type 0 where
+  pub grows : Grows old new
+  pub legs : AreLegs base.events new
   pub row : IsKeptRow app limits view base new point kept
 
 -- Each row is that of its point.
-abbrev pub AreKnown : Application → Limits → View → Run → List KeptRow → (trail : List Event) → Type 0
-AreKnown app limits view base kept trail = AllByRecursion (λ (k : KeptRow). IsKeptRow app limits view base trail k.point k) kept
+abbrev pub AreKnown : Application → Limits → View → Run → List KeptRow → Store → Type 0
+AreKnown app limits view base kept store = AllByRecursion (λ (k : KeptRow). IsKeptRow app limits view base store k.point k) kept
 
 -- The row of this number is one of these, and of this point.
 pub record IsAmong (rows : List KeptRow) (point : List Injection) (number : ℕ) : Type 0 where
@@ -61,9 +65,9 @@ pub record IsAmong (rows : List KeptRow) (point : List Injection) (number : ℕ)
   pub is : slice_get rows number ≡ Some row
   pub at_point : row.point ≡ point
 
--- Behind these rows comes that of this point, with the events that the trail gains, and ends so.
+-- Behind these rows comes that of this point, with what the store gains, and ends so.
 pub record KeepsRow (app : Application) (limits : Limits) (view : View) (base : Run) (point : List Injection) (kept kept' : List KeptRow)
-    (old new : List Event) (end : End) : Type 0 where
+    (old new : Store) (end : End) : Type 0 where
   pub row : KeptRow
   pub rows_are : kept' ≡ kept ++ row ∷ []
   pub ends : row.end ≡ end
@@ -71,35 +75,36 @@ pub record KeepsRow (app : Application) (limits : Limits) (view : View) (base : 
 
 -- ---- how rows go on
 
--- The events stand in this stretch of the trail, where they are to be shown.
-abbrev pub AreThere : (shown : Bool) → (trail : List Event) → Stretch → List Event → Type 0
-AreThere true trail stretch events = IsStretch trail stretch × (told_in trail stretch ≡ events)
-AreThere false trail stretch events = Unit {0}
+-- what is kept of a runner's rows
+abbrev pub store_in : Runner → Store
+store_in runner = record { trail = all_of runner.trail; legs = runner.legs.items }
 
--- Each row that comes to the kernel goes on so, and what it tells is there, where the view shows it.
-pub record IsRestIn (app : Application) (limits : Limits) (view : View) (trail : List Event) (k : Machine) (rest : Rest) : Type 0 where
+-- These events are behind the link, where the view shows those of a row that ends so.
+abbrev pub IsTold : View → (base : List Event) → Store → Link → End → List Event → Type 0
+IsTold view base store link end events = shows_events view end ≡ true → Tells base store link events
+
+-- Each row that comes to the kernel goes on so, and what it reports is there, where the view shows it.
+pub record IsRestIn (app : Application) (limits : Limits) (view : View) (base : Run) (store : Store) (k : Machine) (rest : Ahead) : Type 0 where
   pub events : List Event
-  pub there : AreThere (shows_events view rest.end) trail rest.told events
+  pub told : IsTold view base.events store rest.told rest.end events
   pub is_rest : IsRest app limits k (record { events = events; steps = rest.steps; ticks = rest.ticks; end = rest.end })
 
--- The row of this point, which has come to the kernel, goes on so, and what it tells is there, where the view shows it.
-pub record IsRestOf (app : Application) (limits : Limits) (view : View) (trail : List Event) (point : List Injection) (k : Machine) (rest : Rest) : Type 0 where
+-- The row of this point, which has come to the kernel, goes on by what the trail gained, and then so; and what it reports then is there,
+-- where the view shows it.
+pub record IsRestOf (app : Application) (limits : Limits) (view : View) (base : Run) (old new : Store) (point : List Injection) (k : Machine) (rest : Ahead) : Type 0 where
+  pub own : List Event
+  pub trail : new.trail ≡ old.trail ++ own
   pub events : List Event
-  pub there : AreThere (shows_events view rest.end) trail rest.told events
-  pub is_row : IsRun app point limits (record { events = events_after app limits point k.steps ++ events; steps = rest.steps; ticks = rest.ticks; end = rest.end })
+  pub told : IsTold view base.events new rest.told rest.end events
+  pub is_row : IsRun app point limits (record { events = events_after app limits point k.steps ++ (own ++ events); steps = rest.steps; ticks = rest.ticks; end = rest.end })
 
--- The mark, if there is one, has the rest of each row that comes to its kernel.
-abbrev pub IsMarked : Application → Limits → View → (trail : List Event) → Option Mark → Type 0
-IsMarked app limits view trail mark = IfSome mark (λ m. IsRestIn app limits view trail m.kernel m.rest)
-
--- The mark is the one before, or that of a row that ends so.
-abbrev pub StaysOrEnds : (old new : Option Mark) → End → Type 0
-StaysOrEnds old new end = (new ≡ old) ⊎ IfSome new (λ m. m.rest.end ≡ end)
-
--- What a worker knows: of each of its rows that it is that of its point, and what the mark says.
-pub record Knows (app : Application) (limits : Limits) (view : View) (base : Run) (kept : List KeptRow) (trail : List Event) (mark : Option Mark) : Type 0 where
-  pub rows : AreKnown app limits view base kept trail
-  pub marked : IsMarked app limits view trail mark
+-- Each row that comes to the kernel that was passed goes on by the trail from there on, and then so; and what it reports then is there,
+-- where the view shows it.
+pub record IsPassed (app : Application) (limits : Limits) (view : View) (base : Run) (store : Store) (rest : Ahead) (passed : Passed) : Type 0 where
+  pub within : passed.from ≤ length store.trail
+  pub events : List Event
+  pub told : IsTold view base.events store rest.told rest.end events
+  pub is_rest : IsRest app limits passed.kernel.value (record { events = drop passed.from store.trail ++ events; steps = rest.steps; ticks = rest.ticks; end = rest.end })
 
 -- ---- seats
 
@@ -108,22 +113,22 @@ pub record Gained (counts : ℕ → ℕ) (old new : Tallied) : Type 0 where
   pub same : new.sheet ≡ old.sheet
   pub rises : (kind : ℕ) → kind < 7 → slice_index new.added kind ≡ slice_index old.added kind + counts kind
 
--- the seat may still add so many to each kind
+-- the seat may still add this many to each kind
 abbrev pub HasRoom : ℕ → Tallied → Type 0
 HasRoom count seat = (kind : ℕ) → kind < 7 → slice_index seat.added kind + count ≤ 2 ^ 40
 
 -- ---- the rows of several points
 
--- Behind these rows and events come those of the rows of these points, and the seat counted them.
+-- Behind these rows come those of these points, with what the store gains, and the seat counted them.
 pub record GainsRows (app : Application) (limits : Limits) (view : View) (base : Run) (points : List (List Injection))
-    (kept kept' : List KeptRow) (trail trail' : List Event) (seat seat' : Tallied) : Type 0 where
+    (kept kept' : List KeptRow) (store store' : Store) (seat seat' : Tallied) : Type 0 where
   pub more : List KeptRow
   pub rows_are : kept' ≡ kept ++ more
-  pub own : List Event
-  pub trail_is : trail' ≡ trail ++ own
-  pub sound : AllByRecursion (IsKept base trail') more
-  pub made : AreSeen app limits view points (rows_of base trail' more)
-  pub gained : Gained (kind_in (rows_of base trail' more)) seat seat'
+  pub grows : Grows store store'
+  pub legs : AreLegs base.events store'
+  pub sound : AllByRecursion (IsKept base store') more
+  pub made : AreSeen app limits view points (rows_of base store' more)
+  pub gained : Gained (kind_in (rows_of base store' more)) seat seat'
 
 -- ---- blocks
 
@@ -136,18 +141,18 @@ abbrev pub AreRowsByBlock : Work → (ℕ → List Row) → Type 0
 AreRowsByBlock work rows = (block : ℕ) → block < length work.lengths → AreSeen work.app work.limits work.view (block_points work block) (rows block)
 
 -- The rows of a block are kept.
-pub record IsKeptBlock (work : Work) (kept : List KeptRow) (trail : List Event) (block : KeptBlock) : Type 0 where
+pub record IsKeptBlock (work : Work) (kept : List KeptRow) (store : Store) (block : KeptBlock) : Type 0 where
   pub is_block : block.number < length work.lengths
   pub within : block.first + block.count ≤ length kept
-  pub made : AreSeen work.app work.limits work.view (block_points work block.number) (rows_of work.base trail (take block.count (drop block.first kept)))
+  pub made : AreSeen work.app work.limits work.view (block_points work block.number) (rows_of work.base store (take block.count (drop block.first kept)))
 
-abbrev pub AreKeptBlocks : Work → List KeptRow → List Event → List KeptBlock → Type 0
-AreKeptBlocks work kept trail blocks = AllByRecursion (IsKeptBlock work kept trail) blocks
+abbrev pub AreKeptBlocks : Work → List KeptRow → Store → List KeptBlock → Type 0
+AreKeptBlocks work kept store blocks = AllByRecursion (IsKeptBlock work kept store) blocks
 
 -- A worker's part: rows that are there, of blocks.
 pub record IsKeptPart (work : Work) (part : Part) : Type 0 where
   pub rows : AreKept work.base part
-  pub blocks : AreKeptBlocks work part.kept (all_of part.trail) part.blocks.items
+  pub blocks : AreKeptBlocks work part.kept (store_of part) part.blocks.items
 
 -- the numbers of the blocks
 abbrev pub numbers_of : List KeptBlock → List ℕ
@@ -164,7 +169,7 @@ CountsBlocks work blocks old new =
 abbrev pub AreIdle : Game → List Sight → Type 0
 AreIdle deal lanes = AllByRecursion (λ (lane : Sight). (lane.game ≡ deal) × (lane.answered ≡ [])) lanes
 
--- seats of this tally, each with room for so many points
+-- seats of this tally, each with room for this many points
 abbrev pub AreReady : Sheet → ℕ → List Tallied → Type 0
 AreReady tally count seats = AllByRecursion (λ (seat : Tallied). (seat.sheet ≡ tally) × HasRoom count seat) seats
 

@@ -10,7 +10,7 @@ use std::marker::Model;
 use std::thread;
 use std::thread::Threads;
 
-/// The rows of a campaign, as far as a view shows them: those of each block stand in its place, one block after the other. All begin as
+/// The rows of a campaign, as far as a view shows them: those of each block are in its place, one block after the other. All begin as
 /// the base run does. The first has this number.
 #[derive(Drop)]
 pub(crate) struct Rows {

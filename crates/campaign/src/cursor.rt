@@ -7,8 +7,8 @@ ghost use Rattle.campaign.specs.Pieces.{some_of, IsAt};
 use crate::campaign_report::Rows;
 use crate::rows::Place;
 
-/// A place between the rows of a report: so many rows lie before it. Those behind it are the rows of the place of this number,
-/// but for so many, and of the places after that one.
+/// A place between the rows of a report: `number` rows are before it. Those behind it are the rows of the place of the number `place`,
+/// without the first `row` of them, and of the places after that one.
 #[derive(Clone, Copy)]
 pub(crate) struct Cursor {
     pub(crate) number: usize,
@@ -57,7 +57,7 @@ impl Cursor {
         place
     }
 
-    /// Goes over the next rows, as many as stand in one place, and at most so many. Answers where they stand.
+    /// Goes over the next rows, as many as are in one place, and at most this many. Answers where they are.
     pub(crate) fn take(&mut self, rows: &Rows, most: usize) -> Place
         requires sound { IsSound rows.now }
         requires at { IsAt rows.now self.old }

@@ -1,10 +1,10 @@
-//! Who is told what the workers of a campaign do.
+//! Who learns what the workers of a campaign do.
 use deal::Counts;
 
-/// Is told what the workers of a campaign do. No contract speaks of it. It is called by the workers, each in its own thread, and
+/// Learns what the workers of a campaign do. No contract speaks of it. It is called by the workers, each in its own thread, and
 /// a worker goes on when it returns.
 pub trait Gate {
-    /// The campaign begins, and has so many points.
+    /// The campaign begins, and has this many points.
     fn begun(&self, _points: usize) {}
 
     /// A worker comes to this block, before the first of its points. `seen` is what the worker's seat then reads of the tally.

@@ -21,7 +21,7 @@ pub(crate) struct Apart {
     pub(crate) parts: Vec<Part>,
 }
 
-/// A job for each lane and seat, the last one first, so that the calling thread gets the first lane. Each has room for so many
+/// A job for each lane and seat, the last one first, so that the calling thread gets the first lane. Each has room for this many
 /// rows, as far as there is memory for it.
 pub(crate) fn jobs_of(
     alloc: Global,

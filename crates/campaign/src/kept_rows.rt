@@ -28,7 +28,7 @@ impl Model for KeptRows {
 }
 
 impl KeptRows {
-    /// No rows yet, with room for so many where there is memory for it. Rows that needn't move as they become more leave no gaps
+    /// No rows yet, with room for this many where there is memory for it. Rows that needn't move as they become more leave no gaps
     /// behind, and room that isn't used is mostly none of the machine's memory.
     pub(crate) fn with_room(alloc: Global, count: usize) -> KeptRows
         ensures { result ≡ [] }
@@ -49,7 +49,7 @@ impl KeptRows {
         self.places.len()
     }
 
-    /// The row of this number, from 0, where there are so many.
+    /// The row of this number, from 0, where there are this many.
     pub(crate) fn get(&self, number: usize) -> Option<&KeptRow>
         ensures { option_map (λ row. row.now) result ≡ slice_get self.now number }
     {
@@ -120,8 +120,7 @@ fn push(rows: &mut Vec<KeptRow>, row: KeptRow) -> Result<(), Memory>
     let KeptRow {
         point,
         shared,
-        own,
-        rest,
+        told,
         steps,
         ticks,
         end,
@@ -129,8 +128,7 @@ fn push(rows: &mut Vec<KeptRow>, row: KeptRow) -> Result<(), Memory>
     let row = KeptRow {
         point,
         shared,
-        own,
-        rest,
+        told,
         steps,
         ticks,
         end,

@@ -10,7 +10,7 @@ use model::Memory;
 use rtrb::RingBuffer;
 use std::alloc::Global;
 
-// So many buffers has each speller: one that it fills, and others that are on their way.
+// Each speller has this many buffers: one that it fills, and others that are on their way.
 const BUFFERS: usize = 3;
 
 /// The speller of the thread that writes, those of others, and for each of them the desk at which its texts arrive.
@@ -33,7 +33,7 @@ fn lane(alloc: Global, most: usize) -> Result<(Speller, Desk), Memory>
         return Err(Memory);
     };
     for _ in 0..BUFFERS {
-        // There is room for so many.
+        // There is room for this many.
         let _given = give.push(Buffer::new(alloc, most));
     }
     let speller = Speller { empty, spelled };
@@ -44,7 +44,7 @@ fn lane(alloc: Global, most: usize) -> Result<(Speller, Desk), Memory>
     Ok((speller, desk))
 }
 
-/// So many spellers of texts of at most so many bytes, and their desks.
+/// This many spellers of texts of at most this many bytes, and their desks.
 pub(crate) fn lanes_of(alloc: Global, count: usize, most: usize) -> Result<Lanes, Memory>
     requires { 0 < count }
     ensures count { IfOk result (λ lanes. vec_len lanes.desks ≡ count) }

@@ -45,7 +45,7 @@ struct Brought {
     apart: Apart,
 }
 
-// Does the jobs, each in a thread of its own where one can be started, else one after the other.
+// Does the jobs, each in a thread of its own where one can be started, otherwise one after the other.
 fn run_all<R: Threads + Wait + Sync, G: Gate + Sync>(
     rt: &R,
     alloc: Global,
@@ -73,7 +73,7 @@ fn run_all<R: Threads + Wait + Sync, G: Gate + Sync>(
     }
 }
 
-// Lets so many workers, each with one of these lanes and a seat, work off what was dealt, and takes apart what they bring.
+// Lets this many workers, each with one of these lanes and a seat, work off what was dealt, and takes apart what they bring.
 fn work_off<R: Threads + Wait + Sync, G: Gate + Sync>(
     rt: &R,
     alloc: Global,
@@ -105,7 +105,7 @@ fn work_off<R: Threads + Wait + Sync, G: Gate + Sync>(
     take_apart(alloc, dones)
 }
 
-// Deals the blocks among so many workers, each with a seat, and lets them work.
+// Deals the blocks among this many workers, each with a seat, and lets them work.
 fn bring_all<R: Threads + Wait + Sync, G: Gate + Sync>(
     rt: &R,
     alloc: Global,
@@ -220,11 +220,11 @@ pub(crate) fn campaign_from<R: Threads + Wait + Sync, G: Gate + Sync>(
 }
 
 /// Runs an application once for each of these points, under these limits, and reports the rows, all of each: a row's injections come where
-/// the base run gets beyond the step of the first, else the row is the base run. There are at most 1,000,000 points, and their handlers are the
-/// application's.
+/// the base run gets beyond the step of the first; otherwise the row is the base run. There are at most 1,000,000 points, and their
+/// handlers are the application's.
 ///
-/// So many workers make the rows, 1 to 64, each in a thread of its own where one can be started; this thread is one of them. A
-/// worker takes blocks of the division until all are handed out, and adds each row to its seat when it is made. The gate is told
+/// This many workers make the rows, 1 to 64, each in a thread of its own where one can be started; this thread is one of them. A
+/// worker takes blocks of the division until all are handed out, and adds each row to its seat when it is made. The gate learns
 /// of each block before its first point. The stride says how many steps lie between two states of the base run that are kept.
 ///
 /// `Memory` is answered only where a growth was refused; then the seats are spent. It waits for the workers.

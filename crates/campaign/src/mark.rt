@@ -1,21 +1,21 @@
-//! Where a row went on from, and how: rows that come to the same kernel go on alike.
-use crate::rows::Stretch;
+//! Kernels that rows have come to, and how they went on from there: rows that come to the same kernel go on alike.
+use crate::link::Ahead;
 use kernel::Snapshot;
-use model::End;
 
-/// How a row goes on from some step to its end: what it tells, which stands in a trail, and how it ends.
-#[derive(Clone, Copy)]
-pub(crate) struct Rest {
-    pub(crate) told: Stretch,
-    pub(crate) steps: u32,
-    pub(crate) ticks: u64,
-    pub(crate) end: End,
-}
-
-/// The kernel as it stood before a step of some row, behind that row's last injection, and how the row went on from there. So does each
-/// row that comes to the same kernel.
+/// The kernel as it was before a step of some row, behind that row's last injection, and how the row went on from there. So does each row
+/// that comes to the same kernel.
 #[derive(Drop)]
 pub(crate) struct Mark {
-    pub(crate) kernel: Snapshot,
-    pub(crate) rest: Rest,
+    pub(crate) kernel: Box<Snapshot>,
+    pub(crate) hint: u64,
+    pub(crate) rest: Ahead,
+}
+
+/// A kernel that the row on its way has come to, behind its last injection, and where its events from there on begin in the trail. It
+/// becomes a mark when the row is over.
+#[derive(Drop)]
+pub(crate) struct Passed {
+    pub(crate) kernel: Box<Snapshot>,
+    pub(crate) hint: u64,
+    pub(crate) from: usize,
 }

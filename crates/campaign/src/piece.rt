@@ -9,26 +9,26 @@ use crate::rows::Place;
 use model::Memory;
 use std::alloc::Global;
 
-// At most so many rows are taken for as long as the first of them, where the text of a piece is guessed.
+// At most this many rows are taken for as long as the first of them, where the text of a piece is guessed.
 const MOST_ALIKE: usize = 16;
 
-/// So many rows of a report, from the cursor on.
+/// This many rows of a report, from the cursor on.
 #[derive(Clone, Copy)]
 pub(crate) struct Piece {
     pub(crate) from: Cursor,
     pub(crate) count: usize,
 }
 
-// A guess at how many bytes the text of the first row of a place takes: 32 for each line.
+// A guess at how many bytes the text of the first row of a place takes: 32 for each line, and as many lines a step as the base run has.
 fn guess(rows: &Rows, place: &Place) -> usize
     requires place { IsPlace rows.now.parts.items place.now }
     requires some { 0 < place.now.count }
     ensures { 0 < result }
 {
     let row = rows.parts[place.part].kept.at(place.first);
-    let own = row.own.to.saturating_sub(row.own.from);
-    let rest = row.rest.to.saturating_sub(row.rest.from);
-    let lines = row.shared.saturating_add(own).saturating_add(rest);
+    let base = &rows.base;
+    let steps = (base.steps as usize).max(1);
+    let lines = base.events.len().saturating_mul(row.steps as usize) / steps;
     lines.saturating_add(1).saturating_mul(32)
 }
 
@@ -46,7 +46,7 @@ impl Piece {
         }
     }
 
-    /// The rows behind the cursor whose text takes some so many bytes, or all that are left. The cursor goes over them. How long
+    /// The rows behind the cursor whose text takes about this many bytes, or all that are left. The cursor goes over them. How long
     /// a text is, is a guess.
     pub(crate) fn next(cursor: &mut Cursor, rows: &Rows, bytes: usize) -> Piece
         requires sound { IsSound rows.now }
@@ -75,7 +75,7 @@ impl Piece {
     }
 }
 
-/// All rows, in pieces whose texts take some so many bytes each.
+/// All rows, in pieces whose texts take about this many bytes each.
 pub(crate) fn pieces_of(alloc: Global, rows: &Rows, bytes: usize) -> Result<Vec<Piece>, Memory>
     requires sound { IsSound rows.now }
     requires some { 0 < bytes }

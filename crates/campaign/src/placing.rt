@@ -35,7 +35,7 @@ fn place_all(parts: &[Part], places: &mut [Place])
     }
 }
 
-/// The place of each of so many blocks, which are the parts'.
+/// The place of each of this many blocks, which are the parts'.
 pub(crate) fn places_of(alloc: Global, parts: &[Part], count: usize) -> Result<Vec<Place>, Memory>
     requires { AreBelow count parts.now }
     ensures { IfOk result (λ places. places.items

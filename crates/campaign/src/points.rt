@@ -17,7 +17,7 @@ pub enum ExpandFault {
     Memory,
 }
 
-// For how many points an entry stands, where the base run has so many steps.
+// How many points an entry means, where the base run has this many steps.
 fn count_of(entry: &PointEntry, steps: u32) -> usize
     ensures count { result ≡ length (points_of steps entry.now) }
     ensures few { result ≤ 2 ^ 32 }
@@ -28,7 +28,7 @@ fn count_of(entry: &PointEntry, steps: u32) -> usize
     }
 }
 
-// For how many points the entries stand; `None` where these are more than there may be.
+// How many points the entries mean; `None` where these are more than there may be.
 fn count_points(entries: &[PointEntry], steps: u32) -> Option<usize>
     ensures { MatchOption result (most_points < length (flat_map (points_of steps) entries.now))
         (λ count. (count ≡ length (flat_map (points_of steps) entries.now)) × (count ≤ most_points)) }
@@ -71,7 +71,7 @@ fn push_entry(points: &mut Vec<Point>, entry: &PointEntry, steps: u32) -> Result
     }
 }
 
-// The points of these entries, which are so many.
+// The points of these entries: there are this many.
 fn points_from(
     alloc: Global,
     entries: &[PointEntry],
@@ -95,7 +95,7 @@ fn points_from(
     Ok(points)
 }
 
-/// The points of an application's campaign, in the order of the file: `all` stands for every step of the base run, which is
+/// The points of an application's campaign, in the order of the file: `all` means every step of the base run, which is
 /// this one. `TooManyPoints` is found before memory is taken.
 pub fn expand(alloc: Global, app: &App, base: &Run) -> Result<Vec<Point>, ExpandFault>
     ensures points { IfOk result (λ points. (points.items ≡ points_in app.now base.now.steps)

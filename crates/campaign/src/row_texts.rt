@@ -3,16 +3,16 @@ ghost use Rattle.std.specs.Prelude.{◌≡◌, ◌<◌, [], false, length, slice
 ghost use Rattle.std.specs.Result.{is_err};
 ghost use Rattle.byte_io.specs.Buffers.{bytes_of};
 ghost use Rattle.byte_io.specs.Bytes.{Writes};
-ghost use Rattle.machine.specs.Logged.{all_of};
 ghost use Rattle.report.specs.Text.{row_text};
-ghost use Rattle.campaign.specs.Report.{row_of, AreKept, IsKept, IsSound};
+ghost use Rattle.campaign.specs.Links.{AreLegs};
+ghost use Rattle.campaign.specs.Report.{row_of, store_of, AreKept, IsKept, IsSound};
 ghost use Rattle.campaign.specs.Texts.{IsTextOf};
 
 use crate::campaign_report::Rows;
 use crate::rows::{KeptRow, Part};
 use crate::writing::add_row;
 use byte_io::{Buffer, Sink, WriteFault};
-use model::{App, Event, Run};
+use model::{App, Run};
 use report::{BaseEvents, ReportWriter};
 use std::alloc::Global;
 use std::marker::Model;
@@ -20,7 +20,7 @@ use std::marker::Model;
 // How long the known texts of a part's rows are together at most, in bytes.
 const MOST_KNOWN: usize = 1 << 18;
 
-// Rows behind so many of a part are no more looked through for others.
+// Rows of a part behind this many are not compared with others any more.
 const MOST_ROWS: usize = 1 << 16;
 
 /// The text of a row, as it is under the number 0: the row of this number of a part.
@@ -70,22 +70,23 @@ fn write_row<W: Sink>(
     row: &KeptRow,
     base: &Run,
     events: &BaseEvents<'_>,
-    trail: &[Event],
+    part: &Part,
 ) -> Result<(), WriteFault>
     requires working { W.has_failed writer.old ≡ false }
     requires app { events.now.app ≡ report.old.app }
     requires base { events.now.events ≡ base.now.events }
-    requires kept { IsKept base.now trail.now row.now }
+    requires legs { AreLegs base.now.events (store_of part.now) }
+    requires kept { IsKept base.now (store_of part.now) row.now }
     requires empty { report.old.page ≡ [] }
     ensures app { report.new.app ≡ report.old.app }
     ensures text { Writes (W.held writer.old) (W.held writer.new) result
-        (row_text report.old.app 0 (row_of base.now trail.now row.now)) }
+        (row_text report.old.app 0 (row_of base.now (store_of part.now) row.now)) }
 {
-    add_row(writer, report, 0, row, base, events, trail)?;
+    add_row(writer, report, 0, row, base, events, part)?;
     report.finish(writer)
 }
 
-// The text of a row under the number 0, if it is of at most so many bytes and there is memory for it.
+// The text of a row under the number 0, if it is of at most this many bytes and there is memory for it.
 fn text_of(
     alloc: Global,
     most: usize,
@@ -93,18 +94,19 @@ fn text_of(
     row: &KeptRow,
     base: &Run,
     events: &BaseEvents<'_>,
-    trail: &[Event],
+    part: &Part,
 ) -> Option<Buffer>
     requires app { events.now.app ≡ report.old.app }
     requires base { events.now.events ≡ base.now.events }
-    requires kept { IsKept base.now trail.now row.now }
+    requires legs { AreLegs base.now.events (store_of part.now) }
+    requires kept { IsKept base.now (store_of part.now) row.now }
     requires empty { report.old.page ≡ [] }
     ensures app { report.new.app ≡ report.old.app }
     ensures empty { report.new.page ≡ [] }
-    ensures text { IfSome result (λ buffer. bytes_of buffer ≡ row_text report.old.app 0 (row_of base.now trail.now row.now)) }
+    ensures text { IfSome result (λ buffer. bytes_of buffer ≡ row_text report.old.app 0 (row_of base.now (store_of part.now) row.now)) }
 {
     let mut buffer = Buffer::new(alloc, most);
-    let written = write_row(&mut buffer, report, row, base, events, trail);
+    let written = write_row(&mut buffer, report, row, base, events, part);
     report.clear();
     if written.is_err() {
         return None;
@@ -181,7 +183,7 @@ impl<'a> RowTexts<'a> {
         }
     }
 
-    // Adds the text of a row of a part, if it is of at most so many bytes. Answers how long it is, where there was memory for it.
+    // Adds the text of a row of a part, if it is of at most this many bytes. Answers how long it is, where there was memory for it.
     fn add(
         &mut self,
         alloc: Global,
@@ -201,7 +203,6 @@ impl<'a> RowTexts<'a> {
         ensures empty { report.new.page ≡ [] }
     {
         let row = part.kept.at(number);
-        let trail = part.trail.events();
         let buffer = text_of(
             alloc,
             most,
@@ -209,7 +210,7 @@ impl<'a> RowTexts<'a> {
             row,
             &self.rows.base,
             &self.events,
-            trail,
+            part,
         )?;
         let length = buffer.bytes().len();
         let text = RowText {

@@ -1,65 +1,52 @@
 //! Running the rows of a worker, one after another.
-ghost use Rattle.std.specs.Prelude.{◌≡◌, ◌<◌, ◌≤◌, ◌+◌, ◌^◌, length, take, if◌then◌else◌, Some, None, min, option_map, IfOk, IfSome, OnOk};
+ghost use Rattle.std.specs.Prelude.{◌≡◌, ◌<◌, ◌≤◌, ◌+◌, ◌++◌, ◌∷◌, ◌^◌, [], length, take, if◌then◌else◌, Some, None, min, option_map, IfOk, IfSome, OnOk};
+ghost use Rattle.std.specs.List.{AllByRecursion};
 ghost use Rattle.model.specs.Points.{first_step, last_step};
 ghost use Rattle.model.specs.Run.{end_of, state_after};
 ghost use Rattle.machine.specs.Logged.{all_of};
 ghost use Rattle.machine.specs.Can.{IsUnderWay};
-ghost use Rattle.kernel.specs.Rows.{Extends};
+ghost use Rattle.kernel.specs.Leads.{IsLed, IsPast};
 ghost use Rattle.shelf.specs.Shelves.{IsShelf};
 ghost use Rattle.report.specs.Views.{shows_events};
-ghost use Rattle.campaign.specs.Working.{GainsRow, IsMarked, IsRestOf, StaysOrEnds};
+ghost use Rattle.campaign.specs.declared.link.Link.TheVariants as links;
+ghost use Rattle.campaign.specs.Links.{AreLegs};
+ghost use Rattle.campaign.specs.Marks.{AreBehind, AreMarked, ArePut, IsAhead, IsNoted};
+ghost use Rattle.campaign.specs.Working.{store_in, GainsRow, IsPassed, IsRestOf};
 
-use crate::mark::{Mark, Rest};
-use crate::rows::{KeptRow, Stretch};
-use kernel::{Kernel, Snapshot, StepLog, Trail, run_rest};
-use model::{App, End, Limits, Memory, Meter, Point, Run};
+use crate::link::{Ahead, Leg, Link};
+use crate::mark::{Mark, Passed};
+use crate::mark_steps::{next_mark, spacing_of};
+use crate::mark_table::MarkTable;
+use crate::meetings::Meetings;
+use crate::rows::KeptRow;
+use kernel::{Kernel, RestEnding, StepLog, Trail, go_far};
+use model::{App, End, Injection, Limits, Memory, Meter, Point, Run};
 use report::View;
 use shelf::Shelf;
 use std::alloc::Global;
 
-// A row is compared with the mark, or a mark is put, at most so many steps behind its last injection. By then most rows have come to
-// the kernel of the row before. With fewer steps more rows would be run to their ends, and with more all rows be run further.
-const STEPS_TO_MARK: u32 = 64;
-
-/// What a worker runs its rows with: a kernel, the log of a step, the trail of all of them, and where the last of them that was run
-/// to its end went on from.
+/// What a worker runs its rows with: a kernel, the log of a step, the trail and the legs of all of them, the marks at kernels that they
+/// came to, and the kernels that the row on its way has come to.
 #[derive(Drop)]
 pub(crate) struct Runner {
     alloc: Global,
     kernel: Kernel,
     log: StepLog,
     pub(crate) trail: Trail,
-    pub(crate) mark: Option<Mark>,
+    pub(crate) legs: Vec<Leg>,
+    pub(crate) table: MarkTable,
+    passed: Vec<Passed>,
+    meetings: Meetings,
+    spacing: u32,
 }
 
-// The mark at a kernel from which a row went on so. Where there was no memory for the kernel there is none, and the next row is run
-// to its end too.
-fn mark_at(kernel: Option<Snapshot>, rest: &Rest) -> Option<Mark>
-    ensures { result ≡ option_map (λ kernel. record { kernel = kernel; rest = rest.now }) kernel }
+// The first step at which a row looks for marks, whose last injection comes before this step. It is behind that, or behind each step that
+// a run can come to.
+fn first_mark(spacing: u32, last: u32) -> u32
+    ensures { min last 1000000 < result }
 {
-    let kernel = kernel?;
-    Some(Mark {
-        kernel,
-        rest: *rest,
-    })
-}
-
-// The step up to which the row of a point is run before it is compared with the mark, or before a mark is put. Its last injection comes
-// before that, or never: no run comes further than the greatest limit.
-fn meeting(mark: &Option<Mark>, point: &Point) -> u32
-    ensures { min (last_step point.now) 1000000 < result }
-{
-    let last = point.last_step().min(Limits::MOST);
-    let latest = last + STEPS_TO_MARK;
-    let Some(mark) = mark else {
-        return latest;
-    };
-    let step = mark.kernel.steps();
-    if last < step && step <= latest {
-        step
-    } else {
-        latest
-    }
+    let last = last.min(Limits::MOST);
+    next_mark(spacing, last, last)
 }
 
 // How many of the base run's events a row has that is the base run, as far as the view shows it.
@@ -73,190 +60,338 @@ fn shared_by(base: &Run, view: View) -> usize
     }
 }
 
+// How a row goes on that ended so: no more.
+fn ahead_of(ending: RestEnding, base: &Run) -> Ahead
+    ensures { result ≡ record { told = links.Base (length base.now.events); steps = ending.steps; ticks = ending.ticks; end = ending.end } }
+{
+    Ahead {
+        told: end_of_base(base),
+        steps: ending.steps,
+        ticks: ending.ticks,
+        end: ending.end,
+    }
+}
+
+// The end of the base run, behind which there are no events.
+fn end_of_base(base: &Run) -> Link
+    ensures { result ≡ links.Base (length base.now.events) }
+{
+    Link::Base {
+        from: base.events.len(),
+    }
+}
+
 impl Runner {
-    /// No row is run.
-    pub(crate) fn new(alloc: Global, app: &App) -> Runner
-        ensures mark { result.mark ≡ None }
+    /// No row is run. The base run has a stop before each `stride`-th step.
+    pub(crate) fn new(alloc: Global, app: &App, stride: u32) -> Runner
+        ensures legs { result.legs.items ≡ [] }
+        ensures marks { result.table.marks.items ≡ [] }
     {
         Runner {
             alloc,
             kernel: Kernel::boot(app),
             log: StepLog::new(),
             trail: Trail::new(alloc),
-            mark: None,
+            legs: Vec::new(alloc),
+            table: MarkTable::new(alloc),
+            passed: Vec::new(alloc),
+            meetings: Meetings::new(),
+            spacing: spacing_of(stride),
         }
     }
 
-    /// The events of all rows.
-    pub(crate) fn into_trail(self) -> Trail
-        ensures { result ≡ self.trail }
+    /// The events of all rows, and their legs.
+    pub(crate) fn into_told(self) -> (Trail, Vec<Leg>)
+        ensures { result ≡ (self.trail, self.legs) }
     {
-        self.trail
+        (self.trail, self.legs)
     }
 
-    // The rest of a row that has come to its end: nothing.
-    fn no_rest(&self, app: &App, limits: &Limits, view: View, point: &Point, end: End) -> Rest
+    // How a row goes on that has come to its end: no more.
+    fn no_rest(
+        &self,
+        app: &App,
+        limits: &Limits,
+        view: View,
+        base: &Run,
+        point: &Point,
+        end: End,
+    ) -> Ahead
         requires way { IsUnderWay app.now point.now limits.now self.now.kernel }
         requires end { end_of app.now limits.now (state_after app.now limits.now point.now self.now.kernel.steps) ≡ Some end }
-        ensures { IsRestOf app.now limits.now view (all_of self.now.trail) point.now self.now.kernel result }
+        ensures { IsRestOf app.now limits.now view base.now (store_in self.now) (store_in self.now) point.now self.now.kernel result }
     {
         limits.well_formed();
-        let place = self.trail.len();
-        Rest {
-            told: Stretch {
-                from: place,
-                to: place,
-            },
+        Ahead {
+            told: end_of_base(base),
             steps: self.kernel.steps(),
             ticks: self.kernel.ticks(),
             end,
         }
     }
 
-    // The rest of the row of a point that is known, since it has come to the kernel of the mark.
-    fn known_rest(&self, app: &App, limits: &Limits, view: View, point: &Point) -> Option<Rest>
-        requires way { IsUnderWay app.now point.now limits.now self.now.kernel }
-        requires beyond { last_step point.now < self.now.kernel.steps }
-        requires mark { IsMarked app.now limits.now view (all_of self.now.trail) self.now.mark }
-        ensures { IfSome result (IsRestOf app.now limits.now view (all_of self.now.trail) point.now self.now.kernel) }
+    // How each row goes on that comes to this kernel, where that is known: since the base run has come to it, or another row.
+    fn known_rest(&self, app: &App, shelf: &Shelf, hint: u64) -> Option<Ahead>
+        requires shelf { IsShelf app.now shelf.now }
+        ensures { IfSome result (IsAhead app.now shelf.now.limits shelf.now.base self.now.table.marks.items self.now.kernel) }
     {
-        point.well_formed();
-        let Some(mark) = &self.mark else {
-            return None;
+        let Some(before) = shelf.known(&self.kernel) else {
+            return self.table.find(&self.kernel, hint);
         };
-        if self.kernel.is_at(&mark.kernel) {
-            Some(mark.rest)
-        } else {
-            None
-        }
+        let base = shelf.base();
+        Some(Ahead {
+            told: Link::Base { from: before },
+            steps: base.steps,
+            ticks: base.ticks,
+            end: base.end,
+        })
     }
 
-    // The kernel as it stands; none where there is no memory for it.
-    fn snapshot(&self) -> Option<Snapshot>
-        ensures { IfSome result (λ kernel. kernel ≡ self.now.kernel) }
+    // Notes the kernel to which the row on its way has come, where there is memory for it.
+    fn note(&mut self, hint: u64)
+        ensures kernel { self.new.kernel ≡ self.old.kernel }
+        ensures trail { self.new.trail ≡ self.old.trail }
+        ensures legs { self.new.legs ≡ self.old.legs }
+        ensures table { self.new.table ≡ self.old.table }
+        ensures passed { IsNoted (all_of self.old.trail) self.old.kernel self.old.passed.items self.new.passed.items }
     {
-        match self.kernel.snapshot(self.alloc) {
-            Ok(kernel) => Some(kernel),
-            Err(_) => None,
+        let Ok(kernel) = self.kernel.snapshot(self.alloc) else {
+            return;
+        };
+        let Ok(kernel) = Box::new(self.alloc, kernel) else {
+            return;
+        };
+        let from = self.trail.len();
+        if self.passed.push(Passed { kernel, hint, from }).is_err() {
+            return;
         }
     }
 
-    // Runs the row of a point on to its end, and puts the mark where it begins to.
-    fn run_on(
+    // Runs a row on to its end, whose last injection comes before the step at which it is.
+    fn run_out(
         &mut self,
         app: &App,
-        limits: &Limits,
-        view: View,
-        point: &Point,
+        shelf: &Shelf,
+        injections: &[Injection],
         meter: &mut Meter,
-    ) -> Result<Rest, Memory>
-        requires way { IsUnderWay app.now point.now limits.now self.old.kernel }
-        requires beyond { last_step point.now < self.old.kernel.steps }
+    ) -> Result<Ahead, Memory>
+        requires shelf { IsShelf app.now shelf.now }
+        requires past { IsPast app.now shelf.now.limits self.old.kernel injections.now }
+        requires passed { AreBehind app.now shelf.now.limits (all_of self.old.trail) self.old.kernel self.old.passed.items }
         requires meter { meter.old < 2 ^ 62 + self.old.kernel.steps }
-        ensures told { OnOk result (Extends (all_of self.old.trail) (all_of self.new.trail)) }
-        ensures rest { IfOk result (IsRestOf app.now limits.now view (all_of self.new.trail) point.now self.old.kernel) }
-        ensures mark { OnOk result (IsMarked app.now limits.now view (all_of self.new.trail) self.new.mark) }
-        ensures ends { IfOk result (λ rest. IfSome self.new.mark (λ m. m.rest.end ≡ rest.end)) }
+        ensures legs { self.new.legs ≡ self.old.legs }
+        ensures table { self.new.table ≡ self.old.table }
+        ensures led { OnOk result (IsLed app.now shelf.now.limits self.old.kernel self.new.kernel
+            (all_of self.old.trail) (all_of self.new.trail)) }
+        ensures passed { OnOk result (AreBehind app.now shelf.now.limits (all_of self.new.trail) self.new.kernel self.new.passed.items) }
+        ensures rest { IfOk result (IsAhead app.now shelf.now.limits shelf.now.base self.old.table.marks.items self.new.kernel) }
     {
-        point.well_formed();
-        let kernel = self.snapshot();
-        let before = self.trail.len();
-        let injections = point.injections();
-        let ending = run_rest(
+        let limits = shelf.limits();
+        limits.well_formed();
+        let ending = go_far(
             &mut self.kernel,
             app,
-            injections.as_slice(),
-            limits,
+            injections,
+            u32::MAX,
+            &limits,
             meter,
             &mut self.log,
             &mut self.trail,
         )?;
-        let after = self.trail.len();
-        let rest = Rest {
-            told: Stretch {
-                from: before,
-                to: after,
-            },
-            steps: ending.steps,
-            ticks: ending.ticks,
-            end: ending.end,
-        };
-        self.mark = mark_at(kernel, &rest);
-        Ok(rest)
+        match ending {
+            Some(ending) => Ok(ahead_of(ending, shelf.base())),
+            // No run comes so far (profile).
+            None => unreachable!(),
+        }
     }
 
-    // The rest of the row of a point, which has come so far, or to this end.
+    // Runs a row on, whose last injection comes before the step at which it is, to a kernel from which it is known how each row goes on,
+    // or to its end. At each mark step on its way it looks for marks, and notes the kernel.
+    fn run_on(
+        &mut self,
+        app: &App,
+        shelf: &Shelf,
+        injections: &[Injection],
+        last: u32,
+        meter: &mut Meter,
+    ) -> Result<Ahead, Memory>
+        requires shelf { IsShelf app.now shelf.now }
+        requires past { IsPast app.now shelf.now.limits self.old.kernel injections.now }
+        requires goes { end_of app.now shelf.now.limits (state_after app.now shelf.now.limits injections.now self.old.kernel.steps) ≡ None }
+        requires passed { AreBehind app.now shelf.now.limits (all_of self.old.trail) self.old.kernel self.old.passed.items }
+        requires meter { meter.old < 2 ^ 62 + self.old.kernel.steps }
+        ensures legs { self.new.legs ≡ self.old.legs }
+        ensures table { self.new.table ≡ self.old.table }
+        ensures led { OnOk result (IsLed app.now shelf.now.limits self.old.kernel self.new.kernel
+            (all_of self.old.trail) (all_of self.new.trail)) }
+        ensures passed { OnOk result (AreBehind app.now shelf.now.limits (all_of self.new.trail) self.new.kernel self.new.passed.items) }
+        ensures rest { IfOk result (IsAhead app.now shelf.now.limits shelf.now.base self.old.table.marks.items self.new.kernel) }
+    {
+        let limits = shelf.limits();
+        limits.well_formed();
+        'marks: loop {
+            let until = next_mark(self.spacing, last, self.kernel.steps());
+            let ending = go_far(
+                &mut self.kernel,
+                app,
+                injections,
+                until,
+                &limits,
+                meter,
+                &mut self.log,
+                &mut self.trail,
+            )?;
+            if let Some(ending) = ending {
+                self.meetings.count(false);
+                return Ok(ahead_of(ending, shelf.base()));
+            }
+            let hint = self.kernel.hint();
+            if let Some(rest) = self.known_rest(app, shelf, hint) {
+                self.meetings.count(true);
+                return Ok(rest);
+            }
+            self.note(hint);
+        }
+    }
+
+    // The same, from the row's first mark step on. Where it doesn't pay to look for marks behind that, the row is run to its end.
+    fn run_from_mark_step(
+        &mut self,
+        app: &App,
+        shelf: &Shelf,
+        injections: &[Injection],
+        last: u32,
+        meter: &mut Meter,
+    ) -> Result<Ahead, Memory>
+        requires shelf { IsShelf app.now shelf.now }
+        requires past { IsPast app.now shelf.now.limits self.old.kernel injections.now }
+        requires goes { end_of app.now shelf.now.limits (state_after app.now shelf.now.limits injections.now self.old.kernel.steps) ≡ None }
+        requires passed { AreBehind app.now shelf.now.limits (all_of self.old.trail) self.old.kernel self.old.passed.items }
+        requires meter { meter.old < 2 ^ 62 + self.old.kernel.steps }
+        ensures legs { self.new.legs ≡ self.old.legs }
+        ensures table { self.new.table ≡ self.old.table }
+        ensures led { OnOk result (IsLed app.now shelf.now.limits self.old.kernel self.new.kernel
+            (all_of self.old.trail) (all_of self.new.trail)) }
+        ensures passed { OnOk result (AreBehind app.now shelf.now.limits (all_of self.new.trail) self.new.kernel self.new.passed.items) }
+        ensures rest { IfOk result (IsAhead app.now shelf.now.limits shelf.now.base self.old.table.marks.items self.new.kernel) }
+    {
+        let hint = self.kernel.hint();
+        if let Some(rest) = self.known_rest(app, shelf, hint) {
+            return Ok(rest);
+        }
+        self.note(hint);
+        if self.meetings.are_likely() {
+            self.run_on(app, shelf, injections, last, meter)
+        } else {
+            self.run_out(app, shelf, injections, meter)
+        }
+    }
+
+    // How the row of a point goes on, which has come so far, or to this end.
     fn rest(
         &mut self,
         app: &App,
-        limits: &Limits,
+        shelf: &Shelf,
         view: View,
         point: &Point,
         end: Option<End>,
         meter: &mut Meter,
-    ) -> Result<Rest, Memory>
-        requires way { IsUnderWay app.now point.now limits.now self.old.kernel }
+    ) -> Result<Ahead, Memory>
+        requires shelf { IsShelf app.now shelf.now }
+        requires way { IsUnderWay app.now point.now shelf.now.limits self.old.kernel }
         requires beyond { end ≡ None → last_step point.now < self.old.kernel.steps }
-        requires end { end ≡ end_of app.now limits.now (state_after app.now limits.now point.now self.old.kernel.steps) }
-        requires mark { IsMarked app.now limits.now view (all_of self.old.trail) self.old.mark }
+        requires end { end ≡ end_of app.now shelf.now.limits (state_after app.now shelf.now.limits point.now self.old.kernel.steps) }
+        requires marks { AreMarked app.now shelf.now.limits view shelf.now.base (store_in self.old) self.old.table.marks.items }
+        requires legs { AreLegs shelf.now.base.events (store_in self.old) }
+        requires passed { self.old.passed.items ≡ [] }
         requires meter { meter.old < 2 ^ 62 + self.old.kernel.steps }
-        ensures told { OnOk result (Extends (all_of self.old.trail) (all_of self.new.trail)) }
-        ensures rest { IfOk result (IsRestOf app.now limits.now view (all_of self.new.trail) point.now self.old.kernel) }
-        ensures mark { OnOk result (IsMarked app.now limits.now view (all_of self.new.trail) self.new.mark) }
-        ensures stays { IfOk result (λ rest. StaysOrEnds self.old.mark self.new.mark rest.end) }
+        ensures legs { self.new.legs ≡ self.old.legs }
+        ensures table { self.new.table ≡ self.old.table }
+        ensures rest { IfOk result (IsRestOf app.now shelf.now.limits view shelf.now.base
+            (store_in self.old) (store_in self.new) point.now self.old.kernel) }
+        ensures passed { IfOk result (λ rest. AllByRecursion
+            (IsPassed app.now shelf.now.limits view shelf.now.base (store_in self.new) rest) self.new.passed.items) }
     {
         if let Some(end) = end {
-            return Ok(self.no_rest(app, limits, view, point, end));
+            return Ok(self.no_rest(app, &shelf.limits(), view, shelf.base(), point, end));
         }
-        match self.known_rest(app, limits, view, point) {
-            Some(rest) => Ok(rest),
-            None => self.run_on(app, limits, view, point, meter),
-        }
+        point.well_formed();
+        let injections = point.injections();
+        let last = point.last_step();
+        let rest = self.run_from_mark_step(app, shelf, injections.as_slice(), last, meter)?;
+        Ok(rest)
     }
 
     // The row of a point that the base run doesn't reach: it is the base run.
     fn missed(&self, app: &App, shelf: &Shelf, view: View, point: &Point) -> KeptRow
         requires shelf { IsShelf app.now shelf.now }
         requires missed { shelf.now.base.steps ≤ first_step point.now }
-        ensures { GainsRow app.now shelf.now.limits view shelf.now.base point.now (all_of self.now.trail) (all_of self.now.trail) result }
+        requires legs { AreLegs shelf.now.base.events (store_in self.now) }
+        ensures { GainsRow app.now shelf.now.limits view shelf.now.base point.now (store_in self.now) (store_in self.now) result }
     {
         let base = shelf.base();
-        let end = self.trail.len();
         KeptRow {
             point: *point,
             shared: shared_by(base, view),
-            own: Stretch { from: end, to: end },
-            rest: Stretch { from: end, to: end },
+            told: end_of_base(base),
             steps: base.steps,
             ticks: base.ticks,
             end: base.end,
         }
     }
 
-    // The row of a point, which goes on so, without its events. They and all behind them leave the trail.
-    fn without_events(&mut self, point: &Point, from: usize, rest: &Rest) -> KeptRow
+    // The row on its way is over, went on so, and has the leg of this number: the kernels to which it came are marks now.
+    fn put_marks(&mut self, number: usize, rest: &Ahead, last: u32)
+        ensures trail { self.new.trail ≡ self.old.trail }
+        ensures legs { self.new.legs ≡ self.old.legs }
+        ensures marks { ArePut number rest.now self.old.passed.items self.old.table.marks.items self.new.table.marks.items }
+    {
+        while let Some(passed) = self.passed.pop() {
+            let told = Link::Leg {
+                number,
+                from: passed.from,
+            };
+            let mark = Mark {
+                kernel: passed.kernel,
+                hint: passed.hint,
+                rest: Ahead { told, ..*rest },
+            };
+            self.table.put(mark, last);
+        }
+    }
+
+    // The row on its way is over, which goes on so behind the trail: it gets a leg of its own, from this place on.
+    fn close(&mut self, rest: &Ahead, from: usize, last: u32) -> Result<Link, Memory>
+        ensures link { IfOk result (λ link. link ≡ links.Leg (length self.old.legs.items) from) }
+        ensures trail { self.new.trail ≡ self.old.trail }
+        ensures legs { OnOk result (self.new.legs.items ≡ self.old.legs.items
+            ++ record { to = length (all_of self.old.trail); next = rest.now.told } ∷ []) }
+        ensures marks { OnOk result (ArePut (length self.old.legs.items) rest.now self.old.passed.items
+            self.old.table.marks.items self.new.table.marks.items) }
+    {
+        let number = self.legs.len();
+        let leg = Leg {
+            to: self.trail.len(),
+            next: rest.told,
+        };
+        if self.legs.push(leg).is_err() {
+            return Err(Memory);
+        }
+        self.put_marks(number, rest, last);
+        Ok(Link::Leg { number, from })
+    }
+
+    // The row on its way is over, which goes on so, without its events. They leave the trail, and it gets no leg: nobody will follow the
+    // link of a mark that is put here.
+    fn close_without_events(&mut self, rest: &Ahead, from: usize, last: u32)
         ensures trail { all_of self.new.trail ≡ take from (all_of self.old.trail) }
-        ensures mark { self.new.mark ≡ self.old.mark }
-        ensures row { result ≡ record {
-          point = point.now;
-          shared = 0;
-          own = record { from = from; to = from };
-          rest = record { from = from; to = from };
-          steps = rest.now.steps;
-          ticks = rest.now.ticks;
-          end = rest.now.end;
-        } }
+        ensures legs { self.new.legs ≡ self.old.legs }
+        ensures marks { ArePut (length self.old.legs.items) rest.now self.old.passed.items
+            self.old.table.marks.items self.new.table.marks.items }
     {
         self.trail.truncate(from);
-        KeptRow {
-            point: *point,
-            shared: 0,
-            own: Stretch { from, to: from },
-            rest: Stretch { from, to: from },
-            steps: rest.steps,
-            ticks: rest.ticks,
-            end: rest.end,
-        }
+        let number = self.legs.len();
+        self.put_marks(number, rest, last);
     }
 
     // The row of a point that the base run reaches.
@@ -269,15 +404,19 @@ impl Runner {
     ) -> Result<KeptRow, Memory>
         requires shelf { IsShelf app.now shelf.now }
         requires reached { first_step point.now < shelf.now.base.steps }
-        requires mark { IsMarked app.now shelf.now.limits view (all_of self.old.trail) self.old.mark }
+        requires legs { AreLegs shelf.now.base.events (store_in self.old) }
+        requires marks { AreMarked app.now shelf.now.limits view shelf.now.base (store_in self.old) self.old.table.marks.items }
         ensures row { IfOk result (GainsRow app.now shelf.now.limits view shelf.now.base point.now
-            (all_of self.old.trail) (all_of self.new.trail)) }
-        ensures mark { OnOk result (IsMarked app.now shelf.now.limits view (all_of self.new.trail) self.new.mark) }
+            (store_in self.old) (store_in self.new)) }
+        ensures marks { OnOk result (AreMarked app.now shelf.now.limits view shelf.now.base (store_in self.new) self.new.table.marks.items) }
     {
         let limits = shelf.limits();
         limits.well_formed();
+        let base = shelf.base();
+        self.passed.clear();
         let from = self.trail.len();
-        let until = meeting(&self.mark, point);
+        let last = point.last_step();
+        let until = first_mark(self.spacing, last);
         let mut meter = Meter::new();
         let begun = shelf.begin_row(
             app,
@@ -288,16 +427,23 @@ impl Runner {
             &mut self.log,
             &mut self.trail,
         )?;
-        let to = self.trail.len();
-        let rest = self.rest(app, &limits, view, point, begun.end, &mut meter)?;
+        let rest = self.rest(app, shelf, view, point, begun.end, &mut meter)?;
         if !view.shows_events(rest.end) {
-            return Ok(self.without_events(point, from, &rest));
+            self.close_without_events(&rest, from, last);
+            return Ok(KeptRow {
+                point: *point,
+                shared: 0,
+                told: end_of_base(base),
+                steps: rest.steps,
+                ticks: rest.ticks,
+                end: rest.end,
+            });
         }
+        let told = self.close(&rest, from, last)?;
         Ok(KeptRow {
             point: *point,
             shared: begun.before,
-            own: Stretch { from, to },
-            rest: rest.told,
+            told,
             steps: rest.steps,
             ticks: rest.ticks,
             end: rest.end,
@@ -314,10 +460,11 @@ impl Runner {
         point: &Point,
     ) -> Result<KeptRow, Memory>
         requires shelf { IsShelf app.now shelf.now }
-        requires mark { IsMarked app.now shelf.now.limits view (all_of self.old.trail) self.old.mark }
+        requires legs { AreLegs shelf.now.base.events (store_in self.old) }
+        requires marks { AreMarked app.now shelf.now.limits view shelf.now.base (store_in self.old) self.old.table.marks.items }
         ensures row { IfOk result (GainsRow app.now shelf.now.limits view shelf.now.base point.now
-            (all_of self.old.trail) (all_of self.new.trail)) }
-        ensures mark { OnOk result (IsMarked app.now shelf.now.limits view (all_of self.new.trail) self.new.mark) }
+            (store_in self.old) (store_in self.new)) }
+        ensures marks { OnOk result (AreMarked app.now shelf.now.limits view shelf.now.base (store_in self.new) self.new.table.marks.items) }
     {
         if shelf.reaches(point) {
             self.reached(app, shelf, view, point)

@@ -115,7 +115,7 @@ fn serve_app<T: Threads + Wait + Sync, W: Sink, G: Gate + Sync>(
 /// Reads a file, runs the application that it names once for each of its points in this part of them, under its own limits, and
 /// writes what the view shows of the rows, and their totals, as its last deed: so all rows are made before the first byte goes out.
 /// Answers the totals that it wrote: they count all rows of the part, written or not. The report doesn't depend on the options. The
-/// gate is told what the workers do. It waits for them.
+/// gate learns what the workers do. It waits for them.
 ///
 /// At `Write` a beginning of the report is written. At every other error nothing is. `TooManyPoints` comes after every fault of
 /// the file; `UnknownHandler` never does.

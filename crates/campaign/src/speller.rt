@@ -16,8 +16,8 @@ use std::sync::atomic::{AtomicU64, Ordering};
 use std::thread;
 use std::time::Duration;
 
-// So many times in vain a thread only lets others go on before it sleeps, for so many microseconds at most: where the writer is slow,
-// those who wait for it keep no processor busy.
+// A thread that finds nothing to do only lets others go on, this many times. Then it sleeps, for this many microseconds at most: where the
+// writer is slow, those who wait for it keep no processor busy.
 const MOST_YIELDS: u32 = 1000;
 
 const SLEEP: u64 = 200;
@@ -39,7 +39,7 @@ impl<'a> Spelling<'a> {
         self.taken.load(Ordering::SeqCst) as usize >= self.pieces.len()
     }
 
-    /// Lets others go on where this thread was not busy, and has not been so many times before. Answers how many times that is now.
+    /// Lets others go on where this thread was not busy, and has not been this many times before. Answers how many times that is now.
     pub(crate) fn rest_unless<R: Wait>(&self, rt: &R, busy: bool, idle: u32) -> u32 {
         if busy {
             return 0;
@@ -115,7 +115,7 @@ impl Speller {
             return false;
         };
         buffer.clear();
-        // The buffer itself tells whether it has failed.
+        // The buffer itself knows whether it has failed.
         let _written = write_piece(&mut buffer, report, spelling.rows, &spelling.texts, *piece);
         report.clear();
         hand_on(rt, &mut self.spelled, Spelled { number, buffer });

@@ -1,8 +1,8 @@
 //! A worker, which makes the rows of the blocks that its lane is answered.
 ghost use Rattle.std.specs.Prelude.{◌≡◌, ◌≤◌, ◌+◌, ◌++◌, ◌∷◌, [], None, length, sum, take, drop, IfOk, IfSome, OnOk};
-ghost use Rattle.machine.specs.Logged.{all_of};
 ghost use Rattle.shelf.specs.Shelves.{IsShelf};
-ghost use Rattle.campaign.specs.Working.{GainsRows, HasRoom, IsAmong, IsDone, IsJob, IsMarked, KeepsRow, Knows};
+ghost use Rattle.campaign.specs.Working.{store_in, GainsRows, HasRoom, IsAmong, IsDone, IsJob, KeepsRow};
+ghost use Rattle.campaign.specs.Marks.{AreMarked, Knows};
 ghost use Rattle.campaign.specs.Setup.{work_of};
 
 use crate::gate::Gate;
@@ -73,20 +73,21 @@ fn again(kept: &KeptRows, recent: &Recent, point: &Point) -> Option<usize>
 
 impl Worker {
     // A worker that has made nothing, with this room for rows.
-    fn new(alloc: Global, app: &App, kept: KeptRows) -> Worker
+    fn new(alloc: Global, app: &App, stride: u32, kept: KeptRows) -> Worker
         ensures kept { result.kept ≡ kept }
         ensures blocks { result.blocks.items ≡ [] }
-        ensures mark { result.runner.mark ≡ None }
+        ensures legs { result.runner.legs.items ≡ [] }
+        ensures marks { result.runner.table.marks.items ≡ [] }
     {
         Worker {
-            runner: Runner::new(alloc, app),
+            runner: Runner::new(alloc, app, stride),
             kept,
             blocks: Vec::new(alloc),
             recent: Recent::new(),
         }
     }
 
-    // Keeps the row of a point: once more that of the same point before, where it is found, or else it is made. Answers how it ends.
+    // Keeps the row of a point: once more that of the same point before, where it is found, otherwise it is made. Answers how it ends.
     fn keep_row(
         &mut self,
         app: &App,
@@ -95,11 +96,11 @@ impl Worker {
         point: &Point,
     ) -> Result<End, Memory>
         requires shelf { IsShelf app.now shelf.now }
-        requires known { Knows app.now shelf.now.limits view shelf.now.base self.old.kept (all_of self.old.runner.trail) self.old.runner.mark }
+        requires known { Knows app.now shelf.now.limits view shelf.now.base self.old.kept (store_in self.old.runner) self.old.runner.table.marks.items }
         ensures blocks { self.new.blocks ≡ self.old.blocks }
         ensures row { IfOk result (KeepsRow app.now shelf.now.limits view shelf.now.base point.now self.old.kept self.new.kept
-            (all_of self.old.runner.trail) (all_of self.new.runner.trail)) }
-        ensures mark { OnOk result (IsMarked app.now shelf.now.limits view (all_of self.new.runner.trail) self.new.runner.mark) }
+            (store_in self.old.runner) (store_in self.new.runner)) }
+        ensures marks { OnOk result (AreMarked app.now shelf.now.limits view shelf.now.base (store_in self.new.runner) self.new.runner.table.marks.items) }
     {
         if let Some(number) = again(&self.kept, &self.recent, point) {
             let end = self.kept.at(number).end;
@@ -121,13 +122,13 @@ impl Worker {
         point: &Point,
     ) -> Result<(), Memory>
         requires shelf { IsShelf setup.now.app.now setup.now.shelf.now }
-        requires known { Knows setup.now.app.now setup.now.shelf.now.limits setup.now.view.now setup.now.shelf.now.base self.old.kept (all_of self.old.runner.trail) self.old.runner.mark }
+        requires known { Knows setup.now.app.now setup.now.shelf.now.limits setup.now.view.now setup.now.shelf.now.base self.old.kept (store_in self.old.runner) self.old.runner.table.marks.items }
         requires seat { seat.old.sheet ≡ setup.now.tally.now }
         requires room { HasRoom 1 seat.old }
-        ensures known { OnOk result (Knows setup.now.app.now setup.now.shelf.now.limits setup.now.view.now setup.now.shelf.now.base self.new.kept (all_of self.new.runner.trail) self.new.runner.mark) }
+        ensures known { OnOk result (Knows setup.now.app.now setup.now.shelf.now.limits setup.now.view.now setup.now.shelf.now.base self.new.kept (store_in self.new.runner) self.new.runner.table.marks.items) }
         ensures blocks { self.new.blocks ≡ self.old.blocks }
         ensures row { OnOk result (GainsRows setup.now.app.now setup.now.shelf.now.limits setup.now.view.now setup.now.shelf.now.base (point.now ∷ [])
-            self.old.kept self.new.kept (all_of self.old.runner.trail) (all_of self.new.runner.trail) seat.old seat.new) }
+            self.old.kept self.new.kept (store_in self.old.runner) (store_in self.new.runner) seat.old seat.new) }
     {
         let shelf = setup.shelf;
         let is_reached = shelf.reaches(point);
@@ -146,16 +147,16 @@ impl Worker {
         count: usize,
     ) -> Result<(), Memory>
         requires shelf { IsShelf setup.now.app.now setup.now.shelf.now }
-        requires known { Knows setup.now.app.now setup.now.shelf.now.limits setup.now.view.now setup.now.shelf.now.base self.old.kept (all_of self.old.runner.trail) self.old.runner.mark }
+        requires known { Knows setup.now.app.now setup.now.shelf.now.limits setup.now.view.now setup.now.shelf.now.base self.old.kept (store_in self.old.runner) self.old.runner.table.marks.items }
         requires seat { seat.old.sheet ≡ setup.now.tally.now }
         requires points { first + count ≤ length setup.now.points.now }
         requires room { HasRoom count seat.old }
-        ensures known { OnOk result (Knows setup.now.app.now setup.now.shelf.now.limits setup.now.view.now setup.now.shelf.now.base self.new.kept (all_of self.new.runner.trail) self.new.runner.mark) }
+        ensures known { OnOk result (Knows setup.now.app.now setup.now.shelf.now.limits setup.now.view.now setup.now.shelf.now.base self.new.kept (store_in self.new.runner) self.new.runner.table.marks.items) }
         ensures block { OnOk result (self.new.blocks.items ≡ self.old.blocks.items
             ++ record { number = number; first = length self.old.kept; count = count } ∷ []) }
         ensures rows { OnOk result (GainsRows setup.now.app.now setup.now.shelf.now.limits setup.now.view.now setup.now.shelf.now.base
             (take count (drop first setup.now.points.now))
-            self.old.kept self.new.kept (all_of self.old.runner.trail) (all_of self.new.runner.trail) seat.old seat.new) }
+            self.old.kept self.new.kept (store_in self.old.runner) (store_in self.new.runner) seat.old seat.new) }
     {
         let points = &setup.points[first..first + count];
         let block = KeptBlock {
@@ -194,7 +195,7 @@ pub(crate) fn work<R: Wait, G: Gate>(
         mut seat,
         kept,
     } = job;
-    let mut worker = Worker::new(alloc, setup.app, kept);
+    let mut worker = Worker::new(alloc, setup.app, setup.shelf.stride(), kept);
     let mut refused = true;
     for _ in rt.forever() {
         if stop.load(Ordering::SeqCst) != 0 {
@@ -229,13 +230,14 @@ pub(crate) fn work<R: Wait, G: Gate>(
         blocks,
         recent: _recent,
     } = worker;
-    let trail = runner.into_trail();
+    let (trail, legs) = runner.into_told();
     Done {
         lane,
         seat,
         part: Part {
             kept,
             trail,
+            legs,
             blocks,
         },
         refused,

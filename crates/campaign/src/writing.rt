@@ -1,27 +1,28 @@
 //! The text of a campaign's report, to a sink.
-ghost use Rattle.std.specs.Prelude.{◌≡◌, ◌≤◌, ◌<◌, ◌+◌, false, List, [], ◌∷◌, length, nat_lt, slice_get, Some, IfSome, OnOk};
+ghost use Rattle.std.specs.Prelude.{◌≡◌, ◌≤◌, ◌<◌, ◌+◌, false, [], ◌∷◌, length, nat_lt, slice_get, Some, IfSome, OnOk};
+ghost use Rattle.std.specs.List.{flat_map};
 ghost use Rattle.std.specs.Result.{is_err};
 ghost use Rattle.byte_io.specs.Bytes.{Adds, Writes};
-ghost use Rattle.machine.specs.Logged.{all_of};
-ghost use Rattle.model.specs.declared.event.Event.{Event};
 ghost use Rattle.model.specs.Points.{first_step};
 ghost use Rattle.model.specs.Scripts.{most_points};
 ghost use Rattle.model.specs.Campaign.{totals_of};
-ghost use Rattle.report.specs.Text.{row_text, total_text};
+ghost use Rattle.report.specs.Text.{event_text, row_text, total_text};
 ghost use Rattle.report.specs.Views.{report_text, row_head, shown_row, shown_rows};
 ghost use Rattle.report.specs.declared.title.Title.TheVariants as title;
-ghost use Rattle.campaign.specs.Report.{row_of, rows_in, whole, AreKept, IsKept, IsSound};
+ghost use Rattle.campaign.specs.Links.{told_at, AreLegs, IsLink, Store};
+ghost use Rattle.campaign.specs.Report.{row_of, rows_in, store_of, whole, AreKept, IsKept, IsSound};
 ghost use Rattle.campaign.specs.Pieces.{piece_text, AreFresh, ArePairs, ArePieces, IsPiece, IsSpelling};
 
 use crate::campaign_report::{Report, Rows};
 use crate::lanes::{Lanes, lanes_of};
+use crate::link::{Leg, Link};
 use crate::piece::{Piece, pieces_of};
 use crate::row_texts::RowTexts;
 use crate::rows::{KeptRow, Part};
 use crate::side_by_side::write_side_by_side;
 use crate::speller::Spelling;
 use byte_io::{Sink, WriteFault};
-use model::{App, Ending, Event, Run};
+use model::{App, Ending, Run};
 use report::{BaseEvents, ReportWriter, Title, View};
 use std::alloc::Global;
 use std::sync::Wait;
@@ -60,7 +61,46 @@ fn ending_of(row: &KeptRow) -> Ending
     }
 }
 
-/// Adds a row of this number to a report: its events are the first so many of the base run's, its own, and those of its rest.
+// The leg of this number.
+fn leg_at(legs: &[Leg], number: usize) -> Leg
+    requires { number < length legs.now }
+    ensures { slice_get legs.now number ≡ Some result }
+{
+    legs[number]
+}
+
+// Adds the lines of the events behind a link of a part.
+fn add_told<W: Sink>(
+    writer: &mut W,
+    text: &mut ReportWriter<'_>,
+    first: Link,
+    events: &BaseEvents<'_>,
+    part: &Part,
+) -> Result<(), WriteFault>
+    requires working { W.has_failed writer.old ≡ false }
+    requires app { events.now.app ≡ text.old.app }
+    requires legs { AreLegs events.now.events (store_of part.now) }
+    requires link { IsLink events.now.events (store_of part.now) first }
+    ensures app { text.new.app ≡ text.old.app }
+    ensures text { Adds (W.held writer.old) (W.held writer.new) text.old.page text.new.page result
+        (flat_map (event_text text.old.app) (told_at events.now.events (store_of part.now) first)) }
+    ensures failed { W.has_failed writer.new ≡ is_err result }
+{
+    let trail = part.trail.events();
+    let mut link = first;
+    'legs: loop {
+        match link {
+            Link::Base { from } => return text.add_base_from(writer, events, from),
+            Link::Leg { number, from } => {
+                let leg = leg_at(&part.legs, number);
+                text.add_events(writer, &trail[from..leg.to])?;
+                link = leg.next;
+            }
+        }
+    }
+}
+
+/// Adds a row of this number to a report: its events are the first so many of the base run's, and those behind its link.
 pub(crate) fn add_row<W: Sink>(
     writer: &mut W,
     text: &mut ReportWriter<'_>,
@@ -68,22 +108,22 @@ pub(crate) fn add_row<W: Sink>(
     row: &KeptRow,
     base: &Run,
     events: &BaseEvents<'_>,
-    trail: &[Event],
+    part: &Part,
 ) -> Result<(), WriteFault>
     requires working { W.has_failed writer.old ≡ false }
     requires app { events.now.app ≡ text.old.app }
     requires base { events.now.events ≡ base.now.events }
     requires few { number ≤ most_points }
-    requires kept { IsKept base.now trail.now row.now }
+    requires legs { AreLegs base.now.events (store_of part.now) }
+    requires kept { IsKept base.now (store_of part.now) row.now }
     ensures app { text.new.app ≡ text.old.app }
     ensures text { Adds (W.held writer.old) (W.held writer.new) text.old.page text.new.page result
-        (row_text text.old.app number (row_of base.now trail.now row.now)) }
+        (row_text text.old.app number (row_of base.now (store_of part.now) row.now)) }
     ensures failed { W.has_failed writer.new ≡ is_err result }
 {
     let title = title_of(number, row, base);
-    let own = &trail[row.own.from..row.own.to];
-    let rest = &trail[row.rest.from..row.rest.to];
-    text.add_run_after(writer, title, ending_of(row), events, row.shared, own, rest)
+    text.begin_row(writer, title, ending_of(row), events, row.shared)?;
+    add_told(writer, text, row.told, events, part)
 }
 
 // Adds the head line of a row of this number.
@@ -97,8 +137,8 @@ fn add_row_head<W: Sink>(
     requires working { W.has_failed writer.old ≡ false }
     requires few { number ≤ most_points }
     ensures app { text.new.app ≡ text.old.app }
-    ensures text { (trail : List Event) → Adds (W.held writer.old) (W.held writer.new) text.old.page text.new.page result
-        (row_head text.old.app number (row_of base.now trail row.now)) }
+    ensures text { (store : Store) → Adds (W.held writer.old) (W.held writer.new) text.old.page text.new.page result
+        (row_head text.old.app number (row_of base.now store row.now)) }
     ensures failed { W.has_failed writer.new ≡ is_err result }
 {
     text.add_head(writer, title_of(number, row, base), ending_of(row))
@@ -113,22 +153,23 @@ fn add_kept_row<W: Sink>(
     known: Option<&[u8]>,
     base: &Run,
     events: &BaseEvents<'_>,
-    trail: &[Event],
+    part: &Part,
 ) -> Result<(), WriteFault>
     requires working { W.has_failed writer.old ≡ false }
     requires app { events.now.app ≡ text.old.app }
     requires base { events.now.events ≡ base.now.events }
     requires few { number ≤ most_points }
-    requires kept { IsKept base.now trail.now row.now }
-    requires known { IfSome known (λ t. t.now ≡ row_text text.old.app 0 (row_of base.now trail.now row.now)) }
+    requires legs { AreLegs base.now.events (store_of part.now) }
+    requires kept { IsKept base.now (store_of part.now) row.now }
+    requires known { IfSome known (λ t. t.now ≡ row_text text.old.app 0 (row_of base.now (store_of part.now) row.now)) }
     ensures app { text.new.app ≡ text.old.app }
     ensures text { Adds (W.held writer.old) (W.held writer.new) text.old.page text.new.page result
-        (row_text text.old.app number (row_of base.now trail.now row.now)) }
+        (row_text text.old.app number (row_of base.now (store_of part.now) row.now)) }
     ensures failed { W.has_failed writer.new ≡ is_err result }
 {
     match known {
         Some(known) => text.add_row_again(writer, number as u32, known),
-        None => add_row(writer, text, number, row, base, events, trail),
+        None => add_row(writer, text, number, row, base, events, part),
     }
 }
 
@@ -142,17 +183,18 @@ fn add_shown_row<W: Sink>(
     known: Option<&[u8]>,
     base: &Run,
     events: &BaseEvents<'_>,
-    trail: &[Event],
+    part: &Part,
 ) -> Result<(), WriteFault>
     requires working { W.has_failed writer.old ≡ false }
     requires app { events.now.app ≡ text.old.app }
     requires base { events.now.events ≡ base.now.events }
     requires few { number ≤ most_points }
-    requires kept { IsKept base.now trail.now row.now }
-    requires known { IfSome known (λ t. t.now ≡ row_text text.old.app 0 (row_of base.now trail.now row.now)) }
+    requires legs { AreLegs base.now.events (store_of part.now) }
+    requires kept { IsKept base.now (store_of part.now) row.now }
+    requires known { IfSome known (λ t. t.now ≡ row_text text.old.app 0 (row_of base.now (store_of part.now) row.now)) }
     ensures app { text.new.app ≡ text.old.app }
     ensures text { Adds (W.held writer.old) (W.held writer.new) text.old.page text.new.page result
-        (shown_row text.old.app view number (row_of base.now trail.now row.now)) }
+        (shown_row text.old.app view number (row_of base.now (store_of part.now) row.now)) }
     ensures failed { W.has_failed writer.new ≡ is_err result }
 {
     if !view.shows(row.end) {
@@ -161,10 +203,10 @@ fn add_shown_row<W: Sink>(
     if view.heads {
         return add_row_head(writer, text, number, row, base);
     }
-    add_kept_row(writer, text, number, row, known, base, events, trail)
+    add_kept_row(writer, text, number, row, known, base, events, part)
 }
 
-// Adds what the view shows of so many rows of the part of this number, from the first on, which are numbered from here.
+// Adds what the view shows of this many rows of the part of this number, from the first on, which are numbered from here.
 fn add_place<W: Sink>(
     writer: &mut W,
     text: &mut ReportWriter<'_>,
@@ -189,7 +231,6 @@ fn add_place<W: Sink>(
         (shown_rows text.old.app view number (rows_in base.now part.now first count)) }
     ensures failed { W.has_failed writer.new ≡ is_err result }
 {
-    let trail = part.trail.events();
     // A part has no more rows than fit, so the sums below do.
     let _ = part.kept.len();
     for index in 0..count {
@@ -205,7 +246,7 @@ fn add_place<W: Sink>(
             known,
             base,
             texts.events(),
-            trail,
+            part,
         )?;
     }
     Ok(())
@@ -354,8 +395,8 @@ pub fn write_report<W: Sink>(app: &App, report: &Report, writer: &mut W) -> Resu
 }
 
 // How long the text of a piece is, in bytes: all that are in memory at a time take some sixteenth of the rows' memory at most,
-// where a row takes 48 bytes and each of its own events 16. They are neither so short that handing them on takes time, nor too
-// long for a processor's own cache.
+// where a row with its leg takes some 100 bytes and each of its own events 16. They are neither so short that handing them on takes
+// time, nor too long for a processor's own cache.
 fn length_of_pieces(rows: &Rows, spellers: usize) -> usize
     requires some { 0 < spellers }
     requires sound { IsSound rows.now }
@@ -365,7 +406,7 @@ fn length_of_pieces(rows: &Rows, spellers: usize) -> usize
     for part in &rows.parts {
         events = events.saturating_add(part.trail.len());
     }
-    let bytes = events.saturating_add(rows.count().saturating_mul(3));
+    let bytes = events.saturating_add(rows.count().saturating_mul(6));
     (bytes / spellers / 4).clamp(LEAST_PIECE, MOST_PIECE)
 }
 
@@ -383,8 +424,8 @@ fn texts_of<'a>(alloc: Global, app: &'a App, rows: &'a Rows) -> RowTexts<'a>
 }
 
 /// Writes the report of a campaign as `write_report` does, and faster: it takes memory for the text of the base run's events,
-/// with which rows begin, and for that of rows that come again, and has so many threads spell rows, where that are several. What it gets no memory for is spelled for
-/// each row, and on this thread. The threads are at most 64.
+/// with which rows begin, and for that of rows that come again. Where there are several threads, this many of them spell rows. What it
+/// gets no memory for is spelled for each row, and on this thread. The threads are at most 64.
 pub(crate) fn write_report_in<R: Threads + Wait + Sync, W: Sink>(
     rt: &R,
     alloc: Global,

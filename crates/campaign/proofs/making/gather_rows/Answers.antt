@@ -6,8 +6,14 @@ use Rattle.campaign.specs.declared.rows.Part.{Part}
 use Rattle.campaign.specs.declared.rows.Place.{Place}
 use Rattle.campaign.specs.Made.{rows_placed}
 use Rattle.campaign.specs.Placing.{all_placed}
-use Rattle.campaign.proofs.Whole.{all_at, parts_kept, rows_all, rows_few, seats_rise}
+use Rattle.campaign.proofs.Whole.{all_at, numbers_below, parts_kept, rows_all, rows_few, seats_rise}
 use Rattle.campaign.proofs.making.gather_rows.Goals as goal
+
+pub places_of-requires : goal.places_of-requires
+places_of-requires c =
+    let given = c.requires.points in
+    let apart = c.args.brought.apart in
+    rw c.deref.ensures.value (numbers_below given.0 c.args.base.now c.args.brought.deal apart.lanes.items apart.parts.items given.1 given.2 c.args.blocks c.requires.blocks)
 
 pub count_all-totals-requires-clause-placed : goal.count_all-totals-requires-clause-placed
 count_all-totals-requires-clause-placed c =

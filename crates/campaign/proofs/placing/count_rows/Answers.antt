@@ -1,9 +1,8 @@
 use Rattle.std.specs.Prelude.{nat_lt}
 use Rattle.std.proofs.Common.{◌∙◌, ◌++◌, ℕ, take, drop, ap, refl, sym, arith}
 use Rattle.std.proofs.lemmas.List.{take_all}
-use Rattle.machine.specs.Logged.{all_of}
 use Rattle.model.specs.Campaign.{totals_of}
-use Rattle.campaign.specs.Report.{row_of, rows_of}
+use Rattle.campaign.specs.Report.{row_of, rows_of, store_of}
 use Rattle.campaign.proofs.LookedUp.{some_at, some_long}
 use Rattle.campaign.proofs.Totalling.{one_row_more, rows_few}
 use Rattle.campaign.proofs.placing.count_rows.Goals as goal
@@ -11,16 +10,16 @@ use Rattle.campaign.proofs.placing.count_rows.Goals as goal
 pub count-requires : goal.count-requires
 count-requires c =
     let few = c.requires.few in
-    let trail = all_of c.args.part.now.trail in
+    let store = store_of c.args.part.now in
     let some = take c.args.count (drop c.args.first c.args.part.now.kept) in
     let long = some_long c.args.part.now.kept c.args.first c.args.count c.requires.within in
     let on = c.loop-index-test.true in
-    let counted = rows_few c.args.base.now trail some few.0 c.loop-index.index c.args.count (omega arith) (omega arith) in
-    (few.0 ++ rows_of c.args.base.now trail (take c.loop-index.index some), c.loop-index.invariant.totals few.0 few.1, omega (arith, few.2))
+    let counted = rows_few c.args.base.now store some few.0 c.loop-index.index c.args.count (omega arith) (omega arith) in
+    (few.0 ++ rows_of c.args.base.now store (take c.loop-index.index some), c.loop-index.invariant.totals few.0 few.1, omega (arith, few.2))
 
 pub loop-index-preserved : goal.loop-index-preserved
 loop-index-preserved c =
-    let trail = all_of c.args.part.now.trail in
+    let store = store_of c.args.part.now in
     let kept = c.args.part.now.kept in
     let some = take c.args.count (drop c.args.first kept) in
     let long = some_long kept c.args.first c.args.count c.requires.within in
@@ -29,19 +28,19 @@ loop-index-preserved c =
     record {
       steps = c.loop-index.invariant.steps;
       totals = λ rows e. (
-          c.count.ensures (rows ++ rows_of c.args.base.now trail (take c.loop-index.index some)) (row_of c.args.base.now trail c.at-row.result.now) (c.loop-index.invariant.totals rows e)
+          c.count.ensures (rows ++ rows_of c.args.base.now store (take c.loop-index.index some)) (row_of c.args.base.now store c.at-row.result.now) (c.loop-index.invariant.totals rows e)
           (ap (λ (n : ℕ). nat_lt n c.args.base.now.steps) (sym c.first_step.ensures) ∙ ap (λ (n : ℕ). nat_lt c.first_step.result n) (sym c.loop-index.invariant.steps)) refl
-          ∙ ap totals_of (one_row_more c.args.base.now trail some rows c.loop-index.index c.at-row.result.now (omega arith) is));
+          ∙ ap totals_of (one_row_more c.args.base.now store some rows c.loop-index.index c.at-row.result.now (omega arith) is));
     }
 
 pub returns : goal.returns
 returns c rows e =
-    let trail = all_of c.args.part.now.trail in
+    let store = store_of c.args.part.now in
     let kept = c.args.part.now.kept in
     let some = take c.args.count (drop c.args.first kept) in
     let long = some_long kept c.args.first c.args.count c.requires.within in
     let end = take_all c.loop-index.index some (omega (arith, long, c.loop-index-test.false)) in
-    c.loop-index.invariant.totals rows e ∙ ap (λ these. totals_of (rows ++ rows_of c.args.base.now trail these)) end
+    c.loop-index.invariant.totals rows e ∙ ap (λ these. totals_of (rows ++ rows_of c.args.base.now store these)) end
 
 pub overflow_add-first : goal.overflow_add-first
 overflow_add-first c =

@@ -1,11 +1,27 @@
-use Rattle.std.proofs.Common.{◌∙◌, sym, subst, List, ℕ}
-use Rattle.machine.specs.Logged.{all_of}
+use Rattle.std.proofs.Common.{◌∙◌, refl, sym, subst, List, ℕ}
 use Rattle.deal.specs.Divisions.{IsBlock}
 use Rattle.deal.specs.Sharing.{Game}
 use Rattle.campaign.specs.Setup.{work_of}
-use Rattle.campaign.proofs.Blocks.{HasWorked, points_within, room_left, worked_more, done_refused, done_whole, on_ok_at}
+use Rattle.campaign.specs.Working.{store_in}
+use Rattle.campaign.proofs.Blocks.{HasWorked, none_worked, points_within, room_left, worked_more, done_refused, done_whole, on_ok_at}
+use Rattle.campaign.proofs.Linked.{without_legs}
 use Rattle.campaign.proofs.worker.work.Goals as goal
 use Rattle.campaign.proofs.worker.work.Goals.{in-None, in-Some+then-load-ne0, in-Some+else-load-ne0+in-Block+then-is_err, in-Some+else-load-ne0+in-Empty}
+
+pub loop-init : goal.loop-init
+loop-init g c =
+    let shelf = c.args.setup.now.shelf.now in
+    let worker = c.new-worker.result in
+    let new = c.new-worker.ensures in
+    let none = new.kept ∙ c.requires.job.none in
+    record {
+      able = tt;
+      finite = tt;
+      refused = refl;
+      game = refl;
+      known = record { rows = rw none tt; legs = without_legs shelf.base.events (store_in worker.runner) new.legs; marked = rw new.marks tt };
+      worked = none_worked (work_of c.args.setup.now c.args.job.lane.game.lengths) _ _ _ _ _ none new.legs new.blocks c.requires.job.fresh;
+    }
 
 pub add_block-requires-clause-points : goal.add_block-requires-clause-points
 add_block-requires-clause-points g c =
@@ -37,7 +53,7 @@ loop-preserved-else-is_err g c =
       refused = c.loop.invariant.refused;
       game = game;
       known = on_ok_at c.add_block.result ok c.add_block.ensures.known;
-      worked = subst (λ (l : List ℕ). HasWorked work c.add_block.new.self.kept (all_of c.add_block.new.self.runner.trail) c.add_block.new.self.blocks.items l c.args.job.seat c.add_block.new.seat) (sym next.2) more;
+      worked = subst (λ (l : List ℕ). HasWorked work c.add_block.new.self.kept (store_in c.add_block.new.self.runner) c.add_block.new.self.blocks.items l c.args.job.seat c.add_block.new.seat) (sym next.2) more;
     }
 
 pub returns : goal.returns
@@ -48,7 +64,7 @@ returns g c = elim c.match-next.branch [
   | in-Some+else-load-ne0+in-Empty w ↦
       let work = work_of c.args.setup.now c.args.job.lane.game.lengths in
       let next = w.in-Empty.ensures.next in
-      let worked = subst (λ (l : List ℕ). HasWorked work c.loop.worker.kept (all_of c.loop.worker.runner.trail) c.loop.worker.blocks.items l c.args.job.seat c.loop.seat) (sym next.0) c.loop.invariant.worked in
-      rw (c.into_trail-trail.ensures, w.lane-is, w.seat-is, w.worker-is)
+      let worked = subst (λ (l : List ℕ). HasWorked work c.loop.worker.kept (store_in c.loop.worker.runner) c.loop.worker.blocks.items l c.args.job.seat c.loop.seat) (sym next.0) c.loop.invariant.worked in
+      rw (c.into_told-trail.ensures, w.lane-is, w.seat-is, w.worker-is)
       (done_whole work c.args.job _ (w.next-in-loop.ensures.goes.0 ∙ c.loop.invariant.game) next.1 worked)
 ]

@@ -1,7 +1,7 @@
 use Rattle.std.proofs.Common.{◌≡◌, true}
-use Rattle.machine.specs.Logged.{all_of}
 use Rattle.campaign.specs.Setup.{work_of}
-use Rattle.campaign.specs.Working.{Knows}
+use Rattle.campaign.specs.Marks.{Knows}
+use Rattle.campaign.specs.Working.{store_in}
 use Rattle.campaign.proofs.Blocks.{HasWorked}
 use Rattle.campaign.proofs.worker.work.Given as goal
 
@@ -11,6 +11,6 @@ invariant-loop g l = record {
   finite : (goal.iterator-loop g).is_finite l.iterator';
   refused : l.refused ≡ true;
   game : l.lane.game ≡ l.fn.job.lane.game;
-  known : Knows l.setup.app.now l.setup.shelf.now.limits l.setup.view.now l.setup.shelf.now.base l.worker.kept (all_of l.worker.runner.trail) l.worker.runner.mark;
-  worked : HasWorked (work_of l.setup l.fn.job.lane.game.lengths) l.worker.kept (all_of l.worker.runner.trail) l.worker.blocks.items l.lane.answered l.fn.job.seat l.seat;
+  known : Knows l.setup.app.now l.setup.shelf.now.limits l.setup.view.now l.setup.shelf.now.base l.worker.kept (store_in l.worker.runner) l.worker.runner.table.marks.items;
+  worked : HasWorked (work_of l.setup l.fn.job.lane.game.lengths) l.worker.kept (store_in l.worker.runner) l.worker.blocks.items l.lane.answered l.fn.job.seat l.seat;
 }

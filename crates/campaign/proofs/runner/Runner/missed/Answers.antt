@@ -1,8 +1,9 @@
 use Rattle.std.specs.Prelude.{if◌then◌else◌}
 use Rattle.std.proofs.Common.{◌≡◌, ◌∙◌, length, subst, sym}
-use Rattle.machine.specs.Logged.{all_of}
 use Rattle.model.specs.Run.{Run}
 use Rattle.report.specs.Views.{shows_events}
+use Rattle.campaign.specs.declared.link.Link.TheVariants as link
+use Rattle.campaign.specs.Working.{store_in}
 use Rattle.campaign.proofs.Keeping.{missed_row}
 use Rattle.campaign.proofs.runner.Runner.missed.Goals as goal
 
@@ -11,5 +12,6 @@ returns c =
     let shelf = c.args.shelf.now in
     let same = c.base.view_is ∙ c.base-base.ensures in
     let shared = subst (λ (r : Run). c.shared_by.result ≡ (if shows_events c.args.view r.end then length r.events else 0)) (sym c.base.view_is) c.shared_by.ensures in
-    missed_row c.args.app.now shelf.limits c.args.view shelf.base c.requires.shelf.is_base c.args.point.now (all_of c.args.self.now.trail) _ _ _ same c.requires.missed
-    shared c.len-end.ensures
+    let told = subst (λ (r : Run). c.end_of_base.result ≡ link.Base (length r.events)) (sym c.base.view_is) c.end_of_base.ensures in
+    missed_row c.args.app.now shelf.limits c.args.view shelf.base c.requires.shelf.is_base c.args.point.now (store_in c.args.self.now) c.requires.legs _ _ _ same c.requires.missed
+    shared told

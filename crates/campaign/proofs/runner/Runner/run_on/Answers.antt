@@ -1,31 +1,56 @@
+use Rattle.std.proofs.Common.{◌≡◌, ◌+◌, ◌∙◌, arith}
 use Rattle.machine.specs.Logged.{all_of}
-use Rattle.std.proofs.Common.{◌≡◌, ◌∙◌, List, [], ℕ, ◌≤◌, sym, subst}
-use Rattle.model.specs.declared.plan.Injection.{Injection}
-use Rattle.model.specs.Run.{injected}
-use Rattle.campaign.proofs.GoingOn.{gained_rest, mark_ends, marked_at, none_from, rest_of}
+use Rattle.kernel.specs.Leads.{IsLed}
+use Rattle.kernel.proofs.Leading.{led_then, past_on}
+use Rattle.campaign.proofs.GoingOn.{behind_on}
 use Rattle.campaign.proofs.runner.Runner.run_on.Goals as goal
 
-pub returns-clause-rest : goal.returns-clause-rest
-returns-clause-rest c =
+pub returns-in-Some-clause-led : goal.returns-in-Some-clause-led
+returns-in-Some-clause-led c =
     let app = c.args.app.now in
-    let limits = c.args.limits.now in
-    let kernel = c.args.self.now.kernel in
-    let gained = gained_rest app limits c.args.view (all_of c.args.self.now.trail) (all_of c.run_rest.new.trail) kernel c.in_ok-ending.ending c.in_ok-ending.ensures.rest _ _ c.len-before.ensures c.len-after.ensures in
-    rest_of app limits c.args.view c.args.point.now kernel c.requires.way (all_of c.run_rest.new.trail) _ c.well_formed-2.ensures c.requires.beyond gained
+    let limits = c.args.shelf.now.limits in
+    let step : IsLed app limits c.marks.self.kernel c.go_far.new.kernel (all_of c.marks.self.trail) (all_of c.go_far.new.trail) = rw c.limits-limits.ensures at c.in_ok-ending.ensures.led in
+    led_then app limits c.args.self.now.kernel c.marks.self.kernel c.go_far.new.kernel _ _ _ c.marks.invariant.led step
 
-pub returns-clause-mark : goal.returns-clause-mark
-returns-clause-mark c =
+pub returns-in-Some-clause-passed : goal.returns-in-Some-clause-passed
+returns-in-Some-clause-passed c =
     let app = c.args.app.now in
-    let limits = c.args.limits.now in
-    let kernel = c.args.self.now.kernel in
-    let gained = gained_rest app limits c.args.view (all_of c.args.self.now.trail) (all_of c.run_rest.new.trail) kernel c.in_ok-ending.ending c.in_ok-ending.ensures.rest _ _ c.len-before.ensures c.len-after.ensures in
-    marked_at app limits c.args.view (all_of c.run_rest.new.trail) kernel _ c.snapshot-kernel.result c.mark_at.result c.snapshot-kernel.ensures c.mark_at.ensures gained
+    let limits = c.args.shelf.now.limits in
+    let step : IsLed app limits c.marks.self.kernel c.go_far.new.kernel (all_of c.marks.self.trail) (all_of c.go_far.new.trail) = rw c.limits-limits.ensures at c.in_ok-ending.ensures.led in
+    behind_on app limits _ _ c.marks.self.kernel c.go_far.new.kernel step c.marks.self.passed.items c.marks.invariant.passed
 
-pub run_rest-requires-clause-past : goal.run_rest-requires-clause-past
-run_rest-requires-clause-past c =
-    let kernel = c.args.self.now.kernel in
-    subst (λ (is : List Injection). (n : ℕ) → kernel.steps ≤ n → injected is n ≡ []) (sym (c.as_slice.ensures ∙ c.injections-injections.ensures))
-    (none_from c.args.app.now c.args.limits.now c.args.view c.args.point.now c.well_formed-2.ensures kernel c.requires.beyond)
+pub returns-in-Some-known_rest-clause-led : goal.returns-in-Some-known_rest-clause-led
+returns-in-Some-known_rest-clause-led c =
+    let app = c.args.app.now in
+    let limits = c.args.shelf.now.limits in
+    let step : IsLed app limits c.marks.self.kernel c.go_far.new.kernel (all_of c.marks.self.trail) (all_of c.go_far.new.trail) = rw c.limits-limits.ensures at c.in_ok-ending.ensures.led in
+    led_then app limits c.args.self.now.kernel c.marks.self.kernel c.go_far.new.kernel _ _ _ c.marks.invariant.led step
 
-pub returns-clause-ends : goal.returns-clause-ends
-returns-clause-ends c = mark_ends c.args.app.now c.args.limits.now c.args.view _ c.snapshot-kernel.result c.mark_at.result c.mark_at.ensures
+pub returns-in-Some-known_rest-clause-passed : goal.returns-in-Some-known_rest-clause-passed
+returns-in-Some-known_rest-clause-passed c =
+    let app = c.args.app.now in
+    let limits = c.args.shelf.now.limits in
+    let step : IsLed app limits c.marks.self.kernel c.go_far.new.kernel (all_of c.marks.self.trail) (all_of c.go_far.new.trail) = rw c.limits-limits.ensures at c.in_ok-ending.ensures.led in
+    behind_on app limits _ _ c.marks.self.kernel c.go_far.new.kernel step c.marks.self.passed.items c.marks.invariant.passed
+
+pub marks-preserved : goal.marks-preserved
+marks-preserved c =
+    let app = c.args.app.now in
+    let limits = c.args.shelf.now.limits in
+    let old = c.marks.self.kernel in
+    let new = c.go_far.new.kernel in
+    let step : IsLed app limits old new (all_of c.marks.self.trail) (all_of c.go_far.new.trail) = rw c.limits-limits.ensures at c.in_ok-ending.ensures.led in
+    let meter = c.marks.invariant.meter in
+    let more : c.go_far.new.meter + old.steps ≡ c.marks.meter + new.steps = c.in_ok-ending.ensures.meter in
+    let there = c.in_ok-ending.ensures.there c.in_default.is in
+    let goes = rw c.limits-limits.ensures at (c.in_ok-ending.ensures.goes c.in_default.is) in
+    let behind = behind_on app limits _ _ old new step c.marks.self.passed.items c.marks.invariant.passed in
+    record {
+      led = rw (c.note.ensures.kernel, c.note.ensures.trail) (led_then app limits c.args.self.now.kernel old new _ _ _ c.marks.invariant.led step);
+      past = rw c.note.ensures.kernel (past_on app limits old new step.own step.leads c.args.injections.now c.marks.invariant.past);
+      goes = rw (c.note.ensures.kernel, there) goes;
+      passed = rw (c.note.ensures.kernel, c.note.ensures.trail) (c.note.ensures.passed app limits behind);
+      table = c.note.ensures.table ∙ c.marks.invariant.table;
+      legs = c.note.ensures.legs ∙ c.marks.invariant.legs;
+      meter = rw c.note.ensures.kernel (omega (arith, meter, more));
+    }

@@ -1,8 +1,7 @@
 use Rattle.std.proofs.Common.{◌≡◌, ◌≤◌, ◌+◌, ◌-◌, ◌∙◌, ◌∷◌, [], ℕ, List, ap, refl, subst, length, take, drop, length-drop, arith}
 use Rattle.std.proofs.lemmas.List.{take_all, length-take-le}
-use Rattle.machine.specs.Logged.{all_of}
 use Rattle.model.specs.declared.plan.Injection.{Injection}
-use Rattle.campaign.specs.Working.{GainsRows}
+use Rattle.campaign.specs.Working.{store_in, GainsRows}
 use Rattle.campaign.proofs.Keeping.{gains_none, gains_both, gained_few, next_point}
 use Rattle.campaign.proofs.worker.Worker.add_block.Goals as goal
 
@@ -10,7 +9,7 @@ pub loop-point-init : goal.loop-point-init
 loop-point-init c = record {
   blocks = refl;
   known = c.requires.known;
-  rows = gains_none c.args.setup.now.app.now c.args.setup.now.shelf.now.limits c.args.setup.now.view.now c.args.setup.now.shelf.now.base c.args.self.now.kept (all_of c.args.self.now.runner.trail) c.args.seat.now;
+  rows = gains_none c.args.setup.now.app.now c.args.setup.now.shelf.now.limits c.args.setup.now.view.now c.args.setup.now.shelf.now.base c.args.self.now.kept (store_in c.args.self.now.runner) c.args.seat.now c.requires.known.legs;
 }
 
 pub add_row-requires-clause-seat : goal.add_row-requires-clause-seat
@@ -48,5 +47,5 @@ returns-clause-rows c =
     let end : length points ≤ c.loop-point.point-index = omega (arith, c.loop-point-test.false) in
     let count : c.args.first + c.args.count - c.args.first ≡ c.args.count = omega arith in
     let same = take_all c.loop-point.point-index points end ∙ ap (λ (n : ℕ). take n after) count in
-    subst (λ (ps : List (List Injection)). GainsRows setup.app.now setup.shelf.now.limits setup.view.now setup.shelf.now.base ps c.args.self.now.kept c.loop-point.self.kept (all_of c.args.self.now.runner.trail) (all_of c.loop-point.self.runner.trail) c.args.seat.now c.loop-point.seat)
+    subst (λ (ps : List (List Injection)). GainsRows setup.app.now setup.shelf.now.limits setup.view.now setup.shelf.now.base ps c.args.self.now.kept c.loop-point.self.kept (store_in c.args.self.now.runner) (store_in c.loop-point.self.runner) c.args.seat.now c.loop-point.seat)
     same c.loop-point.invariant.rows

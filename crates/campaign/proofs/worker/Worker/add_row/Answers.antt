@@ -1,9 +1,9 @@
 use Rattle.std.proofs.Common.{◌∙◌, ◌∷◌, [], List, ap, sym}
 use Rattle.std.specs.Prelude.{nat_lt}
-use Rattle.machine.specs.Logged.{all_of}
 use Rattle.model.specs.declared.plan.Injection.{Injection}
 use Rattle.model.specs.Points.{first_step}
 use Rattle.campaign.specs.Report.{row_of}
+use Rattle.campaign.specs.Working.{store_in}
 use Rattle.campaign.proofs.Keeping.{gains_one}
 use Rattle.campaign.proofs.GoingOn.{knows_more}
 use Rattle.campaign.proofs.worker.Worker.add_row.Goals as goal
@@ -13,13 +13,13 @@ returns-clause-row c =
     let setup = c.args.setup.now in
     let shelf = setup.shelf.now in
     let keeps = c.in_ok-end.ensures.row in
-    let trail = all_of c.keep_row.new.self.runner.trail in
-    gains_one setup.app.now shelf.limits setup.view.now shelf.base c.args.point.now c.args.self.now.kept c.keep_row.new.self.kept (all_of c.args.self.now.runner.trail) trail c.args.seat.now c.count_row.new.seat keeps.row keeps.gains
+    let store = store_in c.keep_row.new.self.runner in
+    gains_one setup.app.now shelf.limits setup.view.now shelf.base c.args.point.now c.args.self.now.kept c.keep_row.new.self.kept (store_in c.args.self.now.runner) store c.args.seat.now c.count_row.new.seat keeps.row keeps.gains
     keeps.rows_are
-    (c.count_row.ensures (row_of shelf.base trail keeps.row) (ap (λ (p : List Injection). nat_lt (first_step p) shelf.base.steps) keeps.gains.row.at_point ∙ sym c.reaches-is_reached.ensures) keeps.ends)
+    (c.count_row.ensures (row_of shelf.base store keeps.row) (ap (λ (p : List Injection). nat_lt (first_step p) shelf.base.steps) keeps.gains.row.at_point ∙ sym c.reaches-is_reached.ensures) keeps.ends)
 
 pub returns-clause-known : goal.returns-clause-known
 returns-clause-known c =
     let setup = c.args.setup.now in
     let shelf = setup.shelf.now in
-    knows_more setup.app.now shelf.limits setup.view.now shelf.base (c.args.point.now ∷ []) _ _ _ _ _ _ _ _ c.requires.known (returns-clause-row c) c.in_ok-end.ensures.mark
+    knows_more setup.app.now shelf.limits setup.view.now shelf.base (c.args.point.now ∷ []) _ _ _ _ _ _ _ _ c.requires.known (returns-clause-row c) c.in_ok-end.ensures.marks

@@ -1,0 +1,26 @@
+//! How rows go on: each by a leg of its own, and then as a row before it does, or as the base run.
+use model::End;
+
+/// Where events are: those of the base run from this one on, or those of a leg from this place of the trail on, and then those behind
+/// the leg.
+#[derive(Clone, Copy)]
+pub(crate) enum Link {
+    Base { from: usize },
+    Leg { number: usize, from: usize },
+}
+
+/// The events that a row added to the trail, which end at this place, and where those are with which it goes on.
+#[derive(Clone, Copy)]
+pub(crate) struct Leg {
+    pub(crate) to: usize,
+    pub(crate) next: Link,
+}
+
+/// How a row goes on from some step to its end: where its events are, and how it ends.
+#[derive(Clone, Copy)]
+pub(crate) struct Ahead {
+    pub(crate) told: Link,
+    pub(crate) steps: u32,
+    pub(crate) ticks: u64,
+    pub(crate) end: End,
+}

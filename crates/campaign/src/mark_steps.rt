@@ -1,0 +1,38 @@
+//! At which steps a row looks for marks, and leaves them.
+ghost use Rattle.std.specs.Prelude.{◌<◌, ◌^◌};
+
+// How many steps are between two marks at least.
+const LEAST_SPACING: u32 = 64;
+
+/// The steps between two marks near an injection, where the base run has a stop before each `stride`-th step: the least of them that
+/// are 64 or more, so that rows meet the base run at its stops; 64 where these are further from each other.
+pub(crate) fn spacing_of(stride: u32) -> u32 {
+    let mut spacing = stride.clamp(1, LEAST_SPACING);
+    for _ in 0..6 {
+        if spacing < LEAST_SPACING {
+            spacing *= 2;
+        }
+    }
+    spacing
+}
+
+// The steps between two marks so far behind the last injection: a sixteenth to an eighth of the way. They are multiples of each other,
+// so a row passes each mark of a row that was injected before it.
+fn spacing_at(spacing: u32, way: u32) -> u32 {
+    let eighths = way / spacing.max(1) / 8;
+    if eighths < 2 {
+        spacing
+    } else {
+        spacing << (31 - eighths.leading_zeros())
+    }
+}
+
+/// The next step behind this one at which a row looks for a mark, whose last injection comes before that step.
+pub(crate) fn next_mark(spacing: u32, last: u32, step: u32) -> u32
+    requires { step < 2 ^ 31 }
+    ensures { step < result }
+{
+    let spacing = spacing_at(spacing, step.saturating_sub(last)).max(1);
+    let next = (step / spacing).saturating_add(1).saturating_mul(spacing);
+    next.max(step + 1)
+}

@@ -1,0 +1,47 @@
+//! Whether it pays that a row looks for marks far behind its last injection.
+
+// So many rows more than those that come to a mark may look on for one before that is taken not to pay.
+const PATIENCE: u32 = 32;
+
+// Where it doesn't pay, each so manieth row looks on.
+const SELDOM: u32 = 128;
+
+// Where more rows than these looked on, the earlier ones count half.
+const MOST_ROWS: u32 = 1024;
+
+/// How many rows of a worker went on behind their first mark step, and how many of those that looked for marks there came to one. Where
+/// fewer than half do, most rows are run to their end without.
+#[derive(Drop)]
+pub(crate) struct Meetings {
+    rows: u32,
+    looked: u32,
+    met: u32,
+}
+
+impl Meetings {
+    /// No row went on.
+    pub(crate) fn new() -> Meetings {
+        Meetings {
+            rows: 0,
+            looked: 0,
+            met: 0,
+        }
+    }
+
+    /// Whether a row that goes on is to look for marks, and to leave them.
+    pub(crate) fn are_likely(&mut self) -> bool {
+        self.rows = self.rows.wrapping_add(1);
+        let most = self.met.saturating_mul(2).saturating_add(PATIENCE);
+        self.looked <= most || self.rows % SELDOM == 0
+    }
+
+    /// Counts a row that looked for marks, and came to one or didn't.
+    pub(crate) fn count(&mut self, has_met: bool) {
+        if self.looked >= MOST_ROWS {
+            self.looked /= 2;
+            self.met /= 2;
+        }
+        self.looked = self.looked.saturating_add(1);
+        self.met = self.met.saturating_add(has_met as u32);
+    }
+}
