@@ -8,7 +8,7 @@ use std::time::Instant;
 // How many milliseconds a campaign takes before it is shown.
 const FIRST: u64 = 1_000;
 
-// How many milliseconds each showing stands at least.
+// How many milliseconds each showing stays at least.
 const NEXT: u64 = 100;
 
 // How many of the kinds are ends.

@@ -12,11 +12,11 @@ use std::num::NonZeroUsize;
 use std::process::ExitCode;
 use std::thread::{Threads, available_parallelism};
 
-// So many bytes of stack a job takes at most, and some more.
-const STACK: usize = 434_176;
+// This many bytes of stack a job takes at most, and some more.
+const STACK: usize = 475_136;
 
 // Takes that much stack, and gives it back: it stays the program's. So where a limit on all memory leaves no room for it, the
-// program ends before it has done anything, and else the stack need not grow later. Answers 0 or 1, by what lies at `place`.
+// program ends before it has done anything, and otherwise the stack need not grow later. Answers 0 or 1, by what lies at `place`.
 #[inline(never)]
 fn take_stack(place: usize) -> u8 {
     let mut stack = [0_u8; STACK];
@@ -28,7 +28,7 @@ fn arguments(rt: &HostRuntime) -> io::Result<Vec<String>> {
     Ok(std::env::args(rt)?.collect(rt.alloc())?)
 }
 
-// Tells that the words can't be read, and answers the status.
+// Prints that the words can't be read, and answers the status.
 fn refuse_words(rt: &HostRuntime, error: &io::Error) -> u8 {
     if error.kind() == io::ErrorKind::OutOfMemory {
         return refuse(&mut ToWriter::new(rt.stderr()), ServeFault::Memory);
