@@ -2,6 +2,7 @@
 ghost use Rattle.std.specs.Prelude.{◌<◌, ◌≤◌};
 
 use crate::loading::loaded;
+use kernel::{Kernel, StepLog, Trail};
 use model::{App, HandlerId, Injection, Meter, Point};
 use shelf::{Row, Shelf};
 use std::alloc::Global;
@@ -14,7 +15,7 @@ handler = [{ name = 'h', ops = ['send q 7', 'receive q'] }]
 task = [{ name = 'a', priority = 1, script = ['receive q 1'] }]
 ";
 
-/// What the row of a point costs, where a stop is before every so many steps.
+/// What the row of a point costs, where a stop comes before every step that is a multiple of `stride`.
 #[derive(Clone, Copy)]
 struct Cost {
     stride: u32,
@@ -127,6 +128,33 @@ fn row_of_two(rt: &impl Abort, alloc: Global, app: &App, stride: u32, steps: [u3
     row_of(rt, alloc, app, stride, point)
 }
 
+/// How many events the base run had reported by the stop before step 6, if the row of the first handler before this step comes to it.
+fn known_at_six(rt: &impl Abort, alloc: Global, app: &App, step: u32) -> Option<usize>
+    requires { step < 6 }
+{
+    let shelf = Shelf::make(alloc, app, app.limits(), 6).expect(rt, "memory");
+    let point = Point::one(step, HandlerId { number: 0 });
+    if !shelf.reaches(&point) {
+        return None;
+    }
+    let mut kernel = Kernel::boot(app);
+    let mut meter = Meter::new();
+    let mut log = StepLog::new();
+    let mut trail = Trail::new(alloc);
+    shelf
+        .begin_row(
+            app,
+            &point,
+            6,
+            &mut kernel,
+            &mut meter,
+            &mut log,
+            &mut trail,
+        )
+        .expect(rt, "memory");
+    shelf.known(&kernel)
+}
+
 #[test]
 fn a_row_costs_the_steps_from_the_stop_before_its_point(rt: HostRuntime) {
     let app = loaded(&rt, rt.alloc(), RECEIVE);
@@ -169,4 +197,17 @@ fn a_row_whose_first_injection_is_at_the_end_is_the_base_run(rt: HostRuntime) {
     let app = loaded(&rt, rt.alloc(), RECEIVE);
     let (row, run) = row_of_two(&rt, rt.alloc(), &app, 4, [7, 8]);
     assert!(rt; !row.reached && row.run.steps == 7 && run == 0);
+}
+
+// Before the task waits, nothing is left of what the handler does: it takes back what it has sent. Then it wakes the task.
+#[test]
+fn a_row_is_known_where_it_joins_the_base_run(rt: HostRuntime) {
+    let app = loaded(&rt, rt.alloc(), RECEIVE);
+    for step in 0..6_u32 {
+        let wanted = if step < 2 { Some(2) } else { None };
+        assert!(rt;
+            known_at_six(&rt, rt.alloc(), &app, step) == wanted,
+            "step {step}"
+        );
+    }
 }

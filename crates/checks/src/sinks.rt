@@ -5,7 +5,7 @@ use byte_io::{Failed, Sink, Source};
 use std::alloc::Global;
 use std::process::Abort;
 
-/// Holds what it is given, at most so many bytes a call. Once there is no more room it fails, or takes no more.
+/// Holds what it is given, at most this many bytes a call. Once there is no more room it fails, or takes no more.
 #[derive(Drop)]
 pub(crate) struct Holder {
     bytes: Vec<u8>,
@@ -16,7 +16,7 @@ pub(crate) struct Holder {
 }
 
 impl Holder {
-    /// A sink with so much room, which a polite one tells by taking nothing.
+    /// A sink with this much room. Once that is used up a polite one takes nothing.
     pub(crate) fn new(alloc: Global, at_once: usize, room: usize, is_polite: bool) -> Self
         ensures { result.failed ≡ false }
     {
@@ -62,7 +62,7 @@ impl Sink for Holder {
     }
 }
 
-/// Gives the same bytes so many times, and then fails, as a folder that is read does at once.
+/// Gives the same bytes this many times, and then fails, as a folder that is read does at once.
 #[derive(Drop)]
 pub(crate) struct Breaking {
     text: &'static [u8],

@@ -57,7 +57,7 @@ row 1 at 1 h: check a 1 in 2 steps, 0 ticks
 total 2: pass 0, check 2, misuse 0, ticks 0, steps 0, stuck 0, not reached 0
 ";
 
-/// Does a job over sinks that take a byte a call, and compares its status, what it writes and what it tells.
+/// Does a job over sinks that take a byte a call, and compares its status, what it writes and what it reports.
 fn check_byte_by_byte<R: Abort + Threads + Wait + Sync>(
     rt: &R,
     alloc: Global,
@@ -99,7 +99,7 @@ fn sinks_that_take_a_byte_a_call(rt: HostRuntime) {
     check_byte_by_byte(&rt, alloc, &job, TWO_ROWS, 1, (TWO_ROWS_REPORT, ""));
 }
 
-/// Runs a sound file, over a writer that has room for so many bytes of its report. Answers what was written.
+/// Runs a sound file, over a writer that has room for this many bytes of its report. Answers what was written.
 fn check_full_writer<R: Abort + Threads + Wait + Sync>(
     rt: &R,
     alloc: Global,
@@ -145,7 +145,7 @@ fn a_writer_is_full_after_some_pages(rt: HostRuntime) {
     }
 }
 
-/// Runs a file whose reader fails after so many reads, over a sink of faults with so much room.
+/// Runs a file whose reader fails after this many reads, over a sink of faults with this much room.
 fn check_broken_reader<R: Abort + Threads + Wait + Sync>(
     rt: &R,
     alloc: Global,

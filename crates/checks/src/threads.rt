@@ -52,7 +52,7 @@ fn share<R: Threads + Wait + Sync>(
     Ok(deal.close(lanes))
 }
 
-// Whether each number below the length stands in the lists, and nothing else does. No number is
+// Whether each number below the length is in the lists, and nothing else is. No number is
 // marked twice.
 fn are_each_once(alloc: Global, closed: &Closed, blocks: usize) -> Result<bool, AllocError> {
     let mut marks = vec![in alloc; false; blocks]?;

@@ -70,7 +70,7 @@ fn has_nearest(rt: &impl Abort, clock: &Clock, expected: Option<u32>) {
     assert!(rt; clock.nearest() == expected, "{expected:?} is nearest");
 }
 
-/// Nobody wakes before the last of so many ticks.
+/// Nobody wakes before the last of this many ticks.
 fn reaches(rt: &impl Abort, clock: &Clock, ticks: u32)
     ensures { Each (λ e. clock.now.now + ticks ≤ e.1) clock.now.delayed_list }
 {
@@ -80,7 +80,7 @@ fn reaches(rt: &impl Abort, clock: &Clock, ticks: u32)
     }
 }
 
-/// Lets so many ticks pass at once, and compares the tasks that wake.
+/// Lets this many ticks pass at once, and compares the tasks that wake.
 fn jump(rt: &impl Abort, clock: &mut Clock, ticks: u32, expected: &[TaskId])
     requires { 0 < ticks }
 {

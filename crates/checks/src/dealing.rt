@@ -55,7 +55,7 @@ fn block(number: usize) -> Next {
     }
 }
 
-// So many blocks of one point.
+// This many blocks of one point.
 fn ones(alloc: Global, blocks: usize) -> Result<Division, Fail> {
     Ok(Division::even(alloc, blocks, 1)?)
 }

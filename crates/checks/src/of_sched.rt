@@ -102,7 +102,7 @@ fn is_switched(sched: &mut Sched, switch: Move) -> bool {
     }
 }
 
-/// Makes a move, and tells whether the scheduler answers what the move says.
+/// Makes a move, and answers whether the scheduler answers what the move says.
 fn is_answered(rt: &impl Abort, sched: &mut Sched, step: Move) -> bool {
     match step {
         Wake(task) => wake(rt, sched, task),
