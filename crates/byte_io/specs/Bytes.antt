@@ -21,8 +21,8 @@ SentFront old new text = (rest : List ℕ) × Sent old new text rest
 abbrev pub Writes : {T E : Type 0} → (old new : Option (List ℕ)) → Result T E → List ℕ → Type 0
 Writes old new r text = MatchResult r (λ _. Appends old new text) (λ _. SentFront old new text)
 
--- Adding a text to a page before a sink: of the page's bytes and the text a front goes to the sink, and the page keeps the
--- rest; at `Err` the sink has a beginning.
+-- Adding a text to a page before a sink: a front of the page's bytes and the text goes to the sink, and the page keeps the
+-- rest. At `Err` the sink has a beginning.
 abbrev pub Adds : {T E : Type 0} → (old new : Option (List ℕ)) → (page kept : List ℕ)
     → Result T E → (text : List ℕ) → Type 0
 Adds old new page kept r text = MatchResult r

@@ -24,7 +24,7 @@ pub fn flush<W: Sink>(writer: &mut W, page: &mut Page) -> Result<(), WriteFault>
     Ok(())
 }
 
-/// Makes room in the page for so many bytes: where they don't fit, what the page holds goes to the sink.
+/// Makes room in the page for this many bytes: where they don't fit, what the page holds goes to the sink.
 #[tactic(auto, using(crate::proofs::Sending::Sent_none, crate::proofs::Sending::Sent_all))]
 pub fn make_room<W: Sink>(writer: &mut W, page: &mut Page, count: usize) -> Result<(), WriteFault>
     requires working { W.has_failed writer.old ≡ false }
@@ -41,7 +41,7 @@ pub fn make_room<W: Sink>(writer: &mut W, page: &mut Page, count: usize) -> Resu
     flush(writer, page)
 }
 
-/// Adds a text of any length. One that is longer than a page goes to the sink as it stands.
+/// Adds a text of any length. One that is longer than a page goes to the sink as it is.
 pub fn add_text<W: Sink>(writer: &mut W, page: &mut Page, text: &[u8]) -> Result<(), WriteFault>
     requires { W.has_failed writer.old ≡ false }
     ensures text { Adds (W.held writer.old) (W.held writer.new) page.old page.new result text.now }

@@ -4,7 +4,7 @@ ghost use Rattle.std.specs.Prelude.{◌≡◌, ◌≤◌, ◌++◌, [], Some, fa
 use crate::stream::{Failed, Sink};
 use std::alloc::Global;
 
-/// Bytes that are kept in memory, at most so many. As a sink it takes all bytes of a call or fails: where they are too many, or
+/// Bytes that are kept in memory, at most this many. As a sink it takes all bytes of a call or fails: where they are too many, or
 /// where it gets no memory for them.
 #[derive(Drop)]
 pub struct Buffer {
@@ -17,7 +17,7 @@ pub struct Buffer {
 impl Buffer {
     ghost use Rattle.byte_io.specs.Buffers.{bytes_of, most_of, buffer_failed};
 
-    /// A buffer without bytes, for at most so many. It takes no memory yet.
+    /// A buffer without bytes, for at most this many. It takes no memory yet.
     pub fn new(alloc: Global, most: usize) -> Buffer
         ensures bytes { bytes_of result ≡ [] }
         ensures most { most_of result ≡ most }
@@ -30,7 +30,7 @@ impl Buffer {
         }
     }
 
-    /// The bytes, at most so many as it is for.
+    /// The bytes, at most as many as it is for.
     pub fn bytes(&self) -> &[u8]
         ensures bytes { result.now ≡ bytes_of self.now }
         ensures within { length result.now ≤ most_of self.now }

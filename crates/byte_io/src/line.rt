@@ -118,7 +118,7 @@ fn add_line<W: Sink>(
     }
 }
 
-/// Writes a line: single spaces stand between its pieces, and a line feed ends it. At `Err` the writer failed or took
+/// Writes a line: its pieces, with a single space between each two, and a line feed. At `Err` the writer failed or took
 /// none of some bytes, and it has taken a beginning of the line.
 pub fn write_line<W: Sink>(writer: &mut W, pieces: &[Piece<'_>]) -> Result<(), WriteFault>
     requires { W.has_failed writer.old ≡ false }

@@ -25,7 +25,7 @@ impl<'a> Model for Numeral<'a> {
 }
 
 impl<'a> Numeral<'a> {
-    /// The digits of which so many stand at the front of these bytes, at most 10, and the last one is this.
+    /// The digits: this many at the front of these bytes, at most 10, the last of which is this one.
     #[inline]
     pub fn new(front: &'a [u8; 16], len: usize, last: u8) -> Numeral<'a>
         requires { len ≤ 10 }

@@ -4,10 +4,10 @@ ghost use Rattle.std.specs.Prelude.{◌≡◌, ◌≤◌, ◌+◌, ◌↔◌, �
 use crate::place::{put_array, put_number, put_text};
 use std::marker::Model;
 
-/// At most `SIZE` bytes. It stands on the stack and takes no memory.
+/// At most `SIZE` bytes. It is on the stack and takes no memory.
 ///
-/// The fields are public for what adds many pieces in turn: it puts them into the bytes by itself (`place`), keeps the place
-/// where they end in a variable, and sets `used` once, after the last of them.
+/// The fields are public for callers that add many pieces in turn. Such a caller puts them into the bytes by itself
+/// (`place`), and keeps the place where they end in a variable. It sets `used` once, after the last of them.
 #[derive(Drop)]
 pub struct Page {
     /// The bytes that are used, and room for others after them.
@@ -54,7 +54,7 @@ impl Page {
         self.used = 0;
     }
 
-    /// Whether so many more bytes fit.
+    /// Whether this many more bytes fit.
     #[inline]
     pub fn has_room(&self, count: usize) -> bool
         ensures { IsTrue result ↔ (length self.now + count ≤ Self.SIZE) }

@@ -32,7 +32,7 @@ fn assign<const N: usize>(place: &mut [u8], text: &[u8; N])
     }
 }
 
-/// Copies so many bytes from the front of the text. There has to be room for all of the text, since all of it is copied.
+/// Copies this many bytes from the front of the text. There has to be room for all of the text, since all of it is copied.
 #[inline(always)]
 pub fn put_front<const N: usize>(bytes: &mut [u8], at: usize, text: &[u8; N], count: usize) -> usize
     requires room { at + N ≤ length bytes.old }

@@ -26,7 +26,7 @@ impl From<AllocError> for ReadFault {
     }
 }
 
-/// Reads to the end: all bytes that the source has left, where they are at most so many; `None` where they are more. `Failed`
+/// Reads to the end: all bytes that the source has left, where they are at most this many; `None` where they are more. `Failed`
 /// where, and only where, the source failed. At `None` and at `Err` some bytes of the source may be lost.
 pub fn read_at_most<R: Source>(
     alloc: Global,

@@ -74,7 +74,7 @@ pub(crate) fn add_shown<W: Sink>(
     Ok(())
 }
 
-/// Puts a text of lines as it is shown: its control characters are escaped, but for the line feeds. At `Err` the writer failed
+/// Puts a text of lines as it is shown: its control characters are escaped, except for the line feeds. At `Err` the writer failed
 /// or took none of some bytes, and it has taken a beginning of that.
 pub fn put_lines<W: Sink>(writer: &mut W, text: &str) -> Result<(), WriteFault>
     requires { W.has_failed writer.old ≡ false }

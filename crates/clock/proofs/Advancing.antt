@@ -7,7 +7,7 @@ use Rattle.clock.specs.Timeline.{Timeline, Advances, Jumps, count_from, all_unti
 use Rattle.clock.proofs.Sleeping.{Each-count_from}
 use Rattle.clock.proofs.Taking.{none_left, split_at}
 
--- a clock whose tick has gone on by so many, and whose due sleepers are still in the current list
+-- a clock whose tick has gone on by this many, and whose due sleepers are still in the current list
 pub record TurnedBy (ticks : ℕ) (ls : List (List (ℕ × ℕ))) (age base tick current overflow : ℕ) (old : Timeline) : Type 0 where
   pub sound : IsSound 2 32 ls
   pub current_known : current < 2

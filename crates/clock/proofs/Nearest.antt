@@ -129,7 +129,7 @@ module _ (t : Timeline) (s : State) (h : StandsFor t s) where
   pub none_wakes : t.delayed_list ≡ [] → will_wake s ≡ false
   none_wakes none = none_wake s.time s.tasks (none_to_wake none)
 
-  -- The first sleeper wakes in so many ticks.
+  -- The first sleeper wakes in this many ticks.
   pub least_to_wake : (n w a : ℕ) → first_time t.delayed_list ≡ Some w → n ≡ w - t.now → Each (λ e. t.now + n ≤ e.1) t.delayed_list → fold min a (ticks_to_wake s) ≡ min a n
   least_to_wake n w a first is all =
       let own = by_first t.delayed_list first in

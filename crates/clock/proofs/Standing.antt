@@ -311,7 +311,7 @@ all_woken (d ∷ ds) t rest s h is =
 
 -- ---- ticks pass
 
--- the sleepers when so many have passed, before anyone wakes
+-- the sleepers when this many have passed, before anyone wakes
 stands_jump : (ticks : ℕ) (old new : Timeline) (s : State) (ds : List ℕ) → Jumps ticks old new ds → StandsFor old s → StandsFor (record new { delayed_list = old.delayed_list }) (at_jump ticks s)
 stands_jump ticks old new s ds a h =
     let age = h.age in
@@ -352,7 +352,7 @@ pub stands_advanced : (old new : Timeline) (s : State) (ds : List ℕ) → Advan
 unfolding increment_tick advance jump wake_due
 stands_advanced old new s ds a h free = rw free (stands_jumped 1 old new s ds a h)
 
--- the clock, where so many ticks are held
+-- the clock, where this many ticks are held
 abbrev pub holding : Timeline → ℕ → Timeline
 holding t held = record t { held = held }
 

@@ -1,4 +1,4 @@
--- What a clock's timeline stands for: the time and the sleepers of a state of the definitions, whose tickets it does not
+-- What a clock's timeline represents: the time and the sleepers of a state of the definitions, whose tickets it does not
 -- have.
 use Rattle.std.specs.Prelude.{◌≡◌, ℕ, ◌+◌, ◌-◌, ◌==◌, false, List, [], ◌∷◌, ◌++◌, Option, Some, None, filter}
 use Rattle.model.specs.State.{State}
@@ -17,7 +17,7 @@ tasks_at time delayed_list = tasks_in (filter (λ e. e.1 == time) delayed_list)
 abbrev pub at_time : State → ℕ → State
 at_time s time = record s { time = time }
 
--- the state when so many ticks have come that aren't held, before anyone wakes
+-- the state when this many ticks have come that aren't held, before anyone wakes
 abbrev pub at_jump : ℕ → State → State
 at_jump ticks s = record s { time = s.time + ticks; elapsed = s.elapsed + ticks }
 

@@ -25,7 +25,7 @@ abbrev pub first_at : ℕ → List (ℕ × ℕ) → Option ℕ
 first_at time [] = None
 first_at time (e ∷ entries) = if e.1 == time then Some e.0 else None
 
--- So many ticks pass, before the last of which nobody is due: the sleepers whose wake time has come then are due, in the order
+-- This many ticks pass; nobody is due before the last of them. The sleepers whose wake time has come then are due, in the order
 -- in which they began, and the others sleep on. Held ticks stay held.
 pub record Jumps (ticks : ℕ) (old new : Timeline) (due : List ℕ) : Type 0 where
   pub now : new.now ≡ old.now + ticks

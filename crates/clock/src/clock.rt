@@ -223,7 +223,7 @@ impl Clock {
         Some(self.lists.value(task))
     }
 
-    /// Puts a task that isn't asleep (`is_asleep` tells) to sleep for 1 to 4294967295 ticks. It wakes
+    /// Puts a task that isn't asleep (see `is_asleep`) to sleep for 1 to 4294967295 ticks. It wakes
     /// after those that already sleep until the same time.
     pub fn sleep(&mut self, task: TaskId, ticks: u32)
         requires some { 0 < ticks }
@@ -312,7 +312,7 @@ impl Clock {
         take_due(&mut self.lists, self.current, self.tick, due);
     }
 
-    /// Lets one tick pass if nobody's sleep ends with it, and answers whether that is so; else nothing
+    /// Lets one tick pass if nobody's sleep ends with it, and answers whether that is so; otherwise nothing
     /// changes. It makes no list. Before the call the age is below 2^62 ticks.
     // Most steps are ticks, and a call would cost a tenth of one.
     #[inline(always)]
@@ -346,8 +346,8 @@ impl Clock {
         true
     }
 
-    /// How many ticks can pass, one after another, with which nobody's sleep ends and the tick that is shown doesn't become 0:
-    /// the most of which that is true.
+    /// The most ticks that can pass, one after another, so that nobody's sleep ends and the tick that is shown doesn't become
+    /// 0.
     pub fn quiet_ticks(&self) -> u32
         ensures asleep { Each (λ e. self.now.now + result < e.1) self.now.delayed_list }
         ensures turn { self.now.now % 2 ^ 32 + result < 2 ^ 32 }
@@ -360,7 +360,7 @@ impl Clock {
         }
     }
 
-    /// Lets one tick pass, with which nobody's sleep ends and the tick that is shown doesn't become 0 (`quiet_ticks` tells).
+    /// Lets one tick pass, with which nobody's sleep ends and the tick that is shown doesn't become 0 (see `quiet_ticks`).
     pub fn advance_quietly(&mut self)
         requires age { self.old.age < 2 ^ 62 }
         requires asleep { Each (λ e. self.old.now + 1 < e.1) self.old.delayed_list }
@@ -390,10 +390,10 @@ impl Clock {
         Some(u32::MAX - self.tick + self.lists.value(first) + 1)
     }
 
-    /// Lets so many ticks pass at once, 0 to 4294967295, as an idle that has slept through them does (`vTaskStepTick`): before
-    /// the last of them nobody's sleep ends (so they are at most as many as `nearest` answers, where it answers any). Ends the
-    /// sleep of the tasks whose wake time has come: they are answered in the order in which they began to sleep. Before the
-    /// call the age is below 2^62 ticks. Ticks that are held stay held.
+    /// Lets this many ticks pass at once, 0 to 4294967295, as an idle that has slept through them does (`vTaskStepTick`).
+    /// Nobody's sleep ends before the last of them: where `nearest` answers a number, they are no more than that. Ends the sleep
+    /// of the tasks whose wake time has come: they are answered in the order in which they began to sleep. Before the call the
+    /// age is below 2^62 ticks. Ticks that are held stay held.
     pub fn jump(&mut self, ticks: u32) -> Due
         requires soon { Each (λ e. self.old.now + ticks ≤ e.1) self.old.delayed_list }
         requires age { self.old.age < 2 ^ 62 }

@@ -94,7 +94,7 @@ fn distance_of(dice: &mut Dice) -> u32 {
     }
 }
 
-/// A point of the three handlers, now and then past the end of a run of so many steps.
+/// A point of the three handlers, now and then past the end of a run of this many steps.
 fn point_of(dice: &mut Dice, alloc: Global, steps: u32) -> Option<Point> {
     let mut injections = Vec::new(alloc);
     let mut step = dice.roll(steps.saturating_add(3).max(1));
@@ -119,7 +119,7 @@ fn alone(rt: &impl Abort, alloc: Global, app: &App, plan: &Plan) -> Run {
     kernel::run(alloc, app, plan, app.limits(), &mut Meter::new()).expect(rt, "memory")
 }
 
-/// The text of the row of a point, which is run alone, where the base run has so many steps.
+/// The text of the row of a point, which is run alone, where the base run has this many steps.
 fn row_of(
     rt: &impl Abort,
     alloc: Global,
@@ -229,7 +229,7 @@ fn base_steps(rt: &impl Abort, alloc: Global, app: &App) -> u32 {
     alone(rt, alloc, app, &Plan::none(alloc)).steps
 }
 
-/// The report over these points, each of whose rows is run alone, where the base run has so many steps.
+/// The report over these points, each of whose rows is run alone, where the base run has this many steps.
 fn rows_alone(
     rt: &impl Abort,
     alloc: Global,

@@ -17,7 +17,7 @@ fn push_number(file: &mut String, number: u32) -> Result<(), AllocError> {
     write!(file, " {number}")
 }
 
-// The name of an object or of an event group, as a word: a letter that tells its kind, and its number.
+// The name of an object or of an event group, as a word: a letter for its kind, and its number.
 fn push_name(file: &mut String, letter: &str, number: u8) -> Result<(), AllocError> {
     push_word(file, letter)?;
     write!(file, "{number}")

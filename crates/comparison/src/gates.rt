@@ -1,4 +1,4 @@
-//! What the gate of a campaign is told, and when.
+//! What the gate of a campaign learns, and when.
 ghost use Rattle.std.specs.Prelude.{◌<◌, ◌≤◌};
 
 use crate::working::{Manner, campaign_in, divided, points_at};
@@ -153,7 +153,7 @@ fn two_workers_are_in_two_blocks_at_once(rt: HostRuntime) {
     assert!(rt; gate.has_met());
 }
 
-// Each of so many workers is in a block while all others are.
+// Each worker, of this many, is in a block while all others are.
 fn workers_assemble<R: Abort + Threads + Wait + Sync>(rt: &R, alloc: Global, workers: usize)
     requires some { 0 < workers }
     requires few { workers ≤ 64 }

@@ -28,7 +28,7 @@ pub(crate) struct Planner {
     dice: Dice,
     /// Before how many steps handlers may still come.
     left: u32,
-    /// Handlers come before one of so many steps inside calls and while the scheduler is suspended, and before one of three
+    /// Handlers come before one in this many steps inside calls and while the scheduler is suspended, and before one of three
     /// times as many others.
     rarity: u32,
     pub(crate) injections: Vec<Injection>,
@@ -65,8 +65,8 @@ impl Planner {
         }
     }
 
-    /// How many handlers come before the next step. Where tasks wait at both sides of the locked object, some come always, and
-    /// where a task of higher priority is suspended and the running one is about to decide whether it waits.
+    /// How many handlers come before the next step. Some always come where tasks wait at both sides of the locked object, and
+    /// where a task of higher priority is suspended while the running one is about to decide whether it waits.
     fn roll_count(&mut self, slow: &SlowKernel) -> u32 {
         let sides = if slow.has_both_at_lock() || slow.has_suspended_above_decision() {
             1

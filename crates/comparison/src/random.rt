@@ -258,7 +258,7 @@ impl Seen {
     }
 }
 
-/// Counts a run in which something happened so many times.
+/// Counts a run in which something happened this many times.
 fn see(count: &mut usize, times: u32) {
     add(count, (times > 0) as usize);
 }
@@ -267,7 +267,7 @@ fn add(count: &mut usize, more: usize) {
     *count = count.saturating_add(more);
 }
 
-/// Runs both, the slow program first, with the plan that is made meanwhile, and compares what they tell.
+/// Runs both, the slow program first, with the plan that is made meanwhile, and compares what they report.
 fn compare(
     rt: &impl Abort,
     alloc: Global,
@@ -541,7 +541,7 @@ fn has_same_tasks(one: &App, other: &App) -> bool {
     one.tasks().len() == other.tasks().len()
 }
 
-/// Whether they are the same but for handlers and tasks.
+/// Whether they are the same except for handlers and tasks.
 fn has_same_rest(one: &App, other: &App) -> bool {
     one.start() == other.start()
         && one.tickless() == other.tickless()

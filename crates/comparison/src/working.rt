@@ -10,7 +10,7 @@ use std::process::Abort;
 use std::sync::Wait;
 use std::thread::Threads;
 
-/// How the rows of a campaign are made: by so many workers, from states of the base run that lie so many steps apart.
+/// How the rows of a campaign are made: by this many workers, from states of the base run that lie this many steps apart.
 #[derive(Clone, Copy, Debug)]
 pub(crate) struct Manner {
     pub(crate) workers: usize,

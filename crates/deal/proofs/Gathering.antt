@@ -97,7 +97,7 @@ marks_one xs marks n short h x low = ⊎_elim at_n elsewhere_x (same_or x n)
         let same : times x (xs ++ n ∷ []) ≡ times x xs = omega (arith, more, elsewhere x n (λ e. apart (sym e))) in
         get_or-set_other marks n x true false apart ∙ h x low' ∙ ap (nat_lt 0) (sym same)
 
--- a list's number stands in it
+-- a list's number is in it
 pub times_at : (xs : List ℕ) (i : ℕ) → i < length xs → 0 < times (slice_index xs i) xs
 times_at [] i h = absurd (omega arith)
 times_at (x ∷ xs) zero h = omega (arith, here x x refl)
@@ -123,7 +123,7 @@ concat_more vs i d short = ap (λ l. concat (items_of l)) (take_more vs i d shor
     joined [] v = append-nil v.items
     joined (u ∷ us) v = ap (λ l. u.items ++ l) (joined us v) ∙ sym (append_assoc u.items (concat (items_of us)) v.items)
 
--- what stands in one of the lists stands in all of them
+-- what is in one of the lists is in all of them
 pub times_within : (vs : List (Vec ℕ Global)) (i : ℕ) (d : Vec ℕ Global) (x : ℕ) → i < length vs → times x (get_or vs i d).items ≤ times x (concat (items_of vs))
 times_within [] i d x h = absurd (omega arith)
 times_within (v ∷ vs) zero d x h = omega (arith, total_append (one_at x) v.items (concat (items_of vs)))
@@ -205,7 +205,7 @@ each_once n xs marks full among h x = go (nat_lt x n) refl
         let none : times x (xs ++ unmarked n marks) ≡ 0 = omega (arith, both, none_there (times x xs) refl far, unmarked_high x n marks far) in
         none ∙ sym (above_none (nat_lt x n) e)
 
--- how often any other number stands in a list
+-- how often any other number is in a list
 abbrev not_at : ℕ → ℕ → ℕ
 not_at x y = if y == x then 0 else 1
 

@@ -1,4 +1,4 @@
--- How often a number stands in a list.
+-- How often a number is in a list.
 use Rattle.std.proofs.Common.{◌≡◌, ◌≢◌, ◌≤◌, ◌<◌, ℕ, zero, suc, ◌+◌, List, [], ◌∷◌, ◌++◌, refl, ap, arith, Bool, true, false, nat_lt, ◌⊎◌, inl, inr, ⊎_elim}
 use Rattle.std.proofs.lemmas.Bool.Decides.{nat_tests}
 use Rattle.deal.specs.Totals.{range, one_at, times}
@@ -20,7 +20,7 @@ same_or zero (suc k) = inr (λ e. absurd (omega (arith, e)))
 same_or (suc j) zero = inr (λ e. absurd (omega (arith, e)))
 same_or (suc j) (suc k) = ⊎_elim (λ e. inl (ap suc e)) (λ n. inr (λ e. n (omega (arith, e)))) (same_or j k)
 
--- numbers that are too large stand in no range
+-- numbers that are too large are in no range
 pub none_above : (x first m : ℕ) → first + m ≤ x → times x (range first m) ≡ 0
 none_above x first zero far = refl
 none_above x first (suc m) far =
@@ -33,7 +33,7 @@ none_below x first (suc m) small =
     let apart : first ≢ x = omega (arith, small) in
     omega (arith, elsewhere x first apart, none_below x (first + 1) m (omega (arith, small)))
 
--- a number of a range stands there once
+-- a number of a range is there once
 pub once_within : (x first m : ℕ) → first ≤ x → x < first + m → times x (range first m) ≡ 1
 once_within x first zero low high = absurd (omega (arith, low, high))
 once_within x first (suc m) low high =
@@ -42,7 +42,7 @@ once_within x first (suc m) low high =
     (λ (apart : first ≢ x). omega (arith, elsewhere x first apart, once_within x (first + 1) m (omega (arith, low, apart)) (omega (arith, high))))
     (same_or first x)
 
--- what stands among the numbers below n is below n, and stands there once at most
+-- what is among the numbers below n is below n, and is there once at most
 pub among_once : (n : ℕ) (xs : List ℕ) → IsAmong n xs → (x : ℕ) → times x xs ≤ 1
 among_once n xs among x = go (nat_lt x n) refl
   where
@@ -57,7 +57,7 @@ among_below n xs among x there = go (nat_lt x n) refl
     go true e = grind (arith, nat_tests, e)
     go false e = let far : n ≤ x = grind (arith, nat_tests, e) in absurd (omega (arith, there, among (one_at x), none_above x 0 n (omega (arith, far))))
 
--- the last of them is below n, and stands nowhere before
+-- the last of them is below n, and is nowhere before
 pub last_below : (n : ℕ) (xs : List ℕ) (x : ℕ) → IsAmong n (xs ++ x ∷ []) → x < n
 last_below n xs x among = among_below n (xs ++ x ∷ []) among x (omega (arith, total_append (one_at x) xs (x ∷ []), times_one x))
 

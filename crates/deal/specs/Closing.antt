@@ -1,4 +1,4 @@
--- Which blocks stand in the lists of the lanes.
+-- Which blocks are in the lists of the lanes.
 use Rattle.std.specs.Prelude.{◌≡◌, ℕ, zero, suc, ◌<◌, Bool, false, List, [], ◌∷◌, ◌++◌, length, map, Vec, ◌≤◌, nat_lt, slice_index_or, if◌then◌else◌}
 use Rattle.std.specs.declared.alloc.Global.{Global}
 use Rattle.std.specs.List.{concat, AllByRecursion}
@@ -8,7 +8,7 @@ use Rattle.deal.specs.Marks.{IsAmong}
 use Rattle.deal.specs.Sharing.{Sight, SomeHasSeenAll, lists_of}
 use Rattle.deal.specs.declared.count.Mark.{Mark}
 
--- the marks say which numbers stand in the list
+-- the marks say which numbers are in the list
 abbrev pub IsMarked : List ℕ → List Bool → Type 0
 IsMarked xs marks = (x : ℕ) → x < length marks → slice_index_or marks x false ≡ nat_lt 0 (times x xs)
 

@@ -48,7 +48,7 @@ IsLane size lengths share own others got z =
     × ((h : ℕ → ℕ) → total h got ≡ taken_by h own others)
     × (size.lanes ≡ 1 → (own.parts ≡ 8192) × (others ≡ []) × (own.dealt ≡ range 0 (length lengths)))
 
--- the seat of a deal: it knows how many blocks and lanes there are, and stands for the lanes that are not made yet
+-- the seat of a deal: it knows how many blocks and lanes there are, and represents the lanes that are not made yet
 abbrev pub IsDealer : Size → TableId → ℕ → Seat (Unit {0}) Mark → Type 0
 IsDealer size z left share = IsShareOf z share × (share.me.0 ≡ mark size.blocks size.lanes left 0 0 [])
 

@@ -16,7 +16,7 @@ mark all lanes parts counted seen blocks = record { all = all; lanes = lanes; pa
 abbrev pub no_mark : Mark
 no_mark = mark 0 0 0 0 0 []
 
--- at the start one seat stands for all lanes, and has every block
+-- at the start one seat represents all lanes, and has every block
 abbrev pub first_mark : Size → Mark
 first_mark k = mark k.blocks k.lanes k.lanes 0 0 (range 0 k.blocks)
 
@@ -44,8 +44,8 @@ less_a_lane v = mark v.all v.lanes (v.parts - 1) v.counted v.seen v.blocks
 abbrev pub lane_mark : Mark → Mark
 lane_mark v = mark v.all v.lanes 1 0 0 []
 
--- A seat has counted no more than the blocks that it has, and seen no more than the count. One that stands for a lane knows how many blocks
--- and lanes there are, and one that stands for none has counted nothing
+-- A seat has counted no more than the blocks that it has, and seen no more than the count. One that represents a lane knows how many blocks
+-- and lanes there are, and one that represents none has counted nothing
 abbrev pub FitsCount : Size → ℕ → Mark → Type 0
 FitsCount k word v =
     (v.counted ≤ length v.blocks) × (v.seen ≤ word)
@@ -72,7 +72,7 @@ Counting s me n me' =
     (me'.0 ≡ mark me.0.all me.0.lanes me.0.parts (me.0.counted + 1) (n + 1) me.0.blocks) × (me'.1 ≡ me.1)
     × (me.0.seen ≤ n) × (n < me.0.all) × (me.0.counted ≤ n) × IsAmong me.0.all me.0.blocks
 
--- The seat saw the count. Where it stands for every lane, the count is its own
+-- The seat saw the count. Where it represents every lane, the count is its own
 abbrev pub Looking : Step (Unit {0}) → Me (Unit {0}) Mark → ℕ → Me (Unit {0}) Mark → Type 0
 Looking s me n me' =
     (me'.0 ≡ mark me.0.all me.0.lanes me.0.parts me.0.counted n me.0.blocks) × (me'.1 ≡ me.1)

@@ -1,4 +1,4 @@
--- What lanes and deals stand for, and what their calls promise, whatever other lanes do at the same time.
+-- What lanes and deals represent, and what their calls promise, whatever other lanes do at the same time.
 --
 -- A schedule is the order in which the atomic steps of all threads come: a push, a pop, a steal, and a load or an add of one word. No promise
 -- names one. Each speaks of the values before and after a call of its own thread, and the steps of other threads may come between any two of its own.
@@ -15,8 +15,8 @@ pub record Game : Type 0 where
   pub lanes : ℕ
   pub lengths : List ℕ
 
--- What a lane has seen: its deal, the blocks that were dealt to it, in order, the blocks that it was answered, in order, and the most that it
--- saw of the number of blocks handed out
+-- What a lane has seen: its deal; the blocks that were dealt to it, and those that it was answered, both in order; and the highest number
+-- of blocks handed out that it saw
 pub record Sight : Type 0 where
   pub game : Game
   pub dealt : List ℕ
@@ -31,7 +31,8 @@ HasSeenAll lane = lane.seen ≡ length lane.game.lengths
 abbrev pub Goes : Sight → Sight → Type 0
 Goes old new = (new.game ≡ old.game) × (new.dealt ≡ old.dealt) × (old.seen ≤ new.seen)
 
--- A block is one of the division, and new to the lane. Only among several lanes one is told to ask again. Empty is answered only where every
+-- A block is one of the division, and new to the lane. The answer may be to ask
+-- again only among several lanes. Empty is answered only where every
 -- block has been handed out
 abbrev pub MatchNext : Next → Sight → Sight → Type 0
 MatchNext (Block number first len) old new =

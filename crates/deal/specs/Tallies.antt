@@ -1,4 +1,4 @@
--- What tallies and their seats stand for, and what their calls promise, whatever other seats do at the same time.
+-- What tallies and their seats represent, and what their calls promise, whatever other seats do at the same time.
 use Rattle.std.specs.Prelude.{◌≡◌, ℕ, ◌+◌, ◌<◌, ◌≤◌, ◌==◌, List, length, All, slice_index, if◌then◌else◌}
 use Rattle.atomic_table.specs.Seated.{TableId}
 use Rattle.deal.specs.Totals.{total}
@@ -67,7 +67,7 @@ AreEachOf tally seats = AllByRecursion (λ (seat : Tallied). seat.sheet ≡ tall
 abbrev pub AreCounts : List ℕ → List Tallied → Type 0
 AreCounts counts seats = (length counts ≡ 7) × ((k : ℕ) → k < 7 → slice_index counts k ≡ added_in k seats) × NoneSawMore counts seats
 
--- the seat of a tally: it knows how many seats there are, stands for none, and has added nothing
+-- the seat of a tally: it knows how many seats there are, represents none, and has added nothing
 abbrev pub IsRest : ℕ → Part → Type 0
 IsRest seats v = (v.seats ≡ seats) × (v.parts ≡ 0) × ((k : ℕ) → slice_index v.added k ≡ 0)
 

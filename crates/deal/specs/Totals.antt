@@ -1,4 +1,4 @@
--- Sums over lists, and how often a number stands in one.
+-- Sums over lists, and how often a number is in one.
 use Rattle.std.specs.Prelude.{ℕ, zero, suc, ◌+◌, ◌≡◌, List, [], ◌∷◌, ◌==◌, nat_lt, if◌then◌else◌}
 
 -- f of each, added up
@@ -15,10 +15,10 @@ range first (suc n) = first ∷ range (first + 1) n
 abbrev pub one_at : ℕ → ℕ → ℕ
 one_at x y = if y == x then 1 else 0
 
--- how often x stands in a list
+-- how often x is in a list
 abbrev pub times : ℕ → List ℕ → ℕ
 times x xs = total (one_at x) xs
 
--- each number below n stands in the list once, and no other number does
+-- each number below n is in the list once, and no other number does
 abbrev pub HasEachOnce : ℕ → List ℕ → Type 0
 HasEachOnce n xs = (x : ℕ) → times x xs ≡ (if nat_lt x n then 1 else 0)

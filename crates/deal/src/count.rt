@@ -1,5 +1,5 @@
-//! The word that counts the blocks handed out, and the tickets of its table, each of which stands
-//! for a block.
+//! The word that counts the blocks handed out, and the tickets of its table, each of which
+//! represents a block.
 ghost use Rattle.std.specs.Prelude.{◌≡◌, ◌+◌, ◌<◌, ◌≤◌, ◌^◌, ◌∷◌, [], ◌++◌, length, ℕ};
 ghost use Rattle.deal.specs.Totals.{total, range};
 ghost use Rattle.deal.specs.Marks.{mark, both_marks, IsShareOf, IsTicketOf, IsAmong};
@@ -8,14 +8,14 @@ use atomic_table::{Badge, Join, Play, Seat, Split, Table, TableRule};
 use std::alloc::Global;
 use std::collections::LinkedList;
 
-/// What the table is told once: how many blocks there are, and how many lanes.
+/// What the table is given once: how many blocks there are, and how many lanes.
 #[derive(Clone, Copy)]
 pub struct Size {
     pub blocks: u64,
     pub lanes: u64,
 }
 
-// What a seat knows: the number of blocks and of lanes, how many lanes it stands for, how many
+// What a seat knows: the number of blocks and of lanes, how many lanes it represents, how many
 // blocks it counted, the most it has
 // seen of the count, and the blocks whose tickets it has. No value of it is made.
 pub struct Mark {
@@ -116,7 +116,7 @@ pub fn hand_out(count: &Count, share: &mut Share, ticket: Ticket) -> u64
     count.shared.fetch_add::<Counts>(share, 0, 1)
 }
 
-/// The count. A seat that stands for every lane has counted it whole.
+/// The count. A seat that represents every lane has counted it whole.
 pub fn look(count: &Count, share: &mut Share) -> u64
     requires { IsShareOf count.now.shared.table_id share.old × (0 < share.old.me.0.parts) }
     ensures share { IsShareOf count.now.shared.table_id share.new }
@@ -131,7 +131,7 @@ pub fn look(count: &Count, share: &mut Share) -> u64
     count.shared.load::<Looks>(share, 0)
 }
 
-/// One seat stands for the lanes of both, and has their blocks.
+/// One seat represents the lanes of both, and has their blocks.
 pub fn unite(count: &Count, share: &mut Share, other: Share)
     requires { IsShareOf count.now.shared.table_id share.old × IsShareOf count.now.shared.table_id other }
     ensures { IsShareOf count.now.shared.table_id share.new

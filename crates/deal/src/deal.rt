@@ -59,7 +59,7 @@ impl Model for Deal {
 }
 
 impl Deal {
-    /// Deals the blocks of a division among so many lanes, 1 to 64: block i to lane i modulo their
+    /// Deals the blocks of a division among this many lanes, 1 to 64: block i to lane i modulo their
     /// number. All room is made here.
     pub fn new(
         alloc: Global,
@@ -125,7 +125,7 @@ impl Deal {
     }
 }
 
-// Room for the lists of so many lanes, and for the marks and the numbers of so many blocks; none is marked.
+// Room for the lists of this many lanes, and for the marks and the numbers of this many blocks; none is marked.
 fn make_room(
     alloc: Global,
     workers: usize,

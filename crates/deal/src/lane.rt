@@ -127,11 +127,11 @@ impl Lane {
         got
     }
 
-    /// The next block: the first of the lane's own deque, or else of the first other lane's that
+    /// The next block: the first of the lane's own deque, otherwise of the first other lane's that
     /// gives one, upwards from its own number
     /// and round, each tried once.
     ///
-    /// Waits for nobody and takes no memory. A lane alone is never told to ask again.
+    /// Waits for nobody and takes no memory. A lane alone never has to ask again.
     pub fn next(&mut self) -> Next
         ensures goes { Goes self.old self.new }
         ensures next { MatchNext result self.old self.new }

@@ -92,7 +92,7 @@ pub struct SeatsMissing {
 }
 
 impl Tally {
-    /// A tally of so many seats, 1 to 65,536, with every count at 0. All room is made here.
+    /// A tally of this many seats, 1 to 65,536, with every count at 0. All room is made here.
     pub fn make(alloc: Global, seats: usize) -> Result<(Tally, Vec<TallySeat>), Memory>
         requires { (0 < seats) × (seats ≤ 65536) }
         ensures tally { IfOk result (λ made. made.0.seats ≡ seats) }

@@ -73,7 +73,7 @@ pub fn add_to(words: &Words, seat: &mut PartSeat, kind: usize, n: u64)
     words.shared.fetch_add::<Adds>(seat, kind, n);
 }
 
-/// The count of a kind, at least what the seat had seen. Where the seat stands for all, it is what
+/// The count of a kind, at least what the seat had seen. Where the seat represents all, it is what
 /// was added.
 pub fn see(words: &Words, seat: &mut PartSeat, kind: usize) -> u64
     requires { IsSeatOf words.now.shared.table_id seat.old × (kind < 7) }
@@ -89,7 +89,7 @@ pub fn see(words: &Words, seat: &mut PartSeat, kind: usize) -> u64
     words.shared.load::<Sees>(seat, kind)
 }
 
-/// One seat stands for the seats of both.
+/// One seat represents the seats of both.
 pub fn merge(words: &Words, seat: &mut PartSeat, other: PartSeat)
     requires { IsSeatOf words.now.shared.table_id seat.old × IsSeatOf words.now.shared.table_id other }
     ensures { IsSeatOf words.now.shared.table_id seat.new

@@ -28,7 +28,7 @@ nests_whole bs (o ∷ es) nests closed = (nests.0, nests_whole (blocks_past o bs
 abbrev pub NestWith : List Block → List IsrOp → Type 0
 NestWith bs ops = (bs ≡ blocks_after [] (isr_edges_of ops)) × NestsSoFar [] (isr_edges_of ops)
 
--- one op more, which may stand there
+-- one op more, which is allowed there
 pub nest_on : (bs : List Block) (ops : List IsrOp) (op : IsrOp) → NestWith bs ops → may_stand (edge_of_isr op) bs ≡ true
     → NestWith (blocks_past (edge_of_isr op) bs) (ops ++ op ∷ [])
 nest_on bs ops op h may =

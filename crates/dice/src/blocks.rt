@@ -35,7 +35,7 @@ impl Dice {
         }
     }
 
-    /// A loop of a few turns, or sometimes one for ever: one of so many.
+    /// A loop of a few turns, or sometimes one for ever: one in this many.
     pub(super) fn repeat(&mut self, objects: &[ObjectKind], rarity: u32) -> Op
         ensures range { InRange result }
         ensures known { IsKnown objects.now result }

@@ -174,7 +174,7 @@ impl Dice {
         }
     }
 
-    /// Up to five ops of a handler, or eight where it goes by what was answered. One that may not stand where it would is left out.
+    /// Up to five ops of a handler, or eight where it goes by what was answered. One that isn't allowed where it would be is left out.
     /// Then the branches that are open end.
     fn isr_ops(
         &mut self,

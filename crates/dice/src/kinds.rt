@@ -52,7 +52,7 @@ impl Dice {
         }
     }
 
-    /// One object or two where tasks crowd about them, contend for them or are suspended there, else up to four.
+    /// One object or two where tasks crowd about them, contend for them or are suspended there, otherwise up to four.
     fn object_count(&mut self) -> u32
         ensures { result ≤ 4 }
     {

@@ -299,7 +299,7 @@ impl Dice {
         }
     }
 
-    /// Up to eight ops, or 24 where tasks go by what was answered. One that may not stand where it would is left out. Then the
+    /// Up to eight ops, or 24 where tasks go by what was answered. One that isn't allowed where it would be is left out. Then the
     /// scheduler is resumed if it is suspended, mutexes that are held are given back, and branches and loops that are open end.
     fn script(&mut self, alloc: Global, objects: &[ObjectKind]) -> Option<Script>
         ensures script { IfSome result (λ script. IsScript script) }

@@ -139,7 +139,7 @@ impl Dice {
         Op::SuspendAll
     }
 
-    /// Suspends the scheduler once more, at most twice in all, or else resumes it.
+    /// Suspends the scheduler once more, at most twice in all, otherwise resumes it.
     fn change_suspension(&mut self, objects: &[ObjectKind]) -> Op
         ensures range { InRange result }
         ensures known { IsKnown objects.now result }
@@ -201,7 +201,7 @@ impl Dice {
         }
     }
 
-    /// An op of a task that suspends and resumes others for the most part, if it is a late one, or else of one that has much
+    /// An op of a task that suspends and resumes others for the most part, if it is a late one, otherwise of one that has much
     /// to be suspended in.
     fn suspending_op(&mut self, objects: &[ObjectKind]) -> Op
         ensures range { InRange result }

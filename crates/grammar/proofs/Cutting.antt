@@ -9,7 +9,7 @@ use Rattle.grammar.specs.Grammar.{Word, is_word, words_of}
 abbrev is_space : ℕ → Bool
 is_space b = b == 32
 
--- A text is cut where its first space stands, and what is left has the other words.
+-- A text is cut where its first space is, and what is left has the other words.
 abbrev CutAt : List ℕ → ℕ → Type 0
 CutAt text n = (others : List Word) × (slice_split is_space text ≡ take n text ∷ others)
     × (filter is_word others ≡ words_of (drop n text))
@@ -39,7 +39,7 @@ kept : (w : Word) (ws : List Word) → 0 < length w → filter is_word (w ∷ ws
 kept [] ws some = absurd (omega arith)
 kept (b ∷ bs) ws some = refl
 
--- where a word stands first
+-- where a word comes first
 pub first_word : (text : List ℕ) → 0 < position_or_len is_space text
     → words_of text
     ≡ take (position_or_len is_space text) text ∷ words_of (drop (position_or_len is_space text) text)
@@ -49,7 +49,7 @@ first_word text some =
     let long : 0 < length w = omega (arith, length-prefix_len (λ b. not (is_space b)) text) in
     ap (filter is_word) f.1 ∙ (kept w f.0 long ∙ ap (λ ws. w ∷ ws) f.2)
 
--- where a word stands first, or nothing
+-- where a word comes first, or nothing
 pub no_words : (text : List ℕ) → (text ≡ []) ⊎ (0 < position_or_len is_space text)
     → words_of text ≡ [] → text ≡ []
 no_words text (inl none) e = none

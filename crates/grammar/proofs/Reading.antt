@@ -32,7 +32,7 @@ same_condition r s e = ap (λ o. option_map_or (λ (t : Read). t.0) o s.0) e
 same_others : (r s : Read) → Some r ≡ Some s → r.1 ≡ s.1
 same_others r s e = ap (λ o. option_map_or (λ (t : Read). t.1) o s.1) e
 
--- an answer, or what stands behind `not`, `below` or `above`
+-- an answer, or what is behind `not`, `below` or `above`
 said : {X : Type 0} (o : Option X) (ws : List Word) (makes : X → AnswerCondition) (condition : AnswerCondition) (others : List Word)
     → option_map {U = Read} (λ r. (makes r.0, r.1)) (option_map {U = X × List Word} (λ x. (x, ws)) o)
     ≡ Some (condition, others)

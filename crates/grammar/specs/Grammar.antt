@@ -28,7 +28,7 @@ abbrev pub is_word : Word → Bool
 is_word [] = false
 is_word (b ∷ bs) = true
 
--- the words of a text, which stand between spaces (profile)
+-- the words of a text, which spaces separate (profile)
 abbrev pub words_of : List ℕ → List Word
 words_of text = filter is_word (slice_split (λ b. b == 32) text)
 
@@ -67,9 +67,9 @@ Naming = NameSort → Word → Option ℕ
 
 -- ---- the grammar
 
--- How an op's text goes on after its own word (profile): it is over, or a word writes a number, which may be left out for
--- another word, is one of two, or names an entry of a sort, or one or two words write a condition for the last answer, and with
--- this it goes on. The op is a task's, or a handler's.
+-- How an op's text goes on after its own word (profile). It may be over. Or the next word writes a number, in whose place
+-- another word may be allowed, is one of two words, or names an entry of a sort. Or one or two words write a condition for
+-- the last answer. What comes then is of the same form. The op is a task's, or a handler's.
 pub data Form (O : Type 0) : Type 0 where
   Done : (op : O) → Form O
   Number : (next : ℕ → Form O) → Form O
@@ -192,8 +192,8 @@ isr_forms =
     ∷ (codes "end", Done isr.EndIf)
     ∷ []
 
--- The first of these words write the condition, and the others are these: an answer is to be that, after `not` it is not to be
--- that, and after `below` and `above` there is a number.
+-- The first of these words write the condition, and the others are these. A word for an answer alone says what the last answer
+-- is to be, and after `not` what it is not to be. After `below` and `above` there is a number.
 abbrev pub WritesCondition : AnswerCondition → List Word → (others : List Word) → Type 0
 WritesCondition (Is wanted) (w ∷ ws) others = (answer_of w ≡ Some wanted) × (ws ≡ others)
 WritesCondition (IsNot other) (w ∷ v ∷ ws) others = (w ≡ codes "not") × (answer_of v ≡ Some other) × (ws ≡ others)
@@ -201,7 +201,7 @@ WritesCondition (Below bound) (w ∷ v ∷ ws) others = (w ≡ codes "below") ×
 WritesCondition (Above bound) (w ∷ v ∷ ws) others = (w ≡ codes "above") × (number_of v ≡ Some bound) × (ws ≡ others)
 WritesCondition _ _ others = ⊥
 
--- The words write the arguments of the op, by this form, where names are read so.
+-- The words write the arguments of the op, by this form, where names are read this way.
 abbrev pub Writes : {O : Type 0} → Naming → Form O → List Word → O → Type 0
 Writes named (Done made) [] op = made ≡ op
 Writes named (Number next) (w ∷ ws) op = (n : ℕ) × (number_of w ≡ Some n) × Writes named (next n) ws op
@@ -217,7 +217,7 @@ abbrev pub WritesBy : {O : Type 0} → Naming → List (Word × Form O) → List
 WritesBy named [] ws op = ⊥
 WritesBy named (form ∷ others) ws op = Writes named form.1 ws op ⊎ WritesBy named others ws op
 
--- Words spell an op, where names are read so: its own word, and then its arguments; its numbers are in their ranges.
+-- Words spell an op, where names are read this way: its own word, and then its arguments; its numbers are in their ranges.
 abbrev pub Spells : Naming → Op → List Word → Type 0
 Spells named op [] = ⊥
 Spells named op (w ∷ ws) = (w ≡ word_of op) × WritesBy named forms ws op × InRange op
@@ -271,7 +271,7 @@ read_by named (form ∷ others) w ws = if bytes_eq w form.0 then read named form
 abbrev pub if_in_range : Op → Option Op
 if_in_range op = if is_in_range op then Some op else None
 
--- the op that words spell, where names are read so
+-- the op that words spell, where names are read this way
 abbrev pub op_of : Naming → List Word → Option Op
 op_of named [] = None
 op_of named (w ∷ ws) = option_and_then if_in_range (read_by named forms w ws)

@@ -57,8 +57,8 @@ fn await_op<F: Finding>(
     Some(Op::Await(object, access, ticks))
 }
 
-// The op that sends the number that the word after the next says to the front or the back of the queue that the next word
-// names, and waits as long as the word after these says.
+// The op that sends a number to the front or the back of a queue. The next word names the queue, the one after it the
+// number, and the third says how long the op waits.
 fn send_op<F: Finding>(to_front: bool, words: &mut Words<'_>, finding: &F) -> Option<Op>
     // What is still to be read is whether the text ends here.
     ensures { let form = ObjectName Queue (λ queue. Number (λ n. WaitTime (λ ticks.
@@ -279,7 +279,7 @@ fn op_after<F: Finding>(word: &[u8], words: &mut Words<'_>, finding: &F) -> Opti
     }
 }
 
-/// The op that a text spells, where names are read so; `None` where it spells none.
+/// The op that a text spells, where names are read this way; `None` where it spells none.
 pub fn op_of<F: Finding>(text: &[u8], finding: &F) -> Option<Op>
     ensures op { result ≡ op_of (F.naming finding.now) (words_of text.now) }
     ensures range { IfSome result InRange }
@@ -309,8 +309,8 @@ fn isr_do_op<F: Finding>(
     Some(IsrOp::Do(words.object(sort, finding)?, access))
 }
 
-// The op of a handler that sends the number that the word after the next says to the front or the back of the queue that the
-// next word names.
+// The op of a handler that sends a number to the front or the back of a queue. The next word names the queue, and the one
+// after it the number.
 fn isr_send_op<F: Finding>(to_front: bool, words: &mut Words<'_>, finding: &F) -> Option<IsrOp>
     // What is still to be read is whether the text ends here.
     ensures { let form = ObjectName Queue (λ queue. Number (λ n.
@@ -323,8 +323,8 @@ fn isr_send_op<F: Finding>(to_front: bool, words: &mut Words<'_>, finding: &F) -
     Some(IsrOp::Do(queue, sending(to_front, item)))
 }
 
-// The op of a handler that has the daemon set or clear the bits that the word after the next says of the group that the next
-// word names.
+// The op of a handler that has the daemon set or clear bits of a group. The next word names the group, and the one after it
+// the bits.
 fn command_op<F: Finding>(clear: bool, words: &mut Words<'_>, finding: &F) -> Option<IsrOp>
     // What is still to be read is whether the text ends here.
     ensures { MatchOption result
@@ -416,7 +416,7 @@ fn is_isr_in_range(op: &IsrOp) -> bool
     }
 }
 
-/// The op of a handler that a text spells, where names are read so; `None` where it spells none.
+/// The op of a handler that a text spells, where names are read this way; `None` where it spells none.
 pub fn isr_op_of<F: Finding>(text: &[u8], finding: &F) -> Option<IsrOp>
     ensures { result ≡ isr_op_of (F.naming finding.now) (words_of text.now) }
 {

@@ -30,7 +30,7 @@ fn trim_start(text: &[u8]) -> &[u8]
     left
 }
 
-// Where the first space of a text stands, or the text ends.
+// Where the first space of a text is, or the text ends.
 fn word_length(text: &[u8]) -> usize
     ensures space { result ≡ position_or_len (λ b. b == 32) text.now }
     ensures within { result ≤ length text.now }

@@ -1,4 +1,4 @@
--- Two conditions that a comparison tells to be the same.
+-- Two conditions that a comparison finds to be the same.
 use mathlib.Core.Bool.{beq}
 use Rattle.std.proofs.Common.{Bool, arith}
 use Rattle.std.specs.Prelude.{◌&&◌, nat_eq}

@@ -1,4 +1,4 @@
--- What leaves the waits for bits as they are leaves the groups standing for the state.
+-- Changes of a state that leave the waits for bits as they are: the groups still represent it.
 use Rattle.std.proofs.Common.{get_or, ◌≡◌, ℕ, eqb, true, List, [], ◌∷◌, None, refl, ap, sym, ◌∙◌}
 use Rattle.std.specs.List.{AllByRecursion}
 use Rattle.std.specs.Option.{is_some}

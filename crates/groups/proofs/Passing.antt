@@ -77,7 +77,7 @@ left-append wants bits ts n = ap (fold bits_left bits) (map-append (wanted_by wa
 
 -- ---- the pass
 
--- Of the list as it was, some entries are passed: those whom the bits meet are taken out, and the others still stand before
+-- Of the list as it was, some entries are passed: those whom the bits meet are taken out, and the others are still before
 -- the rest.
 pub record Passed (old new : List (List (ℕ × ℕ))) (list : ℕ) (wants : List Condition) (bits : ℕ) (at : Option ℕ) (tasks : List ℕ) (left : ℕ) : Type 0 where
   pub before : List (ℕ × ℕ)

@@ -1,4 +1,4 @@
--- What a change of a state is to the groups that stand for it.
+-- What a change of a state is to the groups that represent it.
 use Rattle.std.proofs.Common.{◌≡◌, ℕ, ◌<◌, inl, inr, true, false, Option, Some, None, List, [], ◌∷◌, set, length, map, refl, ap, sym, ◌∙◌, subst, get_or}
 use Rattle.std.specs.List.{AllByRecursion}
 use Rattle.std.specs.Option.{is_some}

@@ -21,7 +21,7 @@ bits_in v group = slice_index_or v.bits group 0
 abbrev pub waiting_in : EventGroups → ℕ → List (ℕ × ℕ)
 waiting_in v group = entries_of v.waiting group
 
--- what stands where there is no task
+-- what is kept where there is no task
 abbrev pub no_condition : Condition
 no_condition = record { mask = 0; all = false; clear = false }
 

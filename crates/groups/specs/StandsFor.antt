@@ -1,4 +1,4 @@
--- What the event groups stand for: the bits and the waiters of a state of the definitions, whose tickets they don't have.
+-- What the event groups represent: the bits and the waiters of a state of the definitions, whose tickets they don't have.
 use Rattle.std.specs.Prelude.{◌≡◌, ℕ, IsTrue, is_some, Option, Some, None}
 use Rattle.model.specs.State.{State, Status, WaitingForBits, status_at, call_at, bits_at}
 use Rattle.model.specs.Order.{tasks_of}
@@ -18,8 +18,8 @@ abbrev pub bits_wait : Status → Option BitsWait
 bits_wait (WaitingForBits group ticket deadline) = Some (record { group = group; ticket = ticket })
 bits_wait _ = None
 
--- The bits are the groups', at each group the same tasks wait in the same order (nobody at one that isn't there), and each
--- for the bits that its call wants.
+-- The bits are the groups'. At each group the same tasks wait in the same order (nobody at one that isn't there), each for
+-- the bits that its call wants.
 pub record StandsFor (v : EventGroups) (s : State) : Type 0 where
   pub bits : (group : ℕ) → bits_in v group ≡ bits_at s group
   pub tasks : (group : ℕ) → tasks_in (waiting_in v group) ≡ tasks_of (waiters_for_bits s group)

@@ -28,7 +28,7 @@ const NO_CONDITION: Condition = Condition {
 /// 16,777,215; its bits above, which FreeRTOS refuses, are treated as the others (profile).
 ///
 /// A group is FreeRTOS's `EventGroup_t`, whose `xTasksWaitingForBits` has the tasks in the order in which they began to
-/// wait too, whatever their priorities. That the groups stand in one table is profile.
+/// wait too, whatever their priorities. That the groups are in one table is profile.
 #[derive(Drop)]
 pub struct Groups {
     bits: [u32; 16],
@@ -180,7 +180,7 @@ impl Groups {
         false
     }
 
-    /// Puts a task that waits at no group (`is_waiting` tells) behind all who wait for bits of this one, until its
+    /// Puts a task that waits at no group (see `is_waiting`) behind all who wait for bits of this one, until its
     /// condition is met (`vTaskPlaceOnUnorderedEventList`).
     pub fn place(&mut self, task: TaskId, group: GroupId, condition: Condition)
         requires free { place_of self.old.waiting task ≡ None }

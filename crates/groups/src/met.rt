@@ -12,7 +12,7 @@ use lists::ListId;
 use model::{Condition, TaskId};
 use task_lists::TaskLists;
 
-/// The tasks that bits have met, and what they leave of these.
+/// The tasks whose conditions the bits have met, and the bits that these tasks leave.
 #[derive(Drop)]
 pub struct Met {
     /// The tasks, 32 at most, in the order in which they began to wait.

@@ -1,4 +1,4 @@
--- Faults of a run of a file are the same where what stands at its end is asked for too.
+-- Faults of a run of a file are the same where its end state is asked for too.
 use Rattle.std.proofs.Common.{◌≡◌, ℕ, Bool, false, List, Option, refl}
 use Rattle.std.specs.Prelude.{Err}
 use Rattle.model.specs.declared.event.End.{End}

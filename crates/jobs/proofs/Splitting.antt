@@ -87,7 +87,7 @@ spelled_numeral text number is = by (is_numeral text) refl
         let same : nothing ≡ Some number = rw failed at is in
         absurd (cc same)
 
--- what `parse` reads, where no plus stands first
+-- what `parse` reads, where no plus comes first
 without_plus : (text : List ℕ) → (slice_index text 0 == 43) ≡ false → without_leading_plus text ≡ text
 without_plus text e = rw e refl
 
@@ -124,7 +124,7 @@ no_more None None none_such = refl
 no_more None (Some number) none_such = refl
 no_more (Some number) a none_such = absurd (none_such number refl)
 
--- a number, and what stands behind the first stroke
+-- a number, and what is behind the first slash
 pub of_two : (number count : List ℕ) → shard_in (number ∷ slice_split (λ b. eqb b 47) count) ≡ shard_of (spelled number) (spelled count)
 of_two number count = by (slice_split (λ b. eqb b 47) count) refl
   where

@@ -109,7 +109,7 @@ FailsToRead job file read_failed (Serve Read) = (is_unpaired job ≡ false) × (
 FailsToRead job file read_failed (Serve Memory) = (is_unpaired job ≡ false) × (read_failed ≡ false) × (file ≢ Some [])
 FailsToRead job file read_failed fault = ⊥
 
--- What doing a job over a file comes to: the job is done over its bytes, of which there are 64 MiB at most where all were read; or
+-- What doing a job over a file comes to. The job is done over its bytes, of which there are 64 MiB at most where all were read. Or
 -- there are more, and nothing is written.
 abbrev pub DoesOverFile : Job → (file : Option (List ℕ)) → (read_failed : Bool) → (old new : Option (List ℕ)) → (write_failed : Bool)
     → Result Bool JobFault → Type 0
@@ -156,7 +156,7 @@ abbrev pub load_pieces : Fault → List (List ℕ)
 load_pieces fault =
     codes "rtosim:" ∷ decimal (fault_code fault.kind) ∷ (fault_name fault.kind ++ codes ":") ∷ place_words fault.place
 
--- the pieces of a fault's line, which may tell a name; its control characters are escaped
+-- the pieces of a fault's line, which may contain a name; its control characters are escaped
 abbrev pub fault_pieces : (name : List ℕ) → JobFault → List (List ℕ)
 fault_pieces name Unpaired = codes "rtosim: --at and --handler go together" ∷ []
 fault_pieces name TooLarge = codes "rtosim: cannot read" ∷ (shown_name name ++ codes ":") ∷ codes "larger than 64 MiB" ∷ []
@@ -171,12 +171,12 @@ fault_pieces name (Serve Write) = codes "rtosim: cannot write" ∷ []
 abbrev pub fault_line : (name : List ℕ) → JobFault → List ℕ
 fault_line name fault = joined_line (fault_pieces name fault)
 
--- the name that the line of a job's fault tells: of a handler that is unknown, and else of the file
+-- the name in the line of a job's fault: that of the handler that is unknown, otherwise that of the file
 abbrev pub name_told : Job → JobFault → List ℕ
 name_told job (Serve UnknownHandler) = handler_of job
 name_told job fault = file_of job
 
--- what is told of an outcome
+-- what is printed of an outcome
 abbrev pub told : Job → Result Bool JobFault → List ℕ
 told job (Ok passes) = []
 told job (Err fault) = fault_line (name_told job fault) fault

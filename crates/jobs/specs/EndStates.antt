@@ -1,4 +1,4 @@
--- What a run of a file comes to where what stands at its end is asked for too.
+-- What a run of a file comes to where its end state is asked for too.
 use Rattle.std.specs.Prelude.{◌≡◌, ℕ, Bool, List, [], ◌++◌, Option, Result, Ok, Err}
 use Rattle.model.specs.declared.event.End.{End}
 use Rattle.model.specs.declared.plan.Injection.{Injection}
@@ -20,11 +20,11 @@ abbrev pub plan_titled : Title → List Injection
 plan_titled Base = []
 plan_titled (Row number point reached) = plan_of reached point
 
--- what stands after the last step of this run, whose report has this title
+-- the state after the last step of this run, whose report has this title
 abbrev pub end_state_of_run : Application → Title → Run → EndState
 end_state_of_run app title run = end_state_of (state_after app app.limits (plan_titled title) run.steps)
 
--- The bytes are a file where the run that is asked for has this report, behind which stands what stands at its end, and this end.
+-- The bytes are a file. The run of it that is asked for has this end, and this report, which its end state follows.
 pub record IsEndStateReportOf (at : Option At) (bytes report : List ℕ) (end : End) : Type 0 where
   pub app : Application
   pub file : IsFileOf bytes app
@@ -34,7 +34,7 @@ pub record IsEndStateReportOf (at : Option At) (bytes report : List ℕ) (end : 
   pub ends : run.end ≡ end
   pub text : report ≡ run_text app title run ++ end_state_text app (end_state_of_run app title run)
 
--- a call that serves the run that is asked for and what stands at its end, and answers how it ends
+-- a call that serves the run that is asked for and its end state, and answers how it ends
 abbrev pub ServesEndState : Option At → Option (List ℕ) → (read_failed : Bool) → (old new : Option (List ℕ)) → (write_failed : Bool)
     → Result End ServeFault → Type 0
 ServesEndState at input read_failed old new write_failed outcome =

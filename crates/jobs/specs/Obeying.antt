@@ -27,7 +27,7 @@ abbrev pub shown_status : (write_failed : Bool) → ℕ
 shown_status false = 0
 shown_status true = 5
 
--- what is told then: nothing, or that it can't be written
+-- what is printed then: nothing, or that it can't be written
 abbrev pub ShownTells : (write_failed : Bool) → (old new : Option (List ℕ)) → (failed : Bool) → Type 0
 ShownTells false old new failed = Keeps old new × (failed ≡ false)
 ShownTells true old new failed = Tells old new failed (fault_line [] (Serve Write))
@@ -41,7 +41,7 @@ pub record Shows (kind : ErrorKind) (old new : Option (List ℕ)) (write_failed 
   pub tells : ShownTells write_failed faults_old faults_new tell_failed
   pub ends : status ≡ shown_status write_failed
 
--- The words are refused: some text is told, its control characters escaped, and nothing is written.
+-- The words are refused: some text is printed, its control characters escaped, and nothing is written.
 pub record RefusesWords (kind : ErrorKind) (old new : Option (List ℕ)) (write_failed : Bool)
     (faults_old faults_new : Option (List ℕ)) (tell_failed : Bool) (status : ℕ) : Type 0 where
   pub refused : IsRefusal kind
@@ -51,7 +51,7 @@ pub record RefusesWords (kind : ErrorKind) (old new : Option (List ℕ)) (write_
   pub working : write_failed ≡ false
   pub ends : status ≡ 2
 
--- No memory is left: this is told, and nothing is written.
+-- No memory is left: this is printed, and nothing is written.
 pub record LacksMemory (old new : Option (List ℕ)) (write_failed : Bool)
     (faults_old faults_new : Option (List ℕ)) (tell_failed : Bool) (status : ℕ) : Type 0 where
   pub tells : Tells faults_old faults_new tell_failed (fault_line [] (Serve Memory))

@@ -1,8 +1,8 @@
--- How many workers `auto` stands for, and which words have it.
+-- How many workers `auto` means, and which words have it.
 use Rattle.std.specs.Prelude.{◌&&◌, if◌then◌else◌, ℕ, List, [], ◌∷◌, ◌++◌, codes, decimal, min, Option, Some, None}
 use Rattle.std.specs.Str.{bytes_eq}
 
--- how many workers `auto` stands for, by how many processors the program may use; `None`: the system doesn't tell
+-- how many workers `auto` means, by how many processors the program may use; `None`: the system doesn't say
 abbrev pub workers_for : (processors : Option ℕ) → ℕ
 workers_for None = 1
 workers_for (Some processors) = min processors 64
@@ -24,6 +24,6 @@ abbrev pub all_meant : (workers : List ℕ) → (words : List (List ℕ)) → Li
 all_meant workers [] = []
 all_meant workers (program ∷ words) = program ∷ meant_after workers [] words
 
--- what the words mean where the program may use so many processors
+-- what the words mean where the program may use this many processors
 abbrev pub meant : (processors : Option ℕ) → (words : List (List ℕ)) → List (List ℕ)
 meant processors words = all_meant (decimal (workers_for processors)) words

@@ -16,7 +16,7 @@ use Rattle.report.specs.declared.view.Ends.{Ends}
 abbrev pub no_end : Ends
 no_end = record { pass = false; check = false; misuse = false; ticks = false; steps = false; stuck = false }
 
--- the ends that a word of a list stands for
+-- the ends that a word of a list means
 abbrev pub ends_named : Text → Option Ends
 ends_named word =
     if bytes_eq word (codes "pass") then Some (record no_end { pass = true })
@@ -39,7 +39,7 @@ either a b = record {
   stuck = a.stuck || b.stuck;
 }
 
--- those that one word or more stand for
+-- those that one word or more mean
 abbrev pub ends_listed : List Text → Option Ends
 ends_listed [] = None
 ends_listed (word ∷ []) = ends_named word
@@ -59,7 +59,7 @@ is_numeral text = nat_lt 0 (length text) && list_all (λ digit. nat_lt (digit_va
 abbrev pub spelled : Text → Option ℕ
 spelled text = if is_numeral text then Some (digits_value 10 text) else None
 
--- the part of this number of so many, if there is such a one
+-- the part of this number, of this many parts, if there is such a one
 abbrev pub shard_of : Option ℕ → Option ℕ → Option Shard
 shard_of (Some number) (Some count) = if is_within 1 count number && is_within 1 most_shards count then Some (record { number = number; count = count }) else None
 shard_of number count = None

@@ -130,8 +130,8 @@ abbrev pub is_given : Option Text → Bool
 is_given None = false
 is_given (Some text) = bytes_eq text (codes "true")
 
--- The job is to run the file that the words of `run` name, with the step and the handler that they name, and to tell what stands at the
--- end or not.
+-- The job is to run the file that the words of `run` name, with the step and the handler that they name. It writes the end state too, or
+-- doesn't.
 abbrev pub IsRunOf : List Row → Job → Type 0
 IsRunOf rows (Run file at handler state) =
     (first_of (codes "FILE") rows ≡ Some file.now)
@@ -151,7 +151,7 @@ pub record AreOptionsOf (rows : List Row) (options : Options) : Type 0 where
   pub block : number_in (codes "block") rows ≡ Some options.block
   pub within : bad_option options.workers options.stride options.block ≡ None
 
--- the ends of the rows that are written: those of the list, where one is named, else every end
+-- the ends of the rows that are written: those of the list, where one is named, otherwise every end
 abbrev pub ends_in : Option Text → Option Ends
 ends_in None = Some every_end
 ends_in (Some list) = ends_of list
@@ -239,7 +239,7 @@ abbrev pub value_faults : Option (Text × List Row) → Kinds
 value_faults None = []
 value_faults (Some named) = if bytes_eq named.0 (codes "campaign") then faults_without (view_in named.1) (shard_in_rows named.1) else []
 
--- Of what kinds the fault of the words may be; of none, where they name a job: one of those that the command doesn't take, or else that
--- of a list of ends or of a shard.
+-- Of what kinds the fault of the words may be: one of those that the command doesn't take, otherwise that of a list of ends or of a
+-- shard. There is none where they name a job.
 abbrev pub faults_of : List (List ℕ) → Kinds
 faults_of words = or_else (fault_of rtosim_app words) (value_faults (subcommand_of rtosim_app words))

@@ -23,7 +23,7 @@ use std::thread::Threads;
 #[derive(Clone, Copy, PartialEq, Eq)]
 pub enum Job<'a> {
     /// Write the report of the run of this file's application: the base run, or row 0, where the handler of this name is
-    /// injected before this step. A step and a handler go together. What stands at the end is told too, or isn't.
+    /// injected before this step. A step and a handler go together. The end state is written too, or isn't.
     Run {
         file: &'a str,
         at: Option<u32>,
@@ -31,7 +31,7 @@ pub enum Job<'a> {
         state: bool,
     },
     /// Write what the view shows of the campaign of this file, or of this part of it, worked off as the options say. Where it is quiet,
-    /// nobody is told how far it has come.
+    /// nobody learns how far it has come.
     Campaign {
         file: &'a str,
         view: View,
@@ -82,7 +82,7 @@ impl<'a> Job<'a> {
         }
     }
 
-    // The name that the line of this fault tells.
+    // The name in the line of this fault.
     fn name_told(&self, fault: JobFault) -> &'a str
         ensures { result.now ≡ name_told self.now fault }
     {
@@ -109,9 +109,9 @@ impl<'a> Job<'a> {
     }
 }
 
-/// The status of a job: 0 where its run passes, or all rows of its part of a campaign do, written or not, 1 where it or some of them don't, 2 where a step
-/// and a handler don't go together or the handler is unknown, 3 where the file has a fault, too many points, or can't be read, 4
-/// for want of memory, 5 where the report can't be written.
+/// The status of a job. It is 0 where its run passes, or all rows of its part of a campaign do, written or not, and 1 where it or some of
+/// them don't. It is 2 where a step and a handler don't go together, or the handler is unknown; and 3 where the file has a fault or too
+/// many points, or can't be read. It is 4 for want of memory, and 5 where the report can't be written.
 pub fn status_of(outcome: Result<bool, JobFault>) -> u8
     ensures { result ≡ status_of outcome }
 {
@@ -133,7 +133,7 @@ pub fn status_of(outcome: Result<bool, JobFault>) -> u8
     }
 }
 
-/// Tells a fault of words that are of no job. Answers its status.
+/// Prints a fault of words that name no job. Answers its status.
 pub fn refuse<F: Sink>(faults: &mut F, fault: ServeFault) -> u8
     requires { F.has_failed faults.old ≡ false }
     ensures told { Tells (F.held faults.old) (F.held faults.new) (F.has_failed faults.new)
@@ -144,7 +144,7 @@ pub fn refuse<F: Sink>(faults: &mut F, fault: ServeFault) -> u8
     status_of(Err(JobFault::Serve(fault)))
 }
 
-/// Ends a job of this outcome: tells its fault, if it has one, and answers its status. That the line can't be put
+/// Ends a job of this outcome: prints its fault, if it has one, and answers its status. That the line can't be put
 /// changes nothing of the status.
 pub fn conclude<F: Sink>(job: &Job<'_>, faults: &mut F, outcome: Result<bool, JobFault>) -> u8
     requires { F.has_failed faults.old ≡ false }
@@ -270,7 +270,7 @@ fn all_for<R: Source>(alloc: Global, job: &Job<'_>, reader: &mut R) -> Result<Ve
 /// Does the job: reads its file from `reader`, and writes to `writer` what the job asks for. Answers the status that the
 /// program ends with, and puts the line of a fault, if any, to `faults`; that this fails changes nothing.
 ///
-/// Where the job's step and its handler don't go together, nothing is read. The gate is told how far a campaign has come, unless it is
+/// Where the job's step and its handler don't go together, nothing is read. The gate learns how far a campaign has come, unless it is
 /// quiet; no clause speaks of that. It waits for the workers of a campaign, whose threads are this runtime's.
 pub fn act<T: Threads + Wait + Sync, R: Source, W: Sink, F: Sink, G: Gate + Sync>(
     rt: &T,

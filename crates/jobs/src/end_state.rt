@@ -1,4 +1,4 @@
-//! A run of a file, with what stands at its end.
+//! A run of a file, with its end state.
 ghost use Rattle.std.specs.Prelude.{◌≡◌, ℕ, List, Some, false, IfOk, MatchResult};
 ghost use Rattle.model.specs.Run.{IsRow, IsRun, plan_of, state_after};
 ghost use Rattle.outcome.specs.EndStates.{end_state_of};
@@ -29,7 +29,7 @@ fn app_in(alloc: Global, bytes: &[u8]) -> Result<App, ServeFault>
     Ok(App::from_document(alloc, &document)?)
 }
 
-// The run of this plan, and what stands at its end.
+// The run of this plan, and its end state.
 fn ended_run(alloc: Global, app: &App, plan: &Plan) -> Result<(Run, EndState), Memory>
     ensures run { IfOk result (λ ended. IsRun app.now plan.now app.now.limits ended.0) }
     ensures end_state { IfOk result (λ ended.
@@ -38,7 +38,7 @@ fn ended_run(alloc: Global, app: &App, plan: &Plan) -> Result<(Run, EndState), M
     run_to_end_state(alloc, app, plan, app.limits(), &mut Meter::new())
 }
 
-// Whether the point is reached, its row, and what stands at its end. The base run comes first, and is the row where it ends before
+// Whether the point is reached, its row, and its end state. The base run comes first, and is the row where it ends before
 // the point's first injection.
 fn ended_row(alloc: Global, app: &App, point: &Point) -> Result<(bool, Run, EndState), Memory>
     ensures row { IfOk result (λ row. IsRow app.now app.now.limits point.now row.0 row.1) }
@@ -55,7 +55,7 @@ fn ended_row(alloc: Global, app: &App, point: &Point) -> Result<(bool, Run, EndS
     Ok((true, run, end_state))
 }
 
-// The run that is asked for, what its report is of, and what stands at its end.
+// The run that is asked for, what its report is of, and its end state.
 fn asked_run(
     alloc: Global,
     app: &App,
@@ -83,7 +83,7 @@ fn asked_run(
     Ok((title, run, end_state))
 }
 
-// Runs an application as it is asked for, and writes the report of the run and what stands at its end, as its last deed.
+// Runs an application as it is asked for, and writes the report of the run and its end state, as its last deed.
 fn serve_app<W: Sink>(
     alloc: Global,
     app: &App,
@@ -100,7 +100,7 @@ fn serve_app<W: Sink>(
     Ok(run.end)
 }
 
-// Serves the run of the file of these bytes that is asked for, and what stands at its end. Answers how it ends.
+// Serves the run of the file of these bytes that is asked for, and its end state. Answers how it ends.
 fn serve_end_state<W: Sink>(
     alloc: Global,
     bytes: &[u8],
@@ -115,7 +115,7 @@ fn serve_end_state<W: Sink>(
     serve_app(alloc, &app, writer, at)
 }
 
-/// Serves a run, and what stands at its end. Answers whether it passes.
+/// Serves a run, and its end state. Answers whether it passes.
 pub(crate) fn serve_end_state_at<W: Sink>(
     alloc: Global,
     at: Option<At<'_>>,

@@ -1,4 +1,4 @@
-//! The line that tells a fault.
+//! The line of a fault.
 ghost use Rattle.std.specs.Prelude.{◌≡◌, ◌∷◌, ◌++◌, ◌≤◌, ◌<◌, ◌+◌, codes, false, map, [], option_map};
 ghost use Rattle.std.specs.List.{cons_option};
 ghost use Rattle.arrayvec.specs.ArrayVec.{array_vec_len};
@@ -132,7 +132,7 @@ fn pieces_of<'a>(name: &'a str, fault: JobFault) -> Pieces<'a>
     }
 }
 
-/// Puts the line of a fault, which may tell this name: of a handler that is unknown, or of a file that can't be read. Where the
+/// Puts the line of a fault, which may contain this name: of a handler that is unknown, or of a file that can't be read. Where the
 /// sink fails, or takes none of some bytes, it has taken a beginning of the line.
 pub fn tell<F: Sink>(faults: &mut F, name: &str, fault: JobFault)
     requires { F.has_failed faults.old ≡ false }

@@ -1,4 +1,4 @@
-//! The jobs of the program: from the words of the command line and the bytes of a file to what is written, what is told, and
+//! The jobs of the program: from the words of the command line and the bytes of a file to what is written, what is printed as a fault, and
 //! the status.
 #![tactic(auto)]
 

@@ -37,8 +37,8 @@ fn show<W: Sink, F: Sink>(text: &str, writer: &mut W, faults: &mut F) -> u8
     }
 }
 
-// Tells why the words are refused: the text of `clap`, in which the words may stand. That it can't be put changes nothing of the
-// status.
+// Prints why the words are refused: the text of `clap`, which may contain the words. The status is the same where it can't
+// be put.
 fn refuse_words<F: Sink>(text: &str, faults: &mut F) -> u8
     requires { F.has_failed faults.old ≡ false }
     ensures tells { Tells (F.held faults.old) (F.held faults.new) (F.has_failed faults.new)
@@ -72,8 +72,8 @@ fn conclude_text<W: Sink, F: Sink>(
     }
 }
 
-/// Ends a call whose words name no job: help and the version are written, any other text of `clap` is told, its
-/// control characters escaped but for the line feeds.
+/// Ends a call whose words name no job: help and the version are written, any other text of `clap` is printed as a fault, its
+/// control characters escaped except for the line feeds.
 pub fn conclude_error<W: Sink, F: Sink>(
     alloc: Global,
     error: &Error,
@@ -96,7 +96,7 @@ pub fn conclude_error<W: Sink, F: Sink>(
     conclude_text(kind, text.as_str(), writer, faults)
 }
 
-// Does what these words ask for, in which `auto` stands for nothing.
+// Does what these words ask for, in which `auto` means nothing.
 fn obey_meant<T: Threads + Wait + Files + Sync, W: Sink, F: Sink, G: Gate + Sync>(
     rt: &T,
     alloc: Global,
@@ -118,8 +118,8 @@ fn obey_meant<T: Threads + Wait + Files + Sync, W: Sink, F: Sink, G: Gate + Sync
 }
 
 /// Does what the words ask for: a job over the two sinks, or to show help or the version, or to say why they are refused. The first of
-/// them is the name of the program. `auto` as the value of `--workers` stands for as many workers as there are processors that the
-/// program may use, 64 at most, and for 1 where the system doesn't tell how many. The gate is told how far a campaign has come, unless
+/// them is the name of the program. `auto` as the value of `--workers` means as many workers as there are processors that the
+/// program may use, 64 at most, and 1 where the system doesn't say how many. The gate learns how far a campaign has come, unless
 /// the words ask for quiet. It waits for the workers of a campaign, whose threads are this runtime's, as the files are.
 pub fn obey<T: Threads + Wait + Files + Sync, W: Sink, F: Sink, G: Gate + Sync>(
     rt: &T,

@@ -1,4 +1,4 @@
-//! How many workers `auto` stands for, and which words have it.
+//! How many workers `auto` means, and which words have it.
 ghost use Rattle.std.specs.Prelude.{◌≡◌, ◌++◌, IfOk, if◌then◌else◌, [], decimal, map, option_map, string_bytes};
 ghost use Rattle.std.specs.Int.NonZero.{non_zero_usize_get};
 ghost use Rattle.jobs.specs.Processors.{all_meant, meant, meant_after, word_meant, workers_for};
@@ -9,7 +9,7 @@ use std::num::NonZeroUsize;
 // The most workers of a campaign.
 const MOST: usize = 64;
 
-// How many workers `auto` stands for, by how many processors the program may use; `None`: the system doesn't tell.
+// How many workers `auto` means, by how many processors the program may use; `None`: the system doesn't say.
 fn workers_for(processors: Option<NonZeroUsize>) -> usize
     ensures { result ≡ workers_for (option_map non_zero_usize_get processors) }
 {
@@ -64,7 +64,7 @@ fn push_meant(
     Ok(())
 }
 
-/// What the words mean where the program may use so many processors. At `Err` no memory is left.
+/// What the words mean where the program may use this many processors. At `Err` no memory is left.
 pub(crate) fn meant(
     alloc: Global,
     processors: Option<NonZeroUsize>,

@@ -4,7 +4,7 @@ ghost use Rattle.jobs.specs.Shown.{either, ends_named, ends_of, shard_named, spe
 
 use report::{Ends, Shard};
 
-// The ends that a word of a list stands for.
+// The ends that a word of a list means.
 fn ends_named(word: &str) -> Option<Ends>
     ensures { result ≡ ends_named word.now }
 {
@@ -53,7 +53,7 @@ fn either(a: Ends, b: Ends) -> Ends
     }
 }
 
-/// The ends that the words of a list stand for, which are joined by commas. `None`: one of them stands for none.
+/// The ends that the words of a list mean, which are joined by commas. `None` where one of the words means no end.
 pub(crate) fn ends_of(list: &str) -> Option<Ends>
     ensures { result ≡ ends_of list.now }
 {

@@ -16,7 +16,7 @@ use Rattle.soundness.proofs.Passing.{either_way, elapsed-tick, idle_jumps, jumpe
 
 -- ---- who wakes later, and when
 
--- Whoever wakes by itself after now does so no sooner than so many ticks from now.
+-- Whoever wakes by itself after now does so no sooner than this many ticks from now.
 abbrev pub NoneBetween : ℕ → State → Type 0
 NoneBetween n s = (i : ℕ) → IfSome (wake_time_of (status_at s i)) (λ w. s.time < w → s.time + n ≤ w)
 
@@ -68,7 +68,7 @@ least_appended a (x ∷ xs) ys n h = least_appended (min a x) xs ys n h
 abbrev to_come : ℕ → List Interrupt → List ℕ
 to_come elapsed is = map (λ (i : Interrupt). i.tick - elapsed) (filter (λ (i : Interrupt). ltb elapsed i.tick) is)
 
--- So many are no more than to any.
+-- This many are no more than to any.
 abbrev NonePast : ℕ → ℕ → List Interrupt → Type 0
 NonePast n elapsed is = AllByRecursion (λ (i : Interrupt). elapsed < i.tick → n ≤ i.tick - elapsed) is
 

@@ -19,7 +19,7 @@ ends_branch OpensElse = true
 ends_branch EndsIf = true
 ends_branch _ = false
 
--- Where it ends a branch or a loop, that is the innermost of these, which are open.
+-- Where it ends a branch or a loop, that is the innermost of these open blocks.
 abbrev pub ends_one_of : List Block → Edge → Bool
 ends_one_of blocks EndsLoop = is_innermost is_loop blocks
 ends_one_of blocks EndsIf = is_innermost (λ b. not (is_loop b)) blocks
@@ -31,8 +31,8 @@ abbrev pub AreWhole : List Block → List Edge → Type 0
 AreWhole blocks [] = blocks ≡ []
 AreWhole blocks (edge ∷ edges) = (ends_one_of blocks edge ≡ true) × AreWhole (blocks_past edge blocks) edges
 
--- Behind the op of this index of a script come these ops, at the first of which these blocks are open that they end, and then this
--- one, which ends or leaves what is around them.
+-- Behind the op of this index of a script come these ops. They end these blocks, which are open at the first of them. Then comes
+-- this op, which ends or leaves what is around them.
 pub record Encloses (script : List Op) (op_index : ℕ) (blocks : List Block) (ops : List Op) (last : Op) : Type 0 where
   pub behind : List Op
   pub parts : drop (op_index + 1) script ≡ ops ++ last ∷ behind

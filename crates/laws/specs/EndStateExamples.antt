@@ -1,4 +1,4 @@
--- Worked examples of what stands at the end: applications, what is injected, and what stands after so many steps.
+-- Worked examples of the end state: applications, what is injected, and the state after this many steps.
 use Rattle.std.specs.Prelude.{◌≡◌, ℕ, List, [], ◌∷◌, Some, None, codes}
 use Rattle.model.specs.declared.object.ObjectKind.TheVariants.{Queue, Mutex}
 use Rattle.model.specs.declared.op.Access.TheVariants.{Receive}
@@ -16,14 +16,14 @@ use Rattle.laws.specs.DaemonExamples.{deferred}
 
 -- ---- words
 
--- an application, what is injected, and what stands after so many steps
+-- an application, what is injected, and the state after this many steps
 pub record Stopped : Type 0 where
   pub app : Application
   pub plan : List Injection
   pub steps : ℕ
   pub stands : EndState
 
--- That stands after the steps.
+-- That is the state after the steps.
 abbrev pub StandsSo : Stopped → Type 0
 StandsSo e = end_state_of (state_after e.app e.app.limits e.plan e.steps) ≡ e.stands
 

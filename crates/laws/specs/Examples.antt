@@ -51,7 +51,7 @@ with_objects objects tasks = record (the_application 0 tasks) { objects = object
 abbrev pub with_queue : List Definition → Application
 with_queue tasks = with_objects (Queue 1 ∷ []) tasks
 
--- a call on that queue, which may wait for so many ticks
+-- a call on that queue, which may wait for this many ticks
 abbrev pub on_queue : Access → ℕ → Op
 on_queue access ticks = Await 0 access (Some ticks)
 
@@ -158,7 +158,7 @@ across_the_wrap = record {
   };
 }
 
--- `delay_until` goes on where its time has come, and else sleeps; the next one counts from that time
+-- `delay_until` goes on where its time has come, and otherwise sleeps; the next one counts from that time
 abbrev pub periodic : Example
 periodic = record {
   app = the_application 0 (a_task (codes "a") (Work 3 ∷ DelayUntil 2 ∷ DelayUntil 2 ∷ Time ∷ []) ∷ []);

@@ -226,7 +226,7 @@ rows_of_two = twice ∷ past_the_base_run ∷ past_the_row ∷ from_the_end_on �
 -- ---- wakes through a locked queue
 
 -- Wakes through another queue come at once, those through the locked one at its unlock: so the task that was woken last
--- stands first.
+-- comes first.
 abbrev pub two_queues : Injected
 two_queues = record {
   app = with_handler (Queue 1 ∷ Queue 1 ∷ []) (sends 0 1 ∷ sends 1 2 ∷ []) (

@@ -210,7 +210,7 @@ fails_before_a_misuse = record {
 
 -- ---- branches
 
--- The handler sends an item; where there is no room it takes the old one, and else it writes a mark. It comes at tick 2 too.
+-- The handler sends an item; where there is no room it takes the old one, and otherwise it writes a mark. It comes at tick 2 too.
 abbrev pub makes_room : Application
 makes_room =
     interrupted_at 2 (with_handler (Queue 1 ∷ []) (

@@ -27,7 +27,7 @@ n = 1
 abbrev pub s : ℕ
 s = 0
 
--- The task locks a mutex, and waits for it for so many ticks, or for ever.
+-- The task locks a mutex, and waits for it for this many ticks, or for ever.
 abbrev pub lock : ℕ → ℕ → Op
 lock mutex ticks = Await mutex Lock (Some ticks)
 
@@ -48,8 +48,8 @@ give semaphore = Do semaphore Give
 
 -- ---- priority inheritance
 
--- A low task holds the mutex for which a high one waits: it computes with the high priority, while one between them stays
--- Ready, and has its own priority again when it has given the mutex back.
+-- A low task holds the mutex for which a high one waits. It computes with the high priority, while one between them stays
+-- Ready. It has its own priority again when it has given the mutex back.
 abbrev pub inversion_cured : Example
 inversion_cured = record {
   app = with_objects (Mutex ∷ []) (
@@ -109,8 +109,8 @@ keeps_it_for_another = record {
   };
 }
 
--- Of two mutexes one is given back, and wakes who waits for it: the holder keeps the priority that it took from that one,
--- and runs on beside it until it has given back the other.
+-- Of two mutexes one is given back, which wakes the task that waits for it. The holder keeps the priority that it took
+-- from that task, and runs on beside it until it has given back the other.
 abbrev pub one_of_two_given : Example
 one_of_two_given = record {
   app = with_objects (Mutex ∷ Mutex ∷ []) (

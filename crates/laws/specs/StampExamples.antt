@@ -7,7 +7,7 @@ use Rattle.laws.specs.Examples.{a_task, a_task_of, the_application, a, b, event_
 use Rattle.laws.specs.HandlerExamples.{Injected}
 use Rattle.laws.specs.TicklessExamples.{sleeper}
 
--- At first the time is measured from reset, past the wrap of the tick too. While the scheduler is held the time stands.
+-- At first the time is measured from reset, past the wrap of the tick too. While the scheduler is held the time doesn't change.
 abbrev pub measures_its_time : Injected
 measures_its_time = record {
   app = the_application 4294967290 (a_task (codes "a") (

@@ -49,7 +49,7 @@ pub fn loops_for_ever_go_on()
         → task < length s.tasks → AllStay (progress_at s task).loops (progress_at (act app task op s) task).loops }
 {}
 
-/// A `break` ends the innermost loop, be it for ever, in whatever branches of it the task is: what is behind its `end` is next.
+/// A `break` ends the innermost loop, even one for ever, in whatever branches of it the task is: what is behind its `end` is next.
 pub fn breaks_end_the_innermost_loop()
     ensures next { (app : Application) (task : ℕ) (s : State) (branches : List Block) (rest : List Op) → task < length s.tasks
         → op_at app task (progress_at s task).op_index ≡ Some Break

@@ -94,7 +94,7 @@ pub fn examples_with_stamps_run()
     ensures { AllByRecursion RunsWith stamp_examples }
 {}
 
-/// What stands after the steps of each of these is what the table says: a receive that has tried, that waits and isn't in its list yet, that
+/// The state after the steps of each of these is what the table says: a receive that has tried, that waits and isn't in its list yet, that
 /// waits there, that a handler woke through the locked queue, and that runs on once the queue is unlocked; two tasks that wait for each
 /// other's mutex, for ever and until a tick; a task that is suspended, one that sleeps, two that are Ready, and those whose scripts are done;
 /// a daemon without a command.

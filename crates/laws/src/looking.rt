@@ -34,8 +34,8 @@ pub fn failed_checks_end_the_handler()
         → end_of app limits (fail check s) ≡ Some check }
 {}
 
-/// The first check that fails in a step is the run's. No handler that comes after it changes what the run is stopped by, and what the
-/// running task or idle does in the step only by a misuse.
+/// The first check that fails in a step is the run's. No handler that comes after it changes what the run is stopped by. What the
+/// running task or idle does in the step changes it only by a misuse.
 pub fn first_failed_check_counts()
     ensures handlers { (app : Application) (handlers : List ℕ) (end : End) (s : State) → s.stopped ≡ Some end
         → (before_step app handlers s).stopped ≡ Some end }

@@ -49,8 +49,8 @@ pub fn idle_runs_alone()
         → is_ready (state_after app limits plan n) task ≡ false }
 {}
 
-/// After a tick, and after all the ticks that idle lets pass in a step, no Ready task is of higher priority than the running one,
-/// and idle doesn't run beside a Ready task, where the scheduler isn't held.
+/// Where the scheduler isn't held after a tick, or after all the ticks that idle lets pass in a step, no Ready task is of higher
+/// priority than the running one, and idle doesn't run beside a Ready task.
 pub fn no_one_outranks_after_a_tick()
     ensures tick { (app : Application) (s : State) → is_held s ≡ false
         → is_outranked (tick_interrupt app s) ≡ false }
@@ -76,8 +76,8 @@ pub fn ticks_pass_up_to_the_limit()
         → s.elapsed < limits.ticks → (step app limits handlers s).elapsed ≤ limits.ticks }
 {}
 
-/// Idle sleeps past nothing: however many ticks pass in its step, none is past the time at which a task is to wake by itself, and
-/// none past the tick of a base interrupt that is still to come.
+/// Idle sleeps past nothing. However many ticks pass in its step, they don't go past the time at which a task is to wake by
+/// itself, nor past the tick of a base interrupt that is still to come.
 pub fn idle_sleeps_past_nothing()
     ensures wakes { (app : Application) (limits : Limits) (s : State) (task : ℕ) → IfSome (wake_time_of (status_at s task))
         (λ wake_time. s.time < wake_time → (idle app limits s).time ≤ wake_time) }

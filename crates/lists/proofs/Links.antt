@@ -6,7 +6,7 @@ use Rattle.lists.specs.Lists.{Each, EachOnce, Apart, first_of}
 use Rattle.lists.specs.Links.{at_link, put_link, put_end, Linked}
 use Rattle.lists.proofs.Entries.{none-some, Each-left, Each-right, Each-imp}
 
--- a link that is there is read alike whatever stands for those that aren't
+-- a link that is there is read alike whatever represents those that aren't
 pub read_link : (links : List (Option ℕ)) (i : ℕ) (r : Option ℕ) {n : ℕ} → length links ≡ n → i < n → get_or links i r ≡ get_or links i None
 read_link links i r e l = get_or_default links i r None (omega (arith, e, l))
 

@@ -67,7 +67,7 @@ module _ {L N M : ℕ} {next prev : List ℕ} {place : List (Option ℕ)} {value
       let room : N + l < length next = subst (λ (k : ℕ). N + l < k) (sym h.next_length) (within h l (N + l) hl (λ past. refl)) in
       read_end N l next room ∙ ap (node_at N) first ∙ node-below N n below
 
-  -- before the first node stands the end
+  -- before the first node is the end
   pub end_before : get_or prev n 0 ≡ N + l
   end_before =
       let a = around h n l below (first_placed h.spells l hl n at_first) in

@@ -21,7 +21,7 @@ abbrev pub AreAlike : List (Option ℕ) → List ℕ → List ℕ → List ℕ �
 AreAlike place next values next' values' count =
     (node : ℕ) → node < count → is_some (get_or place node None) ≡ true → IsAlike next values next' values' node
 
--- what a comparison of the ends has told
+-- what a comparison of the ends has shown
 pub same_ends : (N : ℕ) (next next' : List ℕ) → false ≡ not (pointwise nat_eq (take (length next - N) (drop N next)) (take (length next' - N) (drop N next'))) → ends_of N next' ≡ ends_of N next
 unfolding ends_of
 same_ends N next next' told =

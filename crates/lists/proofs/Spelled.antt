@@ -423,7 +423,7 @@ module _ {L N : ℕ} {next prev place : List (Option ℕ)} {values : List ℕ} {
   pub next_is : (n l : ℕ) → has_node n (get_or ls l []) ≡ true → get_or next n None ≡ next_of n (get_or ls l [])
   next_is n l t = next_of-linked next (get_or firsts l None) (at_link prev (get_or lasts l None)) n None (get_or ls l []) t (h.linked l (known_list h l (has_node-below n l ls t)))
 
-  -- a node among a list's entries stands in that list
+  -- a node among a list's entries is in that list
   pub placed_here : (n l : ℕ) (o : Option ℕ) → get_or place n None ≡ o → has_node n (get_or ls l []) ≡ true → o ≡ Some l
   placed_here n l None e t = absurd (not_apart-has_node n (get_or ls l []) t (apart-unplaced N place values l n (get_or ls l []) (λ i. none-some l (sym e ∙ i)) (h.stored l (known_list h l (has_node-below n l ls t)))))
   placed_here n l (Some k) e t = elim (cases_eq k l) [

@@ -21,7 +21,7 @@ walk next values (suc fuel) (Some n) = (n, get_or values n 0) ∷ walk next valu
 unfoldable pub lists_of : ℕ → List (Option ℕ) → List ℕ → List (Option ℕ) → List (List (ℕ × ℕ))
 lists_of fuel next values firsts = map (walk next values fuel) firsts
 
--- A link is a node, or `None` for the end of its list, which stands before the first node and after
+-- A link is a node, or `None` for the end of its list, which is before the first node and after
 -- the last. Here is what it leads to: the end leads to `end`, and a node to what `links` says
 abbrev pub at_link : List (Option ℕ) → Option ℕ → Option ℕ → Option ℕ
 at_link links end None = end
@@ -41,7 +41,7 @@ abbrev pub Linked : (Option ℕ → Option ℕ) → (Option ℕ → Option ℕ) 
 Linked next prev a [] = (next a ≡ None) × (prev None ≡ a)
 Linked next prev a (e ∷ xs) = (next a ≡ Some e.0) × (prev (Some e.0) ≡ a) × Linked next prev (Some e.0) xs
 
--- an entry of list l: its node is in the table, stands in that list, and has that value
+-- an entry of list l: its node is in the table, is in that list, and has that value
 pub record IsStored (N : ℕ) (place : List (Option ℕ)) (values : List ℕ) (l : ℕ) (e : ℕ × ℕ) : Type 0 where
   pub known : e.0 < N
   pub placed : get_or place e.0 None ≡ Some l

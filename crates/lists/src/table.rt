@@ -12,7 +12,7 @@ use std::marker::Model;
 /// every call the list is one below `L`, and the node one below `N`.
 ///
 /// These are the lists of FreeRTOS's kernel, whose `vListInsert` puts an entry behind those of the same value too. That
-/// the nodes stand in one table of a fixed size is profile.
+/// the nodes are in one table of a fixed size is profile.
 ///
 /// Each list is a ring, which its end closes: there the link forth is to the first node, and the link back to the last, as
 /// at `xListEnd`. So no node goes in or out in a way of its own. A link is the number of a node, or `N` more than that of the
@@ -89,7 +89,7 @@ impl<const L: usize, const N: usize, const M: usize> Table<L, N, M> {
         }
     }
 
-    /// The end of a list, which stands before its first node and after its last.
+    /// The end of a list, which is before its first node and after its last.
     #[inline(always)]
     fn end(&self, list: ListId) -> usize
         requires { list.number < L }
@@ -109,7 +109,7 @@ impl<const L: usize, const N: usize, const M: usize> Table<L, N, M> {
     }
 
     /// Whether the lists of the other table have the same entries in the same order. What a node that is in no list has
-    /// kept from an earlier one tells nothing.
+    /// kept from an earlier one means nothing.
     pub fn is_same(&self, other: &Self) -> bool
         ensures { result ≡ true → self.now ≡ other.now }
     {
@@ -265,7 +265,7 @@ impl<const L: usize, const N: usize, const M: usize> Table<L, N, M> {
         None
     }
 
-    /// Puts a node below `N`, which is in no list (`place` tells), last into a list below `L`, with a value of 0 to
+    /// Puts a node below `N`, which is in no list (see `place`), last into a list below `L`, with a value of 0 to
     /// 4294967295.
     pub fn push_back(&mut self, list: ListId, node: NodeId, value: u32)
         requires list { list.number < L }
@@ -278,7 +278,7 @@ impl<const L: usize, const N: usize, const M: usize> Table<L, N, M> {
         self.put_before(list, self.end(list), node, value);
     }
 
-    /// Puts a node below `N`, which is in no list (`place` tells), into a list below `L`, with a value of 0 to
+    /// Puts a node below `N`, which is in no list (see `place`), into a list below `L`, with a value of 0 to
     /// 4294967295: before the first one of a greater value, or last where there is none.
     pub fn insert_sorted(&mut self, list: ListId, node: NodeId, value: u32)
         requires list { list.number < L }
@@ -317,7 +317,7 @@ impl<const L: usize, const N: usize, const M: usize> Table<L, N, M> {
         requires free { place_of self.old node.number ≡ None }
         requires split { SplitsBefore (entries_of self.old list.number) (node_at N after) }
         requires end { N ≤ after → after ≡ N + list.number }
-        // Wherever `after` splits the list, the node stands in between.
+        // Wherever `after` splits the list, the node is in between.
         ensures put { (before rest : List (ℕ × ℕ))
             → entries_of self.old list.number ≡ before ++ rest → node_at N after ≡ first_of rest
             → self.new

@@ -54,7 +54,7 @@ none_past (i ∷ j ∷ is) order n l =
 -- ---- a run up to the step of the first injection
 
 module _ (app : Application) (limits : Limits) (plan : List Injection) (first : ℕ) (none : (n : ℕ) → n < first → injected plan n ≡ []) where
-  -- the state after so many steps is the base run's
+  -- the state after this many steps is the base run's
   pub same_state : (n : ℕ) → n ≤ first → state_after app limits plan n ≡ state_after app limits [] n
   same_state zero l = refl
   same_state (suc n) l =

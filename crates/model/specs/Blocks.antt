@@ -71,8 +71,8 @@ blocks_past EndsIf blocks = drop 1 blocks
 blocks_past Breaks blocks = blocks
 blocks_past Inside blocks = blocks
 
--- An op may stand where these blocks are open: none past the most, the end of a loop in a loop, that of an `if` in an `if`, an
--- `else` in the first branch of an `if`, and a `break` somewhere inside a loop.
+-- An op is allowed where these blocks are open. No block may be opened past the most. The end of a loop has to be in a loop,
+-- that of an `if` in an `if`, an `else` in the first branch of an `if`, and a `break` somewhere inside a loop.
 abbrev pub may_stand : Edge → List Block → Bool
 may_stand OpensLoop blocks = nat_lt (loops_in blocks) most_loops && nat_lt (length blocks) most_blocks
 may_stand EndsLoop blocks = is_innermost is_loop blocks
@@ -82,7 +82,7 @@ may_stand EndsIf blocks = is_innermost (λ b. not (is_loop b)) blocks
 may_stand Breaks blocks = nat_lt 0 (loops_in blocks)
 may_stand Inside blocks = true
 
--- Ops that begin where these blocks are open: each may stand where it stands, and at the end every block is closed.
+-- Ops that begin where these blocks are open: each is allowed where it is, and at the end every block is closed.
 abbrev pub Nests : List Block → List Edge → Type 0
 Nests blocks [] = blocks ≡ []
 Nests blocks (edge ∷ edges) = (may_stand edge blocks ≡ true) × Nests (blocks_past edge blocks) edges
@@ -122,7 +122,7 @@ may_come op ops = may_stand (edge_of (ending (open_behind ops) op)) (open_behind
 
 -- ---- where an op jumps to
 
--- how many ops there are to the end of the branch in which they begin, its `else` or `end` included, where so many `if` are open in it
+-- how many ops there are to the end of the branch in which they begin, its `else` or `end` included, where this many `if` are open in it
 abbrev pub past_branch : ℕ → List Edge → ℕ
 past_branch inner [] = 0
 past_branch inner (OpensIf ∷ edges) = past_branch (inner + 1) edges + 1
@@ -130,7 +130,7 @@ past_branch inner (OpensElse ∷ edges) = if inner == 0 then 1 else past_branch 
 past_branch inner (EndsIf ∷ edges) = if inner == 0 then 1 else past_branch (inner - 1) edges + 1
 past_branch inner (edge ∷ edges) = past_branch inner edges + 1
 
--- how many there are to the end of the loop in which they begin, its `end` included, where so many loops are open in it
+-- how many there are to the end of the loop in which they begin, its `end` included, where this many loops are open in it
 abbrev pub past_loop : ℕ → List Edge → ℕ
 past_loop inner [] = 0
 past_loop inner (OpensLoop ∷ edges) = past_loop (inner + 1) edges + 1

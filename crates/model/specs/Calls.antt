@@ -32,13 +32,13 @@ decide task object access s =
     else lock task object Place (wait_in task (list_for object access) (inherit task object s))
 
 -- The hold ends (`xTaskResumeAll`, `portYIELD_WITHIN_API`): after a wait has begun the choice runs, and a caller who was
--- woken meanwhile keeps its ticket; else a higher task may run. The call will try again.
+-- woken meanwhile keeps its ticket; otherwise a higher task may run. The call will try again.
 unfoldable pub leave_call : ℕ → State → State
 leave_call task s =
     let free = end_hold task Try s in
     if (call_at s task).waits then choose free else preempt free
 
--- The phases of a call that may wait for so many ticks (`xQueueReceive` and the like). Its deadline is fixed at the first
+-- The phases of a call that may wait for this many ticks (`xQueueReceive` and the like). Its deadline is fixed at the first
 -- try; Place is where the code puts the task into its list (`vTaskPlaceOnEventList`), and changes nothing here.
 abbrev pub await : Application → ℕ → ℕ → Access → Option ℕ → Phase → State → State
 await app task object access ticks Start s = try app task object access (set_deadline task ticks s)

@@ -16,11 +16,11 @@ use Rattle.model.specs.Run.{Run, IsRow}
 abbrev pub one_point : (handler step : ℕ) → List Injection
 one_point handler step = record { step = step; handler = handler } ∷ []
 
--- the points of a handler before each of so many steps, from the first on
+-- the points of a handler before each of this many steps, from the first on
 abbrev pub every_step : (handler steps : ℕ) → List (List Injection)
 every_step handler steps = map (one_point handler) (range_with_len 0 steps)
 
--- the points that an entry of the file stands for, where the base run has so many steps
+-- the points that an entry of the file means, where the base run has this many steps
 abbrev pub points_of : (steps : ℕ) → PointEntry → List (List Injection)
 points_of steps (One point) = point ∷ []
 points_of steps (Every handler) = every_step handler steps

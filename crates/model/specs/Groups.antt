@@ -105,14 +105,14 @@ unfoldable pub begin_bits_wait : ℕ → ℕ → Condition → Option ℕ → St
 begin_bits_wait task group c ticks s =
     go_on task Leave (wait_for_bits task group (want task c (set_deadline task ticks (record s { call_hold = true }))))
 
--- A call whose condition is met, or that has no ticks to wait, answers. Else the task waits.
+-- A call whose condition is met, or that has no ticks to wait, answers. Otherwise the task waits.
 unfoldable pub check : Application → ℕ → ℕ → Condition → Option ℕ → State → State
 check app task group c ticks s =
     if is_met (bits_at s group) c || option_eq nat_eq ticks (Some 0)
     then answer_bits app task group c s
     else begin_bits_wait task group c ticks s
 
--- Woken, it answers the bits that are kept for it, or else those of now.
+-- Woken, it answers the bits that are kept for it, otherwise those of now.
 abbrev pub final_bits : Application → ℕ → ℕ → Condition → Option ℕ → State → State
 final_bits app task group c None s = answer_bits app task group c s
 final_bits app task group c (Some bits) s = answer app task (Some bits) s

@@ -17,7 +17,7 @@ use Rattle.model.specs.Objects.{answer_to, attempt}
 use Rattle.model.specs.Suspension.{can_resume, resume}
 use Rattle.model.specs.Daemon.{item_of}
 
--- what an op of a handler tells: its answer, or that this is `none`
+-- what an op of a handler reports: its answer, or that this is `none`
 abbrev pub isr_told : ℕ → ℕ → Option ℕ → What
 isr_told handler op_index (Some n) = Isr handler op_index n
 isr_told handler op_index None = IsrNone handler op_index
@@ -54,7 +54,7 @@ isr_jump (If condition) answer ops = if holds condition answer then 0 else past_
 isr_jump Else answer ops = past_branch 0 (isr_edges_of ops)
 isr_jump _ answer ops = 0
 
--- Ops of a handler come one after another, of which the first is the one of this index, but for so many that are jumped over; this
+-- Ops of a handler come one after another, the first of which is the one of this index, except that this many are jumped over; this
 -- is the last answer. A failed `expect` ends the handler, and the run behind this step (profile).
 abbrev pub isr_each : Application → (handler op_index over : ℕ) → Option ℕ → List IsrOp → State → State
 isr_each app handler op_index over answer [] s = s
@@ -96,8 +96,8 @@ ticks_to_interrupt app s =
 abbrev pub ticks_ahead : Application → Limits → State → ℕ
 ticks_ahead app limits s = fold min (limits.ticks - s.elapsed) (ticks_to_wake s ++ ticks_to_interrupt app s)
 
--- Idle lets a tick pass; or, in an application that is tickless, all up to the next thing to happen, with whose tick its base
--- interrupts come, and a switch if one is due.
+-- Idle lets a tick pass. In an application that is tickless it lets all pass up to the next thing to happen. With the last of
+-- them its base interrupts come, and a switch if one is due.
 unfoldable pub idle : Application → Limits → State → State
 idle app limits s =
     if app.tickless

@@ -47,14 +47,14 @@ abbrev pub IsUsedBy : ℕ → Option Op → Type 0
 IsUsedBy used (Some (Work n)) = used < n
 IsUsedBy used _ = Unit {0}
 
--- So many loops are open where these ops begin.
+-- This many loops are open where these ops begin.
 pub record AreOpen (loops : ℕ) (edges : List Edge) : Type 0 where
   -- the blocks that are open there, which the ops end
   pub blocks : List Block
   pub count : loops_in blocks ≡ loops
   pub nests : Nests blocks edges
 
--- At this op of a script so many loops are open.
+-- At this op of a script this many loops are open.
 abbrev pub AreOpenAt : List Op → (op_index loops : ℕ) → Type 0
 AreOpenAt script op_index loops = AreOpen loops (drop op_index (edges_of script))
 
@@ -190,7 +190,7 @@ IsPlacing now t (Some w) = (w.priority ≡ t.priority) × IfSome w.deadline (λ 
 abbrev pub IsStranded : Application → State → ℕ → Type 0
 IsStranded app s task = (is_scheduler_suspended s ≡ true) × (op_at app task (progress_at s task).op_index ≡ None)
 
--- A task runs: it holds the scheduler where a call does, and else it is Ready, or stranded. In a set of bits it stays Ready.
+-- A task runs: it holds the scheduler where a call does, and otherwise it is Ready, or stranded. In a set of bits it stays Ready.
 pub record IsRunning (app : Application) (s : State) (task : ℕ) : Type 0 where
   pub holding : holds (call_at s task).phase ≡ s.call_hold
   pub ready : s.call_hold ≡ false → (is_ready s task ≡ true) ⊎ IsStranded app s task

@@ -19,7 +19,7 @@ allows o Take = nat_lt 0 o.count
 allows o Give = nat_lt o.count o.max_count
 allows o Lock = is_none o.holder
 
--- what a call answers: the first item, or `none`; any other 1 where it is possible, else 0
+-- what a call answers: the first item, or `none`; any other 1 where it is possible, otherwise 0
 abbrev pub reply : Object → Access → Option ℕ
 reply o Receive = slice_get o.items 0
 reply o Peek = slice_get o.items 0

@@ -32,7 +32,7 @@ go_to app task op_index p s = with_task task (moved_to (op_count app task) op_in
 abbrev pub complete : Application → ℕ → Progress → State → State
 complete app task p s = go_to app task (p.op_index + 1) p s
 
--- what a complete call tells: its answer, or that this is `none`
+-- what a complete call reports: its answer, or that this is `none`
 abbrev pub called : ℕ → ℕ → Option ℕ → What
 called task op_index (Some n) = Call task op_index n
 called task op_index None = CallNone task op_index
@@ -55,14 +55,14 @@ use_up app task n s =
     let p = progress_at s task in
     if p.used + 1 == n then complete app task p s else with_progress task (record p { used = p.used + 1 }) s
 
--- The task sleeps for so many ticks, or yields where that is none (`vTaskDelay`); it answers 0 (profile). Of a sleeper
+-- The task sleeps for this many ticks, or yields where that is none (`vTaskDelay`); it answers 0 (profile). Of a sleeper
 -- the step's end makes the choice (`settle`).
 unfoldable pub delay : Application → ℕ → ℕ → State → State
 delay app task n s =
     let t = answer app task (Some 0) s in
     if n == 0 then yield_now t else sleep task (s.time + n) t
 
--- The task sleeps until this time if that is still to come, else it goes on (profile: FreeRTOS yields then); the next
+-- The task sleeps until this time if that is still to come, otherwise it goes on (profile: FreeRTOS yields then); the next
 -- one counts from that time (`xTaskDelayUntil`).
 unfoldable pub delay_until : Application → ℕ → ℕ → State → State
 delay_until app task wake_time s =
@@ -84,19 +84,19 @@ since app task s = answer app task (Some (min (s.time - (progress_at s task).sta
 abbrev pub fail : End → State → State
 fail check s = record s { stopped = option_or s.stopped (Some check) }
 
--- The op is complete if the condition holds of the last answer; else the run ends, and the task stays where it is.
+-- The op is complete if the condition holds of the last answer; otherwise the run ends, and the task stays where it is.
 unfoldable pub expect : Application → ℕ → AnswerCondition → State → State
 expect app task condition s =
     let p = progress_at s task in
     if holds condition p.answer then complete app task p s else fail (Check task p.op_index) s
 
--- A loop of so many turns, or without end, begins at the next op.
+-- A loop of this many turns, or without end, begins at the next op.
 unfoldable pub open_loop : Application → ℕ → Option ℕ → State → State
 open_loop app task turns s =
     let p = progress_at s task in
     complete app task (record p { loops = record { start = p.op_index + 1; left = turns } ∷ p.loops }) s
 
--- The next turn of the innermost loop begins, of which so many are left, this one included; the last one leaves the loop.
+-- The next turn of the innermost loop begins, of which this many are left, this one included; the last one leaves the loop.
 abbrev pub next_turn : Application → ℕ → Progress → Loop → List Loop → Option ℕ → State → State
 next_turn app task p l ls None s = go_to app task l.start p s
 next_turn app task p l ls (Some left) s =
@@ -117,7 +117,7 @@ close_turn app task s = turn app task (progress_at s task) (progress_at s task).
 abbrev pub jump : Application → ℕ → Progress → State → State
 jump app task p s = go_to app task (jump_from (script_of app task) p.op_index) p s
 
--- An `if` goes on with its first branch where the condition holds of the last answer, and else jumps over it.
+-- An `if` goes on with its first branch where the condition holds of the last answer, and otherwise jumps over it.
 unfoldable pub branch : Application → ℕ → AnswerCondition → State → State
 branch app task condition s =
     let p = progress_at s task in if holds condition p.answer then complete app task p s else jump app task p s

@@ -40,7 +40,7 @@ end_of app limits s = option_or s.stopped (
 abbrev pub injected : List Injection → ℕ → List ℕ
 injected plan n = map (λ (i : Injection). i.handler) (filter (λ (i : Injection). i.step == n) plan)
 
--- the state after so many steps
+-- the state after this many steps
 abbrev pub state_after : Application → Limits → List Injection → ℕ → State
 state_after app limits plan zero = reset app
 state_after app limits plan (suc n) = step app limits (injected plan n) (state_after app limits plan n)
@@ -69,7 +69,7 @@ abbrev pub plan_of : Bool → List Injection → List Injection
 plan_of reached point = if reached then point else []
 
 -- A row. Its point is reached where the base run, into which nothing is injected, gets beyond the step of its first injection. It is
--- the run with all its injections then, of which those at or past its end do nothing, and else the base run.
+-- the run with all its injections then, of which those at or past its end do nothing, and otherwise the base run.
 pub record IsRow (app : Application) (limits : Limits) (point : List Injection) (reached : Bool) (row : Run) : Type 0 where
   pub base : Run
   pub is_base : IsRun app [] limits base

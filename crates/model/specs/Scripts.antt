@@ -82,7 +82,7 @@ most_ticks = 281474976710656
 abbrev pub most_steps : ℕ
 most_steps = 1000000
 
--- of entries of points of an application, and of the points that they stand for
+-- of entries of points of an application, and of the points that they mean
 abbrev pub most_points : ℕ
 most_points = 1000000
 

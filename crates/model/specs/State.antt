@@ -148,7 +148,7 @@ no_call = record { phase = Start; deadline = None; waits = false; inherited = fa
 abbrev pub no_progress : Progress
 no_progress = record { op_index = 0; used = 0; loops = []; answer = None; previous_wake = 0; stamp = 0; call = no_call }
 
--- what stands where there is no task
+-- what is kept where there is no task
 abbrev pub no_task : Task
 no_task = record { base_priority = 0; priority = 0; progress = no_progress; status = Ended }
 
@@ -193,7 +193,7 @@ abbrev pub take_ticket : ℕ → (ℕ → Status) → State → State
 take_ticket task status s =
     record (with_status task (status s.next_ticket) s) { next_ticket = s.next_ticket + 1 }
 
--- what stands where there is no object
+-- what is kept where there is no object
 abbrev pub no_object : Object
 no_object = record { size = 0; items = []; max_count = 0; count = 0; holder = None }
 

@@ -113,11 +113,11 @@ abbrev pub act_current : Application → Limits → Option ℕ → State → Sta
 act_current app limits None s = idle app limits s
 act_current app limits (Some task) s = act_if app task (op_at app task (progress_at s task).op_index) s
 
--- These handlers come, one after another, before a step that has told nothing yet.
+-- These handlers come, one after another, before a step that has reported nothing yet.
 unfoldable pub before_step : Application → List ℕ → State → State
 before_step app handlers s = for_each (inject app) handlers (record s { log = [] })
 
--- A step: the injected handlers run; then the running task or idle acts, and where that leaves the running task not
+-- A step. The injected handlers run, and then the running task or idle acts. Where that leaves the running task not
 -- Ready, the choice runs, unless the scheduler is held.
 unfoldable pub step : Application → Limits → List ℕ → State → State
 step app limits handlers s =

@@ -31,7 +31,7 @@ to_back task s = if is_ready s task then make_ready task s else s
 
 -- ---- the trace
 
--- An event is told, with the step's number and the printed tick.
+-- An event is reported, with the step's number and the printed tick.
 abbrev pub write : What → State → State
 write w s = record s { log = s.log ++ record { step = s.steps; tick = printed s.time; what = w } ∷ [] }
 

@@ -34,13 +34,13 @@ wake_due s = for_each make_ready (tasks_of (due s)) s
 unfoldable pub advance : State → State
 advance s = wake_due (record s { time = s.time + 1 })
 
--- One tick comes: time advances, or else, while a `suspend_all` is in force, the tick is held (`xTaskIncrementTick`).
+-- One tick comes. Time advances; while a `suspend_all` is in force, the tick is held instead (`xTaskIncrementTick`).
 unfoldable pub increment_tick : State → State
 increment_tick s =
     let t : State = record s { elapsed = s.elapsed + 1 } in
     if is_scheduler_suspended s then record t { held_ticks = s.held_ticks + 1 } else advance t
 
--- So many ticks come at once, before the last of which nobody is due: idle slept through them (`vTaskStepTick`).
+-- This many ticks come at once, before the last of which nobody is due: idle slept through them (`vTaskStepTick`).
 unfoldable pub jump : ℕ → State → State
 jump ticks s = wake_due (record s { time = s.time + ticks; elapsed = s.elapsed + ticks })
 
@@ -48,7 +48,7 @@ jump ticks s = wake_due (record s { time = s.time + ticks; elapsed = s.elapsed +
 unfoldable pub apply_one : State → State
 apply_one s = advance (record s { held_ticks = s.held_ticks - 1 })
 
--- So many are, one after another (in `xTaskResumeAll`).
+-- This many are, one after another (in `xTaskResumeAll`).
 abbrev pub apply_held : ℕ → State → State
 apply_held zero s = s
 apply_held (suc n) s = apply_held n (apply_one s)

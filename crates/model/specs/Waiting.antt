@@ -16,7 +16,7 @@ same_list (ToReceive a) (ToReceive b) = a == b
 same_list (ToSend a) (ToSend b) = a == b
 same_list _ _ = false
 
--- In its own list a wait stands by its priority, among equals by its ticket.
+-- In its own list a wait is placed by its priority, among equals by its ticket.
 abbrev pub wait_key : WaitList → Wait → Option Key
 wait_key list wait = if same_list wait.list list then Some (key wait.priority wait.ticket) else None
 
@@ -39,7 +39,7 @@ wait_in task list s =
     let status : ℕ → Status = λ ticket. Waiting (record { list = list; priority = priority; ticket = ticket; deadline = call.deadline }) in
     take_ticket task status (with_call task (record call { waits = true }) s)
 
--- The task's call may wait for so many ticks from now, or for ever (`vTaskInternalSetTimeOutState`).
+-- The task's call may wait for this many ticks from now, or for ever (`vTaskInternalSetTimeOutState`).
 unfoldable pub set_deadline : ℕ → Option ℕ → State → State
 set_deadline task ticks s =
     with_call task (record (call_at s task) { deadline = option_map (λ n. s.time + n) ticks }) s

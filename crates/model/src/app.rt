@@ -168,9 +168,9 @@ impl HandlerDefinition {
     }
 }
 
-/// An application: what a run starts from, and the points of its campaign, which no run depends on. That it has 1 to 32
-/// tasks, at most 32 objects, 16 event groups, 16 handlers, 1,024 base interrupts, 4 of them at one tick, and 1,000,000
-/// entries of points, is profile.
+/// An application: what a run starts from, and the points of its campaign, which no run depends on. It has 1 to 32
+/// tasks, and at most 32 objects, 16 event groups, 16 handlers, 1,024 base interrupts, 4 of them at one tick, and
+/// 1,000,000 entries of points (profile).
 #[derive(Drop)]
 pub struct App {
     start: u32,
@@ -242,10 +242,10 @@ impl App {
     /// The most base interrupts at one elapsed tick (profile).
     pub const MOST_AT_ONCE: usize = 4;
 
-    /// The most entries of points, and the most points that they stand for (profile).
+    /// The most entries of points, and the most points that they mean (profile).
     pub const MOST_POINTS: usize = 1_000_000;
 
-    /// An application of these objects, so many event groups, these handlers, base interrupts and tasks, whose time at reset
+    /// An application of these objects, this many event groups, these handlers, base interrupts and tasks, whose time at reset
     /// is `start`, and whose campaign has these points. The daemon, if there is one, is the last task, and its queue the last object.
     /// They are well formed together: each is within the limits, and each op speaks of what is there and allows it.
     pub fn new(
@@ -305,7 +305,7 @@ impl App {
         }
     }
 
-    /// Does nothing: its contract tells callers what holds of every application.
+    /// Does nothing: its contract says what holds of every application.
     pub fn well_formed(&self)
         ensures { IsWellFormed self.now }
     {
@@ -370,8 +370,8 @@ impl App {
         self.interrupts.coming()
     }
 
-    /// Whether no base interrupt comes at an elapsed tick, as far as the one tells that stands at the index `next` in the order
-    /// in which they come: it does where it is the next after this tick.
+    /// Whether the base interrupt at the index `next`, in the order in which they come, shows that none comes at an elapsed
+    /// tick. It does where it is the next after this tick.
     #[inline]
     pub fn is_none_due(&self, tick: u64, next: usize) -> bool
         ensures { result ≡ true → interrupts_at self.now tick ≡ [] }
@@ -380,7 +380,7 @@ impl App {
     }
 
     /// The base interrupts at an elapsed tick, in the order of the file, and how many come up to this tick. The first of them
-    /// stands at the index `taken` in the order in which they come; where it doesn't, it is found by bisection.
+    /// is at the index `taken` in the order in which they come; where it isn't, it is found by bisection.
     #[inline]
     pub fn interrupts_at(&self, tick: u64, taken: usize) -> (&[Interrupt], usize)
         ensures due { map (λ (i : application.Interrupt). i.handler) result.0.now ≡ interrupts_at self.now tick }

@@ -38,7 +38,7 @@ pub enum Edge {
     Inside,
 }
 
-/// The blocks that are open where an op stands.
+/// The blocks that are open where an op is.
 #[derive(Drop)]
 pub struct OpenBlocks {
     // the innermost first
@@ -114,7 +114,7 @@ impl OpenBlocks {
         loops
     }
 
-    /// Whether an op may stand there: it opens no ninth block and no fifth loop, and ends and leaves only what is open (profile).
+    /// Whether an op is allowed there: it opens no ninth block and no fifth loop, and ends and leaves only what is open (profile).
     pub fn may_stand(&self, edge: Edge) -> bool
         ensures { result ≡ may_stand edge self.now }
     {
@@ -130,7 +130,7 @@ impl OpenBlocks {
         }
     }
 
-    /// Those that are open behind the op, which may stand there.
+    /// Those that are open behind the op, which is allowed there.
     pub fn pass(&mut self, edge: Edge)
         requires { may_stand edge self.old ≡ true }
         ensures { self.new ≡ blocks_past edge self.old }

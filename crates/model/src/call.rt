@@ -2,7 +2,8 @@
 use crate::ids::ObjectId;
 
 /// The phases of a call that may wait. Each is one step of the kernel, so that an interrupt may come between any two
-/// (profile: FreeRTOS is interrupted between any two instructions outside its critical sections, which are these).
+/// (profile: FreeRTOS is interrupted between any two instructions outside its critical sections, and the phases are
+/// these sections).
 #[derive(Clone, Copy, Default, PartialEq, Eq)]
 pub enum Phase {
     /// The first step: a call on an object tries, and its deadline counts from here; a `set` sets its bits, and a `wait` looks

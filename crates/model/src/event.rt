@@ -1,7 +1,7 @@
-//! What a run tells: its events, each of which is a line of the report, and how it ends.
+//! What a run reports: its events, each of which is a line of the report, and how it ends.
 use crate::ids::{HandlerId, TaskId};
 
-/// What an event tells.
+/// What an event reports.
 #[derive(Clone, Copy, PartialEq, Eq)]
 pub enum What {
     /// The task's op of this index is complete, with this answer.
@@ -10,13 +10,13 @@ pub enum What {
     CallNone(TaskId, u16),
     /// The daemon has done a command, with this answer: it set bits, or (true) cleared them.
     Obeyed(TaskId, bool, u32),
-    /// The task told this mark.
+    /// The task reported this mark.
     Mark(TaskId, u32),
     /// The handler did its op of this index, with this answer.
     Isr(HandlerId, u16, u32),
     /// The same, with the answer `none`.
     IsrNone(HandlerId, u16),
-    /// The handler told this mark.
+    /// The handler reported this mark.
     IsrMark(HandlerId, u32),
     /// The processor went to the task, or to idle.
     Run(Option<TaskId>),
@@ -42,7 +42,7 @@ pub struct Event {
 // A run may keep millions of events.
 const _: () = prove!(size_of::<Event>() == 16);
 
-/// What a task must not do (profile). FreeRTOS asserts it, or its manual forbids it, and what comes of it is not told.
+/// What a task must not do (profile). FreeRTOS asserts it, or its manual forbids it, and its effect is undefined.
 #[derive(Clone, Copy, PartialEq, Eq)]
 pub enum Misuse {
     /// While a `suspend_all` is in force it does an op that may switch, or wait.

@@ -45,7 +45,7 @@ impl Limits {
         }
     }
 
-    /// Does nothing: its contract tells callers what holds of all limits.
+    /// Does nothing: its contract says what holds of all limits.
     pub fn well_formed(&self)
         ensures { AreLimits self.now.ticks self.now.steps }
     {

@@ -7,7 +7,7 @@ use crate::op::Access;
 /// An object of an application.
 #[derive(Clone, Copy, PartialEq, Eq)]
 pub enum ObjectKind {
-    /// A queue that holds so many items at most, 1 to 256 (profile); each is a number of 32 bits (profile).
+    /// A queue that holds this many items at most, 1 to 256 (profile); each is a number of 32 bits (profile).
     Queue(u16),
     /// A semaphore: its greatest count, 1 to 65,535, and the count at reset, not above that (profile). A binary semaphore
     /// counts to 1 and starts at 0.

@@ -129,7 +129,7 @@ pub enum Op {
     Work(u32),
     /// Sleeps for this many ticks, 0 to 4,294,967,295 (`vTaskDelay`); for 0 it gives way to its equals and doesn't sleep.
     Delay(u32),
-    /// Sleeps until so many ticks after the time from which it counts, 1 to 4,294,967,295 (`xTaskDelayUntil`); goes on at
+    /// Sleeps until this many ticks after the time from which it counts, 1 to 4,294,967,295 (`xTaskDelayUntil`); goes on at
     /// once where that is not still to come (profile: FreeRTOS gives way to equals then).
     DelayUntil(u32),
     /// Gives way to the tasks of equal priority (`taskYIELD`).
@@ -144,7 +144,7 @@ pub enum Op {
     Repeat(Option<u16>),
     /// Ends a turn of the innermost loop (profile).
     End,
-    /// Goes on where this holds of the last answer, and else behind its `else`, or behind its `end` where it has none (profile).
+    /// Goes on where this holds of the last answer, and otherwise behind its `else`, or behind its `end` where it has none (profile).
     If(AnswerCondition),
     /// Goes on behind the `end` of its `if` (profile).
     Else,
@@ -156,7 +156,7 @@ pub enum Op {
     Stamp,
     /// Answers how many ticks have passed since the last `stamp`, at first since reset, at most 4,294,967,295 (profile).
     Since,
-    /// A call that waits until the object allows it, at most for so many ticks, 0 to 4,294,967,294; `None` is for ever
+    /// A call that waits until the object allows it, at most for this many ticks, 0 to 4,294,967,294; `None` is for ever
     /// (`portMAX_DELAY`). It is one of send, send_front, receive, peek, take and lock.
     Await(ObjectId, Access, Option<u32>),
     /// A call that doesn't wait: overwrite or give.
@@ -173,7 +173,7 @@ pub enum Op {
     ClearBits(GroupId, u32),
     /// Answers which bits of an event group are set (`xEventGroupGetBits`).
     GetBits(GroupId),
-    /// Waits until bits of an event group are set, at most for so many ticks, 0 to 4,294,967,294; `None` is for ever
+    /// Waits until bits of an event group are set, at most for this many ticks, 0 to 4,294,967,294; `None` is for ever
     /// (`xEventGroupWaitBits`).
     WaitBits(GroupId, Condition, Option<u32>),
     /// Suspends a task, perhaps itself (`vTaskSuspend`).
@@ -263,7 +263,7 @@ pub enum IsrOp {
     Mark(u32),
     /// Ends the handler, and the run behind the step, where this doesn't hold of the answer of the handler's op before (profile).
     Expect(AnswerCondition),
-    /// Goes on where this holds of that answer, and else behind its `else`, or behind its `end` where it has none (profile).
+    /// Goes on where this holds of that answer, and otherwise behind its `else`, or behind its `end` where it has none (profile).
     If(AnswerCondition),
     /// Goes on behind the `end` of its `if` (profile).
     Else,

@@ -158,7 +158,7 @@ impl Point {
         self.at(self.count as usize - 1).step
     }
 
-    /// Does nothing: its contract tells callers what holds of every point.
+    /// Does nothing: its contract says what holds of every point.
     pub fn well_formed(&self)
         ensures { IsPoint self.now }
     {
@@ -306,7 +306,7 @@ impl Plan {
         self.injections.as_slice()
     }
 
-    /// Does nothing: its contract tells callers what holds of every plan.
+    /// Does nothing: its contract says what holds of every plan.
     pub fn well_formed(&self)
         ensures { IsPlan self.now }
     {

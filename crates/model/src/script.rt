@@ -120,7 +120,7 @@ fn jumps_of(alloc: Global, ops: &[Op]) -> Result<Vec<u16>, AllocError>
     Ok(jumps)
 }
 
-/// Whether a call may wait for so many ticks, or for ever.
+/// Whether a call may wait for this many ticks, or for ever.
 fn is_wait(ticks: Option<u32>) -> bool
     ensures { result ≡ is_wait ticks }
 {
@@ -169,10 +169,10 @@ impl Op {
     }
 }
 
-/// Why a script does not go on so.
+/// Why an op can't be appended, or a script isn't whole.
 #[derive(Clone, Copy)]
 pub enum NestingFault {
-    /// The op may not stand there, or a block is left open.
+    /// The op is not allowed there, or a block is left open.
     BadNesting,
     /// No memory for it.
     Memory,
@@ -210,7 +210,7 @@ impl ScriptBuilder {
     }
 
     /// Appends an op, whose numbers are in their ranges, to fewer than 256; an `end` ends the innermost block. At an `Err` the
-    /// script is as it was: `BadNesting` where the op may not stand there, whatever memory is left, and `Memory` only where it may.
+    /// script is as it was: `BadNesting` where the op is not allowed there, whatever memory is left, and `Memory` only where it is.
     pub fn push(&mut self, op: Op) -> Result<(), NestingFault>
         requires range { InRange op }
         requires room { length self.old < 256 }
@@ -232,7 +232,7 @@ impl ScriptBuilder {
         }
     }
 
-    /// The script, where every block is closed: else `BadNesting`, whatever memory is left.
+    /// The script, where every block is closed; otherwise `BadNesting`, whatever memory is left.
     pub fn finish(self, alloc: Global) -> Result<Script, NestingFault>
         ensures closed { OnOk result (open_behind self ≡ []) }
         ensures script { IfOk result (λ script. (script ≡ self) × IsScript script) }

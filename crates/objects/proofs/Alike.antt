@@ -9,7 +9,7 @@ use Rattle.objects.specs.Rings.{Fields, IsFront, base_of, count_of, head_of, lis
 use Rattle.objects.proofs.Listed.{listed-same}
 use Rattle.objects.proofs.Rings.{object-is, place-in}
 
--- so many of the first items of a queue are the same in both
+-- this many of the first items of a queue are the same in both
 abbrev pub AreAlike : Fields → Fields → ℕ → ℕ → Type 0
 AreAlike a b q count = (k : ℕ) → k < count → get_or a.pool (place a q k) 0 ≡ get_or b.pool (place b q k) 0
 

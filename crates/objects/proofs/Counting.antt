@@ -18,7 +18,7 @@ use Rattle.objects.proofs.Keys.{same_list-true, standing_key, waiting_key}
 use Rattle.objects.proofs.Parts.{waiters_rest}
 use Rattle.objects.proofs.Standing.{standing-awakened, stands_awakened}
 
--- each task stands in a list once
+-- each task is in a list once
 
 places : (f : Task → Option Key) (i : ℕ) (ts : List Task) → AllByRecursion (λ e. i ≤ e.task) (keyed f i ts)
 places f i [] = tt

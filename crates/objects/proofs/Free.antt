@@ -65,7 +65,7 @@ once_priorities : (es : List Entry) → Distinct es → EachOnce (with_prioritie
 once_priorities [] d = tt
 once_priorities (e ∷ es) d = (apart_priorities e.task es d.0, once_priorities es d.1)
 
--- ---- those who stand in a list
+-- ---- those who are in a list
 
 standing_apart : (s : State) (i : ℕ) (list : WaitList) → standing_key list (task_at s i) ≡ None → Apart (Some i) (with_priorities (standing s list))
 standing_apart s i list none = apart_priorities i (standing s list) (list_without (standing_key list) i s.tasks none)
@@ -114,7 +114,7 @@ module _ (v : Exchange) (s : State) (d : Decider) (h : StandsFor v (Some d) s) w
   pub still_free : place_of v.waiting d.task ≡ None
   still_free = no_place v.waiting d.task still_absent
 
-  -- any other is where it stands
+  -- any other is where it is
   pub others_listed : (i : ℕ) → d.task ≢ i → (list : WaitList) → has_node i (waiting_in v.waiting list) ≡ has_node i (with_priorities (standing s list))
   others_listed i ne list = by_test (same_list d.list list)
       (λ t. subst (λ (q : WaitList). has_node i (waiting_in v.waiting q) ≡ has_node i (with_priorities (standing s q))) (same_list-true d.list list t)

@@ -1,4 +1,4 @@
--- What leaves the waits as they are leaves the queues standing for the state.
+-- Changes of a state that leave the waits as they are: the queues still represent it.
 use Rattle.std.proofs.Common.{length, ◌≡◌, ℕ, suc, ◌+◌, List, [], ◌∷◌, Option, Some, None, refl, ap, sym, subst, ◌∙◌, get_or}
 use Rattle.std.specs.List.{AllByRecursion}
 use Rattle.std.specs.Option.{IfSome, is_some, option_and_then}
@@ -21,7 +21,7 @@ use Rattle.objects.specs.Queues.{Counts, Exchange, SameWaits, StandsFor}
 use Rattle.objects.proofs.Keys.{standing_key}
 use Rattle.objects.proofs.Counting.{awake_agree}
 
--- ---- what the queues stand for
+-- ---- what the queues represent
 
 -- two tables whose tasks have the same keys
 keyed_alike : (f : Task → Option Key) → f no_task ≡ None → (o : ℕ) (ts us : List Task) → ((i : ℕ) → f (get_or ts i no_task) ≡ f (get_or us i no_task)) → keyed f o ts ≡ keyed f o us

@@ -1,4 +1,4 @@
--- Those who wait in a list and those who are Awake are parts of those who stand there.
+-- Those who wait in a list and those who are Awake are parts of those who are there.
 use Rattle.std.proofs.Common.{◌≡◌, ℕ, ◌+◌, zero, suc, Bool, not, cond, List, [], ◌∷◌, ◌++◌, Option, Some, None, refl, ap, sym, ◌∙◌, arith, get_or, length, take, drop, append_assoc, length-append}
 use Rattle.std.specs.List.{cons_option, filter}
 use Rattle.std.specs.Option.{is_some, option_and_then, option_map}
@@ -78,7 +78,7 @@ filter-not_awake s (suc k) [] h = refl
 filter-not_awake s zero (e ∷ es) h = rw h.0 (ap (λ l. e ∷ l) (filter-not_awake s zero es h.1))
 filter-not_awake s (suc k) (e ∷ es) h = rw h.0 (filter-not_awake s k es h.1)
 
--- The first so many of those who stand there are Awake, and the others wait.
+-- Of those who are there this many, the first ones, are Awake, and the others wait.
 pub awakened_first : (s : State) (list : WaitList) (k : ℕ) → FirstAwake s k (standing s list) → awakened s list ≡ take k (standing s list)
 awakened_first s list k h =
     list_by-part (λ t. option_and_then (wait_key list) (wait_if_awake t.status)) (standing_key list) (λ t. is_some (wait_if_awake t.status)) (λ t. awake-part list t.status) s.tasks

@@ -16,7 +16,7 @@ pub record KeepsWaits (old new : State) : Type 0 where
   pub same : SameWaits old new
   pub table : IsTable old → IsTable new
 
--- then the queues stand for the new state too, and who is Awake waited at the locked object
+-- then the queues represent the new state too, and who is Awake waited at the locked object
 pub stands_kept : (v : Exchange) (d : Option Decider) (s t : State) → KeepsWaits s t → StandsFor v d s → StandsFor v d t
 stands_kept v d s t k h = stands_same s t k.same v d h (k.table h.waiters.table)
 

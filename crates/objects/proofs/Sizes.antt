@@ -34,7 +34,7 @@ there [] o a t = absurd cc
 there (kind ∷ kinds) zero a t = omega arith
 there (kind ∷ kinds) (suc o) a t = let h = there kinds o a t in omega (arith, h)
 
--- An object of which an op speaks is there, and has the room that its call wants, in the queues that stand for a state of a run.
+-- An object of which an op speaks is there, and has the room that its call wants, in the queues that represent a state of a run.
 pub has_room : (app : Application) (hold : Hold) (v : Exchange) (d : Option Decider) (s : State) (o : ℕ) (a : Access) → IsSound app hold s → StandsFor v d s → fits_object app o a ≡ true → HasRoom v o a
 has_room app hold v d s o a h stands known = (
   let below = there app.objects o a known in let many = h.objects in let same = stands.number in omega (arith, below, many, same),

@@ -40,7 +40,7 @@ with_priorities-filter i (x ∷ xs) = by_test (eqb x.task i) (λ t. rw t (with_p
 -- a task that takes a ticket
 
 module _ (s : State) (i : ℕ) (status : ℕ → Status) (h : IsTable s) (l : i < length s.tasks) (list : WaitList) where
-  -- and stands in the list with it
+  -- and is in the list with it
   pub standing-joined : (p : ℕ) → standing_key list (record (task_at s i) { status = status s.next_ticket }) ≡ Some (key p s.next_ticket)
       → with_priorities (standing (take_ticket i status s) list) ≡ insert_by_priority (i, p) (without i (with_priorities (standing s list)))
   standing-joined p is =
@@ -51,14 +51,14 @@ module _ (s : State) (i : ℕ) (status : ℕ → Status) (h : IsTable s) (l : i 
       ∙ with_priorities-put (entry i k) (filter (other i) (standing s list)) (All-filtered (λ (x : Entry). x.key.ticket < s.next_ticket) (other i) (standing s list) (list_below (standing_key list) s.next_ticket s.tasks b))
       ∙ ap (insert_by_priority (i, p)) (with_priorities-filter i (standing s list))
 
-  -- or doesn't stand there
+  -- or isn't there
   pub standing-left : standing_key list (record (task_at s i) { status = status s.next_ticket }) ≡ None
       → with_priorities (standing (take_ticket i status s) list) ≡ without i (with_priorities (standing s list))
   standing-left is =
       let t : Task = record (task_at s i) { status = status s.next_ticket } in
       ap with_priorities (list-gone (standing_key list) i t s.tasks l is) ∙ with_priorities-filter i (standing s list)
 
--- a task that changes and stands where it stood
+-- a task that changes and stays where it was
 pub stands_kept : (v : List (List (ℕ × ℕ))) (d : Option Decider) (s : State) (i : ℕ) (t : Task) → WaitersStand v d s → ((list : WaitList) → standing_key list t ≡ standing_key list (task_at s i)) → HasTicketBelow s.next_ticket t.status
     → WaitersStand v d (record s { tasks = set s.tasks i t })
 stands_kept v d s i t h same below = record {
@@ -66,7 +66,7 @@ stands_kept v d s i t h same below = record {
   table = table-set s i t h.table below;
 }
 
--- Who is woken through the locked object stands where it stood.
+-- Who is woken through the locked object stays where it was.
 pub standing-awakened : (s : State) (i : ℕ) (list : WaitList) → standing (awaken i s) list ≡ standing s list
 standing-awakened s i list = list-kept (standing_key list) i (record (task_at s i) { status = awake_status (status_at s i) }) s.tasks (ap (option_and_then (wait_key list)) (wait_of-awake (status_at s i)))
 

@@ -54,7 +54,7 @@ drop-none : (k : ℕ) → drop {A = ℕ × ℕ} k [] ≡ []
 drop-none zero = refl
 drop-none (suc k) = refl
 
--- so many fewer in a list
+-- this many fewer in a list
 entries_of-dropped : (ls : List (List (ℕ × ℕ))) (l k : ℕ) → entries_of (set ls l (drop k (entries_of ls l))) l ≡ drop k (entries_of ls l)
 entries_of-dropped ls l k = elim (cases_lt l (length ls)) [
   | inl below ↦ entries_of-set_same ls l (drop k (entries_of ls l)) below
@@ -70,7 +70,7 @@ none_out ls l first = sym (set-self ls l (drop 1 (entries_of ls l)) (none (entri
   none [] e = refl
   none (x ∷ xs) e = absurd (none-some x.0 e)
 
--- so many are taken out of a list, or all where there are fewer
+-- this many are taken out of a list, or all where there are fewer
 pub record TakenOut (old new : List (List (ℕ × ℕ))) (list : WaitList) (count : ℕ) (taken : List ℕ) : Type 0 where
   pub tasks : taken ≡ take count (tasks_in (waiting_in old list))
   pub left : new ≡ set old (number_of list) (drop count (waiting_in old list))

@@ -35,7 +35,7 @@ module _ (q : Inside) (v : Exchange) (is : the_view q ≡ v) (n o : ℕ) (same :
       let many : length v.objects ≡ object_places = ap (λ (w : Exchange). length w.objects) (sym is) ∙ length-listed (object_of_all q.items q.semaphores q.mutexes) object_places in
       omega (arith, many, same, known)
 
-  -- another object stands there, and the others stay
+  -- another object is there, and the others stay
   put : (qs : List Object) (c : Counts) (hs : List (Option ℕ)) (f : Object → Object)
       → ((k : ℕ) → k ≢ n → object_of_all qs c hs k ≡ object_of_all q.items q.semaphores q.mutexes k)
       → object_of_all qs c hs n ≡ f (object_of_all q.items q.semaphores q.mutexes n)

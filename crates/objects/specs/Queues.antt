@@ -1,4 +1,4 @@
--- What callers see of the queues, and the states that they stand for.
+-- What callers see of the queues, and the states that they represent.
 use Rattle.std.specs.Prelude.{◌≡◌, ◌<◌, ℕ, ◌==◌, if◌then◌else◌, List, Option, Some, None, length, option_map, option_and_then, IfSome}
 use Rattle.lists.specs.Lists.{first_of}
 use Rattle.model.specs.declared.op.Access.{Access}
@@ -46,7 +46,7 @@ counted (ToSend object) lock =
 abbrev pub counted_by : WaitList → Option Lock → Option Lock
 counted_by list lock = option_and_then (counted list) lock
 
--- A wake of a list changes this lock, which counts it, or else the list, whose best waiter is taken out.
+-- A wake of a list changes this lock, which counts it. Without a lock it takes the best waiter out of the list.
 abbrev pub after_wake : Option Lock → WaitList → Exchange → Exchange
 after_wake (Some lock) list v = record v { lock = Some lock }
 after_wake None list v = record v { waiting = without_best list 1 v.waiting }
@@ -69,7 +69,7 @@ AreCounted lock v receivers senders =
     (receivers ≡ best_of (ToReceive lock.object) lock.receivers v.waiting)
     × (senders ≡ best_of (ToSend lock.object) lock.senders v.waiting)
 
--- So many of the object's lists are Awake as the lock counts, and stand first.
+-- In each of the object's lists as many are Awake as the lock counts, and they come first.
 abbrev pub Counts : State → Lock → Type 0
 Counts s lock =
     FirstAwake s lock.receivers (standing s (ToReceive lock.object)) × FirstAwake s lock.senders (standing s (ToSend lock.object))
@@ -78,8 +78,8 @@ Counts s lock =
 abbrev pub CountsNobody : Exchange → Type 0
 CountsNobody v = IfSome v.lock (λ (l : Lock). (l.receivers ≡ 0) × (l.senders ≡ 0))
 
--- The objects are the state's, and as many, the waiting lists are the tasks that stand there, together with the one who is still to be
--- placed, if there is one, the same object is locked, and its wakes are counted.
+-- The objects are the state's, and as many. The waiting lists are the tasks that wait there, together with the one who is still to be
+-- placed, if there is one. The same object is locked, and its wakes are counted.
 pub record StandsFor (v : Exchange) (decider : Option Decider) (s : State) : Type 0 where
   pub number : length s.objects ≡ v.number
   pub objects : (object : ℕ) → object_in v.objects object ≡ object_at s object

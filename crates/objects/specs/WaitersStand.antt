@@ -1,4 +1,4 @@
--- What the waiting lists stand for: the tasks that wait in a state of the definitions, whose tickets the lists don't have.
+-- What the waiting lists represent: the tasks that wait in a state of the definitions, whose tickets the lists don't have.
 use Rattle.std.specs.Prelude.{◌≡◌, ℕ, zero, suc, ◌+◌, Bool, true, false, is_some, List, [], ◌∷◌, Option, Some, None, nat_lt, if◌then◌else◌, option_and_then, IfSome}
 use Rattle.model.specs.declared.call.WaitList.{WaitList}
 use Rattle.model.specs.declared.call.WaitList.TheVariants.{ToReceive, ToSend}
@@ -26,7 +26,7 @@ joined_by None list entries = entries
 joined_by (Some d) list entries =
     if same_list d.list list then insert_by_priority (d.task, d.priority) entries else entries
 
--- With the one who is still to be placed, if there is one, each list is the tasks that stand there, in order, each with
+-- With the one who is still to be placed, if there is one, each list is the tasks that are there, in order, each with
 -- the priority that it had when it began to wait.
 pub record WaitersStand (v : List (List (ℕ × ℕ))) (decider : Option Decider) (s : State) : Type 0 where
   pub lists : (list : WaitList) → joined_by decider list (waiting_in v list) ≡ with_priorities (standing s list)
@@ -43,7 +43,7 @@ pub record AtLocked (decider : Option Decider) (s : State) : Type 0 where
   pub awake : (task : ℕ) → IfSome (wait_if_awake (status_at s task)) (λ w. is_locked s.locked w.list ≡ true)
   pub to_place : IfSome decider (λ d. is_locked s.locked d.list ≡ true)
 
--- The first so many are Awake (all, if there are fewer), and no other is.
+-- This many, the first ones, are Awake (all, if there are fewer), and no other is.
 abbrev pub FirstAwake : State → ℕ → List Entry → Type 0
 FirstAwake s count [] = Unit {0}
 FirstAwake s zero (e ∷ es) = (is_awake s e.task ≡ false) × FirstAwake s zero es
@@ -53,8 +53,8 @@ FirstAwake s (suc count) (e ∷ es) = (is_awake s e.task ≡ true) × FirstAwake
 abbrev pub one_more : ℕ → ℕ
 one_more count = if nat_lt count 32 then count + 1 else count
 
--- Since this object was locked, so many were woken of those who wait to receive from it, and of those who wait to send to
--- it (`cTxLock`, `cRxLock`): they are Awake, and stand first.
+-- Since this object was locked, this many were woken of those who wait to receive from it, and of those who wait to send to
+-- it (`cTxLock`, `cRxLock`): they are Awake, and come first.
 pub record StandLocked (v : List (List (ℕ × ℕ))) (decider : Option Decider) (object receivers senders : ℕ) (s : State) : Type 0 where
   pub stand : WaitersStand v decider s
   pub locked : s.locked ≡ Some object

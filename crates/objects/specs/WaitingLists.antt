@@ -20,15 +20,15 @@ abbrev pub first_priority : List (ℕ × ℕ) → ℕ
 first_priority [] = 0
 first_priority (e ∷ entries) = e.1
 
--- so many of the best waiters of a list, in order, or all where there are fewer
+-- this many of the best waiters of a list, in order, or all where there are fewer
 abbrev pub best_of : WaitList → ℕ → List (List (ℕ × ℕ)) → List ℕ
 best_of list count lists = take count (tasks_in (waiting_in lists list))
 
--- So many of the best waiters are taken out of a list.
+-- This many of the best waiters are taken out of a list.
 abbrev pub without_best : WaitList → ℕ → List (List (ℕ × ℕ)) → List (List (ℕ × ℕ))
 without_best list count lists = slice_set lists (number_of list) (drop count (waiting_in lists list))
 
--- So many are taken out of the two lists of an object, of those who wait to receive and of those who wait to send.
+-- This many are taken out of the two lists of an object, of those who wait to receive and of those who wait to send.
 abbrev pub without_woken : ℕ → ℕ → ℕ → List (List (ℕ × ℕ)) → List (List (ℕ × ℕ))
 without_woken object receivers senders lists =
     without_best (ToSend object) senders (without_best (ToReceive object) receivers lists)

@@ -42,7 +42,7 @@ impl Model for Items {
     ghost invariant = { λ s. IsItems (record { pool = s.pool; bases = s.bases; lengths = s.lengths; heads = s.heads; counts = s.counts }) };
 }
 
-/// The items of all queues as they stood once: of the pool only the regions of the queues.
+/// The items of all queues as they once were: of the pool only the regions of the queues.
 #[derive(Drop)]
 pub(crate) struct ItemsSnapshot {
     pool: Vec<u32>,
@@ -52,7 +52,7 @@ pub(crate) struct ItemsSnapshot {
     counts: [u16; OBJECTS],
 }
 
-// Clauses see the objects of the definitions, as they stood.
+// Clauses see the objects of the definitions, as they were.
 impl Model for ItemsSnapshot {
     ghost use Rattle.std.specs.Prelude.{List};
     ghost use Rattle.model.specs.State.{Object};
@@ -169,7 +169,7 @@ impl Items {
         }
     }
 
-    /// Puts an item behind those of a queue that has room (`room` tells).
+    /// Puts an item behind those of a queue that has room (see `room`).
     pub(crate) fn push_back(&mut self, queue: usize, item: u32)
         requires known { queue < object_places }
         requires room { length (object_in self.old queue).items < (object_in self.old queue).size }
@@ -182,7 +182,7 @@ impl Items {
         self.counts[queue] += 1;
     }
 
-    /// Puts an item before those of a queue that has room (`room` tells).
+    /// Puts an item before those of a queue that has room (see `room`).
     pub(crate) fn push_front(&mut self, queue: usize, item: u32)
         requires known { queue < object_places }
         requires room { length (object_in self.old queue).items < (object_in self.old queue).size }
@@ -241,7 +241,7 @@ impl Items {
         self.counts = other.counts;
     }
 
-    /// The queues as they stand now, with no more of the pool than the regions of the queues.
+    /// The queues as they are now, with no more of the pool than the regions of the queues.
     pub(crate) fn snapshot(&self, alloc: Global) -> Result<ItemsSnapshot, Memory>
         ensures { IfOk result (λ snapshot. snapshot ≡ self.now) }
     {
@@ -258,8 +258,8 @@ impl Items {
         })
     }
 
-    /// Whether the queues stand as in a snapshot: each has as many items, the same and in the same order. Where in the pool
-    /// they lie tells nothing.
+    /// Whether the queues are as in a snapshot: each has as many items, the same and in the same order. Where in the pool
+    /// they lie doesn't count.
     pub(crate) fn is_at(&self, snapshot: &ItemsSnapshot) -> bool
         ensures { result ≡ true → self.now ≡ snapshot.now }
     {
@@ -275,7 +275,7 @@ impl Items {
         true
     }
 
-    /// Whether a queue stands as in a snapshot.
+    /// Whether a queue is as in a snapshot.
     fn is_queue_at(&self, queue: usize, snapshot: &ItemsSnapshot) -> bool
         requires { queue < object_places }
         ensures { result ≡ true → object_in self.now queue ≡ object_in snapshot.now queue }

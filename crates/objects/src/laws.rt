@@ -1,4 +1,4 @@
-//! What leaves the queues as they are. These functions do nothing: their contracts tell.
+//! What leaves the queues as they are. These functions do nothing: their contracts say it.
 ghost use Rattle.std.specs.Prelude.{◌≡◌, ℕ, ◌<◌, length, List, Bool, Option, Some, None, IfSome};
 ghost use Rattle.lists.specs.Lists.{place_of};
 ghost use Rattle.model.specs.declared.call.Phase.TheVariants.{Place, Unlock};
@@ -71,7 +71,7 @@ pub fn decides()
         }) }
 {}
 
-/// A change of a priority leaves the queues as they are: a task stands in its list with the priority that it had when its
+/// A change of a priority leaves the queues as they are: a task is in its list with the priority that it had when its
 /// wait began.
 pub fn ranks()
     ensures ranked { (v : Exchange) (decider : Option Decider) (s : State) (task priority : ℕ)

@@ -60,7 +60,7 @@ impl Model for Queues {
     ghost view = { λ q. record { number = q.number; objects = objects_of_all q.items q.semaphores q.mutexes; waiting = q.waiting; lock = q.lock } };
 }
 
-/// The objects as they stood once: with no more of the items' storage than the application's queues have.
+/// The objects as they once were: with no more of the items' storage than the application's queues have.
 #[derive(Drop)]
 pub struct QueuesSnapshot {
     number: u8,
@@ -127,7 +127,7 @@ impl Queues {
         self.lock = other.lock;
     }
 
-    /// The objects as they stand now. It takes four bytes of memory for each item that the queues can hold.
+    /// The objects as they are now. It takes four bytes of memory for each item that the queues can hold.
     ///
     /// `Memory` is answered only where a growth was refused.
     pub fn snapshot(&self, alloc: Global) -> Result<QueuesSnapshot, Memory>
@@ -143,7 +143,7 @@ impl Queues {
         })
     }
 
-    /// Becomes what a snapshot tells, in place. It takes no memory.
+    /// Becomes what a snapshot holds, in place. It takes no memory.
     pub fn restore(&mut self, snapshot: &QueuesSnapshot)
         ensures { self.new ≡ snapshot.now }
     {
@@ -155,7 +155,7 @@ impl Queues {
         self.lock = snapshot.lock;
     }
 
-    /// Whether the objects stand as in a snapshot, the same tasks wait at them, and the same one is locked.
+    /// Whether the objects are as in a snapshot, the same tasks wait at them, and the same one is locked.
     pub fn is_at(&self, snapshot: &QueuesSnapshot) -> bool
         ensures { result ≡ true → self.now ≡ snapshot.now }
     {
@@ -188,9 +188,9 @@ impl Queues {
         self.items.room(queue.number as usize)
     }
 
-    /// Whether a call is possible on an object now: one that puts an item in where there is room, one that takes or reads
-    /// the first where there is one, and `overwrite` always; `take` where the count isn't 0, `give` where it is below its
-    /// greatest, and `lock` where nobody holds the mutex.
+    /// Whether a call is possible on an object now. One that puts an item in is where there is room, one that takes or
+    /// reads the first item where there is one, and `overwrite` always. `take` is possible where the count isn't 0,
+    /// `give` where it is below its greatest, and `lock` where nobody holds the mutex.
     #[inline(always)]
     pub fn possible(&self, object: ObjectId, access: Access) -> bool
         ensures possible { result ≡ allows (object_in self.now.objects object) access }
@@ -211,8 +211,8 @@ impl Queues {
         }
     }
 
-    /// Does a possible call (`possible` tells) of a task, or of a handler (`None`), on an object that there is. It answers what the call answers:
-    /// `receive` and `peek` the first item, and any other 1. Nobody is woken.
+    /// Does a possible call (see `possible`) of a task, or of a handler (`None`), on an object that is there. It answers what the call
+    /// answers: `receive` and `peek` the first item, and any other 1. Nobody is woken.
     #[inline(always)]
     pub fn carry_out(
         &mut self,
@@ -358,7 +358,7 @@ impl Queues {
         self.waiting.best_priority(list)
     }
 
-    /// Locks an object, where none is (`is_locked` tells; `prvLockQueue`).
+    /// Locks an object, where none is (see `is_locked`; `prvLockQueue`).
     pub fn lock(&mut self, object: ObjectId)
         requires free { self.old.lock ≡ None }
         ensures lock { self.new ≡ record self.old {
@@ -399,7 +399,7 @@ impl Queues {
         }
     }
 
-    /// The lock with one more wake counted, where the list is one of the locked object's; else `None`.
+    /// The lock with one more wake counted, where the list is one of the locked object's; otherwise `None`.
     fn counted(&self, list: WaitList) -> Option<Lock>
         ensures counted { result ≡ counted_by list self.now.lock }
     {
@@ -434,7 +434,7 @@ impl Queues {
         )
     }
 
-    /// Unlocks the locked object where nobody was woken since, and answers whether that is so; else nothing changes.
+    /// Unlocks the locked object where nobody was woken since, and answers whether that is so; otherwise nothing changes.
     pub fn unlock_if_none_woken(&mut self) -> bool
         ensures answers { IsTrue result ↔ (IsSome self.old.lock × CountsNobody self.old) }
         ensures kept { result ≡ false → self.new ≡ self.old }
@@ -451,7 +451,7 @@ impl Queues {
         }
     }
 
-    /// Puts a task that has begun to wait, and is in no list (`is_waiting` tells), into its list, with its priority of 0 to
+    /// Puts a task that has begun to wait, and is in no list (see `is_waiting`), into its list, with its priority of 0 to
     /// 31 (`vTaskPlaceOnEventList`): behind all that are not of lower priority.
     #[inline(always)]
     pub fn place(&mut self, list: WaitList, task: TaskId, priority: u8)

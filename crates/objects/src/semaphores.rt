@@ -100,7 +100,7 @@ impl Semaphores {
         self.counts[object] < self.max_counts[object]
     }
 
-    /// Takes one from a count that isn't 0 (`can_take` tells).
+    /// Takes one from a count that isn't 0 (see `can_take`).
     pub(crate) fn take(&mut self, object: usize)
         requires known { object < object_places }
         requires possible { 0 < count_in self.old object }
@@ -112,7 +112,7 @@ impl Semaphores {
         self.counts[object] -= 1;
     }
 
-    /// Adds one to a count below its greatest (`can_give` tells).
+    /// Adds one to a count below its greatest (see `can_give`).
     pub(crate) fn give(&mut self, object: usize)
         requires known { object < object_places }
         requires possible { count_in self.old object < max_count_in self.old object }

@@ -28,7 +28,7 @@ const LISTS: usize = 2 * OBJECTS;
 /// How many links they have: one for each list, and one for each of 32 tasks.
 const LINKS: usize = LISTS + 32;
 
-/// Tasks that were taken out of a list, 32 at most, in the order in which they stood there.
+/// Tasks that were taken out of a list, 32 at most, in the order in which they were there.
 pub type Taken = ArrayVec<TaskId, 32>;
 
 /// Tasks that were taken out of the two lists of an object.
@@ -39,7 +39,7 @@ pub struct Unlocked {
 }
 
 /// The tasks that wait to receive from each object, and those that wait to send to it: each task is in one list at most.
-/// In a list a task stands before those of lower priority, and behind those of its own that came before it.
+/// In a list a task comes before those of lower priority, and behind those of its own that came before it.
 ///
 /// These are FreeRTOS's event lists, whose items have the value `configMAX_PRIORITIES` less the priority too, so that
 /// `vListInsert` puts the highest priority first.
@@ -118,7 +118,7 @@ impl WaitingLists {
         self.lists.contains(task)
     }
 
-    /// Puts a task that is in no list (`is_waiting` tells) into a list, with its priority of 0 to 31: behind all that are
+    /// Puts a task that is in no list (see `is_waiting`) into a list, with its priority of 0 to 31: behind all that are
     /// not of lower priority.
     #[inline(always)]
     pub(crate) fn wait(&mut self, list: WaitList, task: TaskId, priority: u8)
@@ -208,7 +208,7 @@ impl WaitingLists {
         self.lists.remove(task);
     }
 
-    /// Takes so many of the best waiters out of a list, or all where there are fewer, and answers them in order.
+    /// Takes this many of the best waiters out of a list, or all where there are fewer, and answers them in order.
     pub(crate) fn take(&mut self, list: WaitList, count: u8) -> Taken
         ensures taken { result.items ≡ take count (tasks_in (waiting_in self.old list)) }
         ensures left { self.new ≡ slice_set self.old (number_of list)
@@ -230,7 +230,7 @@ impl WaitingLists {
         taken
     }
 
-    /// Takes those out of the lists of an object that were woken while it was locked: so many of those who wait to
+    /// Takes those out of the lists of an object that were woken while it was locked: this many of those who wait to
     /// receive, and of those who wait to send. They become Ready, the former first.
     pub(crate) fn unlock(&mut self, object: ObjectId, receivers: u8, senders: u8) -> Unlocked
         ensures left { self.new ≡ without_woken object receivers senders self.old }
@@ -253,7 +253,7 @@ impl WaitingLists {
         }
     }
 
-    /// Does nothing: its contract tells what holds of the lists.
+    /// Does nothing: its contract says what holds of the lists.
     fn in_order(&self)
         ensures sound { IsSound list_places 32 self.now }
     {

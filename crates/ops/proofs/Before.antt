@@ -1,4 +1,4 @@
--- A task is still to be placed: what the calls of handlers make of the states that the kernel stands for then.
+-- A task is still to be placed: what the calls of handlers make of the states that the kernel represents then.
 use Rattle.std.proofs.Common.{◌≡◌, ◌≢◌, ◌<◌, ℕ, true, false, eqb, ltb, set, List, [], ◌∷◌, length, get_or, Option, Some, None, refl, ap, sym, subst, ◌∙◌}
 use Rattle.std.specs.Prelude.{if◌then◌else◌}
 use Rattle.std.specs.List.{AllByRecursion}
@@ -84,7 +84,7 @@ keyed_at key ts i (e ∷ es) has t = by_test (eqb e.task i)
     (λ u. (e.key, subst (λ (j : ℕ). key (get_or ts j no_task) ≡ Some e.key) (eqb-same e.task i u) has.0.key))
     (λ u. keyed_at key ts i es has.1 (rw u at t))
 
--- who waits in one list, and stands in another: they are one list
+-- who waits in one list, and is in another: they are one list
 one_list : (a b : WaitList) (k m : Key) (u : Status) → option_and_then (wait_key a) (wait_if_waiting u) ≡ Some k → option_and_then (wait_key b) (wait_of u) ≡ Some m → a ≡ b
 one_list a b k m (Ready n) e f = absurd (cc)
 one_list a b k m (Awake w) e f = absurd (cc)
@@ -175,7 +175,7 @@ module _ (task : ℕ) (tl : WaitList) (k : Machine) (s : State) (b : StandsBefor
         (before_with b b.sched b.clock (subst (queues.StandsFor q (Some (decider task tl s))) one there) b.awake (bits_kept.same s) (λ _. refl) refl refl refl refl)
     by_case (Counted i l one) = subst (StandsBefore task tl (record k { queues = q })) (sym one) (awakened_before task tl k s b i l q (subst (queues.StandsFor q (Some (decider task tl s))) one there) (subst (AtLocked (Some (decider task tl s))) one (at_locked-wake_best (Some (decider task tl s)) list s b.awake)) (subst (SameBitWaits s) one (bits_elsewhere.same_wake_best list s)))
 
--- what a wake tells: nothing
+-- what a wake reports: nothing
 pub log-wake_best : (list : WaitList) (s : State) → (wake_best list s).log ≡ s.log
 unfolding wake_best
 log-wake_best list s = by_first (task_of (first (waiters s list))) where

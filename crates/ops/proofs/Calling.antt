@@ -1,4 +1,4 @@
--- A call on a queue: what it makes of the states that the kernel stands for, whether or not a task is still to be placed.
+-- A call on a queue: what it makes of the states that the kernel represents, whether or not a task is still to be placed.
 use Rattle.std.proofs.Common.{IfSome, length, ◌≡◌, ◌<◌, ℕ, zero, suc, Bool, true, false, List, [], ◌∷◌, set, Option, Some, None, refl, ap, sym, subst, ◌∙◌, arith}
 use Rattle.model.specs.declared.call.WaitList.{WaitList}
 use Rattle.model.specs.declared.op.Access.{Access}

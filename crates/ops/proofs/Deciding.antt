@@ -1,4 +1,4 @@
--- Where a call decides to wait, and is placed: what that makes of the states that the kernel stands for.
+-- Where a call decides to wait, and is placed: what that makes of the states that the kernel represents.
 use Rattle.std.proofs.Common.{◌≡◌, ◌≢◌, ◌<◌, ◌+◌, ◌||◌, ℕ, Bool, true, false, eqb, set, List, [], length, get_or, get_or-set_same, get_or-set_other, Option, Some, None, refl, ap, sym, subst, ◌∙◌, arith}
 use Rattle.std.specs.Prelude.{if◌then◌else◌}
 use Rattle.std.specs.Option.{IfSome}
@@ -369,7 +369,7 @@ module _ (k new : Machine) (log : List Event) (s : State) (h : At k log s) (i : 
   pub waited : (call_at s i).waits ≡ v.call.waits
   waited = ap (λ (p : Progress). p.call.waits) (sym same)
 
--- There are three phases in which a call tells nothing.
+-- There are three phases in which a call reports nothing.
 pub none_else : (phase : Phase) → IsSilent phase → phase ≢ Decide → phase ≢ Place → phase ≢ Unlock → ⊥
 none_else Start s a b c = s
 none_else Try s a b c = s

@@ -1,4 +1,4 @@
--- Event groups: what a change of their bits, and a wait for them, make of the states that the kernel stands for.
+-- Event groups: what a change of their bits, and a wait for them, make of the states that the kernel represents.
 use Rattle.std.proofs.Common.{◌≡◌, ◌≢◌, ◌<◌, ◌+◌, ◌||◌, ℕ, zero, suc, Bool, true, false, eqb, List, [], ◌∷◌, length, get_or, set, Option, Some, None, refl, ap, sym, subst, ◌∙◌}
 use Rattle.std.specs.Prelude.{if◌then◌else◌}
 use Rattle.std.specs.List.{AllByRecursion, filter}

@@ -1,4 +1,4 @@
--- While a `suspend_all` is in force: what its calls make of the states that the kernel stands for.
+-- While a `suspend_all` is in force: what its calls make of the states that the kernel represents.
 use Rattle.std.proofs.Common.{◌≡◌, ◌≢◌, ◌<◌, ◌+◌, ◌-◌, ℕ, zero, suc, true, false, List, Option, Some, None, refl, ap, sym, subst, ◌∙◌, arith}
 use Rattle.std.proofs.lemmas.Bool.{eq-eqb, ne_eqb, lt-ltb}
 use Rattle.model.specs.declared.event.Event.{Event}
@@ -73,7 +73,7 @@ module _ (k now : Machine) (can : CanApply k) (n : ℕ) (does : Moves k now (λ 
   there : At now first.log (apply_held n first)
   there = does first.log first (record { stands = can.agrees.1; log = refl })
 
-  -- of those that were held so many fewer are
+  -- of those that were held this many fewer are
   pub held_left : now.clock.held ≡ k.clock.held - n
   held_left = let a = (applies n first).held in let b = there.stands.rest.clock.held in let c = can.agrees.1.rest.clock.held in omega arith
 

@@ -1,4 +1,4 @@
--- What another priority of a task makes of the states that the kernel stands for.
+-- What another priority of a task makes of the states that the kernel represents.
 use Rattle.std.proofs.Common.{◌≡◌, ◌<◌, ℕ, true, false, eqb, Option, Some, None, refl, ap, sym, subst, ◌∙◌, max, List}
 use Rattle.model.specs.declared.event.Event.{Event}
 use Rattle.model.specs.declared.event.Misuse.{Misuse}

@@ -1,4 +1,4 @@
--- Tasks suspended and resumed: what that makes of the states that the kernel stands for.
+-- Tasks suspended and resumed: what that makes of the states that the kernel represents.
 use Rattle.std.proofs.Common.{◌≡◌, ◌≢◌, ◌<◌, ◌+◌, ℕ, zero, suc, true, false, eqb, set, List, [], ◌∷◌, length, get_or-set_same, get_or-set_other, Option, Some, None, refl, ap, sym, subst, ◌∙◌, arith}
 use Rattle.std.specs.Option.{IfSome, is_some, option_and_then}
 use Rattle.std.proofs.Math.ListN.{length-set}
@@ -109,7 +109,7 @@ module _ (k : Machine) (log : List Event) (s : State) (h : At k log s) (i : ℕ)
   unfolding suspend
   suspended_not not = rw not h
 
--- A task that has answered is suspended, or one that is suspended answers: it is all one, where it was Ready.
+-- A task that has answered is suspended, or one that is suspended answers: where it was Ready, both come to the same.
 set_apart : (ts : List Task) (i j : ℕ) (t u : Task) → i ≢ j → set (set ts i t) j u ≡ set (set ts j u) i t
 set_apart [] i j t u ne = refl
 set_apart (x ∷ xs) zero zero t u ne = absurd (ne refl)

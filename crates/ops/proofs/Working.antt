@@ -1,4 +1,4 @@
--- What the ops of a script alone, and those that let time pass, make of the states that the kernel stands for.
+-- What the ops of a script alone, and those that let time pass, make of the states that the kernel represents.
 use Rattle.std.proofs.Common.{◌≡◌, ◌≢◌, ◌<◌, ◌≤◌, ◌+◌, ◌-◌, ℕ, true, false, eqb, leb, ltb, List, [], ◌∷◌, length, Option, Some, None, refl, ap, sym, subst, ◌∙◌, arith, min}
 use Rattle.std.specs.Prelude.{Bool, drop, option_map, if◌then◌else◌}
 use Rattle.std.proofs.lemmas.Bool.{lt-ltb, le-ltb, eq-eqb, ne_eqb}

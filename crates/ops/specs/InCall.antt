@@ -1,11 +1,11 @@
--- The phases of a call in which it tells nothing.
+-- The phases of a call in which it reports nothing.
 use Rattle.std.specs.Prelude.{◌≡◌, ℕ}
 use Rattle.model.specs.declared.call.Phase.{Phase}
 use Rattle.model.specs.declared.call.Phase.TheVariants.{Decide, Place, Unlock}
 use Rattle.machine.specs.declared.machine.Machine.{Machine}
 use Rattle.machine.specs.StandsFor.{progress_in}
 
--- In these phases a call tells nothing, and holds the scheduler after each.
+-- In these phases a call reports nothing, and holds the scheduler after each.
 abbrev pub IsSilent : Phase → Type 0
 IsSilent Decide = Unit {0}
 IsSilent Place = Unit {0}

@@ -40,7 +40,7 @@ fn is_expired(machine: &Machine, task: TaskId) -> bool
     }
 }
 
-/// The call is done where it is possible; it fails where its deadline has come; else it decides next.
+/// The call is done where it is possible; it fails where its deadline has come; otherwise it decides next.
 #[inline(always)]
 fn try_call<L: Log>(
     machine: &mut Machine,
@@ -76,8 +76,8 @@ fn need_not_wait(machine: &Machine, task: TaskId, object: ObjectId, access: Acce
     machine.queues.possible(object, access) || is_expired(machine, task)
 }
 
-/// The scheduler is held and the object locked, and the task begins to wait, where its call still isn't possible and its
-/// deadline hasn't come: then the holder of a mutex inherits from it first.
+/// The scheduler is held and the object locked. The task begins to wait where its call still isn't possible and its
+/// deadline hasn't come. Before that the holder of a mutex inherits from it.
 #[inline(always)]
 fn decide(machine: &mut Machine, task: TaskId, object: ObjectId, access: Access)
     requires { CanDecide machine.old task }
@@ -176,7 +176,7 @@ fn unlock(machine: &mut Machine, task: TaskId)
     machine.set_phase(task, Phase::Leave);
 }
 
-/// The hold ends, and the call will try again: after a wait has begun the choice runs, else a higher task may run.
+/// The hold ends, and the call will try again: after a wait has begun the choice runs, otherwise a higher task may run.
 #[inline(always)]
 pub fn leave_call<L: Log>(machine: &mut Machine, task: TaskId, log: &mut L)
     requires room { 1 ≤ (L.logged log.old).room }
@@ -193,7 +193,7 @@ pub fn leave_call<L: Log>(machine: &mut Machine, task: TaskId, log: &mut L)
     }
 }
 
-/// The next phase of a call, of those in which it tells nothing, and holds the scheduler after it.
+/// The next phase of a call, of those in which it reports nothing, and holds the scheduler after it.
 #[inline(always)]
 pub fn go_on_silently(
     machine: &mut Machine,
@@ -218,7 +218,7 @@ pub fn go_on_silently(
     }
 }
 
-/// The next phase of a call that may wait for so many ticks, or for ever.
+/// The next phase of a call that may wait for this many ticks, or for ever.
 #[inline(always)]
 pub fn go_on_waiting<L: Log>(
     machine: &mut Machine,

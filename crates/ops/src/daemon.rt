@@ -38,7 +38,7 @@ fn take_command<L: Log>(
     false
 }
 
-/// The next phase of the daemon's receive, which waits for ever, and of which no event tells. It answers whether a command was
+/// The next phase of the daemon's receive, which waits for ever, and which no event reports. It answers whether a command was
 /// received.
 // Few applications have a daemon, so it is no part of the step.
 #[inline(never)]

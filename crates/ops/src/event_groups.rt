@@ -150,8 +150,8 @@ pub fn set_bits<L: Log>(
     }
 }
 
-/// The scheduler is held, and the task waits for bits of a group, for so many ticks at most.
-// Inlined, it would stand in each copy of the step.
+/// The scheduler is held, and the task waits for bits of a group, for this many ticks at most.
+// Inlined, it would be in each copy of the step.
 #[inline(never)]
 fn begin_bits_wait(
     machine: &mut Machine,
@@ -190,7 +190,7 @@ fn need_not_wait_for_bits(
     machine.groups.check(group, condition) || ticks == Some(0)
 }
 
-/// A wait whose condition is met, or that has no ticks to wait, answers. Else the task waits.
+/// A wait whose condition is met, or that has no ticks to wait, answers. Otherwise the task waits.
 #[inline(always)]
 fn check_bits<L: Log>(
     machine: &mut Machine,
@@ -228,7 +228,7 @@ pub fn leave_bits_wait<L: Log>(machine: &mut Machine, task: TaskId, log: &mut L)
     machine.choose(log);
 }
 
-/// Woken, the task answers the bits that are kept for it, or else those of now.
+/// Woken, the task answers the bits that are kept for it, otherwise those of now.
 #[inline(always)]
 fn finish_wait<L: Log>(
     machine: &mut Machine,

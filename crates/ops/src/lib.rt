@@ -1,6 +1,6 @@
 //! What the ops of a script do, a file for each family.
 //!
-//! Each function asks that the running task can do the op (`Can`), and that the log has room for the events that it tells
+//! Each function asks that the running task can do the op (`Can`), and that the log has room for the events that it reports
 //! at most; it does the deed of the definitions.
 #![tactic(auto)]
 

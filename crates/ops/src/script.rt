@@ -1,5 +1,5 @@
-//! Ops of the script alone: marks, expectations, loops, branches (profile). Those that tell nothing answer whether they did no more than to
-//! take the task to another op of its script.
+//! Ops of the script alone: marks, expectations, loops, branches (profile). Those that report nothing answer whether they did no more than
+//! to take the task to another op of its script.
 ghost use Rattle.std.specs.Prelude.{◌≡◌, ◌<◌, ◌≤◌, ◌+◌, true, length};
 ghost use Rattle.model.specs.declared.op.Op.TheVariants as op;
 ghost use Rattle.model.specs.Ops.{expect, open_loop, close_turn, complete, branch, skip_branch, leave_loop};
@@ -13,7 +13,7 @@ ghost use Rattle.machine.specs.Can.{Runs};
 use machine::{Log, Machine};
 use model::{AnswerCondition, App, End, Loop, TaskId, What};
 
-/// `mark`: a mark event is told.
+/// `mark`: a mark event is reported.
 #[inline(always)]
 pub fn mark<L: Log>(machine: &mut Machine, app: &App, task: TaskId, number: u32, log: &mut L)
     requires room { 1 ≤ (L.logged log.old).room }
@@ -41,7 +41,7 @@ pub fn expect(machine: &mut Machine, app: &App, task: TaskId, condition: AnswerC
     }
 }
 
-/// `repeat`: a loop of so many turns, or without end, begins at the next op.
+/// `repeat`: a loop of this many turns, or without end, begins at the next op.
 pub fn open_loop(machine: &mut Machine, app: &App, task: TaskId, turns: Option<u16>) -> bool
     requires runs { Runs machine.old task }
     requires nesting { length (progress_in machine.old.progress task).loops < 4 }
@@ -75,7 +75,7 @@ fn jump_from(machine: &Machine, app: &App, task: TaskId) -> u16
     app.jump_from(task, machine.progress(task).op_index)
 }
 
-/// `if`: the first branch is next where the condition holds of the last answer, and else what is behind it.
+/// `if`: the first branch is next where the condition holds of the last answer, and otherwise what is behind it.
 #[inline(always)]
 pub fn branch(machine: &mut Machine, app: &App, task: TaskId, condition: AnswerCondition) -> bool
     requires runs { Runs machine.old task }

@@ -130,7 +130,7 @@ fn apply_held(machine: &mut Machine)
 }
 
 /// One `suspend_all` less is in force; after the last the held ticks are applied.
-// It stands in `resume_all` alone.
+// It is in `resume_all` alone.
 #[inline(always)]
 fn resume_scheduler(machine: &mut Machine, app: &App, task: TaskId)
     requires can { CanHold app.now machine.old task op.ResumeAll }

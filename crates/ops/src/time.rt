@@ -59,7 +59,7 @@ pub fn delay<L: Log>(machine: &mut Machine, app: &App, task: TaskId, ticks: u32,
     }
 }
 
-/// `delay_until`: the task sleeps until so many ticks after the time from which it counts, and counts from there; where
+/// `delay_until`: the task sleeps until this many ticks after the time from which it counts, and counts from there; where
 /// that is not still to come, it goes on.
 pub fn delay_until<L: Log>(machine: &mut Machine, app: &App, task: TaskId, ticks: u32, log: &mut L)
     requires room { 1 ≤ (L.logged log.old).room }

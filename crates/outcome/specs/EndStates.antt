@@ -1,4 +1,4 @@
--- What stands at the end of a run, as it is told: what each task is doing, and who holds which mutex.
+-- The end state of a run, as it is reported: what each task is doing, and who holds which mutex.
 use Rattle.std.specs.Prelude.{ℕ, ◌+◌, Bool, List, [], ◌∷◌, Option, Some, map, length, option_map, if◌then◌else◌}
 use Rattle.std.specs.List.{cons_option, range_with_len}
 use Rattle.outcome.specs.declared.end_state.Situation.{Situation}
@@ -35,7 +35,7 @@ abbrev pub held_from : ℕ → List Object → List HeldMutex
 held_from object [] = []
 held_from object (o ∷ os) = cons_option (option_map (held_by object) o.holder) (held_from (object + 1) os)
 
--- what stands when a run ends in a state
+-- the end state where a run ends in this state
 pub record EndState : Type 0 where
   pub situations : List Situation
   pub held : List HeldMutex

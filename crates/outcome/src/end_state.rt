@@ -1,4 +1,4 @@
-//! What stands at the end of a run: what each task is doing, and who holds which mutex.
+//! The end state of a run: what each task is doing, and who holds which mutex.
 use arrayvec::ArrayVec;
 use model::{ObjectId, TaskId};
 use std::marker::Model;
@@ -44,7 +44,7 @@ impl Default for HeldMutex {
     }
 }
 
-/// What stands at the end of a run.
+/// The end state of a run.
 #[derive(Drop)]
 pub struct EndState {
     /// What each task is doing, the daemon last.

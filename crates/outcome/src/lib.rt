@@ -1,4 +1,4 @@
-//! What stands at the end of a run: what each task is doing, and who holds which mutex.
+//! The end state of a run: what each task is doing, and who holds which mutex.
 #![tactic(auto)]
 
 mod end_state;

@@ -52,7 +52,7 @@ highest_is {lists} {occupied} h some fits =
       ],
     )
 
--- a list is the highest where nothing stands above its bit
+-- a list is the highest where no bit above its own is set
 only_bit : (n p : ℕ) → n / 2 ^ p ≡ 1 → n < 2 ^ suc p
 only_bit n p one =
     let twice : 2 ^ suc p ≡ 2 * 2 ^ p = omega arith in
@@ -98,7 +98,7 @@ none_by_bits {lists} {occupied} h none = λ p. elim (cases_lt p 32) [
   | inr past ↦ past_empty h p past
 ]
 
--- whether a bit above one stands
+-- whether a bit above one is set
 above_highest : (n p j : ℕ) → n / 2 ^ j ≡ 1 → nat_lt 1 (n / 2 ^ p) ≡ nat_lt p j
 above_highest n p j one =
     let here : 0 < 2 ^ p = one-le-pow p 2 (omega arith) in

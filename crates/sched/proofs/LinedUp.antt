@@ -242,7 +242,7 @@ module _ {A : Type 0} (part : Schedule → A) where
       (λ t. rw t (same v (insert_by_priority (i, priority_in v.priorities i) (without i v.ready))))
       (λ t. rw t refl)
 
--- who is Ready after another is made so, or no more so
+-- who is Ready after another task has become Ready, or is Ready no more
 
 pub ready_made : (v : Schedule) (i j : ℕ) → j ≢ i → is_ready (make_ready i v) j ≡ is_ready v j
 ready_made v i j ne =

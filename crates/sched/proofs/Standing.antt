@@ -115,7 +115,7 @@ stands_back v s i none h l awake = record {
 
 -- ---- a task that isn't Ready becomes so: it goes behind its equals among those lined up
 
--- in the schedule w, which is v but for its lists, and for the task, which isn't suspended
+-- in the schedule w, which is v except for its lists, and for the task, which isn't suspended
 pub record Adds (i : ℕ) (v w : Schedule) : Type 0 where
   pub ready : lined_up w ≡ insert_by_priority (i, priority_in v.priorities i) (lined_up v)
   pub current : w.current ≡ v.current

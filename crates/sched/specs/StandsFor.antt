@@ -1,4 +1,4 @@
--- What a schedule stands for: a state of the definitions, whose tickets it does not have.
+-- What a schedule represents: a state of the definitions, whose tickets it does not have.
 use Rattle.std.specs.Prelude.{◌≡◌, ℕ, ◌+◌, true, false, if◌then◌else◌}
 use Rattle.model.specs.State.{State, status_at, task_at}
 use Rattle.model.specs.Switching.{is_held, ready_list}
@@ -12,8 +12,9 @@ use Rattle.sched.specs.Schedule.{Schedule, is_suspended, lined_up, priority_in}
 abbrev pub depth_of : State → ℕ
 depth_of s = s.suspensions + (if s.call_hold then 1 else 0)
 
--- The schedule's Ready tasks, the pending ones lined up, are those of the ready list in order, it runs who runs, the
--- priorities and the base priorities are the tasks', the same tasks are suspended, and it is held as often.
+-- The schedule's Ready tasks, once the pending ones are lined up, are those of the ready list in order. The same
+-- task runs, the priorities and the base priorities are the tasks', the same tasks are suspended, and the scheduler
+-- is held as often.
 pub record StandsFor (v : Schedule) (s : State) : Type 0 where
   pub ready : lined_up v ≡ with_priorities (ready_list s)
   pub current : v.current ≡ s.current
@@ -34,7 +35,7 @@ pub record StandsBefore (task : ℕ) (v : Schedule) (s : State) : Type 0 where
   pub suspended : (other : ℕ) → is_suspended v other ≡ can_resume (status_at s other)
   pub table : IsTable s
 
--- For every state that the old schedule stands for, and in which the scheduler isn't held, the new one stands for what the
+-- For every state that the old schedule represents, and in which the scheduler isn't held, the new one represents what the
 -- deed makes of it.
 abbrev pub DoesFree : Schedule → Schedule → (State → State) → Type 0
 DoesFree old new deed = (s : State) → StandsFor old s → is_held s ≡ false → StandsFor new (deed s)

@@ -212,7 +212,7 @@ impl Sched {
         self.depth -= 1;
     }
 
-    /// Makes a task Ready that isn't (`is_ready` tells), behind the others of its priority, while the scheduler isn't
+    /// Makes a task Ready that isn't (see `is_ready`), behind the others of its priority, while the scheduler isn't
     /// held.
     pub fn make_ready(&mut self, task: TaskId)
         requires free { is_ready self.old task ≡ false }
@@ -306,7 +306,7 @@ impl Sched {
     /// Ends a task's suspension, however often it was suspended, and answers whether it was: then it is Ready, as `wake`
     /// makes it (`vTaskResume`, `xTaskResumeFromISR`). One that isn't suspended is left as it is.
     pub fn resume(&mut self, task: TaskId) -> bool
-        // As in each schedule that stands for some state.
+        // As in each schedule that represents some state.
         requires free { is_suspended self.old task ≡ true → is_ready self.old task ≡ false }
         ensures answer { result ≡ is_suspended self.old task }
         ensures schedule { self.new ≡ resume task self.old }
@@ -325,7 +325,7 @@ impl Sched {
         true
     }
 
-    /// Lets the choice run: of the tasks in the ready lists the one of highest priority, and of these the first; else idle.
+    /// Lets the choice run: of the tasks in the ready lists the one of highest priority, and of these the first; otherwise idle.
     pub fn choose(&mut self) -> Option<TaskId>
         ensures schedule { self.new ≡ choose self.old }
         ensures stands { DoesFree self.old self.new switching.choose }

@@ -14,7 +14,7 @@ use Rattle.model.specs.Scripts.{IsDaemon, fits}
 use Rattle.script.specs.Entries.{ObjectEntry, DaemonEntry, Entries, HasEntries, command_queue, all_objects, daemon_of}
 use Rattle.script.specs.Ops.{with_script, daemon_task, all_tasks}
 
--- what stands behind all others
+-- what is behind all others
 at_end : {X : Type 0} (xs : List X) (x : X) → slice_get (xs ++ x ∷ []) (length xs) ≡ Some x
 at_end [] x = refl
 at_end (y ∷ ys) x = at_end ys x

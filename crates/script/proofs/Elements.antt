@@ -1,4 +1,4 @@
--- What is told of a key or an array, where a check finds a fault or none.
+-- What is said of a key or an array where a check finds a fault or none.
 use Rattle.std.proofs.Common.{◌≡◌, ◌+◌, ◌-◌, ◌<◌, ◌≤◌, ℕ, Bool, true, List, [], ◌∷◌, length, Option, Some, None, ap, sym, ◌∙◌, arith}
 use Rattle.std.specs.Prelude.{nat_lt, nat_le, not}
 use Rattle.std.specs.List.{list_any}
@@ -17,7 +17,7 @@ use Rattle.script.specs.Values.{name_fault}
 use Rattle.script.specs.Arrays.{Elements, each_fault, array_of, array_fault}
 use Rattle.script.proofs.Steps.{alone, passed}
 
--- a key, which stands at this place
+-- a key, which is at this place
 module _ (place : Place) (key : Key) (check : Place → Data → Option Fault) (ms : Members) (here : Place) (is : here ≡ at_key place key) where
   pub missing : (fault : Fault) → None ≡ get_member (key_word key) ms → fault ≡ fault_at Missing here
       → required place key check ms ≡ Some fault
@@ -33,7 +33,7 @@ module _ (place : Place) (key : Key) (check : Place → Data → Option Fault) (
       ∙ ap (λ p. check p d) (sym is)
       ∙ finds
 
--- an array of so many elements at most
+-- an array of this many elements at most
 module _ {S : Type 0} (most : ℕ) (elements : Elements S Data) (s : S) (p : Place) (d : Data) where
   pub no_array : None ≡ array_of d → array_fault most elements s p d ≡ Some (fault_at WrongKind p)
   no_array none =

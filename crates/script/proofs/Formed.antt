@@ -115,7 +115,7 @@ few_more i is room few tick = by_test (i.tick == tick)
     let before = few tick in
     omega arith)
 
--- the base interrupts of an application of so many handlers
+-- the base interrupts of an application of this many handlers
 pub record AreInterrupts (handlers : ℕ) (interrupts : List Interrupt) : Type 0 where
   pub first : AllByRecursion (λ (i : Interrupt). 1 ≤ i.tick) interrupts
   pub last : AllByRecursion (λ (i : Interrupt). i.tick ≤ last_interrupt) interrupts
@@ -192,7 +192,7 @@ few_come app tick few =
 
 -- ---- the points
 
--- an entry of an application of so many handlers
+-- an entry of an application of this many handlers
 abbrev IsEntry : (handlers : ℕ) → PointEntry → Type 0
 IsEntry handlers (One point) = IsPoint point × AllByRecursion (λ (i : Injection). (i.step ≤ last_point) × (i.handler < handlers)) point
 IsEntry handlers (Every handler) = handler < handlers
@@ -264,7 +264,7 @@ few_section : (names : List Word) (p : Place) (d : Option Data)
 few_section names p None none = omega arith
 few_section names p (Some d) none = few_table names p (as_table d) none
 
--- the entries of an application of so many handlers
+-- the entries of an application of this many handlers
 pub record ArePoints (handlers : ℕ) (points : List PointEntry) : Type 0 where
   pub entries : AllByRecursion (IsEntry handlers) points
   pub few : length points ≤ most_points

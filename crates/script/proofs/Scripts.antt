@@ -28,7 +28,7 @@ pub not_false : (b : Bool) → not b ≡ false → b ≡ true
 not_false true e = refl
 not_false false e = cc
 
--- an op that is taken stands where it may, on an object that allows it; there is a daemon for it
+-- an op that is taken is where it is allowed, on an object that allows it; there is a daemon for it
 pub record Stands {O : Type 0} (ops : Ops O) (entries : Entries) (blocks : List Block) (op : O) : Type 0 where
   pub served : (ops.is_command op && is_none entries.daemon) ≡ false
   pub allowed : ops.is_allowed entries.objects op ≡ true

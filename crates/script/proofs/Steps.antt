@@ -10,7 +10,7 @@ use Rattle.script.specs.declared.fault.Fault.{Fault}
 use Rattle.script.specs.Faults.{Judges, seen, first_fault}
 use Rattle.script.specs.Arrays.{Elements, each_fault}
 
--- What is left from an index on, where this element stands there.
+-- What is left from an index on, where this element is there.
 pub left : {X : Type 0} (xs : List X) (i : ℕ) (x : X) → i < length xs → x ≡ get_or xs i x → drop i xs ≡ x ∷ drop (i + 1) xs
 left xs i x below is = rw add-one (drop-cons xs i x below ∙ ap (λ y. y ∷ drop (suc i) xs) (sym is))
 

@@ -21,7 +21,7 @@ each_fault elements s i (x ∷ xs) = first_fault (
     ∷ each_fault elements (elements.next s x) (i + 1) xs
     ∷ [])
 
--- elements that are checked alike, whatever stands before them
+-- elements that are checked alike, whatever is before them
 abbrev pub alike : {X : Type 0} → (ℕ → Place) → (Place → X → Option Fault) → Elements (Unit {0}) X
 alike at fault = record { at = at; fault = λ s p x. fault p x; next = λ s x. s }
 
@@ -40,7 +40,7 @@ array_of d = option_map list_of (as_array d)
 abbrev pub elements_of : Option Data → List Data
 elements_of d = unwrap_or (option_and_then array_of d) []
 
--- It is an array of so many elements at most.
+-- It is an array of this many elements at most.
 abbrev pub array_fault : {S : Type 0} → (most : ℕ) → Elements S Data → S → Place → Data → Option Fault
 array_fault most elements s p d = need (fault_at WrongKind p) (array_of d) (λ ds. first_fault (
     fails_if (nat_lt most (length ds)) (fault_at TooMany p)
@@ -58,7 +58,7 @@ tables s value keys = record {
   next = λ before d. before ++ value (as_table d) ∷ [];
 }
 
--- A section may be left out. It has so many entries at most, together with those before.
+-- A section may be left out. It has this many entries at most, together with those before.
 abbrev pub section_fault : {X : Type 0} → (most : ℕ) → Section → (Option Members → X)
     → (List X → Place → Members → Option Fault) → List X → Option Data → Option Fault
 section_fault most s value keys before d =

@@ -94,7 +94,7 @@ all_objects entries = map (λ (o : ObjectEntry). o.kind) entries.objects ++ comm
 abbrev pub daemon_of : Entries → Option ℕ
 daemon_of entries = option_map (λ (d : DaemonEntry). length entries.tasks) entries.daemon
 
--- The application has these objects, so many event groups, so many tasks of the file, and a daemon where these have one.
+-- The application has these objects, this many event groups, this many tasks of the file, and a daemon where these have one.
 pub record HasEntries (app : Application) (entries : Entries) : Type 0 where
   pub objects : app.objects ≡ all_objects entries
   pub groups : app.group_count ≡ length entries.groups

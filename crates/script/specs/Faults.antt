@@ -1,4 +1,4 @@
--- Where one looks in a file, the checks of what stands there, and which of them fails first.
+-- Where one looks in a file, the checks of what is there, and which of them fails first.
 use Rattle.std.specs.Prelude.{◌≡◌, ℕ, Bool, List, [], ◌∷◌, Option, Some, None, Result, Ok, Err, codes, ◌++◌, option_map, option_and_then, option_to_list, if◌then◌else◌}
 use Rattle.std.specs.Fmt.{decimal}
 use Rattle.toml.specs.Data.{Data, Members, get_member}
@@ -25,7 +25,7 @@ at_section s = record { section = s; entry = None; key = None; index = None }
 abbrev pub at_entry : Section → ℕ → Place
 at_entry s i = record { section = s; entry = Some i; key = None; index = None }
 
--- a key of what stands at a place
+-- a key of what is at a place
 abbrev pub at_key : Place → Key → Place
 at_key p k = record p { key = Some k }
 
@@ -126,12 +126,12 @@ first_fault ((Some fault) ∷ checks) = Some fault
 abbrev pub fails_if : Bool → Fault → Option Fault
 fails_if b fault = if b then Some fault else None
 
--- the check that finds this fault where there is nothing, and else checks what there is
+-- the check that finds this fault where there is nothing, and otherwise checks what there is
 abbrev pub need : {X : Type 0} → Fault → Option X → (X → Option Fault) → Option Fault
 need fault None check = Some fault
 need fault (Some x) check = check x
 
--- what stands at a key, which must be there, is checked so at its place
+-- what is at a key, which must be there, is checked so at its place
 abbrev pub required : Place → Key → (Place → Data → Option Fault) → Members → Option Fault
 required p k check ms = need (fault_at Missing (at_key p k)) (get_member (key_word k) ms) (check (at_key p k))
 
@@ -139,12 +139,12 @@ required p k check ms = need (fault_at Missing (at_key p k)) (get_member (key_wo
 abbrev pub optional : Place → Key → (Place → Data → Option Fault) → Members → Option Fault
 optional p k check ms = option_and_then (check (at_key p k)) (get_member (key_word k) ms)
 
--- What was read is this value where the check finds nothing, and else the fault that it finds.
+-- What was read is this value where the check finds nothing, and otherwise the fault that it finds.
 abbrev pub Judges : {X : Type 0} → Result X Fault → Option Fault → X → Type 0
 Judges (Ok x) check value = (check ≡ None) × (x ≡ value)
 Judges (Err fault) check value = check ≡ Some fault
 
--- What a call that takes memory made is this value where the check finds nothing, unless memory is refused, and else the
+-- What a call that takes memory made is this value where the check finds nothing, unless memory is refused, and otherwise the
 -- fault that the check finds, whatever memory is left.
 abbrev pub Loads : {X : Type 0} → Result X LoadError → Option Fault → X → Type 0
 Loads (Ok x) check value = (check ≡ None) × (x ≡ value)

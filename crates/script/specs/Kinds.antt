@@ -1,4 +1,4 @@
--- That an application may have an object is a fact, so it may stand beside the object.
+-- That an application may have an object is a fact, so it may be kept beside the object.
 use Rattle.std.specs.Coded.{×_prop, Unit-prop, le_prop}
 use mathlib.Core.HLevel.{×₃_prop}
 use Rattle.model.specs.declared.object.ObjectKind.{ObjectKind}

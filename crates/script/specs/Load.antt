@@ -16,7 +16,7 @@ use Rattle.script.specs.Ops.{handler_ops_fault, scripts_fault, with_isr_ops, all
 use Rattle.script.specs.Interrupts.{interrupts_fault, interrupts_named}
 use Rattle.script.specs.Points.{campaign_fault, campaign_named}
 
--- the most ticks and steps that a file may ask for, but for the ticks of one that is tickless, and where it says nothing (profile)
+-- the most ticks and steps that a file may ask for, except for the ticks of one that is tickless, and where it says nothing (profile)
 abbrev pub most_limit : ℕ
 most_limit = 1000000
 
@@ -70,8 +70,8 @@ entries_fault document = first_fault (
 
 -- ---- the document
 
--- the fault of the first check that fails: pass one, then the ops of the handlers and the scripts of the tasks that it
--- names, the base interrupts and the points of the campaign (profile)
+-- the fault of the first check that fails (profile): first pass one, then the ops of the handlers and the scripts of
+-- the tasks that it has found, then the base interrupts, and then the points of the campaign
 abbrev pub load_fault : Members → Option Fault
 load_fault document =
     let entries = entries_of document in

@@ -28,8 +28,8 @@ use Rattle.script.specs.Finding.{among}
 abbrev pub allows : List ObjectEntry → ℕ → Access → Bool
 allows objects object access = option_map_or (λ (o : ObjectEntry). fits o.kind access) (slice_get objects object) false
 
--- What tells the ops of tasks from those of handlers: which words spell which, whether the daemon has to do it, whether an object
--- allows it, what it is to the blocks of its script, and which op its text is where these blocks are open.
+-- What distinguishes the ops of tasks from those of handlers: which words spell which op, whether the daemon has to do it, and whether an
+-- object allows it; what it is to the blocks of its script; and which op its text is where these blocks are open.
 pub record Ops (O : Type 0) : Type 0 where
   pub of_words : Naming → List Word → Option O
   pub is_command : O → Bool
@@ -74,7 +74,7 @@ handler_ops = record {
 
 -- ---- one op
 
--- the op of a value that is a text, where names are read so
+-- the op of a value that is a text, where names are read this way
 abbrev pub op_in : {O : Type 0} → Ops O → Naming → Data → Option O
 op_in ops named d = option_and_then (λ text. ops.of_words named (words_of text)) (as_str d)
 
@@ -82,7 +82,7 @@ op_in ops named d = option_and_then (λ text. ops.of_words named (words_of text)
 abbrev pub edge_in : {O : Type 0} → Ops O → List Block → O → Edge
 edge_in ops blocks op = ops.edge_of (ops.ending blocks op)
 
--- There is a daemon if it is a command, its object allows it, and it may stand where these blocks are open.
+-- There is a daemon if it is a command, its object allows it, and it is allowed where these blocks are open.
 abbrev pub standing_fault : {O : Type 0} → Ops O → Entries → List Block → Place → O → Option Fault
 standing_fault ops entries blocks p op = first_fault (
     fails_if (ops.is_command op && is_none entries.daemon) (fault_at NoDaemon p)
@@ -90,7 +90,7 @@ standing_fault ops entries blocks p op = first_fault (
     ∷ fails_if (not (may_stand (edge_in ops blocks op) blocks)) (fault_at BadNesting p)
     ∷ [])
 
--- It is an op, whatever its names are, they are those of entries, and it may stand there.
+-- It is an op, whatever its names are, they are those of entries, and it is allowed there.
 abbrev pub op_fault : {O : Type 0} → Ops O → Entries → List Block → Place → Data → Option Fault
 op_fault ops entries blocks p d = first_fault (
     fails_if (is_none (op_in ops any_name d)) (fault_at BadOp p)

@@ -18,7 +18,7 @@ use Rattle.script.specs.Values.{member_of, number_fault, number_named, boolean_f
 use Rattle.script.specs.Arrays.{section_fault, section_named}
 use Rattle.script.specs.Entries.{ObjectEntry, GroupEntry, RawIsr, Raw, DaemonEntry, Entries, names_of}
 
--- what stands at a section
+-- what is at a section
 abbrev pub data_at : Section → Members → Option Data
 data_at s document = get_member (section_word s) document
 

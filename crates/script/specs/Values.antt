@@ -1,4 +1,4 @@
--- What stands at the keys of a document, with its checks: numbers, booleans, names and texts.
+-- What is at the keys of a document, with its checks: numbers, booleans, names and texts.
 -- Where a check fails the value is a default, which no one sees.
 use Rattle.std.specs.Prelude.{ℕ, ℤ, pos, negsuc, Bool, false, not, ◌||◌, nat_lt, List, [], ◌∷◌, Option, Some, None, is_none, option_map, option_and_then, unwrap_or}
 use Rattle.std.specs.List.{list_any}
@@ -20,7 +20,7 @@ use Rattle.script.specs.Arrays.{Elements, alike, array_fault, elements_of}
 abbrev pub data_of : Option (Bor Value) → Option Data
 data_of value = option_map (λ v. view v.now) value
 
--- what stands at a key of a table, where it is one
+-- what is at a key of a table, where it is one
 abbrev pub member_of : Key → Option Members → Option Data
 member_of k members = option_and_then (get_member (key_word k)) members
 
@@ -60,7 +60,7 @@ boolean_named d = unwrap_or (option_and_then as_bool d) false
 
 -- ---- names
 
--- the text that stands there
+-- the text that is there
 abbrev pub text_named : Option Data → List ℕ
 text_named d = unwrap_or (option_and_then as_str d) []
 
@@ -89,7 +89,7 @@ known_named names d = unwrap_or (option_and_then (λ name. index_of name names) 
 abbrev pub text_elements : Place → Elements (Unit {0}) Data
 text_elements p = alike (at_element p) (λ q d. fails_if (is_none (as_str d)) (fault_at WrongKind q))
 
--- an array of so many texts at most
+-- an array of this many texts at most
 abbrev pub texts_fault : (most : ℕ) → Place → Data → Option Fault
 texts_fault most p d = array_fault most (text_elements p) tt p d
 

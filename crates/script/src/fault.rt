@@ -8,7 +8,7 @@ use std::alloc::AllocError;
 /// What a check finds.
 #[derive(Clone, Copy)]
 pub enum FaultKind {
-    /// What has to stand there does not.
+    /// What has to be there is not.
     Missing,
     /// A value of another kind: a text for a number, say.
     WrongKind,
@@ -20,7 +20,7 @@ pub enum FaultKind {
     UnknownName,
     /// A name that an earlier entry has.
     DoubleName,
-    /// An op that may not stand where it does, by the blocks that are open there, or a block that is left open.
+    /// An op that is not allowed where it is, by the blocks that are open there, or a block that is left open.
     BadNesting,
     /// An `overwrite` of a queue whose length isn't 1.
     OverwriteLength,

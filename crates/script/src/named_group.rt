@@ -8,7 +8,7 @@ pub(crate) struct NamedGroup<'a> {
     pub(crate) name: &'a str,
 }
 
-// What stands in an array of event groups where none has been put yet.
+// What is in an array of event groups where none has been put yet.
 impl Default for NamedGroup<'_> {
     fn default() -> Self {
         NamedGroup { name: "" }

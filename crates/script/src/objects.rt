@@ -27,7 +27,7 @@ pub(crate) const MOST_ITEMS: u32 = ObjectKind::MOST_ITEMS as u32;
 // The most that a semaphore counts to (profile).
 const MOST_COUNT: u32 = u16::MAX as u32;
 
-// The object that stands here. A binary semaphore counts to 1 and starts empty.
+// The object at this place. A binary semaphore counts to 1 and starts empty.
 fn kind(section: ObjectSection, table: &Table, place: Place) -> Result<ObjectKind, Fault>
     ensures checks { Judges result
         (kind_fault section place (table_view table.now))

@@ -30,10 +30,10 @@ pub(crate) trait TextOp: Copy {
     ghost use Rattle.script.specs.Entries.{object_view};
     ghost use Rattle.script.specs.Ops.{Ops, edge_in};
 
-    // What tells it from the other kind.
+    // What distinguishes it from the other kind.
     ghost ops: { Ops Self };
 
-    /// The op that a text spells, where names are read so.
+    /// The op that a text spells, where names are read this way.
     fn of_text<F: Finding>(text: &[u8], finding: &F) -> Option<Self>
         ensures { result ≡ ops.of_words (F.naming finding.now) (words_of text.now) };
 
@@ -115,7 +115,7 @@ impl TextOp for IsrOp {
 
 // ---- the checks, which take no memory
 
-// The op that a value spells, where names are read so.
+// The op that a value spells, where names are read this way.
 fn op_in<O: TextOp, F: Finding>(value: &Value, finding: &F) -> Option<O>
     ensures { result ≡ op_in O.ops (F.naming finding.now) (view value.now) }
 {
@@ -123,7 +123,7 @@ fn op_in<O: TextOp, F: Finding>(value: &Value, finding: &F) -> Option<O>
 }
 
 // Goes past the op that a value spells, where these blocks are open. Its names are those of entries, which allow it; there is a
-// daemon if it is a command; and it may stand there.
+// daemon if it is a command; and it is allowed there.
 fn pass_op<O: TextOp>(
     entries: &NamedEntries<'_>,
     blocks: &mut OpenBlocks,

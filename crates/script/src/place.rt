@@ -110,7 +110,7 @@ impl Place {
     ghost use Rattle.std.specs.List.{filter_map};
     ghost use Rattle.script.specs.Faults.{word_text, place_words, at_section, at_entry, at_key, at_element};
 
-    /// The words that name it, in order; `None` stands for a part that does not apply.
+    /// The words that name it, in order; `None` is for a part that does not apply.
     pub fn words(self) -> [Option<PlaceWord>; 4]
         ensures { filter_map (option_map word_text) result ≡ place_words self }
     {
@@ -144,7 +144,7 @@ impl Place {
         }
     }
 
-    // A key of what stands at this place.
+    // A key of what is at this place.
     pub(crate) fn key(self, key: Key) -> Self
         ensures { result ≡ at_key self key }
     {

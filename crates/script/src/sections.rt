@@ -35,7 +35,7 @@ pub(crate) trait EntryReader<'a> {
     // What it is.
     ghost named: { Self → Option Members → Shown };
 
-    /// The entry of this table, which stands at this place, after the entries before it.
+    /// The entry of this table, which is at this place, after the entries before it.
     fn read(
         &self,
         table: &'a Table,
@@ -47,7 +47,7 @@ pub(crate) trait EntryReader<'a> {
             (named self.now (Some (table_view table.now))) };
 }
 
-// The entry that stands here, which has to be a table.
+// The entry at this place, which has to be a table.
 fn read_entry<'a, R: EntryReader<'a>>(
     reader: &R,
     value: &'a Value,

@@ -1,4 +1,4 @@
-//! What stands in a table: numbers, booleans, names, arrays and texts.
+//! What is in a table: numbers, booleans, names, arrays and texts.
 ghost use Rattle.std.specs.Prelude.{◌≡◌, ◌≤◌, ◌++◌, Some, map, length, option_map, option_and_then, IfOk};
 ghost use Rattle.toml.specs.Data.{get_member, as_integer};
 ghost use Rattle.toml.specs.View.{view, table_view};
@@ -19,21 +19,21 @@ use toml::{Table, Value};
 
 // ---- what is there
 
-// What stands at a word.
+// What is at a word.
 fn member<'a>(table: &'a Table, word: &str) -> Option<&'a Value>
     ensures { data_of result ≡ get_member word.now (table_view table.now) }
 {
     table.get(word)
 }
 
-/// What stands at a key.
+/// What is at a key.
 pub(crate) fn at_key<'a>(table: &'a Table, key: Key) -> Option<&'a Value>
     ensures { data_of result ≡ get_member (key_word key) (table_view table.now) }
 {
     member(table, key.word())
 }
 
-/// What stands at a section of a document.
+/// What is at a section of a document.
 pub(crate) fn at_section<'a>(document: &'a Table, section: Section) -> Option<&'a Value>
     ensures { data_of result ≡ data_at section (table_view document.now) }
 {
@@ -200,7 +200,7 @@ fn check_texts(values: &[Value], place: Place) -> Result<(), Fault>
     Ok(())
 }
 
-/// The texts at a key, at most so many.
+/// The texts at a key, at most this many.
 pub(crate) fn texts<'a>(
     table: &'a Table,
     place: Place,

@@ -56,8 +56,8 @@ impl SlowKernel {
         }
     }
 
-    /// Of those who wait at this side of an object, or of those who are Awake out of such waits, the one of highest priority
-    /// when its wait began, among equals the first that came.
+    /// The best of those who wait at this side of an object, or of those who are Awake out of such waits: the one of highest
+    /// priority when its wait began, and among equals the first that came.
     pub(super) fn best_of(&self, object: u8, side: Side, is_awake: bool) -> Option<TaskId> {
         let mut best = None;
         for number in 0..32 {
@@ -175,7 +175,7 @@ impl SlowKernel {
         deadline.is_some_and(|deadline| deadline <= self.time)
     }
 
-    /// Until when a call may wait that begins now and waits for so many ticks, or for ever.
+    /// Until when a call may wait that begins now and waits for this many ticks, or for ever.
     pub(super) fn deadline_after(&self, ticks: Option<u32>) -> Option<u64> {
         match ticks {
             None => None,

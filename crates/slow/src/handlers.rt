@@ -29,7 +29,7 @@ impl SlowKernel {
         answer
     }
 
-    /// An op of a handler, which tells its answer, if it has one. That is the handler's last answer then, and else the one before.
+    /// An op of a handler, which reports its answer, if it has one. That is the handler's last answer then, and otherwise the one before.
     fn isr(
         &mut self,
         app: &App,

@@ -1,4 +1,4 @@
-//! The kernel as its definitions tell it: one table of tasks, each with its ticket, and one of objects. Every question is a
+//! The kernel as its definitions describe it: one table of tasks, each with its ticket, and one of objects. Every question is a
 //! search of the tables. It is slow, and says plainly what the kernel over lists has to do.
 #![tactic(auto)]
 

@@ -67,8 +67,8 @@ impl SlowKernel {
         self.wait_of(best, false).map_or(0, |wait| wait.priority)
     }
 
-    /// The task's call fails. Where that is for a mutex and its last wait inherited, who holds the mutex now, and no other, has
-    /// its base priority again, or that of the best who still waits for it.
+    /// The task's call fails. If it was for a mutex and its last wait inherited, the mutex's holder, if it holds no other,
+    /// falls to its base priority, or to that of the best who still waits for the mutex.
     pub(super) fn let_holder_fall(&mut self, id: TaskId, object: u8) {
         let Some(holder) = self.holder_of(object) else {
             return;

@@ -49,7 +49,7 @@ impl SlowKernel {
     }
 
     /// A task that is suspended is Ready, however often it was suspended. Where the sleep of a `delay_until` was cut off and
-    /// would not be over yet, the next one counts from now. It tells whether the task was suspended.
+    /// would not be over yet, the next one counts from now. It answers whether the task was suspended.
     pub(super) fn resume(&mut self, id: TaskId) -> bool {
         let mut task = self.task(id);
         let Status::Suspended(cut_off) = task.status else {

@@ -51,7 +51,7 @@ impl SlowKernel {
         TaskId::new(number)
     }
 
-    /// A task that waits for bits is Ready, and will answer these. It tells which of them it asked to clear.
+    /// A task that waits for bits is Ready, and its call will answer these. Returns which of them the call asked to clear.
     fn wake_with(&mut self, id: TaskId, bits: u32) -> u32 {
         let Status::WaitingForBits(wait) = self.task(id).status else {
             return 0;
@@ -135,7 +135,7 @@ impl SlowKernel {
         );
     }
 
-    /// The last phase of a wait answers the bits that the set has kept for it, or else those of now.
+    /// The last phase of a wait answers the bits that the set has kept for it, otherwise those of now.
     fn end_wait(&mut self, app: &App, id: TaskId, group: GroupId, condition: Condition) {
         match self.task(id).call.kept {
             Some(bits) => self.answer(app, id, Some(bits)),

@@ -148,9 +148,9 @@ module _ (app : Application) (formed : IsWellFormed app) (hold : Hold) where
 
 -- ---- what is spared
 
--- The same task runs. Each task is at its op, and where it was in it, but for one that is resumed; one who was Ready is so
--- still, and one who waited for the locked object has the same wait, though it may be Awake by now. Where none is locked, one who was to
--- wake by itself is still to wake then, or is Ready.
+-- The same task runs. Each task is at its op, and where it was in it, except for one that is resumed. One who was Ready still is, and
+-- one who waited for the locked object has the same wait, though it may be Awake by now. Where none is locked, one who was to wake by
+-- itself is still to wake then, or is Ready.
 pub record Spares (old new : State) : Type 0 where
   pub kept : Keeps old new
   pub current : new.current ≡ old.current

@@ -37,7 +37,7 @@ edges_at p [] op e = absurd (cc)
 edges_at zero (o ∷ ops) op e = let same : o ≡ op = cc in ap (λ x. edge_of x ∷ edges_of ops) same
 edges_at (suc p) (o ∷ ops) op e = edges_at p ops op e
 
--- An op stands where these blocks are open, and behind it come ops that end those that are open there.
+-- An op is where these blocks are open, and behind it come ops that end those that are open there.
 pub record Stands (loops : ℕ) (edge : Edge) (behind : List Edge) : Type 0 where
   pub blocks : List Block
   pub count : loops_in blocks ≡ loops
@@ -51,7 +51,7 @@ stands_at loops p ops op h e =
     let next : drop (suc p) (edges_of ops) ≡ drop (p + 1) (edges_of ops) = rw add-one refl in
     record { blocks = h.blocks; count = h.count; may = n.0; nests = subst (Nests (blocks_past (edge_of op) h.blocks)) next n.1 }
 
--- how many loops are open behind an op, where so many are open before it and it doesn't jump
+-- how many loops are open behind an op, where this many are open before it and it doesn't jump
 abbrev pub loops_past : ℕ → Edge → ℕ
 loops_past loops OpensLoop = loops + 1
 loops_past loops EndsLoop = loops - 1
@@ -88,7 +88,7 @@ nests_past loops p ops op h e =
       nests = t.nests;
     }
 
--- an `end` stands in a loop
+-- an `end` is in a loop
 pub no_end : (p : ℕ) (ops : List Op) → AreOpenAt ops p 0 → slice_get ops p ≡ Some End → ⊥
 no_end p ops h e =
     let t = stands_at 0 p ops End h e in

@@ -23,7 +23,7 @@ use Rattle.std.proofs.Math.Nat.{le-max_left}
 
 -- ---- what another priority leaves as it is
 
--- a task as it was, but for its priority, its ticket, and whether its wait has inherited
+-- a task as it was, except for its priority, its ticket, and whether its wait has inherited
 pub record SameBut (old new : Task) : Type 0 where
   pub base_priority : new.base_priority ≡ old.base_priority
   pub op_index : new.progress.op_index ≡ old.progress.op_index
@@ -43,7 +43,7 @@ same_both a b c h k = record {
   ready = k.ready ∙ h.ready;
 }
 
--- Every task is so, the same runs, and the objects are as they were.
+-- Every task is the same in this sense, the same one runs, and the objects are as they were.
 pub record Reranks (old new : State) : Type 0 where
   pub at : (j : ℕ) → SameBut (task_at old j) (task_at new j)
   pub current : new.current ≡ old.current
@@ -59,7 +59,7 @@ reranks_both a b c h k = record {
   objects = k.objects ∙ h.objects;
 }
 
--- one task changes so
+-- one task changes in this way
 reranks-with_task : (s : State) (i : ℕ) (t : Task) → SameBut (task_at s i) t → Reranks s (with_task i t s)
 reranks-with_task s i t h = record {
   at = each-set no_task (λ j u. SameBut (task_at s j) u) s.tasks i t h (λ j. same_but (task_at s j));

@@ -132,7 +132,7 @@ module _ (loops i : ℕ) (ops : List Op) (op : Op) (h : AreOpenAt ops i loops) (
       ∙ ap (λ es. i + 1 + jumped_over (edge_of op ∷ es)) next
       ∙ ap (λ x. i + 1 + jumped_over (x ∷ rest)) same
 
-  -- So many are open behind so many more ops.
+  -- This many are open behind this many more ops.
   lands : (k n : ℕ) → jump_from ops i ≡ i + 1 + n → AreOpen k (drop n rest) → AreOpenAt ops (jump_from ops i) k
   lands k n at l =
       let there : drop n rest ≡ drop (i + 1 + n) (edges_of ops) = drop-drop n (i + 1) (edges_of ops) in

@@ -302,7 +302,7 @@ applied : (s : State) → Keeps (record s { time = s.time + 1; held_ticks = s.he
 unfolding apply_one advance
 applied s = keeps-wake_due (record s { time = s.time + 1; held_ticks = s.held_ticks - 1 })
 
--- when so many have been applied
+-- when this many have been applied
 pub record Applies (n : ℕ) (old new : State) : Type 0 where
   pub elapsed : new.elapsed ≡ old.elapsed
   pub hold : hold_of new ≡ hold_of old
@@ -533,8 +533,8 @@ acts_calm app i op s none fine ne =
     ap (λ (kind : Option Misuse). act_unless app i kind op s) (misuse_calm s i op none ∙ fine)
     ∙ judged_calm i (progress_at s i).op_index (act app i op s) (calm_still app i op s none fine ne)
 
--- no more than one tick passes, but where idle may jump, and then none past the limit; no more than one is held, and no more than one
--- `suspend_all` comes into force
+-- no more than one tick passes, except where idle may jump, and then none past the limit; no more than one is held, and no more than
+-- one `suspend_all` comes into force
 pub record Moves (app : Application) (limits : Limits) (old new : State) : Type 0 where
   pub elapsed : app.tickless ≡ false → new.elapsed ≤ old.elapsed + 1
   pub most : old.elapsed < limits.ticks → new.elapsed ≤ limits.ticks

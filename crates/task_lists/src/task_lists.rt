@@ -8,7 +8,7 @@ use model::TaskId;
 use std::marker::Model;
 
 /// `L` lists of tasks, where `L` is 4096 at most. A task is in one list at most, and there once, with a value. In every
-/// call the list is one below `L`. `M` is 32 more than `L`: so many links the table has.
+/// call the list is one below `L`. `M` is 32 more than `L`: the table has that many links.
 ///
 /// These are the lists of FreeRTOS's kernel, whose entries are of a task and `xItemValue`.
 #[derive(Drop)]
@@ -173,7 +173,7 @@ impl<const L: usize, const M: usize> TaskLists<L, M> {
         self.list_of(task).is_some()
     }
 
-    /// Puts a task that is in no list (`contains` tells) last into a list, with a value of 0 to 4294967295.
+    /// Puts a task that is in no list (see `contains`) last into a list, with a value of 0 to 4294967295.
     #[inline]
     pub fn push_back(&mut self, list: ListId, task: TaskId, value: u32)
         requires list { list.number < L }
@@ -185,7 +185,7 @@ impl<const L: usize, const M: usize> TaskLists<L, M> {
         self.table.push_back(list, node_of(task), value);
     }
 
-    /// Puts a task that is in no list (`contains` tells) into a list, with a value of 0 to 4294967295: before the first
+    /// Puts a task that is in no list (see `contains`) into a list, with a value of 0 to 4294967295: before the first
     /// one of a greater value, or last where there is none.
     #[inline]
     pub fn insert_sorted(&mut self, list: ListId, task: TaskId, value: u32)
