@@ -65,7 +65,7 @@ def times_of(programs, path):
 
 
 def line_of(program, path, best, median, with_instructions):
-    """What is told of a program's runs on one file."""
+    """What is reported of a program's runs on one file."""
     steps = steps_of(program, path)
     told = f"best {best:.3f} s, median {median:.3f} s, {steps / best:,.0f} steps a second, peak {peak_of(program, path):.1f} MiB"
     if with_instructions:
