@@ -27,7 +27,7 @@ class Scripts:
         return ["repeat forever", *ops, "end"] if around else ops
 
     def ops(self, opened, most):
-        """Ops inside these open blocks, loops and ifs, of which at most so many are inside one another."""
+        """Ops inside these open blocks, loops and ifs, of which at most this many are inside one another."""
         found = []
         for _ in range(self.dice.randrange(1, 4)):
             found += self.op(opened, most)

@@ -220,7 +220,7 @@ def random_scripts_of_one_task():
 
 
 def first_bad_op(script):
-    """The first op that may not stand where it stands, the number of ops where a block is left open, or None."""
+    """The first op that is not allowed where it is; the number of ops where a block is left open; or None."""
     opened = []
     for at, op in enumerate(script):
         word = op.split()[0]

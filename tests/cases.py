@@ -12,7 +12,7 @@ def case(function):
 
 
 def case_named(name, function):
-    """A case that is told by this name, and not by that of its function."""
+    """A case that is printed under this name, and not under that of its function."""
     function.told_as = name
     return case(function)
 

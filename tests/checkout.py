@@ -18,8 +18,8 @@ PATIENCE = 60
 RT = """#!/bin/sh
 ''''exec sh "$STAND_IN/rt.sh" "$@" #'''
 """
-# It notes the call and does what the case plans for it: the proofs, or the build of a program that tells what it is made of. Of a
-# library that has its stamp it says nothing, but for the last one, which it checks and doesn't build.
+# It notes the call and does what the case plans for it: the proofs, or the build of a program that prints what it is made of. Of a
+# library that has its stamp it says nothing, except for the last one, which it checks and doesn't build.
 RT_SH = r"""
 . "$STAND_IN/says.sh"
 [ "$1" != version ] || { cat "$STAND_IN/version"; exit; }
@@ -182,7 +182,7 @@ class Checkout:
             self.write(f"{self.stand_in}/{name}", text)
             if "bin/" in name:
                 os.chmod(f"{self.stand_in}/{name}", 0o755)
-        # (before the rest the folder of this very Python: what stands under its name elsewhere may take long to start)
+        # (before the rest the folder of this very Python: what has its name elsewhere may take long to start)
         folders = [self.stand_in, f"{self.stand_in}/bin", os.path.dirname(os.path.realpath(sys.executable))]
         path = ":".join([*folders, os.environ["PATH"]])
         own = {"PATH": path, "STAND_IN": self.stand_in, "CHECKOUT": self.root, "TMPDIR": self.temporary, "LC_ALL": "C"}

@@ -160,7 +160,7 @@ def edges_of_the_number_of_tasks():
     lines = [it for i, name in enumerate(names) for it in (f"{i} 0 mark {name} {i}", f"{i} 0 run {[*names, '-'][i + 1]}")]
     tells(text, "pass in 32 steps, 0 ticks", *lines)
     faults(text + task(name="t32"), "9 TooMany: task")
-    # too many are told before a look at the first
+    # too many are reported before a look at the first
     faults("[[task]]\n" * 33, "9 TooMany: task")
     faults("task = []\n", "1 Missing: task")
 
@@ -306,7 +306,7 @@ def edges_of_the_daemon():
     others = entries("task", 30, "priority = 0\nscript = []\n")
     tells(TASK + others + daemon + entries("mutex", 32), "pass in 1 steps, 0 ticks", *lines)
     faults(TASK + others + entries("task", 1, "priority = 0\nscript = []\n", "u") + daemon, "9 TooMany: daemon")
-    # it is there wherever it stands in the file, and its name is one of all names
+    # it is found wherever it is in the file, and its name is one of all names
     tells(daemon + GROUP + TASK + HANDLER.replace("[]", '["set g 1"]'), "pass in 1 steps, 0 ticks", *lines)
     for name in ("q", "s", "m", "g", "h", "a"):
         faults(EACH_KIND + TASK + HANDLER + daemon.replace('"d"', f'"{name}"'), "6 DoubleName: daemon name")
@@ -330,7 +330,7 @@ def edges_of_base_interrupts():
     four = HANDLER + task("work 1") + at(1) * 4
     tells(four, "pass in 1 steps, 1 ticks", "0 1 run -")
     faults(four + at(1), "9 TooMany: interrupt 4")
-    # the fifth of its tick, wherever it stands
+    # the fifth of its tick, wherever it is
     faults(four + at(2) + at(1), "9 TooMany: interrupt 5")
     refuses_numbers(HANDLER + TASK + at("N"), "interrupt 0 tick", -1, 0, 1_000_001)
     is_taken(HANDLER + TASK + at(1_000_000))
@@ -342,7 +342,7 @@ def edges_of_base_interrupts():
     marked = HANDLER.replace("[]", '["mark 3"]')
     lines = [line for it in range(1, 257) for line in [f"{it - 1} {it} mark h 3"] * 4]
     tells(marked + task("work 256") + all_of_them, "pass in 256 steps, 256 ticks", *lines, "255 256 run -")
-    # in whatever order they stand, they come at their ticks, and those of one tick in the order of the file
+    # in whatever order they are, they come at their ticks, and those of one tick in the order of the file
     three = "".join(f'[[handler]]\nname = "h{it}"\nops = ["mark {it}"]\n' for it in range(3))
     falling = "".join(f'[[interrupt]]\ntick = {tick}\nhandler = "h{it}"\n' for tick, it in ((3, 0), (1, 2), (3, 1), (1, 0)))
     lines = [f"{tick - 1} {tick} mark h{it} {it}" for tick, it in ((1, 2), (1, 0), (3, 0), (3, 1))]

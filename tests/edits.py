@@ -1,5 +1,5 @@
 """Edits of a crate's code, in the form that rt reads from must-fail/: a line 'file: PATH', and then pairs of lines
-'old: TEXT' and 'new: TEXT', each TEXT one line, which stands once in what the pairs before it made of that file."""
+'old: TEXT' and 'new: TEXT', each TEXT one line, which is found once in what the pairs before it made of that file."""
 import os
 import re
 from dataclasses import dataclass
@@ -16,7 +16,7 @@ class BadEdit(Exception):
 
 @dataclass(frozen=True)
 class Function:
-    """A function of a crate: the file that it stands in, the type or module that it belongs to, and its name."""
+    """A function of a crate: the file that it is in, the type or module that it belongs to, and its name."""
 
     path: str
     owner: str
@@ -65,7 +65,7 @@ class Edit:
         return set().union(*self.places(texts))
 
     def copied(self, texts):
-        """The function that it changes, where it changes nothing else, and a copy of it can stand beside it: it is no trait's."""
+        """The function that it changes, where it changes nothing else, and a copy of it can be beside it: it is no trait's."""
         places = self.places(texts)
         function = next(iter(places[0]), None)
         if any(it != {function} for it in places) or is_of_a_trait(function, texts[function.path]):
@@ -94,7 +94,7 @@ def read_edit(crate, file):
 
 
 def owner_of(line):
-    """The type, or the type, its trait and what the trait is of as one word, whose functions stand below this line, if any do."""
+    """The type, or the type, its trait and what the trait is of as one word, whose functions are below this line, if any are."""
     if found := IMPL.match(line):
         return found[3] + (found[1] or "") + "".join(re.findall(r"(?<!')\b\w+", found[2] or ""))
     found = TRAIT.match(line)
@@ -121,7 +121,7 @@ def functions_in(path, text):
 
 
 def is_of_a_trait(function, text):
-    """Whether the function stands in a trait, or in an implementation of one."""
+    """Whether the function is in a trait, or in an implementation of one."""
     lines = text.split("\n")
     first, _ = functions_in(function.path, text)[function]
     if not lines[first].startswith(" "):

@@ -26,7 +26,7 @@ LINES = "0 0 mark h 1\n0 0 mark a 7\n0 0 run -\n"
 
 
 def campaign_of(rows):
-    """A campaign of so many rows. The report of 500 takes several pages."""
+    """A campaign of this many rows. The report of 500 takes several pages."""
     return HANDLER.replace("[]", '["mark 1"]') + TASK + points(*["0 h"] * rows)
 
 
@@ -257,7 +257,7 @@ def the_file_stays_as_it_is_where_all_streams_are_closed():
 
 # Signals
 
-# A campaign that runs for some minutes, and writes nothing before it has run. When the handler comes tells when the sleeper sleeps from
+# A campaign that runs for some minutes, and writes nothing before it has run. When the handler comes shows when the sleeper sleeps from
 # there on, so no row goes on as the one before it.
 LONG_CAMPAIGN = (
     HANDLER.replace("[]", '["resume sleeper"]')
@@ -321,7 +321,7 @@ def a_run_that_is_held_and_goes_on_writes_all_of_its_report():
 
 
 def with_memory(kilobytes, *words, kind=resource.RLIMIT_AS, **how):
-    """Runs the program with so much memory in all, as `ulimit -v` gives it, or of the heap alone, as `ulimit -d` does."""
+    """Runs the program with this much memory in all, as `ulimit -v` gives it, or of the heap alone, as `ulimit -d` does."""
     return run(*words, preexec_fn=lambda: resource.setrlimit(kind, (kilobytes << 10, kilobytes << 10)), **how)
 
 
@@ -400,7 +400,7 @@ def with_little_memory_for_words_the_answer_is_whole_or_says_so():
 
 
 def with_little_memory_in_all():
-    """What a campaign answers with little memory, its stack included, but for its report and that no memory is left."""
+    """What a campaign answers with little memory, its stack included, except for its report and that no memory is left."""
     write("application.toml", TASK)
     # (where the stack begins is random, so the least differs from start to start, by a page or two)
     first, rows = least(resource.RLIMIT_AS, 64, (0,), "run", "application.toml") + 16, 3000
@@ -498,7 +498,7 @@ def auto_stands_for_a_worker_a_processor():
 
 
 def controls(text):
-    """The control characters of what is written, but for the feeds of lines."""
+    """The control characters of what is written, except for the feeds of lines."""
     return [it for it in text.decode("utf-8", "surrogateescape") if it != "\n" and (it < " " or "\x7f" <= it < "\xa0")]
 
 

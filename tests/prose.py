@@ -1,7 +1,7 @@
 """Cases of tests/check about the documents: no sentence is too long, each link leads somewhere, README is short, and what it shows and
-counts is so.
+counts is so; and about documents and comments: their words are plain.
 
-    tests/prose.py    prints each sentence that is too long, with its file and line"""
+    tests/prose.py    prints each sentence that is too long, and each word that isn't plain, with its file and line"""
 import glob
 import os
 import re
@@ -13,6 +13,9 @@ from running import ROOT, stored
 MOST_WORDS = 40
 README_LINES = 130
 BEGINS_A_BLOCK = re.compile(r"^\s*(#+|[-*]|\d+\.)\s")
+# Words that stop a reader: a program or a value prints, reports, says or shows; it is, lies or holds, and represents or means.
+NOT_PLAIN = re.compile(r"(?i)\b(tell|tells|telling|told|stands|stood|but for)\b")
+STRING = re.compile(r'"(?:[^"\\]|\\.)*"')
 LINK = re.compile(r"\[[^]]*\]\(([^)\s]+)\)")
 # A stop, perhaps with what closes a bracket, a quotation or an emphasis, and a word that may begin a sentence.
 BETWEEN_SENTENCES = re.compile(r"(?<=[.?!])[)\"*]*\s+(?=[\"(*`\[A-Z0-9])")
@@ -72,6 +75,30 @@ def long_sentences(text):
     return [(line, it) for line, block in blocks(text) for it in sentences(block) if words(it) > MOST_WORDS]
 
 
+def comments(text, mark):
+    """The number and the text of each line's comment, which begins with this mark."""
+    for number, line in enumerate(text.splitlines(), 1):
+        _, _, comment = STRING.sub('""', line).partition(mark)
+        yield number, comment
+
+
+def commented():
+    """Each file of code and of definitions by its name, with its comments."""
+    for form, mark in (("crates/*/src/**/*.rt", "//"), ("crates/*/specs/**/*.antt", "--")):
+        for path in sorted(glob.glob(f"{ROOT}/{form}", recursive=True)):
+            name = os.path.relpath(path, ROOT)
+            yield name, comments(text_of(name), mark)
+
+
+def words_not_plain(lines):
+    return [(number, it[0]) for number, line in lines for it in NOT_PLAIN.finditer(re.sub(r"`[^`]*`", "", line))]
+
+
+def places_not_plain():
+    texts = [*((name, prose_lines(text_of(name))) for name in documents()), *commented()]
+    return [f"{name}:{line}: {word}" for name, lines in texts for line, word in words_not_plain(lines)]
+
+
 def anchors(text):
     """Where a link into a document may lead: to its headings, in the form in which hosts of repositories name them."""
     headings = (line.lstrip("# ") for _, line in prose_lines(text) if line.startswith("#"))
@@ -93,6 +120,17 @@ def sentences_are_counted_by_their_words():
     equal([line for line, _ in long_sentences(f"A\n\n{is_long}\n")], [3])
     equal([line for line, _ in long_sentences(f"- a\n- b\n  {is_long}\n\n| a | {is_long} |\n")], [2, 5])
     equal(long_sentences(f"{'word ' * 20}`a b`. {'Word ' * 20}\n\n    {is_long}\n\n```\n{is_long}\n```\n"), [])
+
+
+@case
+def documents_and_comments_have_plain_words():
+    equal(places_not_plain(), [])
+
+
+@case
+def words_are_looked_for_in_comments_and_not_in_code():
+    text = 'let told = "// stood"; // is told by `tells`\n// It stands\nfn tell() {} // no event\n'
+    equal(words_not_plain(comments(text, "//")), [(1, "told"), (2, "stands")])
 
 
 @case
@@ -144,3 +182,5 @@ if __name__ == "__main__":
     for name in documents():
         for line, it in long_sentences(text_of(name)):
             print(f"{name}:{line}: {words(it)} words: {it}")
+    for it in places_not_plain():
+        print(it)

@@ -268,7 +268,7 @@ def walks(name, is_passing):
                     assert walker.has_ended, (file, run_there.head, script.name)
 
 
-# Runs of tests/runs that end amid a loop for ever that tells no line, so that it isn't known where.
+# Runs of tests/runs that end amid a loop for ever that has no line, so that it isn't known where.
 LOOPS_WITHOUT_LINES = ("an_empty_loop_for_ever_takes_all_steps", "a_loop_for_ever_runs_to_the_limit_of_steps",
                        "the_limit_of_ticks_where_only_the_endless_task_computes")
 

@@ -22,8 +22,8 @@ def failed_beyond(lines, base):
 
 
 def slow_outcome(row, base, base_end, is_exact):
-    """What two rows must have in common to be of one class; None where a row is as the base run but for lines of its handler, which
-    are all told at one tick, and of which none tells a call that failed."""
+    """What two rows must have in common to be of one class; None where a row is as the base run except for lines of its handler, which
+    are all of one tick, and of which none is of a call that failed."""
     step, handler, is_reached, end, lines = row
     failed = failed_beyond(lines, base)
     verdict = (end.split(" in ")[0],) + ((end.rpartition(", ")[2],) if is_exact else ())

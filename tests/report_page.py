@@ -81,7 +81,7 @@ def a_link_to_a_class_lasts():
 
 @case
 def ops_of_scripts_are_at_their_steps():
-    """Each call's line stands in the last step of its op, for every task whose script is known."""
+    """Each call's line is in the last step of its op, for every task whose script is known."""
     for name in (EXAMPLE, OLD, SUSPENDS):
         data = data_of(page(name))
         for first in data["firsts"]:

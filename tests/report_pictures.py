@@ -31,7 +31,7 @@ def pictures():
 
 
 def long_run(steps):
-    """Two tasks that send and receive, in so many steps."""
+    """Two tasks that send and receive, in this many steps."""
     lines, running = [], "a"
     for step in range(steps - 1):
         if step % 7 == 3:
@@ -269,7 +269,7 @@ def doing_at(found, lane, boundary):
 
 
 def states_differ(found, text):
-    """Compares a timeline with the states that the program writes, of each step but the last one: the run is limited to so many
+    """Compares a timeline with the states that the program writes, of each step but the last one: the run is limited to this many
     steps. Answers None where there is no built program that writes them."""
     if not os.access(PROGRAM, os.X_OK) or not states(text):
         return None

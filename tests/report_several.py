@@ -9,7 +9,7 @@ from rtosim_report import base_run
 from rtosim_report.injections import groups_of, own_stretches, position_of
 
 PRESSES, CHANGES = f"{ROOT}/tests/of_several/two_presses.report", f"{ROOT}/tests/of_several/changes.report"
-# How many lines the handlers of the two files tell.
+# How many lines the handlers of the two files write.
 LINES = {"key": 1, "h": 1, "k": 2, "none": 0}
 
 

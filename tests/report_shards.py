@@ -30,7 +30,7 @@ def seen(rows, view):
 
 
 def shards(text, number, view=""):
-    """The reports of so many shards, in files, by name."""
+    """The reports of this many shards, in files, by name."""
     rows = rows_of(text)
     names = [f"part.{it}" for it in range(1, number + 1)]
     for at, name in enumerate(names):
@@ -237,7 +237,7 @@ def a_part_that_is_changed_between_the_looks_is_told():
 
 
 def parts_alike(rows, number, lines):
-    """Parts of so many rows in all, each written row by row: the memory of this process at its start counts as that of a join."""
+    """Parts of this many rows in all, each written row by row: the memory of this process at its start counts as that of a join."""
     size = rows // number
     for at in range(number):
         with open(f"part.{at}", "w") as it:

@@ -17,7 +17,7 @@ DAY = f"{ROOT}/examples/a_day_of_a_sensor"
 GIVEN = [f"{YEARS}.report", "--base", f"{YEARS}.out", "--application", f"{YEARS}.toml"]
 WITHOUT_TEXTS = GIVEN[:3]
 START, MOST = 4294967000, 281474976710656
-# The elapsed ticks of its base run at each boundary, as runs that are limited to so many steps have them.
+# The elapsed ticks of its base run at each boundary, as runs that are limited to this many steps have them.
 TICKS = [
     0, 0, 1, 2, 3, 3, 3, 3, 3, 3, 100, 250, 403, 403, 403, 403, 700, 999999, 1000000, 1000000, 1000001, 1000002, 1000002, 1000002,
     1000002, 1000002, 1000002, 1000002, 4294967698, 4294967699, 4294967700, 4294967700, 4294967700, 4295967296, 4295967296, 4295967296,
@@ -140,7 +140,7 @@ def run_of(text, *words):
 
 
 def elapsed_at(text, steps, *words):
-    """The elapsed ticks of the run when it is limited to so many steps."""
+    """The elapsed ticks of the run when it is limited to this many steps."""
     head = run_of(text.replace("[limits]\n", f"[limits]\nsteps = {steps}\n").replace("steps = 300\n", ""), *words)
     return int(re.search(r" steps, ([0-9]+) ticks", head)[1])
 

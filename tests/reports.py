@@ -173,7 +173,7 @@ def timeline_of(name, row=None, folder="examples"):
     return timeline.of_row(runs[row], base)
 
 
-# Words of a row with its state are answered as the example's session has them, and else refused.
+# Words of a row with its state are answered as the example's session has them, and otherwise refused.
 STAND_IN = """#!/bin/sh
 echo "$*" >>"$0.calls"
 case "$1 $#" in

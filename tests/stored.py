@@ -1,12 +1,12 @@
-"""The program's answers that stand in files of examples/, tests/runs/ and tests/words/, and the files that it refuses, which stand
+"""The program's answers that are in files of examples/, tests/runs/ and tests/words/, and the files that it refuses, which are
 in tests/refused/. Each file of answers is a case.
 
 NAME.out is what `rtosim run NAME.toml` writes, and NAME.report what `rtosim campaign NAME.toml` does. NAME.session has commands,
 each a line `$ rtosim WORDS` with the lines that come of it, and then its status, as `[2]`, where that isn't 0. With 0 and 1 the
 lines go to standard output, with more to standard error.
 
-NAME.faults is a table of texts that are refused. Before its first fault line stands the head of them all. Below a fault line stand
-those that are refused with it: where the head has `...`, each line is one, and takes that place; else all lines together are one,
+NAME.faults is a table of texts that are refused. Before its first fault line comes the head of them all. Below a fault line come
+those that are refused with it: where the head has `...`, each line is one, and takes that place; otherwise all lines together are one,
 and follow the head.
 
 What is stored comes from worked examples and from an independent program."""

@@ -32,7 +32,7 @@ class Refused(Exception):
 
 @contextlib.contextmanager
 def parts_of_rt():
-    """Within it parts of rt are called: whatever fails there is told as OtherRt."""
+    """Within it parts of rt are called: whatever fails there is raised as OtherRt."""
     try:
         yield
     except (Refused, OtherRt):
@@ -71,7 +71,7 @@ def proofs_in(lines):
 
 
 class Judge:
-    """Judges the crate of a program, which stands in this folder, and those that it stands on."""
+    """Judges the crate of a program, which is in this folder, and those that it builds on."""
 
     def __init__(self, folder):
         with parts_of_rt():
@@ -89,7 +89,7 @@ class Judge:
         raise Refused(self.rt.FLAGS.sub("", why))
 
     def look_at_itself(self):
-        """Raises OtherRt unless what is known here of a last line is taken, and with each of the words that may not stand there refused."""
+        """Raises OtherRt unless what is known here of a last line is taken, and with each of the words that are not allowed there refused."""
         lowest = self.crates[0]
         lines = [PROVED.replace(" sum=", f" {it} sum=") for it in NEVER]
         if self.fault(lowest, PROVED) or not all(self.fault(lowest, it) for it in lines):
@@ -151,7 +151,7 @@ class Judge:
                 raise Refused(*(f"{crate.name}: {it}" for it in [*places, why]))
 
     def look_at_calls(self, place):
-        """Raises Refused where the program, which stands at this place, calls what HANDLES doesn't allow."""
+        """Raises Refused where the program, which is at this place, calls what HANDLES doesn't allow."""
         program = self.crates[-1]
         with parts_of_rt():
             program.out = io.StringIO()
@@ -160,11 +160,11 @@ class Judge:
 
 
 class JudgeOfKept(Judge):
-    """Judges what rt proves over the proofs that it keeps. Of a library that stands as it was built rt says nothing, so what has been
+    """Judges what rt proves over the proofs that it keeps. Of a library that is as it was built rt says nothing, so what has been
     judged is recorded beside the stamp by which rt takes it."""
 
     def record_of(self, crate):
-        """The record, and what it has once the library as it stands is judged."""
+        """The record, and what it has once the present library is judged."""
         at = f"{crate.folder}/out/rlib"
         return f"{at}/judged", f"{text_of(f'{at}/stamp')} {', '.join(crate.allowed)}\n"
 
@@ -173,7 +173,7 @@ class JudgeOfKept(Judge):
         return not crate.is_program and text_of(record) == wanted
 
     def have_said_again(self):
-        """Has rt build anew, over the proofs that it keeps, what stands without having been judged."""
+        """Has rt build anew, over the proofs that it keeps, what is there without having been judged."""
         for crate in self.crates:
             stamp = f"out/{crate.name}.stamp" if crate.is_program else "out/rlib/stamp"
             if not self.is_judged(crate):
@@ -188,7 +188,7 @@ class JudgeOfKept(Judge):
                 self.proved.add(crate)
 
     def finish(self, place):
-        """Raises OtherRt where a crate has not been judged, and Refused as look_at_calls does. Else records what has been judged."""
+        """Raises OtherRt where a crate has not been judged, and Refused as look_at_calls does. Otherwise records what has been judged."""
         for crate in self.crates:
             if crate not in self.proved and not self.is_judged(crate):
                 raise OtherRt(f"it says nothing of the proof of {crate.name}")

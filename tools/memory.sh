@@ -3,7 +3,7 @@
 #
 #     read_memory     sets `limit` to the kilobytes that RTOSIM_MEMORY asks for, to nothing where it isn't set or is empty; status 1
 #                     where it is no amount
-#     limit_memory    gives this process that limit, or else nine tenths of what is free; never a higher one than it has
+#     limit_memory    gives this process that limit, otherwise nine tenths of what is free; never a higher one than it has
 
 # (below another folder in tests)
 system=

@@ -15,7 +15,7 @@ KEEPS_MEMORY = {"MIMALLOC_PURGE_DELAY": "-1"}
 
 
 def crates(root=ROOT):
-    """The crates by name, each with the names of those that it stands on, lowest first."""
+    """The crates by name, each with the names of those that it builds on, lowest first."""
     found = {}
     with open(f"{root}/crates.txt", encoding="utf-8") as file:
         for line in file:
@@ -26,7 +26,7 @@ def crates(root=ROOT):
 
 
 def below(name, stand_on):
-    """All crates that the crate stands on, lowest first."""
+    """All crates that the crate builds on, lowest first."""
     found = {}
     for it in stand_on[name]:
         found.update(dict.fromkeys([*below(it, stand_on), it]))
@@ -42,7 +42,7 @@ def copy(here, there):
 
 
 def copy_crates(parts, folder, root=ROOT):
-    """Makes the folder a repository of some crates alone: of each those parts, files or folders, that stand at its name, where it has
+    """Makes the folder a repository of some crates alone: of each those parts, files or folders, that are at its name, where it has
     them."""
     os.makedirs(f"{folder}/crates")
     with open(f"{root}/crates.txt", encoding="utf-8") as file, open(f"{folder}/crates.txt", "w", encoding="utf-8") as to:
@@ -70,8 +70,8 @@ def rtlib():
 
 
 def adopt_libraries(folder):
-    """Has rt take the libraries below the crate of this folder as they stand, though it is `rt ci` that has built them. They hold
-    statements and no proofs, and fit one another alone, so rt doesn't take them where others may come to stand among them."""
+    """Has rt take the libraries below the crate of this folder as they are, though it is `rt ci` that has built them. They hold
+    statements and no proofs, and fit one another alone, so rt doesn't take them where others may come among them."""
     kit = rtlib()
     for crate in kit.Crate(folder, kit.root_above(folder), {}).below():
         with open(f"{crate.folder}/out/rlib/stamp", "w", encoding="utf-8") as file:
@@ -83,7 +83,7 @@ def processors():
 
 
 def room_for_jobs(memory=MEMORY_OF_A_JOB):
-    """How many jobs, of so much memory each, there are processors and memory for, one at least."""
+    """How many jobs, of this much memory each, there are processors and memory for, one at least."""
     with open("/proc/meminfo", encoding="ascii") as file:
         free = 1024 * int(re.search(r"MemAvailable:\s+(\d+)", file.read())[1])
     return max(1, min(processors(), free // memory))

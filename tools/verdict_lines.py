@@ -1,9 +1,9 @@
-"""The last line that rattle says of each crate that the program stands on, and of its own: what there is to show of a proof. rt keeps
-none of them, so they are kept beside the program, each with the sum of the sources that it is about. The toolchain's line stands above
+"""The last line that rattle says of each crate that the program builds on, and of its own: what there is to show of a proof. rt keeps
+none of them, so they are kept beside the program, each with the sum of the sources that it is about. The toolchain's line is above
 them.
 
 A line holds as long as these sources are the same, whoever built what: `rt ci` says nothing of a crate that an earlier run of it proved,
-nor does `rt check` of one that stands as it was built."""
+nor does `rt check` of one that is as it was built."""
 import contextlib
 import hashlib
 import os
@@ -21,7 +21,7 @@ HEADER = re.compile(r"== (\w+)(: its tests)?$")
 
 
 def names(root=proving.ROOT):
-    """The crates that the program stands on, and its own, lowest first."""
+    """The crates that the program builds on, and its own, lowest first."""
     return [*proving.below("rtosim", proving.crates(root)), "rtosim"]
 
 
@@ -90,7 +90,7 @@ def with_said(said, root):
 
 
 def keep(said, root=proving.ROOT):
-    """Keeps the lines that are said of the sources as they stand, where that can be written."""
+    """Keeps the lines that are said of the sources as they are, where that can be written."""
     with contextlib.suppress(OSError):
         text = with_said(said, root)
         with open(f"{root}/{RECORD}.new", "w", encoding="utf-8", errors="surrogateescape") as file:

@@ -6,7 +6,7 @@ from .nearness import did_you_mean, near, quoted
 from .problem import Problem
 
 A_NUMBER = re.compile("[0-9]{1,10}")
-# An operator that stands at its number.
+# An operator next to its number.
 TOGETHER = re.compile("(==|!=|<>|<=|>=|=|!|<|>)(.+)")
 
 

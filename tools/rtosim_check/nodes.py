@@ -97,7 +97,7 @@ class Member:
 
     @property
     def span(self):
-        """Where the section begins: its first header, or else the key."""
+        """Where the section begins: its first header, or the key where it has none."""
         return self.value.span if self.has_header else (self.start, self.end)
 
     @property

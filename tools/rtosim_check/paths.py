@@ -38,7 +38,7 @@ class Paths:
         return self.ops[at] == ["repeat", "forever"]
 
     def unreached(self):
-        """The first op of each stretch that no way leads to, but for those that only part or close a block."""
+        """The first op of each stretch that no way leads to, except for those that only part or close a block."""
         reached, following = set(), [0]
         while following:
             at = following.pop()

@@ -8,7 +8,7 @@ from .nodes import Text
 
 
 def count(nodes, steps):
-    """How many points these are, where the base run has so many steps."""
+    """How many points these are, where the base run has this many steps."""
     every = sum(isinstance(it, Text) and it.value.lstrip(" ").startswith("all ") for it in nodes)
     return len(nodes) - every + every * steps
 
@@ -22,7 +22,7 @@ def too_many(nodes, steps, root, line):
 
 
 def warnings(application, steps):
-    """Points that are not reached by a base run of so many steps, in one warning."""
+    """Points that are not reached by a base run of this many steps, in one warning."""
     behind = []
     for at, node in enumerate(application.points() or []):
         pairs = pairs_of(node.value) if isinstance(node, Text) else []

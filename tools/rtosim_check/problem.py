@@ -1,4 +1,4 @@
-"""What is wrong with an op, and how it is told."""
+"""What is wrong with an op, and how it is said."""
 
 
 class Problem:

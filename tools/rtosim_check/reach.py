@@ -153,7 +153,7 @@ def go_on(script, brought):
 
 
 def never_ends(script, brought):
-    """The first op that can't end, or else the loop that is never left."""
+    """The first op that can't end; where there is none, the loop that is never left."""
     stuck = [it for it in sorted(script.held) if brought.lacks(script, it) is not None]
     if not stuck:
         return never_left(script)

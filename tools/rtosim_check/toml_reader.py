@@ -64,7 +64,7 @@ class Reader:
         return NotToml(self.at, self.at + len(self.next_piece()), message, rule)
 
     def next_piece(self):
-        """The word, or else the character, that comes next."""
+        """The word that comes next, or the character where there is none."""
         word = PIECE.match(self.text, self.at)
         return word.group() if word else self.text[self.at : self.at + 1]
 
@@ -237,7 +237,7 @@ class Reader:
             raise NotToml(start, start + 1, f"this {what} is not closed: expected {closing} before the end of the file")
 
     def after_element(self, start, closing, what):
-        """Whether the closing bracket comes next; else a comma has been read."""
+        """Whether the closing bracket comes next; otherwise a comma has been read."""
         self.skip(BLANK)
         if self.peek() == closing:
             return True

@@ -5,7 +5,7 @@ from typing import Dict, List, NamedTuple, Optional
 from .escaping import plain
 from .faults import Fault
 
-# Words of ops that tell no line that names them.
+# Words of ops for which no line names them.
 SILENT_WORDS = {"work", "mark", "expect", "repeat", "end", "if", "else", "break", "stamp"}
 # Ops whose second word isn't the name of an object, a group or a task.
 NAMELESS = SILENT_WORDS | {"delay", "delay_until", "yield", "time", "since", "suspend_all", "resume_all"}

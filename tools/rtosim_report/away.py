@@ -103,13 +103,13 @@ class AwayTimes:
         return any(it.step == turn.end for it in self.builder.injections())
 
     def may_fail(self, op, turn):
-        """Whether the op of the run's last step may be one that isn't done: of two checks that fail in one step one is told."""
+        """Whether the op of the run's last step may be one that isn't done: of two checks that fail in one step one is reported."""
         head = self.builder.head
         return head.verdict.task is not None and turn.end == head.steps and (op.word == "expect" or head.verdict.task == self.lane.name)
 
     def ready_or_ended(self, turn, back):
-        """After a turn that ends with none of what lets a task wait: it is Ready if it comes back. Where the run passes, and idle runs
-        then, it has ended else, if nobody may have suspended it; elsewhere it isn't known, since it may serve for ever."""
+        """After a turn that ends with none of what lets a task wait: it is Ready if it comes back. If it doesn't, it has ended where the run
+        passes, idle runs then, and nobody may have suspended it. Elsewhere it isn't known, since it may serve for ever."""
         if back is None and self.builder.passes_with_idle and not self.may_be_suspended_after(turn):
             self.endings.append((self.lane, turn.end))
         return Doing.READY if back is not None else None
@@ -118,7 +118,7 @@ class AwayTimes:
         return any(it.is_suspend and it.boundary >= turn.end and it.may_be_of(self.lane.name) for it in self.changes)
 
     def after_call(self, call, turn, back):
-        """A call that is told in the turn's last step: the task may sleep or be suspended by it. Where it doesn't come back from a `delay`
+        """A call that is reported in the turn's last step: the task may sleep or be suspended by it. Where it doesn't come back from a `delay`
         it isn't known whether it has ended, with that as its last op, or sleeps."""
         if call.word == "suspend" and call.answer == 1:
             return Doing.SUSPENDED

@@ -1,6 +1,6 @@
-"""The base run beside which rows are seen: given by its own report, told by a row that isn't reached, or presumed.
+"""The base run beside which rows are seen: given by its own report, by a row that isn't reached, or presumed.
 
-A campaign's report need not tell the base run. Then each row tells it up to its step, and what the rows agree on but for
+A campaign's report need not have the base run. Then each row has it up to its step, and what the rows agree on except for
 their handlers' lines is taken for the rest. Where they agree on nothing, it is known up to the last of these steps."""
 import bisect
 import enum
@@ -60,11 +60,11 @@ class BaseRun:
         return Run(self.head, self.text, 0, self.state)
 
     def position(self, step):
-        """How many lines stand before this step."""
+        """How many lines come before this step."""
         return bisect.bisect_left(self.steps, step)
 
     def place(self, step):
-        """How many lines, and how many bytes, stand before this step."""
+        """How many lines, and how many bytes, come before this step."""
         found = self.places.get(step)
         if found is None:
             position = self.position(step)
@@ -115,8 +115,8 @@ class Scan:
 
 
 def find_base(source):
-    """The base run as far as the report tells it, or None of a report without rows. A report with a fault, which may be found
-    in the rows that are looked at here, is checked from its beginning, so that its first fault is told."""
+    """The base run as far as the report has it, or None of a report without rows. A report with a fault, which may be found
+    in the rows that are looked at here, is checked from its beginning, so that its first fault is reported."""
     try:
         return seek_base(source)
     except Fault:
@@ -163,14 +163,14 @@ def own_bytes(text, injection):
 
 @dataclass
 class Candidate:
-    """A run that some rows tell but for their handlers' lines: how many, and the first of them among the parts of the report."""
+    """A run that some rows have except for their handlers' lines: how many, and the first of them among the parts of the report."""
 
     part: int
     rows: int = 0
 
 
 def without_own(run, start):
-    """The row's text but for the lines of its handlers, of which the first comes at this byte."""
+    """The row's text except for the lines of its handlers, of which the first comes at this byte."""
     point, text = run.head.point, run.text
     if point.is_single:
         return text[:start] + text[start + own_bytes(text[start : start + 4096], point[0]) :]
@@ -179,7 +179,7 @@ def without_own(run, start):
 
 
 def beyond_known(run, known):
-    """What the row tells beyond what is known, but for its handlers' lines; None where it doesn't tell what is known."""
+    """What the row has beyond what is known, except for its handlers' lines; None where it doesn't have what is known."""
     start = known.place(run.head.point.first_step)[1]
     text = without_own(run, start) if run.text[:start] == known.text[:start] else b""
     if not text.startswith(known.text):
@@ -190,8 +190,8 @@ def beyond_known(run, known):
 
 
 def presumed_base(source, known, is_covered):
-    """The run that most rows tell but for their handlers' lines, if it begins with what is known. Where there is a point for
-    each step, the base run ends after the last of them; else one row alone is not enough."""
+    """The run that most rows have except for their handlers' lines, if it begins with what is known. Where there is a point for
+    each step, the base run ends after the last of them; otherwise one row alone is not enough."""
     last_step = known.known_until
     length = b" in %d steps, " % (last_step + 1)
     candidates: Dict[bytes, Candidate] = {}
@@ -219,7 +219,7 @@ def presumed_base(source, known, is_covered):
 
 
 def is_base_exactly(run, base):
-    """A quick look whether the row is the base run, with all numbers, but for the handler's own lines, in which no call fails."""
+    """A quick look whether the row is the base run, with all numbers, except for the handler's own lines, in which no call fails."""
     head, text = run.head, run.text
     more = len(text) - len(base.text)
     if more < 0 or not head.is_reached or head[3:] != base.head[3:] or not head.point.is_single:
@@ -233,7 +233,7 @@ def is_base_exactly(run, base):
 
 
 def tail_of_row(run, base):
-    """The row's lines from its injection on, and how many of the base run stand before it. The lines before it are the same
+    """The row's lines from its injection on, and how many of the base run come before it. The lines before it are the same
     in both, so those of a row that isn't reached are all the base run's."""
     step = run.head.point.first_step if run.head.is_reached else run.head.steps
     if base is None or step > base.known_until:

@@ -15,7 +15,7 @@ FAILED = rb"isr [A-Za-z0-9_]+ [0-9]+ (?:(?:send|send_front|give|resume|set|clear
 FAILED_CALL, FAILED_LINE = re.compile(FAILED), re.compile(b" " + FAILED + rb"\n")
 # The call in which a task waits for another one, so that it serves nobody meanwhile.
 WAITS_FOR_A_TASK = "lock"
-# Of so many calls it is kept where they lead.
+# Of this many calls it is kept where they lead.
 MOST_KEPT = 1 << 16
 
 

@@ -1,7 +1,7 @@
 """Groups rows: those that fail by their cause, those that pass by their outcome.
 
-Two rows have the same outcome when their verdicts, and what they tell from the injection on, are the same but for the numbers of
-steps and ticks. The rows that are the base run but for the handlers' own lines, in which no call fails, are a class of their own."""
+Two rows have the same outcome when their verdicts, and what they report from the injection on, are the same except for the numbers of
+steps and ticks. The rows that are the base run except for the handlers' own lines, in which no call fails, are a class of their own."""
 import enum
 import hashlib
 import re
@@ -15,10 +15,10 @@ from .endings import Endings
 from .faults import BadReport
 from .report import Head
 
-# An outcome that is told in more bytes is known by a digest.
+# An outcome that takes more bytes is known by a digest.
 LONGEST_KEY = 200
 AS_BASE, BY_CAUSE = "as the base run", "by cause"
-# What differs is told with a number of a step where the base run isn't known to its end.
+# What differs is shown with a number of a step where the base run isn't known to its end.
 STEP_OF_BASE = re.compile(r"before step [0-9]+")
 
 
@@ -110,7 +110,7 @@ class Classifier:
         return self.by is By.CAUSE or self.by is By.DEFAULT and not verdict.passes
 
     def key_of(self, run, tail, position, failed):
-        """What rows of one class have in common: None of the base run's, else what it is and what is alike."""
+        """What rows of one class have in common: None of the base run's, otherwise what it is and what is alike."""
         if self.by is By.VERDICT:
             return BY_CAUSE, run.head.verdict.text
         exact = self.by is By.EXACT

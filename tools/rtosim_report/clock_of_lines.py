@@ -1,4 +1,4 @@
-"""The clock of a run: how many ticks have elapsed at which boundary, as its lines tell them.
+"""The clock of a run: how many ticks have elapsed at which boundary, as its lines show them.
 
 In a tickless application a step of idle passes as many ticks as come before the next thing to happen, and any other step one at
 most. Who wakes then has a line; a base interrupt whose handler has no ops has none, and is known by the application."""
@@ -37,7 +37,7 @@ class TickReader:
         return Clock(self.boundaries, self.ticks, self.start)
 
     def know(self, boundary, elapsed, is_latest=False):
-        """The ticks of a boundary behind those that are known, or what a later line tells of the last of these."""
+        """The ticks of a boundary behind those that are known, or what a later line shows of the last of these."""
         if boundary > self.boundaries[-1]:
             self.boundaries.append(boundary)
             self.ticks.append(elapsed)
@@ -55,7 +55,7 @@ class TickReader:
                 self.know(at, tick)
 
     def tick_at_reset(self):
-        """The printed tick at reset: counted back from a line of the last step, else taken for 0 where it can be. Of a tickless
+        """The printed tick at reset: counted back from a line of the last step, otherwise taken for 0 where it can be. Of a tickless
         application it is known; where it isn't given, no step before the first line passes more than a tick, since none is idle's."""
         if self.application is not None:
             return self.application.start

@@ -17,7 +17,7 @@ from .source import base_source, campaign_source, file_source, standard_input, s
 from .table import Given
 
 DESCRIPTION = "Reads a report of `rtosim run` or `rtosim campaign`: which points matter, pictures, other tools' formats."
-# So the name of an application ends, where a report may stand too.
+# So the name of an application ends, where a report may be named too.
 APPLICATION = ".toml"
 # So many rows' states are asked for.
 MOST_ASKED = 100
@@ -148,7 +148,7 @@ def do_classes(job, output):
 
 
 def do_compare(words, output):
-    """Reads both reports. Ops are named by their texts where both are of applications, else by their numbers."""
+    """Reads both reports. Ops are named by their texts where both are of applications, otherwise by their numbers."""
     from .comparing import write_changes
 
     both = all(it.endswith(APPLICATION) for it in (words.old, words.new))

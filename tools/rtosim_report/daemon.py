@@ -1,7 +1,7 @@
 """The daemon, step by step. No line shows its receive; but what it does follows from the steps in which it runs, and from the
 commands of handlers that found room, each of which has a line.
 
-It is known by its name with the application. Else it is the one whose calls are those that a daemon makes in these steps and that
+It is known by its name with the application. Otherwise it is the one whose calls are those that a daemon makes in these steps and that
 has begun to wait in them, if there is just one such task."""
 import enum
 from typing import List, NamedTuple, Tuple
@@ -123,7 +123,7 @@ def times_of(builder, name):
 
 
 def who_may_be_it(builder):
-    """Those of whom nothing is told that isn't told of a daemon; nobody where no command has found room."""
+    """Those of whom nothing is reported that isn't reported of a daemon; nobody where no command has found room."""
     like_it, others = set(), {builder.head.verdict.task}
     for it in builder.events if builder.commands else ():
         if it.kind is not Kind.RUN:

@@ -9,13 +9,13 @@ from .report import IDLE
 
 @dataclass(frozen=True)
 class Difference:
-    """What differs from the base run, in words; nothing where all is the same but for the handler's own lines."""
+    """What differs from the base run, in words; nothing where all is the same except for the handler's own lines."""
 
     words: str
 
 
 def told(what):
-    """What an event line tells, in words."""
+    """What an event line says, in words."""
     kind, name, *rest = what.decode("ascii").split(" ")
     if kind == "run":
         return f"{'idle' if name == IDLE else name} runs"
@@ -26,7 +26,7 @@ def told(what):
 
 
 def difference(run, tail, position, base, keeps_ticks=False):
-    """What is different in this row, of which the tail is told from the injection on."""
+    """What is different in this row, of which the tail is shown from the injection on."""
     if base is None:
         return Difference("not known, without the base run")
     base_tail = base.lines[position:]
@@ -83,7 +83,7 @@ def same_call(what, wanted):
 
 
 def afterwards(rest, base):
-    """After a change of the processor: what is told next that the base run never tells."""
+    """After a change of the processor: what comes next that the base run never has."""
     if not rest or not rest[0][2].startswith(b"run "):
         return ""
     known = {it[2] for it in base.lines}
@@ -92,7 +92,7 @@ def afterwards(rest, base):
 
 
 def is_as_base(run, tail, position, base, keeps_ticks=False) -> bool:
-    """The row is the base run but for the handler's own lines, and the numbers of steps and ticks."""
+    """The row is the base run except for the handler's own lines, and the numbers of steps and ticks."""
     if base is None or base.head is None or run.head.verdict != base.head.verdict:
         return False
     if keeps_ticks and run.head.ticks != base.head.ticks:
@@ -110,7 +110,7 @@ def is_as_base(run, tail, position, base, keeps_ticks=False) -> bool:
 
 
 def are_alike(lines, start, base_lines, base_start, seen):
-    """The lines from this one on are those of the base run from that one on, but for what isn't seen of them."""
+    """The lines from this one on are those of the base run from that one on, except for what isn't seen of them."""
     for at in range(start, len(lines)):
         if lines[at][seen] != base_lines[base_start + at - start][seen]:
             return False
@@ -118,7 +118,7 @@ def are_alike(lines, start, base_lines, base_start, seen):
 
 
 def parts_of_stretches(stretches, count):
-    """The stretches, cut at their ends so that they have so many lines together: in each way."""
+    """The stretches, cut at their ends so that they have this many lines together: in each way."""
     for sizes in product(*(range(size + 1) for _, size in stretches)):
         if sum(sizes) == count:
             yield [(start, size) for (start, _), size in zip(stretches, sizes)]

@@ -4,7 +4,7 @@ from xml.sax.saxutils import escape
 FONT = "ui-monospace, 'DejaVu Sans Mono', Menlo, Consolas, monospace"
 FONT_SIZE = 12
 CHARACTER = 7.3
-# Of so many folded texts a title tells.
+# A title says of this many texts that they are folded.
 MOST_TOLD = 20
 
 # (selector, in light, in dark)

@@ -8,7 +8,7 @@ SHOWN_BYTES = 60
 
 
 class Fault(Exception):
-    """A reason to end, told in one line on standard error."""
+    """A reason to end, printed in one line on standard error."""
 
     status = STATUS_REPORT
 

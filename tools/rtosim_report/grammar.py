@@ -28,7 +28,7 @@ TOTAL = re.compile(
     + rb", not reached (" + NUMBER + rb")"
 )
 
-# What an event line tells after its step and its tick.
+# What an event line says after its step and its tick.
 WHAT = (
     rb"(?:call|isr) " + NAME + rb" " + NUMBER + rb" " + WORD + rb" = " + ANSWER
     + rb"|run (?:-|" + NAME + rb")|mark " + NAME + rb" " + NUMBER

@@ -1,6 +1,6 @@
 """Which lines of a row are those of the injected handlers.
 
-The lines of a step stand in this order: those of the handlers that are injected before it, one handler after another, each with
+The lines of a step are in this order: those of the handlers that are injected before it, one handler after another, each with
 a change of the processor behind them if they bring one about; then those of the step."""
 import bisect
 import functools
@@ -16,7 +16,7 @@ def own_words(handler):
 
 
 def leading_own(lines, injection, start=0):
-    """How many lines, from the first or from this one on, are those of the injected handler. They are told at one tick: those of
+    """How many lines, from the first or from this one on, are those of the injected handler. They are of one tick: those of
     a base interrupt in the tick that the step brings have the next."""
     when = str(injection.step).encode(), lines[start][1] if start < len(lines) else b""
     own, end = own_words(injection.handler), start
@@ -26,7 +26,7 @@ def leading_own(lines, injection, start=0):
 
 
 def position_of(lines, step):
-    """How many lines stand before this step."""
+    """How many lines come before this step."""
     return bisect.bisect_left([int(it[0]) for it in lines], step)
 
 
@@ -45,7 +45,7 @@ def is_change_between(lines, at, injection):
 
 
 def stretches_of_step(lines, start, injections):
-    """Where the lines of handlers that come before one step stand, a stretch for each of them: its first line, and how many
+    """Where the lines of handlers that come before one step are, a stretch for each of them: its first line, and how many
     there are. Two of one name that follow each other are one stretch, and an empty one."""
     found, at = [], start
     for injection in injections:

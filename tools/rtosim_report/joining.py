@@ -28,7 +28,7 @@ class BadPart(Fault):
 
 @contextlib.contextmanager
 def named(name):
-    """Around what reads a part: its faults are told with its name."""
+    """Around what reads a part: its faults are reported with its name."""
     try:
         yield
     except CutOff as fault:

@@ -89,7 +89,7 @@ def class_name(name):
 
 
 def write_classes(output, suite, classes, lone_run=None, allows_empty=False):
-    """A case for each class; of a report without rows one for the base run that it tells, and one for the points that are missing,
+    """A case for each class; of a report without rows one for the base run that it has, and one for the points that are missing,
     unless there may be none. Returns the names of those that fail."""
     cases = [(it.name, it.verdict, class_text(it, suite)) for it in classes]
     if not classes and lone_run is not None:

@@ -1,6 +1,6 @@
-"""What a timeline is made of: lanes, what is done in them and when, what is told, and the clock.
+"""What a timeline is made of: lanes, what is done in them and when, what is reported, and the clock.
 
-Times are boundaries: boundary b stands before step b, and boundary N after the last step."""
+Times are boundaries: boundary b is before step b, and boundary N after the last step."""
 import bisect
 import enum
 from dataclasses import dataclass, field
@@ -54,7 +54,7 @@ class Bar:
 
 @dataclass(frozen=True)
 class Note:
-    """A line that a lane tells at a step; an injected handler tells it at the boundary before."""
+    """A line that a lane has at a step; an injected handler has it at the boundary before."""
 
     lane: Lane
     boundary: int
@@ -68,7 +68,7 @@ class Note:
 
     @property
     def told(self):
-        """What is told, without the name of the lane, and with the call's object where that is known."""
+        """What is reported, without the name of the lane, and with the call's object where that is known."""
         event = self.event
         if event.kind is not Kind.CALL and event.kind is not Kind.ISR or not self.object:
             return event.short()
@@ -85,7 +85,7 @@ class Window:
 
 @dataclass
 class Clock:
-    """The elapsed ticks at the boundaries: those that lines tell, and between them evenly many."""
+    """The elapsed ticks at the boundaries: those that lines show, and between them evenly many."""
 
     boundaries: List[int]
     ticks: List[int]

@@ -1,6 +1,6 @@
 """A campaign as a picture: a column for each step of injection, a row for each handler, coloured by class.
 
-Where there are more steps than columns, a column stands for several steps, and shows the class that stands first in the
+Where there are more steps than columns, a column is for several steps, and shows the class that comes first in the
 table. What is kept is the classes of each column, never a row."""
 import math
 from typing import Dict, Tuple

@@ -15,7 +15,7 @@ class Stretch(NamedTuple):
 
 
 class OpTimes:
-    """The stretches of a task, or none where what is told isn't what the script says."""
+    """The stretches of a task, or none where what is reported isn't what the script says."""
 
     def __init__(self, script, turns, notes):
         self.walker = Walker(script)

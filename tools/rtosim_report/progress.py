@@ -1,7 +1,7 @@
-"""How far a task is in its script, by the calls that a report tells of it.
+"""How far a task is in its script, by the calls that a report shows of it.
 
-Between two calls a task does ops that tell no line: they are gone through here as the task goes through them, since loops count
-and conditions look at the last answer, which is told."""
+Between two calls a task does ops that have no line: they are gone through here as the task goes through them, since loops count
+and conditions look at the last answer, which is reported."""
 from typing import List, Optional, Tuple
 
 # So many ops without a line are gone through between two calls.
@@ -61,7 +61,7 @@ class Walker:
         self.at += 1
 
     def go_past(self):
-        """The op that is next, which tells no line, is done."""
+        """The op that is next, which has no line, is done."""
         op, ops = self.op, self.script.ops
         if op.word == "repeat":
             turns = 1 << 62 if op.words[1] == "forever" else int(op.words[1])
@@ -85,7 +85,7 @@ class Walker:
             self.at = start
 
     def to_call(self):
-        """Goes on to the next op that tells a line, or to the end; False where that takes too long to find out."""
+        """Goes on to the next op that has a line, or to the end; False where that takes too long to find out."""
         for _ in range(PATIENCE):
             if self.has_ended or not self.op.is_silent:
                 return True

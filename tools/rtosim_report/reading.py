@@ -230,7 +230,7 @@ class Reader:
 
 
 def lone_run_of(reader):
-    """The one run that a text tells; None where it tells something else."""
+    """The one run that a text is the report of; None where it is of something else."""
     try:
         runs = list(reader)
     except Fault:

@@ -84,7 +84,7 @@ class Head(NamedTuple):
 
 
 class Kind(enum.Enum):
-    """What an event line tells of."""
+    """What an event line is about."""
 
     CALL = "call"
     ISR = "isr"
@@ -112,7 +112,7 @@ class Event(NamedTuple):
         return f"{self.word} = {'none' if self.answer is None else self.answer}"
 
 
-# The step, the tick, and what is told, as the bytes of the line.
+# The step, the tick, and what is reported, as the bytes of the line.
 Line = Tuple[bytes, bytes, bytes]
 KINDS = {it.value: it for it in Kind}
 

@@ -12,7 +12,7 @@ EMPTY = "(not known)"
 
 
 class Mark(enum.Enum):
-    """How a line of the row stands to that of the base run."""
+    """How a line of the row compares with that of the base run."""
 
     SAME = " "
     NUMBERS = "~"
@@ -47,7 +47,7 @@ def is_same_call(base, row):
 
 
 def pairs_of_replaced(base, row):
-    """Of lines that stand for one another, those of one call beside each other."""
+    """Of lines that are in each other's place, those of one call beside each other."""
     for wanted, line in zip(base, row):
         if is_same_call(wanted, line):
             yield Pair(wanted, line, Mark.OTHER)
@@ -132,7 +132,7 @@ def write_folded(output, count):
 
 
 def shown(pairs, context):
-    """Which of the pairs are shown: all, or those that have something that differs in so many lines around them."""
+    """Which of the pairs are shown: all, or those that have something that differs in this many lines around them."""
     if context is None:
         return [True] * len(pairs)
     flags = [False] * len(pairs)

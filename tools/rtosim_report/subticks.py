@@ -1,4 +1,4 @@
-"""Times of boundaries in parts of a tick: the steps of one tick stand in a row, and each tick has room for as many."""
+"""Times of boundaries in parts of a tick: the steps of one tick are in a row, and each tick has room for as many."""
 
 
 class SubTicks:

@@ -1,4 +1,4 @@
-"""Who is suspended when by another task. A report tells the call and not whom it is about; the application's scripts do."""
+"""Who is suspended when by another task. A report has the call, but not whom it is about; the application's scripts say it."""
 from typing import List, NamedTuple, Optional
 
 from .lanes import Doing

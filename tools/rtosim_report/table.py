@@ -63,7 +63,7 @@ def cells(it, rows):
 
 
 def share_of(part, whole):
-    """In percent; the smallest that is told is not zero."""
+    """In percent; the smallest that is shown is not zero."""
     share = 100 * part / whole
     return f"{share:.1f}%" if share >= 0.05 else "<0.1%"
 

@@ -1,4 +1,4 @@
-"""The folder for temporary files: where it has no room, that is what is told."""
+"""The folder for temporary files: where it has no room, that is what is reported."""
 import contextlib
 import os
 import tempfile

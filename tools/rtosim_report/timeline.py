@@ -1,6 +1,6 @@
-"""A run as a timeline: who runs in which steps, what is told at which, and what the events show of waits and windows.
+"""A run as a timeline: who runs in which steps, what is reported at which, and what the events show of waits and windows.
 
-A report tells changes of the processor and the ends of calls. What isn't shown by them, nor by the scripts where the application is
+A report has changes of the processor and the ends of calls. What isn't shown by them, nor by the scripts where the application is
 known, isn't drawn."""
 import bisect
 from itertools import combinations
@@ -23,7 +23,7 @@ def of_base(base, application=None):
 
 
 def of_row(run, base, application=None):
-    """The timeline of a row. The base run tells whether a change of the processor at the injection is the step's own; and so does
+    """The timeline of a row. The base run shows whether a change of the processor at the injection is the step's own; and so does
     the daemon, which can't do in fewer steps what it does."""
     lines = run.checked_lines()
     own, switches = injected_lines(lines, run.head.point, base) if run.head.is_reached else (set(), set())
@@ -53,7 +53,7 @@ def injected_lines(lines, point, base):
 
 
 def is_switch_of_injection(own, following, injected_at, base):
-    """Whether the line after the handlers' own tells that the processor changes at once, and not after the step."""
+    """Whether the line after the handlers' own shows that the processor changes at once, and not after the step."""
     step, tick, what = following[0]
     if not what.startswith(b"run ") or int(step) != injected_at or own and own[-1][1] != tick:
         return False
@@ -76,7 +76,7 @@ class Builder:
         self.is_contradicted = False
 
     def name_lanes(self):
-        """Tasks as they are told of, idle, handlers. A mark's name alone tells not which it is."""
+        """Tasks as they are named, idle, handlers. A mark's name alone doesn't show which it is."""
         tasks = [it.name for it in self.events if it.kind in (Kind.CALL, Kind.RUN) and it.name != IDLE]
         handlers = [it.name for it in self.events if it.kind is Kind.ISR]
         if self.head.point is not None:
@@ -108,7 +108,7 @@ class Builder:
         return self.head.verdict.kind == "check" and changes != [] and changes[-1] != name
 
     def first_runner(self, handlers):
-        """Who runs at reset: whom a line tells before the first change, or where that is to idle the one task that is named, since
+        """Who runs at reset: whom a line names before the first change, or where that is to idle the one task that is named, since
         all tasks have run before idle does."""
         if self.application is not None and self.application.first_runner() is not None:
             return self.application.first_runner()
@@ -127,7 +127,7 @@ class Builder:
         return left.pop() if len(left) == 1 and changed_to == IDLE else self.who_ran_before(left) or UNNAMED
 
     def who_ran_before(self, tasks):
-        """The task whose first call has too high an index for the steps that it is told to have run before it."""
+        """The task whose first call has too high an index for the steps that it is reported to have run before it."""
         runner, since, steps = None, 0, dict.fromkeys(tasks, 0)
         for it in self.events:
             if it.kind is Kind.CALL and it.name in steps:

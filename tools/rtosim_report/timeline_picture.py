@@ -1,4 +1,4 @@
-"""A run as a picture: a lane for each task, for idle and for each handler, in bands that stand below each other."""
+"""A run as a picture: a lane for each task, for idle and for each handler, in bands that are below each other."""
 import math
 import textwrap
 from dataclasses import dataclass
@@ -105,7 +105,7 @@ def layout_of(timeline):
 
 
 def axis_numbers(timeline, last):
-    """The widest numbers of the axis up to a boundary, but for steps."""
+    """The widest numbers of the axis up to a boundary, except for steps."""
     elapsed = timeline.clock.at(last)
     yield f"{min(timeline.clock.start + elapsed, (1 << 32) - 1):,}"
     if timeline.outlasts_printed_ticks:
@@ -238,7 +238,7 @@ def write_endings(output, layout, index, boundaries):
 
 
 def write_notes(output, layout, index, notes):
-    """A mark at each step with something told, and what is told above it."""
+    """A mark at each step with something reported, and what is reported above it."""
     for band, there in groupby(notes, key=lambda it: layout.band_of(it.step)):
         labels = drawing.Labels(2, layout.left + PLOT + RIGHT - 4)
         write_marks(output, layout, index, band, there, labels)

@@ -1,6 +1,6 @@
 """What the page is of: the classes with their first rows whole, all points by class, the base run, the scripts.
 
-Texts that come again are kept once. Rows that follow each other with one class, handler and rising steps are told as one."""
+Texts that come again are kept once. Rows that follow each other with one class, handler and rising steps are kept as one."""
 import hashlib
 import re
 from array import array

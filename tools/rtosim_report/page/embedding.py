@@ -1,4 +1,4 @@
-"""Texts and values as they may stand within a page."""
+"""Texts and values as they may be within a page."""
 import json
 
 
@@ -7,5 +7,5 @@ def escaped(text):
 
 
 def json_text(value):
-    """A value as JSON that may stand within an element `script`."""
+    """A value as JSON that may be within an element `script`."""
     return json.dumps(value, separators=(",", ":")).replace("</", "<\\/").replace("<!--", "<\\u0021--")

@@ -93,7 +93,7 @@ class Lanes {
     this.svg.append(shape("rect", box, null, `${what}: steps ${start} to ${end - 1}`));
   }
 
-  // A mark at each step, and what is told above it; a text without room is counted behind one beside it.
+  // A mark at each step, and what is reported above it; a text without room is counted behind one beside it.
   drawNotes(notes, lane) {
     const rows = [[], []], top = this.tops[lane];
     const groups = new Map();

@@ -20,7 +20,7 @@ function styleOf(name) {
   return getComputedStyle(document.documentElement).getPropertyValue(name).trim();
 }
 
-// Of each column of points on the screen the class that stands first.
+// Of each column of points on the screen the class that comes first.
 function columnsOf(handler) {
   const width = Math.max(1, Math.floor(mapWidth()));
   const scale = width / (view.to - view.from);

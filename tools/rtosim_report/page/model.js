@@ -14,7 +14,7 @@ for (let at = 0; at < data.points.length; at += STRETCH) {
   lastStep = Math.max(lastStep, step + count - 1);
 }
 
-// Of each handler and step the stretch of the class that stands first, by its place; -1 where there is none.
+// Of each handler and step the stretch of the class that comes first, by its place; -1 where there is none.
 const stretchAt = pointsOf.map(stretches => {
   const found = new Int32Array(lastStep + 1).fill(-1);
   stretches.forEach((it, at) => {
@@ -39,7 +39,7 @@ function isShown(it) {
   return state.words.toLowerCase().split(/\s+/).every(word => text.includes(word));
 }
 
-// The row of a handler's point, of the class that stands first where there are several; or null.
+// The row of a handler's point, of the class that comes first where there are several; or null.
 function pointAt(handler, step) {
   const at = step >= 0 && step <= lastStep ? stretchAt[handler][step] : -1;
   if (at < 0) return null;
