@@ -155,16 +155,20 @@ tells_then {app} {limits} {until} {first} {middle} {last} {before} {between} {af
   events = λ plan f. more_from app limits plan first.steps middle.steps last.steps g.to.on h.to.on before between after (g.events plan f) (h.events plan (free_next g.to f));
 }
 
--- Those that were not over still aren't.
-pub goes_still : {app : Application} {limits : Limits} {until : ℕ} {old new : Machine} {before after : List Event} {plan : List Injection} → GoesFurther app limits until old new before after → IsGoing app limits until old plan → is_over app limits (state_after app limits plan new.steps) ≡ false → IsGoing app limits until new plan
-goes_still {app} {limits} {until} {old} {new} {before} {after} {plan} h g going = record {
-  free = record {
-    way = h.way plan g;
-    alone = λ n from below. let on = h.on in g.free.alone n (omega arith) below;
-    free = λ n from below on. let rises = h.on in g.free.free n (omega arith) below on;
-  };
-  going = going;
+-- Those that were not over are free there, whether they are over or not.
+pub still_free : {app : Application} {limits : Limits} {until : ℕ} {old new : Machine} {before after : List Event} {plan : List Injection}
+    → GoesFurther app limits until old new before after → IsGoing app limits until old plan → IsFree app limits until new plan
+still_free {app} {limits} {until} {old} {new} {before} {after} {plan} h g = record {
+  way = h.way plan g;
+  alone = λ n from below. let on = h.on in g.free.alone n (omega arith) below;
+  free = λ n from below on. let rises = h.on in g.free.free n (omega arith) below on;
 }
+
+-- Those that were not over still aren't.
+pub goes_still : {app : Application} {limits : Limits} {until : ℕ} {old new : Machine} {before after : List Event} {plan : List Injection}
+    → GoesFurther app limits until old new before after → IsGoing app limits until old plan
+    → is_over app limits (state_after app limits plan new.steps) ≡ false → IsGoing app limits until new plan
+goes_still h g going = record { free = still_free h g; going = going }
 
 pub further_then : {app : Application} {limits : Limits} {until : ℕ} {first middle last : Machine} {before between after : List Event} → GoesFurther app limits until first middle before between → ((plan : List Injection) → IsGoing app limits until first plan → is_over app limits (state_after app limits plan middle.steps) ≡ false) → GoesFurther app limits until middle last between after → GoesFurther app limits until first last before after
 further_then {app} {limits} {until} {first} {middle} {last} {before} {between} {after} g going h = record {
@@ -172,6 +176,17 @@ further_then {app} {limits} {until} {first} {middle} {last} {before} {between} {
   on = (let l = g.on in let m = h.on in omega arith);
   far = λ within. h.far (g.far within);
   events = λ plan f. more_from app limits plan first.steps middle.steps last.steps g.on h.on before between after (g.events plan f) (h.events plan (goes_still g f (going plan f)));
+}
+
+-- and on from there, whether any is over there or not
+pub further_on : {app : Application} {limits : Limits} {until : ℕ} {first middle last : Machine} {before between after : List Event}
+    → GoesFurther app limits until first middle before between → GoesOn app limits until middle last between after
+    → GoesFurther app limits until first last before after
+further_on {app} {limits} {until} {first} {middle} {last} {before} {between} {after} g h = record {
+  way = λ plan f. h.to.way plan (still_free g f);
+  on = (let l = g.on in let m = h.to.on in omega arith);
+  far = λ within. h.to.far (g.far within);
+  events = λ plan f. more_from app limits plan first.steps middle.steps last.steps g.on h.to.on before between after (g.events plan f) (h.events plan (still_free g f));
 }
 
 pub further_nowhere : {app : Application} {limits : Limits} {until : ℕ} {k : Machine} {before after : List Event} → after ≡ before → GoesFurther app limits until k k before after

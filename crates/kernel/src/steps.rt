@@ -27,7 +27,7 @@ use crate::handlers::inject_all;
 use crate::idle::idle;
 use crate::kernel::Kernel;
 use crate::quiet::{free_until, next_injection};
-use crate::suspended::{act_while_suspended, is_ended};
+use crate::suspended::{act_while_suspended, go_on_while_suspended, is_ended};
 use arrayvec::ArrayVec;
 use machine::{Log, Machine, StepLog, Trail};
 use model::{App, End, HandlerId, Injection, Limits, Memory, Meter, Op, Plan, Run, TaskId};
@@ -187,8 +187,7 @@ fn step_at<L: Log>(
 
 /// One step of the run without handlers, where something holds the scheduler or idle runs. Its events go to a log that has none of this step
 /// yet. It answers what may come behind it (`pass_more`).
-// Most steps are none of these, and are the faster without them.
-#[inline(never)]
+#[inline(always)]
 fn step_otherwise<L: Log>(
     machine: &mut Machine,
     app: &App,
@@ -624,6 +623,36 @@ fn step_along_script(
     }
 }
 
+/// Does a step where something holds the scheduler or idle runs, and those that come while a `suspend_all` is in force. It does none from
+/// the step before `until` on. The run is under way, and isn't over; the trail has no event of this step yet. It answers what may come
+/// behind the last of them (`pass_more`).
+// Most steps are none of these, and are the faster without them.
+#[inline(never)]
+fn steps_otherwise(
+    kernel: &mut Machine,
+    app: &App,
+    injections: &[Injection],
+    until: u32,
+    limits: &Limits,
+    trail: &mut Trail,
+) -> Following
+    requires going { IsGoing app.now limits.now until kernel.old injections.now }
+    requires soon { kernel.old.steps + 1 < until }
+    requires begun { trail.old.told ≡ [] }
+    requires room { 128 ≤ trail.old.room }
+    ensures along { GoesFurther app.now limits.now until kernel.old kernel.new (all_of trail.old) (all_of trail.new) }
+    ensures on { kernel.old.steps < kernel.new.steps }
+    ensures soon { kernel.new.steps < until }
+{
+    app.well_formed();
+    limits.well_formed();
+    let following = step_otherwise(kernel, app, limits, trail);
+    if kernel.suspensions > 0 {
+        go_on_while_suspended(kernel, app, injections, until, limits, trail);
+    }
+    following
+}
+
 /// Does the next step, and those before it in which the running task only goes on amid its script. It does none from the step before
 /// `until` on. The running task is at this op, if at any, the run is under way, and isn't over; the trail has no event of this step yet. It
 /// answers what may come behind the last of them (`pass_more`).
@@ -653,7 +682,7 @@ fn step_on(
         Some(first) => {
             step_along_script(kernel, app, injections, until, task, first, limits, trail)
         }
-        None => step_otherwise(kernel, app, limits, trail),
+        None => steps_otherwise(kernel, app, injections, until, limits, trail),
     }
 }
 

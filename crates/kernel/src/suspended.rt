@@ -1,19 +1,22 @@
 //! What is done while a `suspend_all` is in force.
-ghost use Rattle.std.specs.Prelude.{◌≡◌, ◌<◌, ◌≤◌, false, length, Some};
+ghost use Rattle.std.specs.Prelude.{◌≡◌, ◌<◌, ◌≤◌, false, length, [], IfSome, Some};
 ghost use Rattle.model.specs.declared.op.Op.{Op};
 ghost use Rattle.model.specs.declared.op.Op.TheVariants as op;
 ghost use Rattle.model.specs.Application.{Limits, op_at};
 ghost use Rattle.model.specs.State.{State, status_at};
 ghost use Rattle.model.specs.Handlers.{tick_interrupt};
-ghost use Rattle.model.specs.Step.{act, act_current, act_unless, is_ended, judge, may_switch, misuse};
+ghost use Rattle.model.specs.Step.{act, act_current, act_unless, is_ended, judge, may_switch, misuse, step};
 ghost use Rattle.machine.specs.StandsFor.{Does, DoesAny, Moves, Stands, progress_in};
 ghost use Rattle.machine.specs.Can.{Agrees};
+ghost use Rattle.machine.specs.Logged.{all_of};
 ghost use Rattle.ops.specs.Can.{Can, CanHold, HasObjects};
+ghost use Rattle.kernel.specs.Along.{IsFree, GoesOn};
+ghost use Rattle.kernel.specs.Can.{CanStep};
 
 use crate::handlers::interrupt;
-use crate::steps::op_of;
-use machine::{Log, Machine};
-use model::{App, End, Misuse, Op, TaskId};
+use crate::steps::{is_over_running, op_of};
+use machine::{Log, Machine, Trail};
+use model::{App, End, Injection, Limits, Misuse, Op, TaskId};
 use ops::event_groups::{clear_bits, get_bits};
 use ops::queues::{messages_waiting, spaces_available};
 use ops::script::{branch, close_turn, end_if, expect, leave_loop, mark, open_loop, skip_branch};
@@ -203,5 +206,73 @@ pub(crate) fn act_while_suspended<L: Log>(
     let op_index = machine.progress(task).op_index;
     if let Some(op) = op_of(app, task, op_index) {
         act_unless_it_switches(machine, app, task, op, log);
+    }
+}
+
+/// The running task, where a `suspend_all` is in force.
+#[inline(always)]
+fn running_while_suspended(machine: &Machine) -> Option<TaskId>
+    ensures runs { IfSome result (λ task. machine.now.sched.current ≡ Some task) }
+    ensures some { IfSome result (λ task. 0 < machine.now.suspensions) }
+{
+    if machine.suspensions == 0 {
+        return None;
+    }
+    machine.sched.current()
+}
+
+/// One step of the run without handlers, in which this task runs while a `suspend_all` is in force. Its events go to a log that has none
+/// of this step yet.
+#[inline(always)]
+fn step_while_suspended<L: Log>(
+    machine: &mut Machine,
+    app: &App,
+    task: TaskId,
+    limits: &Limits,
+    log: &mut L,
+)
+    requires going { CanStep app.now limits.now machine.old }
+    requires runs { machine.old.sched.current ≡ Some task }
+    requires some { 0 < machine.old.suspensions }
+    requires begun { (L.logged log.old).told ≡ [] }
+    requires room { 128 ≤ (L.logged log.old).room }
+    ensures stands { (s : State) → Stands machine.old s → Stands machine.new (step app.now limits.now [] s) }
+    ensures told { (s : State) → Stands machine.old s → (L.logged log.new).told ≡ (step app.now limits.now [] s).log }
+    ensures before { (L.logged log.new).before ≡ (L.logged log.old).before }
+{
+    app.well_formed();
+    let _ = limits;
+    act_while_suspended(machine, app, task, log);
+    machine.settle(log);
+    machine.steps += 1;
+}
+
+/// Goes on along a run that is under way, while a `suspend_all` is in force and the run isn't over. It does no step from the one before
+/// `until` on, since the plan may have an injection at `until`, or a limit may be reached there.
+// Each of these steps asks for less than any other does.
+#[inline(never)]
+pub(crate) fn go_on_while_suspended(
+    kernel: &mut Machine,
+    app: &App,
+    injections: &[Injection],
+    until: u32,
+    limits: &Limits,
+    trail: &mut Trail,
+)
+    requires { IsFree app.now limits.now until kernel.old injections.now }
+    ensures along { GoesOn app.now limits.now until kernel.old kernel.new (all_of trail.old) (all_of trail.new) }
+    ensures soon { kernel.old.steps < until → kernel.new.steps < until }
+{
+    app.well_formed();
+    limits.well_formed();
+    let last = until.saturating_sub(1);
+    'steps: while kernel.steps < last {
+        let Some(task) = running_while_suspended(kernel) else {
+            return;
+        };
+        if trail.begin().is_err() || is_over_running(kernel, app, task, limits) {
+            return;
+        }
+        step_while_suspended(kernel, app, task, limits, trail);
     }
 }
