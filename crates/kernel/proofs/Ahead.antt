@@ -1,8 +1,8 @@
 -- How many ticks it is until the next base interrupt comes: the least of those of the definitions.
-use Rattle.std.proofs.Common.{◌≡◌, ◌≢◌, ◌<◌, ◌≤◌, ◌+◌, ◌-◌, ◌||◌, ℕ, Bool, true, false, eqb, ltb, map, min, fold, List, [], ◌∷◌, refl, ap, sym, subst, ◌∙◌, arith}
+use Rattle.std.proofs.Common.{◌≡◌, ◌≢◌, ◌<◌, ◌≤◌, ◌+◌, ◌-◌, ◌||◌, ℕ, Bool, true, false, eqb, ltb, map, min, fold, List, [], ◌∷◌, refl, ap, arith}
 use Rattle.std.specs.Prelude.{◌==◌, nat_lt}
 use Rattle.std.specs.List.{AllByRecursion, filter, list_any}
-use Rattle.std.proofs.lemmas.Bool.{eq-eqb, ltb-false, ltb-true, lt-ltb}
+use Rattle.std.proofs.lemmas.Bool.{ltb-false, ltb-true, lt-ltb}
 use Rattle.model.specs.Application.{Application, Interrupt, interrupts_at}
 use Rattle.model.specs.Scripts.{IsInterrupt, IsWellFormed}
 use Rattle.model.specs.State.{State}

@@ -1,7 +1,6 @@
 -- A step that only takes the running task to another op of its script.
 use denote.Enum.Bare.{sameb, same_true}
 use Rattle.std.proofs.Common.{◌≡◌, ◌≢◌, rules, ◌+◌, ℕ, Bool, true, false, not, eqb, leb, List, [], ◌∷◌, Option, Some, None, ◌≤◌, refl, ap, sym, subst, ◌∙◌, arith, append-nil}
-use Rattle.model.specs.declared.event.End.{End}
 use Rattle.model.specs.declared.op.Op.{Op}
 use Rattle.model.specs.declared.op.Op.TheVariants.{Work, Delay, DelayUntil, Yield, Time, Mark, Expect, Repeat, End as EndLoop, If, Else, EndIf, Break, Stamp, Since, Await, Do, GiveMutex, MessagesWaiting, SpacesAvailable, SetBits, ClearBits, GetBits, WaitBits, Suspend, Resume, SuspendAll, ResumeAll, NextCommand, Obey}
 use Rattle.model.specs.declared.event.Event.{Event}
@@ -18,9 +17,8 @@ use Rattle.model.proofs.Tables.{each-set}
 use Rattle.soundness.proofs.Passing.{acts_calm}
 use Rattle.sched.specs.Schedule.{Schedule, is_ready as is_ready_in}
 use Rattle.sched.proofs.Standing as on_sched
-use Rattle.clock.specs.Timeline.{Timeline}
 use Rattle.machine.specs.declared.machine.Machine.{Machine}
-use Rattle.machine.specs.StandsFor.{At, AtAny, DoesAny, IsPlaced, Stands, StandsBefore, progress_in}
+use Rattle.machine.specs.StandsFor.{AtAny, DoesAny, IsPlaced, Stands}
 use Rattle.machine.specs.Logged.{Logged, all_of}
 use Rattle.machine.proofs.Either.{any, current_is, either, elapsed_is, progress_is, steps_are, stopped_is, suspensions_are}
 use Rattle.machine.proofs.Switches.{settled_before, settled_either, settled_on}

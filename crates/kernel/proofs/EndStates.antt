@@ -1,12 +1,11 @@
 -- The end state of a run, as a kernel has it.
-use Rattle.std.proofs.Common.{◌≡◌, ◌≢◌, ◌<◌, ◌+◌, ◌||◌, ℕ, zero, suc, Bool, true, false, eqb, List, [], ◌∷◌, ◌++◌, length, map, take, get_or, set, Option, Some, None, refl, ap, ap₂, sym, subst, ◌∙◌, arith}
+use Rattle.std.proofs.Common.{◌≡◌, ◌≢◌, ◌<◌, ◌+◌, ◌||◌, ℕ, zero, suc, Bool, true, false, eqb, List, [], ◌∷◌, ◌++◌, length, map, take, get_or, Option, Some, None, refl, ap, ap₂, sym, subst, ◌∙◌, arith}
 use Rattle.std.specs.Prelude.{if◌then◌else◌}
-use Rattle.std.specs.List.{cons_option, list_any, range_with_len}
+use Rattle.std.specs.List.{cons_option, range_with_len}
 use Rattle.std.specs.Option.{IfSome, is_some, option_and_then, option_map}
 use Rattle.std.proofs.Math.ListN.{length-set}
 use Rattle.std.proofs.lemmas.List.{get_or-set_other}
 use Rattle.std.proofs.lemmas.List.Folds.{list_any-append}
-use Rattle.std.proofs.lemmas.List.FromFn.{map-range_with_len_more}
 use Rattle.std.proofs.lemmas.Option.{same_Some}
 use Rattle.model.specs.declared.call.Phase.{Phase}
 use Rattle.model.specs.declared.call.Phase.TheVariants.{Place, Unlock}
@@ -15,14 +14,13 @@ use Rattle.model.specs.declared.call.WaitList.TheVariants.{ToReceive, ToSend}
 use Rattle.model.specs.declared.op.Op.{Op}
 use Rattle.model.specs.Application.{Application, op_at}
 use Rattle.model.specs.State.{State, Object, Progress, Status, Task, Wait, Ready, Awake, Waiting, WaitingForBits, Asleep, Suspended, Ended, call_at, for_each, for_one, go_on, no_object, no_task, printed, progress_at, status_at, task_at, ticket_if_ready, wait_if_awake, wake_time_of}
-use Rattle.model.specs.Order.{Entry, Key, key, tasks_of}
-use Rattle.model.specs.Switching.{is_ready, is_same, make_ready}
+use Rattle.model.specs.Order.{Entry, Key, tasks_of}
+use Rattle.model.specs.Switching.{is_same, make_ready}
 use Rattle.model.specs.Waiting.{awakened, is_locked, same_list, unlock, unlock_object, wait_key}
 use Rattle.model.specs.Suspension.{can_resume}
 use Rattle.model.specs.Invariant.{IsPlacing, IsRunning, IsState, IsWaitOf, RunsIn, wait_of}
 use Rattle.model.proofs.Lists.{eqb-refl, eqb-same}
 use Rattle.model.proofs.Members.{has_task, has_task-key, has_task-none}
-use Rattle.model.proofs.Sorting.{by_test}
 use Rattle.model.proofs.Tables.{each-set}
 use Rattle.task_lists.specs.Tasks.{is_among}
 use Rattle.groups.specs.StandsFor.{bits_wait}
@@ -42,7 +40,7 @@ use Rattle.sched.proofs.Standing.{ready_same}
 use Rattle.outcome.specs.declared.end_state.HeldMutex.{HeldMutex}
 use Rattle.outcome.specs.declared.end_state.Situation.{Situation}
 use Rattle.outcome.specs.declared.end_state.Situation.TheVariants as situation
-use Rattle.outcome.specs.EndStates.{EndState, end_state_of, held_by, held_from, situation_by, situation_of, situations_of}
+use Rattle.outcome.specs.EndStates.{EndState, end_state_of, held_by, held_from, situation_by, situation_of}
 
 -- ---- who has begun to wait, and isn't in its lists yet
 

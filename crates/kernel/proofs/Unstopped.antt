@@ -1,5 +1,5 @@
 -- What brings about no end of the run: the parts of a phase in which a call reports nothing, and the end of a step.
-use Rattle.std.proofs.Common.{◌≡◌, ℕ, eqb, ltb, List, [], ◌∷◌, Option, Some, None, refl, ◌∙◌}
+use Rattle.std.proofs.Common.{◌≡◌, ℕ, eqb, ltb, List, [], ◌∷◌, Option, Some, None, refl}
 use Rattle.model.specs.declared.call.CallProgress.{CallProgress}
 use Rattle.model.specs.State.{State, Task, task_at, call_at, object_at, with_task, with_call, for_one, for_each}
 use Rattle.model.specs.Switching.{is_ready, is_same, is_off, choice, make_ready, to_back, dispatch, choose, settle, is_held, unless_held}

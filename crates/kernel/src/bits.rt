@@ -11,11 +11,9 @@ ghost use Rattle.kernel.specs.Bits.{IsLettingGo, is_for_bits};
 ghost use Rattle.kernel.specs.Can.{CanOp, CanStepUnderSome};
 ghost use Rattle.kernel.specs.Along.{IsFree, GoesOn, IsGoing, GoesFurther};
 
-use crate::acting::Following;
-use crate::commands::pass_command;
-use crate::in_call::{pass_leave, phase};
-use crate::quiet::pass_on;
-use crate::steps::{is_over_running, op_of};
+use crate::in_call::phase;
+use crate::over::is_over_running;
+use crate::steps::op_of;
 use machine::{Log, Machine, Trail};
 use model::{App, Injection, Limits, Op, Phase, TaskId};
 use ops::daemon::{command_of, end_set_by_daemon};
@@ -105,7 +103,7 @@ fn op_letting_go<'a>(machine: &Machine, app: &'a App, task: TaskId) -> Option<&'
 /// Does the step in which the running task's call on an event group lets go of the scheduler, where it has come to that. It comes before
 /// the step of this number, and before that one the plan has no injection and no limit is reached.
 #[inline(always)]
-fn pass_bits(
+pub(crate) fn pass_bits(
     kernel: &mut Machine,
     app: &App,
     injections: &[Injection],
@@ -162,37 +160,4 @@ pub(crate) fn pass_bits_on(
         return;
     }
     step_letting_go(kernel, app, task, op, trail);
-}
-
-/// Does the steps after one that reported nothing, if they are such as are done one after another (see `pass_on`), and the one
-/// in which a call lets go of the scheduler. It does none where an op is done that nothing may follow.
-#[inline(always)]
-pub(crate) fn pass_more(
-    kernel: &mut Machine,
-    app: &App,
-    injections: &[Injection],
-    until: u32,
-    following: Following,
-    limits: &Limits,
-    trail: &mut Trail,
-)
-    requires free { IsFree app.now limits.now until kernel.old injections.now }
-    requires soon { kernel.old.steps < until }
-    ensures { GoesOn app.now limits.now until kernel.old kernel.new (all_of trail.old) (all_of trail.new) }
-{
-    app.well_formed();
-    if following == Following::Nothing || following == Following::NextOp || !trail.is_silent() {
-        return;
-    }
-    if following == Following::Command {
-        pass_command(kernel, app, injections, until, limits, trail);
-        return;
-    }
-    if let Some(task) = letting_go(kernel) {
-        pass_bits(kernel, app, injections, until, task, limits, trail);
-        return;
-    }
-    if let Some(task) = pass_on(kernel, app, injections, until, true, limits) {
-        pass_leave(kernel, app, injections, until, task, limits, trail);
-    }
 }

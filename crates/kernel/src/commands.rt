@@ -15,7 +15,8 @@ ghost use Rattle.kernel.specs.Along.{IsFree, GoesOn, IsGoing, GoesFurther};
 
 use crate::bits::{letting_go, pass_bits_on};
 use crate::in_call::phase;
-use crate::steps::{is_over_running, op_of};
+use crate::over::is_over_running;
+use crate::steps::op_of;
 use machine::{Log, Machine, Trail};
 use model::{App, Command, Injection, Limits, Op, Phase, TaskId};
 use ops::daemon::command_of;

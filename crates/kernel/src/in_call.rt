@@ -16,7 +16,8 @@ ghost use Rattle.kernel.specs.InCall.{IsCallOn, IsInPhase, IsLeaving};
 ghost use Rattle.kernel.specs.Over.{is_over};
 ghost use Rattle.kernel.specs.Along.{IsFree, GoesOn, NoneIsOver, IsGoing, GoesFurther};
 
-use crate::steps::{is_at_tick_limit, is_left_alone, op_of};
+use crate::over::{is_at_tick_limit, is_left_alone};
+use crate::steps::op_of;
 use machine::{Log, Machine, Trail};
 use model::{Access, App, Injection, Limits, ObjectId, Op, Phase, TaskId};
 use ops::calls::{go_on_silently, leave_call};

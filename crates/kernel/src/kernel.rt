@@ -14,7 +14,8 @@ ghost use Rattle.machine.specs.Can.{IsUnderWay};
 ghost use Rattle.model.specs.Run.{end_of};
 ghost use Rattle.kernel.specs.Can.{CanStep};
 
-use crate::steps::{ended, step};
+use crate::over::ended;
+use crate::steps::step;
 use clock::Clock;
 use groups::Groups;
 use machine::{Machine, Snapshot, StepLog};

@@ -10,9 +10,11 @@ mod idle;
 mod in_call;
 mod kernel;
 mod looking;
+mod over;
 mod quiet;
 mod rests;
 mod rows;
+mod shortcuts;
 mod steps;
 mod suspended;
 

@@ -9,8 +9,9 @@ ghost use Rattle.kernel.specs.Rests.{IsRestFrom};
 ghost use Rattle.kernel.specs.Leads.{IsEnd, IsLed};
 
 use crate::kernel::Kernel;
+use crate::over::ended;
 use crate::quiet::free_until;
-use crate::steps::{ended, go_on};
+use crate::steps::go_on;
 use machine::{StepLog, Trail};
 use model::{App, End, Injection, Limits, Memory, Meter};
 

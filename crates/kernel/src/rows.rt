@@ -8,7 +8,7 @@ ghost use Rattle.machine.specs.Can.{IsUnderWay};
 ghost use Rattle.kernel.specs.Rows.{IsRowFrom, Extends, events_from};
 
 use crate::kernel::Kernel;
-use crate::quiet::pass_on;
+use crate::shortcuts::pass_on;
 use crate::steps::{count_steps, finish, go_to_step};
 use machine::{Machine, StepLog, Trail};
 use model::{App, End, Limits, Memory, Meter, Point};

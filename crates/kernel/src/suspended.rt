@@ -14,7 +14,8 @@ ghost use Rattle.kernel.specs.Along.{IsFree, GoesOn};
 ghost use Rattle.kernel.specs.Can.{CanStep};
 
 use crate::handlers::interrupt;
-use crate::steps::{is_over_running, op_of};
+use crate::over::is_over_running;
+use crate::steps::op_of;
 use machine::{Log, Machine, Trail};
 use model::{App, End, Injection, Limits, Misuse, Op, TaskId};
 use ops::event_groups::{clear_bits, get_bits};

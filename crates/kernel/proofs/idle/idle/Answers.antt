@@ -1,7 +1,6 @@
-use Rattle.std.proofs.Common.{◌≡◌, true, false, ℕ, refl, sym, subst, ◌∙◌, arith}
+use Rattle.std.proofs.Common.{sym, subst, ◌∙◌}
 use Rattle.model.specs.State.{State}
-use Rattle.model.specs.Handlers.{idle, tick_interrupt}
-use Rattle.machine.specs.StandsFor.{At, Does}
+use Rattle.machine.specs.StandsFor.{At}
 use Rattle.soundness.proofs.Passing.{idle_jumps, idle_ticks}
 use Rattle.kernel.proofs.idle.idle.Goals as goal
 

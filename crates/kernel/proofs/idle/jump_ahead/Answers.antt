@@ -1,8 +1,7 @@
-use Rattle.std.proofs.Common.{◌≡◌, ◌∙◌, ℕ, List, [], subst, sym, arith}
-use Rattle.model.specs.State.{State}
-use Rattle.model.specs.Handlers.{interrupt, ticks_ahead}
+use Rattle.std.proofs.Common.{◌≡◌, ◌∙◌, ℕ, [], subst, arith}
+use Rattle.model.specs.Handlers.{ticks_ahead}
 use Rattle.model.specs.Time.{jump}
-use Rattle.machine.specs.StandsFor.{At, StandsFor}
+use Rattle.machine.specs.StandsFor.{At}
 use Rattle.machine.proofs.Acting.{agrees_after}
 use Rattle.machine.proofs.Switches.{unheld_by, sliced_free}
 use Rattle.kernel.proofs.Handling.{room_after}

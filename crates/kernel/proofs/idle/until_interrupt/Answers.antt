@@ -1,8 +1,6 @@
-use Rattle.std.proofs.Common.{◌≡◌, ◌≢◌, ◌<◌, ◌≤◌, ◌+◌, true, false, ℕ, List, [], fold, min, ap, sym, subst, ◌∙◌, arith}
-use Rattle.model.specs.State.{State}
+use Rattle.std.proofs.Common.{◌≡◌, ◌≢◌, ◌+◌, ℕ, List, [], fold, min, ap, sym, subst, ◌∙◌, arith}
 use Rattle.model.specs.Application.{interrupts_at}
 use Rattle.kernel.proofs.Ahead.{least_to_interrupt, none_comes_ever, none_is_to_come}
-use Rattle.machine.specs.StandsFor.{StandsFor}
 use Rattle.kernel.proofs.idle.until_interrupt.Goals as goal
 
 pub returns-then-before-clause-least : goal.returns-then-before-clause-least

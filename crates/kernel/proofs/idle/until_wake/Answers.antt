@@ -1,9 +1,5 @@
-use Rattle.std.proofs.Common.{◌≡◌, ◌<◌, ◌≤◌, ◌+◌, ◌-◌, ◌^◌, true, false, ℕ, List, [], fold, min, Option, Some, refl, ap, sym, subst, ◌∙◌, arith}
-use Rattle.lists.specs.Lists.{Each}
+use Rattle.std.proofs.Common.{◌≤◌, ◌+◌, ℕ, List, fold, min, ap, sym, ◌∙◌, arith}
 use Rattle.lists.proofs.Entries.{Each-imp}
-use Rattle.model.specs.State.{State}
-use Rattle.model.specs.Handlers.{ticks_to_wake}
-use Rattle.clock.specs.Timeline.{first_time}
 use Rattle.clock.proofs.Nearest.{first_sleeper, least_to_wake, none_to_wake, none_wakes}
 use Rattle.kernel.proofs.idle.until_wake.Goals as goal
 

@@ -1,9 +1,7 @@
-use Rattle.std.proofs.Common.{◌<◌, ◌≤◌, ◌∙◌, refl, append-nil, arith, length, Option, ℕ}
-use Rattle.std.specs.Option.{IfSome}
+use Rattle.std.proofs.Common.{◌∙◌, append-nil}
 use Rattle.model.specs.Invariant.{hold_of}
 use Rattle.model.specs.Run.{state_after}
 use Rattle.soundness.proofs.Reached.{reached_after}
-use Rattle.machine.specs.Logged.{all_of}
 use Rattle.kernel.specs.Along.{IsFree, NoneIsOver}
 use Rattle.kernel.proofs.Along.{free_next, tells_further, tells_nothing, tells_then}
 use Rattle.kernel.proofs.Amid.{suspensions_hold}

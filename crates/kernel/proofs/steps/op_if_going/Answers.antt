@@ -1,8 +1,6 @@
-use Rattle.std.proofs.Common.{◌≡◌, ◌∙◌, ◌&&◌, true, false, Option, Some, ap, refl, sym, subst, arith}
+use Rattle.std.proofs.Common.{◌≡◌, ◌∙◌, false, Option, ap, sym, arith}
 use Rattle.std.specs.Option.{is_some}
 use Rattle.model.specs.declared.event.End.{End}
-use Rattle.model.specs.Application.{is_endless, op_at}
-use Rattle.model.specs.State.{Progress}
 use Rattle.model.specs.Run.{are_all_ended, is_stuck}
 use Rattle.kernel.specs.Over.{is_at_tick_limit}
 use Rattle.machine.proofs.Either.{current_is, stopped_is}

@@ -1,9 +1,6 @@
-use Rattle.std.proofs.Common.{◌≡◌, [], List, ◌∙◌, refl, ap, sym, subst, arith}
-use Rattle.model.specs.declared.event.Event.{Event}
-use Rattle.model.specs.State.{State}
-use Rattle.model.specs.Step.{act_current, step}
+use Rattle.std.proofs.Common.{[], ◌∙◌, ap, sym, arith}
+use Rattle.model.specs.Step.{step}
 use Rattle.machine.specs.Logged.{Logged}
-use Rattle.machine.specs.StandsFor.{AtAny, DoesAny}
 use Rattle.machine.proofs.Either.{steps_are}
 use Rattle.kernel.proofs.Amid.{on_amid, same_following, silent_amid, silently, stands_amid}
 use Rattle.kernel.proofs.Bounds.{below_limits, can_do}

@@ -16,8 +16,8 @@ go_on_while_suspended-requires c =
     let g = c.requires.going in
     let short : c.args.kernel.now.steps < c.args.until = (let soon = c.requires.soon in omega arith) in
     let further = goes_further c.args.app.now c.well_formed-2.ensures c.args.limits.now c.well_formed-3.ensures c.args.until c.args.kernel.now
-        c.step_otherwise-following.new.machine short c.step_otherwise-following.ensures.stands g (all_of c.args.trail.now) (all_of c.step_otherwise-following.new.log)
-        (λ s h. told_after c.step_otherwise-following.new.log _ _ (c.step_otherwise-following.ensures.before ∙ sym (all_before c.args.trail.now c.requires.begun)) (c.step_otherwise-following.ensures.told s h)) in
+    c.step_otherwise-following.new.machine short c.step_otherwise-following.ensures.stands g (all_of c.args.trail.now) (all_of c.step_otherwise-following.new.log)
+    (λ s h. told_after c.step_otherwise-following.new.log _ _ (c.step_otherwise-following.ensures.before ∙ sym (all_before c.args.trail.now c.requires.begun)) (c.step_otherwise-following.ensures.told s h)) in
     still_free further g
 
 pub returns-then-kernel-gt0-clause-along : goal.returns-then-kernel-gt0-clause-along
@@ -25,8 +25,8 @@ returns-then-kernel-gt0-clause-along c =
     let g = c.requires.going in
     let short : c.args.kernel.now.steps < c.args.until = (let soon = c.requires.soon in omega arith) in
     let further = goes_further c.args.app.now c.well_formed-2.ensures c.args.limits.now c.well_formed-3.ensures c.args.until c.args.kernel.now
-        c.step_otherwise-following.new.machine short c.step_otherwise-following.ensures.stands g (all_of c.args.trail.now) (all_of c.step_otherwise-following.new.log)
-        (λ s h. told_after c.step_otherwise-following.new.log _ _ (c.step_otherwise-following.ensures.before ∙ sym (all_before c.args.trail.now c.requires.begun)) (c.step_otherwise-following.ensures.told s h)) in
+    c.step_otherwise-following.new.machine short c.step_otherwise-following.ensures.stands g (all_of c.args.trail.now) (all_of c.step_otherwise-following.new.log)
+    (λ s h. told_after c.step_otherwise-following.new.log _ _ (c.step_otherwise-following.ensures.before ∙ sym (all_before c.args.trail.now c.requires.begun)) (c.step_otherwise-following.ensures.told s h)) in
     further_on further c.go_on_while_suspended.ensures.along
 
 pub returns-then-kernel-gt0-clause-on : goal.returns-then-kernel-gt0-clause-on
@@ -34,7 +34,7 @@ returns-then-kernel-gt0-clause-on c =
     let g = c.requires.going in
     let short : c.args.kernel.now.steps < c.args.until = (let soon = c.requires.soon in omega arith) in
     let one = one_step c.args.app.now c.well_formed-2.ensures c.args.limits.now c.well_formed-3.ensures c.args.until c.args.kernel.now
-        c.step_otherwise-following.new.machine short c.step_otherwise-following.ensures.stands g in
+    c.step_otherwise-following.new.machine short c.step_otherwise-following.ensures.stands g in
     let on = c.go_on_while_suspended.ensures.along.to.on in
     omega arith
 
@@ -43,7 +43,7 @@ returns-then-kernel-gt0-clause-soon c =
     let g = c.requires.going in
     let short : c.args.kernel.now.steps < c.args.until = (let soon = c.requires.soon in omega arith) in
     let one = one_step c.args.app.now c.well_formed-2.ensures c.args.limits.now c.well_formed-3.ensures c.args.until c.args.kernel.now
-        c.step_otherwise-following.new.machine short c.step_otherwise-following.ensures.stands g in
+    c.step_otherwise-following.new.machine short c.step_otherwise-following.ensures.stands g in
     let soon = c.requires.soon in
     c.go_on_while_suspended.ensures.soon (omega arith)
 
@@ -60,7 +60,7 @@ returns-else-kernel-gt0-clause-on c =
     let g = c.requires.going in
     let short : c.args.kernel.now.steps < c.args.until = (let soon = c.requires.soon in omega arith) in
     let one = one_step c.args.app.now c.well_formed-2.ensures c.args.limits.now c.well_formed-3.ensures c.args.until c.args.kernel.now
-        c.step_otherwise-following.new.machine short c.step_otherwise-following.ensures.stands g in
+    c.step_otherwise-following.new.machine short c.step_otherwise-following.ensures.stands g in
     omega arith
 
 pub returns-else-kernel-gt0-clause-soon : goal.returns-else-kernel-gt0-clause-soon
@@ -68,6 +68,6 @@ returns-else-kernel-gt0-clause-soon c =
     let g = c.requires.going in
     let short : c.args.kernel.now.steps < c.args.until = (let soon = c.requires.soon in omega arith) in
     let one = one_step c.args.app.now c.well_formed-2.ensures c.args.limits.now c.well_formed-3.ensures c.args.until c.args.kernel.now
-        c.step_otherwise-following.new.machine short c.step_otherwise-following.ensures.stands g in
+    c.step_otherwise-following.new.machine short c.step_otherwise-following.ensures.stands g in
     let soon = c.requires.soon in
     omega arith

@@ -1,4 +1,4 @@
-use Rattle.std.proofs.Common.{◌≡◌, ◌<◌, ◌∙◌, suc, refl, sym, arith, append-nil}
+use Rattle.std.proofs.Common.{◌≡◌, ◌<◌, ◌∙◌, suc, sym, arith, append-nil}
 use Rattle.machine.specs.Logged.{all_of}
 use Rattle.kernel.specs.Along.{IsFree}
 use Rattle.kernel.proofs.Along.{free_next, going_free, one_further, tells_a_step, tells_nothing, tells_then}
@@ -18,7 +18,7 @@ steps-smaller c =
     let short : c.steps.kernel.steps < c.args.until = (let test = c.steps-test.true in let last = c.saturating_sub-last.ensures in omega arith) in
     let free : IsFree c.args.app.now c.args.limits.now c.args.until c.steps.kernel c.args.injections.now = free_next c.steps.invariant.along.to c.requires in
     let one : c.step_while_suspended.new.machine.steps ≡ suc c.steps.kernel.steps = one_further c.args.app.now c.well_formed-2.ensures c.args.limits.now c.well_formed-3.ensures c.args.until c.steps.kernel
-        c.step_while_suspended.new.machine short (going_free short c.if-is_over_running.ensures) c.step_while_suspended.ensures.stands c.args.injections.now free in
+    c.step_while_suspended.new.machine short (going_free short c.if-is_over_running.ensures) c.step_while_suspended.ensures.stands c.args.injections.now free in
     omega arith
 
 pub steps-preserved : goal.steps-preserved
@@ -26,7 +26,7 @@ steps-preserved c =
     let short : c.steps.kernel.steps < c.args.until = (let test = c.steps-test.true in let last = c.saturating_sub-last.ensures in omega arith) in
     let free : IsFree c.args.app.now c.args.limits.now c.args.until c.steps.kernel c.args.injections.now = free_next c.steps.invariant.along.to c.requires in
     let one : c.step_while_suspended.new.machine.steps ≡ suc c.steps.kernel.steps = one_further c.args.app.now c.well_formed-2.ensures c.args.limits.now c.well_formed-3.ensures c.args.until c.steps.kernel
-        c.step_while_suspended.new.machine short (going_free short c.if-is_over_running.ensures) c.step_while_suspended.ensures.stands c.args.injections.now free in
+    c.step_while_suspended.new.machine short (going_free short c.if-is_over_running.ensures) c.step_while_suspended.ensures.stands c.args.injections.now free in
     let begun = tells_nothing (told_after c.begin.new.self _ _ c.begin.ensures.before c.begin.ensures.told ∙ append-nil _) in
     record {
       along = tells_then (tells_then c.steps.invariant.along begun)

@@ -1,7 +1,7 @@
 use Rattle.std.proofs.Common.{[], ◌∙◌, arith}
 use Rattle.model.specs.Step.{step}
 use Rattle.machine.proofs.Either.{steps_are}
-use Rattle.kernel.proofs.Bounds.{below_limits, can_act_after, there_after}
+use Rattle.kernel.proofs.Bounds.{below_limits, can_act_after}
 use Rattle.kernel.proofs.Counting.{steps_still}
 use Rattle.kernel.proofs.Ending.{begun, handled_before, stepped}
 use Rattle.kernel.proofs.suspended.step_while_suspended.Goals as goal
@@ -10,7 +10,7 @@ pub act_while_suspended-requires-clause-can : goal.act_while_suspended-requires-
 act_while_suspended-requires-clause-can g c = λ op at.
     let going = c.requires.going in
     let can = can_act_after c.args.app.now c.well_formed-2.ensures c.args.machine.now going [] c.args.machine.now
-        (handled_before c.args.app.now [] _ c.args.machine.now _ (begun c.args.machine.now (g.L.Log.logged c.args.log.now).told _ going.stands c.requires.begun)).stands in
+    (handled_before c.args.app.now [] _ c.args.machine.now _ (begun c.args.machine.now (g.L.Log.logged c.args.log.now).told _ going.stands c.requires.begun)).stands in
     (can.op c.args.task op c.requires.runs at).1 c.requires.some
 
 pub settle-requires : goal.settle-requires

@@ -5,7 +5,7 @@ use Rattle.model.specs.Run.{are_all_ended, is_stuck}
 use Rattle.kernel.specs.Over.{is_at_tick_limit}
 use Rattle.machine.proofs.Either.{current_is, stopped_is}
 use Rattle.kernel.proofs.Ending.{over_first, over_second, runs_on, third_only}
-use Rattle.kernel.proofs.steps.is_over_running.Goals as goal
+use Rattle.kernel.proofs.over.is_over_running.Goals as goal
 
 pub returns-then-is_some : goal.returns-then-is_some
 returns-then-is_some c = λ s h.

@@ -1,7 +1,7 @@
 use Rattle.std.proofs.Common.{◌≡◌, true, false, sym, ap, ◌∙◌, not}
 use Rattle.kernel.proofs.Ending.{over_by, on_by, not_over_by}
-use Rattle.kernel.proofs.steps.is_nobody_left.Goals.{then-not-has_ready, else-not-has_ready}
-use Rattle.kernel.proofs.steps.is_nobody_left.Goals as goal
+use Rattle.kernel.proofs.over.is_nobody_left.Goals.{then-not-has_ready, else-not-has_ready}
+use Rattle.kernel.proofs.over.is_nobody_left.Goals as goal
 
 pub returns-then-is_quiet : goal.returns-then-is_quiet
 returns-then-is_quiet c = λ s h. elim c.if-not-has_ready.branch [

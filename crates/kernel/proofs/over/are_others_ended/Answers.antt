@@ -1,13 +1,12 @@
-use Rattle.std.proofs.Common.{◌≡◌, ◌≢◌, ◌<◌, ◌||◌, ℕ, Bool, true, false, refl, ap, sym, subst, ◌∙◌, arith}
+use Rattle.std.proofs.Common.{◌≡◌, ◌||◌, ℕ, Bool, true, false, refl, ap, sym, ◌∙◌, arith}
 use Rattle.std.specs.List.{list_all}
 use Rattle.std.specs.Prelude.{◌&&◌}
 use Rattle.model.specs.Application.{is_endless, without_endless}
-use Rattle.model.specs.State.{State, Task, status_at}
+use Rattle.model.specs.State.{Task, status_at}
 use Rattle.model.specs.Step.{is_ended}
-use Rattle.model.proofs.Sorting.{by_test}
 use Rattle.kernel.proofs.Ending.{all_but, each_below, few_tasks, not_all_but, not_passed}
-use Rattle.kernel.proofs.steps.are_others_ended.Goals.{else-not-is_endless-via-then-not-is_endless+else-not-is_ended, else-not-is_endless-via-else-not-is_endless}
-use Rattle.kernel.proofs.steps.are_others_ended.Goals as goal
+use Rattle.kernel.proofs.over.are_others_ended.Goals.{else-not-is_endless-via-then-not-is_endless+else-not-is_ended, else-not-is_endless-via-else-not-is_endless}
+use Rattle.kernel.proofs.over.are_others_ended.Goals as goal
 
 pub returns-then-not-is_ended : goal.returns-then-not-is_ended
 returns-then-not-is_ended c = λ s h.

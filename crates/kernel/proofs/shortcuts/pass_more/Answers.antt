@@ -1,7 +1,7 @@
 use Rattle.std.proofs.Common.{refl}
 use Rattle.machine.specs.Logged.{all_of}
 use Rattle.kernel.proofs.Along.{behind, free_next, tells_nothing, tells_on}
-use Rattle.kernel.proofs.bits.pass_more.Goals as goal
+use Rattle.kernel.proofs.shortcuts.pass_more.Goals as goal
 
 pub returns-then-eq : goal.returns-then-eq
 returns-then-eq c = tells_nothing refl

@@ -1,7 +1,7 @@
 use Rattle.std.proofs.Common.{◌≡◌, true, false, sym, ◌∙◌}
 use Rattle.kernel.proofs.Ending.{any_blocked, any_first, any_second, any_third}
-use Rattle.kernel.proofs.steps.has_waiter.Goals.{then-has_waiter, else-has_waiter}
-use Rattle.kernel.proofs.steps.has_waiter.Goals as goal
+use Rattle.kernel.proofs.over.has_waiter.Goals.{then-has_waiter, else-has_waiter}
+use Rattle.kernel.proofs.over.has_waiter.Goals as goal
 
 pub returns-then-has_waiter-2 : goal.returns-then-has_waiter-2
 returns-then-has_waiter-2 c = λ s h. c.if-has_waiter-2.true ∙ elim c.if-has_waiter.branch [

@@ -2,7 +2,7 @@ use Rattle.std.proofs.Common.{◌∙◌, ap, sym, arith}
 use Rattle.model.specs.Application.{Limits}
 use Rattle.machine.proofs.Either.{elapsed_is, steps_are, stopped_is}
 use Rattle.kernel.proofs.Ending.{not_stopped, ends_pass, ends_ticks, ends_steps, ends_stuck, ends_not}
-use Rattle.kernel.proofs.steps.ended.Goals as goal
+use Rattle.kernel.proofs.over.ended.Goals as goal
 
 pub returns-then-are_all_ended : goal.returns-then-are_all_ended
 returns-then-are_all_ended c = λ s h.

@@ -1,7 +1,7 @@
-use Rattle.std.proofs.Common.{◌≡◌, ◌&&◌, Bool, true, false, refl, ap, sym, ◌∙◌}
+use Rattle.std.proofs.Common.{◌&&◌, Bool, ap, sym, ◌∙◌}
 use Rattle.model.specs.Run.{are_all_ended}
 use Rattle.kernel.proofs.Ending.{none_endless}
-use Rattle.kernel.proofs.steps.is_left_alone.Goals as goal
+use Rattle.kernel.proofs.over.is_left_alone.Goals as goal
 
 pub returns-then-not-has_endless : goal.returns-then-not-has_endless
 returns-then-not-has_endless c = λ s h.

@@ -1,11 +1,11 @@
-use Rattle.std.proofs.Common.{◌≡◌, ◌∙◌, true, false, Option, ap, refl, sym}
+use Rattle.std.proofs.Common.{◌≡◌, ◌∙◌, true, false, Option, ap, sym}
 use Rattle.std.specs.Option.{is_some}
 use Rattle.model.specs.declared.event.End.{End}
 use Rattle.model.specs.Run.{are_all_ended, is_stuck}
 use Rattle.kernel.specs.Over.{is_at_tick_limit}
 use Rattle.machine.proofs.Either.{stopped_is}
 use Rattle.kernel.proofs.Ending.{over_first, over_fourth, over_second, over_third}
-use Rattle.kernel.proofs.steps.is_over.Goals as goal
+use Rattle.kernel.proofs.over.is_over.Goals as goal
 
 pub returns-then-is_some : goal.returns-then-is_some
 returns-then-is_some c = λ s h.

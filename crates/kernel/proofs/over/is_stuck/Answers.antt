@@ -5,7 +5,7 @@ use Rattle.model.specs.Application.{Interrupt}
 use Rattle.model.specs.Run.{is_interrupt_to_come}
 use Rattle.machine.proofs.Either.{elapsed_is}
 use Rattle.kernel.proofs.Ending.{idle_by, stuck_by}
-use Rattle.kernel.proofs.steps.is_stuck.Goals as goal
+use Rattle.kernel.proofs.over.is_stuck.Goals as goal
 
 pub returns-then-not-is_quiet : goal.returns-then-not-is_quiet
 returns-then-not-is_quiet c = λ s h.
