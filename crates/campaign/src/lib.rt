@@ -41,5 +41,5 @@ pub use making::{Finished, campaign};
 pub use one_run::{serve_run, serve_run_of};
 pub use options::{BadOption, Options};
 pub use points::{ExpandFault, expand};
-pub use serving::{serve, serve_of, serve_watched};
+pub use serving::{serve, serve_of};
 pub use writing::write_report;

@@ -114,31 +114,11 @@ fn serve_app<T: Threads + Wait + Sync, W: Sink, G: Gate + Sync>(
 
 /// Reads a file, runs the application that it names once for each of its points in this part of them, under its own limits, and
 /// writes what the view shows of the rows, and their totals, as its last deed: so all rows are made before the first byte goes out.
-/// Answers the totals that it wrote: they count all rows of the part, written or not. The report doesn't depend on the options. The
-/// gate learns what the workers do. It waits for them.
+/// Answers the totals that it wrote: they count all rows of the part, written or not. The report doesn't depend on the options. It
+/// waits for its workers.
 ///
 /// At `Write` a beginning of the report is written. At every other error nothing is. `TooManyPoints` comes after every fault of
 /// the file; `UnknownHandler` never does.
-pub fn serve_watched<T: Threads + Wait + Sync, R: Source, W: Sink, G: Gate + Sync>(
-    rt: &T,
-    alloc: Global,
-    reader: &mut R,
-    writer: &mut W,
-    view: View,
-    shard: Shard,
-    options: Options,
-    gate: &G,
-) -> Result<Totals, ServeFault>
-    requires reads { R.has_failed reader.old ≡ false }
-    requires writes { W.has_failed writer.old ≡ false }
-    ensures { ServesCampaign view shard (R.left reader.old) (R.has_failed reader.new)
-        (W.held writer.old) (W.held writer.new) (W.has_failed writer.new) result }
-{
-    let app = app_of(alloc, reader)?;
-    serve_app(rt, alloc, &app, writer, view, shard, options, gate)
-}
-
-/// The same as `serve_watched`, with a gate that does nothing.
 pub fn serve<T: Threads + Wait + Sync, R: Source, W: Sink>(
     rt: &T,
     alloc: Global,
@@ -153,10 +133,11 @@ pub fn serve<T: Threads + Wait + Sync, R: Source, W: Sink>(
     ensures { ServesCampaign view shard (R.left reader.old) (R.has_failed reader.new)
         (W.held writer.old) (W.held writer.new) (W.has_failed writer.new) result }
 {
-    serve_watched(rt, alloc, reader, writer, view, shard, options, &NoGate)
+    let app = app_of(alloc, reader)?;
+    serve_app(rt, alloc, &app, writer, view, shard, options, &NoGate)
 }
 
-/// The same as `serve_watched`, of the file of these bytes.
+/// The same as `serve`, of the file of these bytes. The gate learns what the workers do.
 pub fn serve_of<T: Threads + Wait + Sync, W: Sink, G: Gate + Sync>(
     rt: &T,
     alloc: Global,

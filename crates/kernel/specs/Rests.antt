@@ -1,8 +1,6 @@
 -- The rest of a run, into which nothing is injected any more.
 use Rattle.std.specs.Prelude.{◌≡◌, ◌≤◌, ℕ, List, [], ◌++◌}
-use Rattle.model.specs.declared.event.Event.{Event}
 use Rattle.model.specs.declared.plan.Injection.{Injection}
-use Rattle.kernel.specs.declared.rests.RestEnding.{RestEnding}
 use Rattle.model.specs.Application.{Application, Limits}
 use Rattle.model.specs.Run.{Run, IsRun, events_after, injected}
 use Rattle.machine.specs.declared.machine.Machine.{Machine}
@@ -13,9 +11,3 @@ use Rattle.machine.specs.Can.{IsUnderWay}
 pub record IsRest (app : Application) (limits : Limits) (k : Machine) (rest : Run) : Type 0 where
   pub of_each : (plan : List Injection) → IsUnderWay app plan limits k → ((n : ℕ) → k.steps ≤ n → injected plan n ≡ [])
       → IsRun app plan limits (record { events = events_after app limits plan k.steps ++ rest.events; steps = rest.steps; ticks = rest.ticks; end = rest.end })
-
--- The rest from this kernel has this end. Its events came behind the others that were kept.
-pub record IsRestFrom (app : Application) (limits : Limits) (k : Machine) (old new : List Event) (ending : RestEnding) : Type 0 where
-  pub own : List Event
-  pub kept : new ≡ old ++ own
-  pub rest : IsRest app limits k (record { events = own; steps = ending.steps; ticks = ending.ticks; end = ending.end })

@@ -5,7 +5,6 @@ ghost use Rattle.model.specs.Run.{IsRun, end_of, injected, state_after};
 ghost use Rattle.machine.specs.Logged.{all_of};
 ghost use Rattle.machine.specs.Can.{IsUnderWay};
 ghost use Rattle.kernel.specs.Rows.{Extends};
-ghost use Rattle.kernel.specs.Rests.{IsRestFrom};
 ghost use Rattle.kernel.specs.Leads.{IsEnd, IsLed};
 
 use crate::kernel::Kernel;
@@ -77,40 +76,5 @@ pub fn go_far(
         }
         let stop = free_until(machine, app, until, limits);
         go_on(machine, app, injections, stop, limits, meter, log, trail)?;
-    }
-}
-
-/// Goes on to the end of a run that is under way, into which no handler is injected any more. The trail gains the events from there
-/// on, behind those that it has. They and the ending are the same for each run that comes to this kernel and into which nothing is
-/// injected from there on, whatever injections it has had. The log is for the events of a step; what it has doesn't matter.
-///
-/// The meter, which is below 2^62 and the steps that the run has done, rises by the steps that are done here. At `Err(Memory)`,
-/// answered only where a growth was refused, so never where the run reports nothing, it has risen by no more than that; the trail then
-/// has those that it had, and some of the run's behind them.
-pub fn run_rest(
-    kernel: &mut Kernel,
-    app: &App,
-    injections: &[Injection],
-    limits: &Limits,
-    meter: &mut Meter,
-    log: &mut StepLog,
-    trail: &mut Trail,
-) -> Result<RestEnding, Memory>
-    requires way { IsUnderWay app.now injections.now limits.now kernel.old }
-    requires past { (n : ℕ) → kernel.old.steps ≤ n → injected injections.now n ≡ [] }
-    requires meter { meter.old < 2 ^ 62 + kernel.old.steps }
-    ensures rest { IfOk result (λ ending.
-        IsRestFrom app.now limits.now kernel.old (all_of trail.old) (all_of trail.new) ending) }
-    ensures meter { IfOk result (λ ending. meter.new + kernel.old.steps ≡ meter.old + ending.steps) }
-    ensures rises { meter.old ≤ meter.new }
-    ensures kept { OnErr result (Extends (all_of trail.old) (all_of trail.new)) }
-    ensures refused { OnErr result ((run : definition.Run) → IsRun app.now injections.now limits.now run
-        → (meter.new + kernel.old.steps ≤ meter.old + run.steps) × (0 < length run.events)) }
-{
-    limits.well_formed();
-    match go_far(kernel, app, injections, u32::MAX, limits, meter, log, trail)? {
-        Some(ending) => Ok(ending),
-        // No run comes so far (profile).
-        None => unreachable!(),
     }
 }

@@ -268,32 +268,6 @@ impl<'a> ReportWriter<'a> {
         add_base_from(writer, &mut self.page, &mut self.lines, base, from)
     }
 
-    /// Adds the report of a run as `add_run` does. Its events are the first so many of this base run, which is of the same
-    /// application, then these of its own, and then these of its rest.
-    pub fn add_run_after<W: Sink>(
-        &mut self,
-        writer: &mut W,
-        title: Title,
-        ending: Ending,
-        base: &BaseEvents<'_>,
-        shared: usize,
-        own: &[Event],
-        rest: &[Event],
-    ) -> Result<(), WriteFault>
-        requires working { W.has_failed writer.old ≡ false }
-        requires app { base.now.app ≡ self.old.app }
-        requires within { shared ≤ length base.now.events }
-        ensures app { self.new.app ≡ self.old.app }
-        ensures text { Adds (W.held writer.old) (W.held writer.new) self.old.page self.new.page result
-            (run_text self.old.app title
-            (record { events = take shared base.now.events ++ (own.now ++ rest.now); steps = ending.steps; ticks = ending.ticks; end = ending.end })) }
-        ensures failed { W.has_failed writer.new ≡ is_err result }
-    {
-        self.begin_row(writer, title, ending, base, shared)?;
-        self.add_events(writer, own)?;
-        self.add_events(writer, rest)
-    }
-
     /// Adds the report of a row once more, under this number: the text is that of the row under the number 0.
     pub fn add_row_again<W: Sink>(
         &mut self,

@@ -3,7 +3,7 @@ use Rattle.model.specs.Application.{Application}
 use Rattle.model.specs.declared.totals.Totals.{Totals}
 use Rattle.campaign.specs.Campaigns.{ServesCampaign}
 use Rattle.campaign.proofs.Faulty.{campaign_serves_file_fault, same_read, same_write}
-use Rattle.campaign.proofs.serving.serve_watched.Goals as goal
+use Rattle.campaign.proofs.serving.serve.Goals as goal
 
 pub returns-in_err-app : goal.returns-in_err-app
 returns-in_err-app g c =
