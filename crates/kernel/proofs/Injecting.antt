@@ -15,7 +15,7 @@ use Rattle.machine.specs.declared.machine.Machine.{Machine}
 use Rattle.machine.specs.StandsFor.{Stands}
 use Rattle.machine.specs.Can.{IsUnderWay}
 use Rattle.kernel.specs.Rests.{IsRest}
-use Rattle.kernel.specs.Rows.{IsRowFrom, events_from}
+use Rattle.kernel.specs.Rows.{events_from}
 
 module _ (app : Application) (limits : Limits) (point : List Injection) (formed : IsPoint point) where
   state_there : (n : ℕ) → n ≤ first_step point → state_after app limits point n ≡ state_after app limits [] n
@@ -34,21 +34,6 @@ module _ (app : Application) (limits : Limits) (point : List Injection) (formed 
       ap (λ (events : List Event). events ++ events_from app limits point (first_step point) n)
       (sym (same_events app limits point (first_step point) (none_before point formed.in_order) (first_step point) (omega arith)))
       ∙ goes_on_with app limits point (first_step point) n l
-
-  -- a row that was run to its end, of which the events from the first injection on came behind others
-  pub row_kept : (k : Machine) → IsUnderWay app point limits k → (start : ℕ) → start ≡ first_step point → start ≤ k.steps → (old new : List Event) → new ≡ old ++ events_from app limits point start k.steps
-      → (before ticks : ℕ) (end : End) → end_of app limits (state_after app limits point k.steps) ≡ Some end → ((s : State) → Stands k s → ticks ≡ s.elapsed)
-      → IsRowFrom app point limits old new (record { before = before; steps = k.steps; ticks = ticks; end = end })
-  row_kept k way start there on old new events before ticks end ended t = record {
-    own = events_from app limits point start k.steps;
-    kept = events;
-    run = record {
-      goes_on = way.goes_on;
-      ends = ended;
-      trace = ap (λ (n : ℕ). events_after app limits [] (first_step point) ++ events_from app limits point n k.steps) there ∙ row_events k.steps (omega arith);
-      elapsed = t _ way.stands;
-    };
-  }
 
   -- Where the base run goes on at the first injection, the row doesn't end there. Where it has an end, or has come to a later step,
   -- it is behind that injection.

@@ -5,26 +5,13 @@ ghost use Rattle.model.specs.Run as definition;
 ghost use Rattle.model.specs.Run.{end_of, IsRun, state_after, events_after};
 ghost use Rattle.machine.specs.Logged.{all_of};
 ghost use Rattle.machine.specs.Can.{IsUnderWay};
-ghost use Rattle.kernel.specs.Rows.{IsRowFrom, Extends, events_from};
+ghost use Rattle.kernel.specs.Rows.{Extends, events_from};
 
 use crate::kernel::Kernel;
 use crate::shortcuts::pass_on;
-use crate::steps::{count_steps, finish, go_to_step};
+use crate::steps::{count_steps, go_to_step};
 use machine::{Machine, StepLog, Trail};
 use model::{App, End, Limits, Memory, Meter, Point};
-
-/// What is said of a row but its events.
-#[derive(Clone, Copy)]
-pub struct RowEnding {
-    /// How many events of the base run come before the row's first injection, counted from where the kernel had come.
-    pub before: usize,
-    /// How many steps the row has.
-    pub steps: u32,
-    /// How many ticks had passed at its end.
-    pub ticks: u64,
-    /// How it ended.
-    pub end: End,
-}
 
 /// What is said of the first part of a row but its events.
 #[derive(Clone, Copy)]
@@ -65,59 +52,6 @@ fn advance(
         count_steps(meter, kernel.steps - start);
     }
     count
-}
-
-/// Runs a row to its end, on a kernel that has come along the base run. The steps before the point's first injection are the base
-/// run's, so their events are only counted. Then its handlers come before their steps, and the run goes on to its end. The trail
-/// gains the events from the first injection on, behind those that it has. The log is for the events of a step; what it has doesn't
-/// matter.
-///
-/// The base run gets beyond the step of the first injection, which the kernel hasn't passed. The meter, which is below 2^62, rises by the
-/// steps that are done here. `Err(Memory)` is answered only where a growth was refused, so never where the row reports nothing. The meter
-/// has then risen by no more than that, and the trail has the events that it had, and some of the row's behind them.
-pub fn run_row(
-    kernel: &mut Kernel,
-    app: &App,
-    point: &Point,
-    limits: &Limits,
-    meter: &mut Meter,
-    log: &mut StepLog,
-    trail: &mut Trail,
-) -> Result<RowEnding, Memory>
-    requires way { IsUnderWay app.now [] limits.now kernel.old }
-    requires ahead { kernel.old.steps ≤ first_step point.now }
-    requires reached { (n : ℕ) → n ≤ first_step point.now → end_of app.now limits.now (state_after app.now limits.now [] n) ≡ None }
-    requires meter { meter.old < 2 ^ 62 }
-    ensures row { IfOk result (λ row.
-        IsRowFrom app.now point.now limits.now (all_of trail.old) (all_of trail.new) row) }
-    ensures before { IfOk result (λ row. length (events_after app.now limits.now [] kernel.old.steps) + row.before
-        ≡ length (events_after app.now limits.now [] (first_step point.now))) }
-    ensures meter { IfOk result (λ row. meter.new + kernel.old.steps ≡ meter.old + row.steps) }
-    ensures rises { meter.old ≤ meter.new }
-    ensures kept { OnErr result (Extends (all_of trail.old) (all_of trail.new)) }
-    ensures refused { OnErr result ((run : definition.Run) → IsRun app.now point.now limits.now run
-        → (meter.new + kernel.old.steps ≤ meter.old + run.steps) × (0 < length run.events)) }
-{
-    limits.well_formed();
-    point.well_formed();
-    let first = point.first_step();
-    let before = advance(&mut kernel.machine, app, first, limits, meter, log);
-    let injections = point.injections();
-    let end = finish(
-        &mut kernel.machine,
-        app,
-        injections.as_slice(),
-        limits,
-        meter,
-        log,
-        trail,
-    )?;
-    Ok(RowEnding {
-        before,
-        steps: kernel.machine.steps,
-        ticks: kernel.machine.clock.elapsed(),
-        end,
-    })
 }
 
 /// Runs the first part of a row, up to this step or to the row's end before it, on a kernel that has come along the base run. The

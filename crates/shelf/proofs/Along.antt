@@ -1,21 +1,19 @@
 -- Stops along a base run, and rows from them on.
-use Rattle.std.proofs.Common.{◌≡◌, ◌+◌, ◌-◌, ◌*◌, ◌/◌, ◌%◌, ◌<◌, ◌≤◌, ℕ, suc, inl, inr, List, [], ◌∷◌, ◌++◌, None, Some, get_or, take, length, length-append, ap, sym, subst, ◌∙◌, ap₂, arith, refl, true, false, Bool, Result, Ok, Err}
+use Rattle.std.proofs.Common.{◌≡◌, ◌+◌, ◌*◌, ◌/◌, ◌%◌, ◌<◌, ◌≤◌, ℕ, suc, inl, inr, List, [], ◌∷◌, ◌++◌, None, get_or, take, length, length-append, ap, sym, subst, ◌∙◌, ap₂, arith, false, Bool, Result, Ok, Err}
 use Rattle.std.specs.Prelude.{IfSome, OnErr, nat_lt}
-use Rattle.std.proofs.lemmas.List.{get_or_append_left, length-take}
-use Rattle.std.proofs.lemmas.Bool.{cases_lt, lt-ltb}
-use Rattle.std.proofs.lemmas.Option.{slice_get-get_or, slice_get_past}
+use Rattle.std.proofs.lemmas.List.{length-take}
+use Rattle.std.proofs.lemmas.Bool.{cases_lt}
+use Rattle.std.proofs.lemmas.Option.{slice_get-get_or}
 use Rattle.std.proofs.Math.Nat.{mod-add-div', div-lt_iff_lt-mul, suc-mul}
-use Rattle.std.proofs.Math.Seq.{get_or-append_seam}
 use Rattle.model.specs.declared.event.Event.{Event}
 use Rattle.model.specs.declared.plan.Injection.{Injection}
-use Rattle.model.specs.Points.{IsPoint, first_step}
+use Rattle.model.specs.Points.{first_step}
 use Rattle.model.specs.Application.{Application, Limits}
-use Rattle.model.specs.State.{State}
 use Rattle.model.specs.Run.{Run, IsRun, IsRow, end_of, state_after, events_after}
 use Rattle.model.proofs.OneRun.{one_row}
-use Rattle.model.proofs.Injected.{same_state, begins_with, none_before}
-use Rattle.kernel.specs.declared.rows.RowEnding.{RowEnding}
-use Rattle.kernel.specs.Rows.{IsRowFrom}
+use Rattle.model.proofs.Injected.{begins_with}
+use Rattle.shelf.specs.declared.row.RowEnding.{RowEnding}
+use Rattle.shelf.specs.Rows.{IsRowFrom}
 use Rattle.shelf.specs.declared.stops.Stop.{Stop}
 use Rattle.shelf.proofs.Joining.{each_more}
 use Rattle.shelf.specs.Shelves.{IsStop, AreStops, Shelved, IsShelf, cost_of}
@@ -100,40 +98,8 @@ module _ (app : Application) (inside now : Shelved) (same : inside ≡ now) (kep
   pub parts_of : first_step point % now.stride + first_step point / inside.stride * inside.stride ≡ first_step point
   parts_of = rw (← ap (λ (s : Shelved). s.stride) same) (split app inside h (first_step point) l)
 
-  pub base_goes_on : (n : ℕ) → n ≤ first_step point → end_of app inside.limits (state_after app inside.limits [] n) ≡ None
-  base_goes_on = goes_on app inside h (first_step point) l
-
   pub shares_few : length (events_after app now.limits [] (first_step point)) ≤ length now.base.events
   shares_few = few_before app now kept (first_step point) reached
-
-  -- the row ends behind the point's step
-  row_beyond : IsPoint point → (run : Run) → IsRun app point inside.limits run → first_step point < run.steps
-  row_beyond formed run is = elim (cases_lt (first_step point) run.steps) [
-    | inl less ↦ less
-    | inr more ↦
-        let end = is.ends in
-        let none = ap (λ (s : State). end_of app inside.limits s) (same_state app inside.limits point (first_step point) (none_before point formed.in_order) run.steps more) ∙ base_goes_on run.steps more in
-        absurd (cc)
-  ]
-
-  pub cost_is : (steps : ℕ) → cost_of now point steps ≡ first_step point % inside.stride + (steps - first_step point)
-  cost_is steps =
-      let t : nat_lt (first_step point) now.base.steps ≡ true = lt-ltb (first_step point) now.base.steps reached in
-      rw (t, sym same) refl
-
-  -- what a meter has risen by
-  module _ (formed : IsPoint point) (old new start : ℕ) (from : start ≡ first_step point / inside.stride * inside.stride) (run : Run) (is : IsRun app point inside.limits run) where
-    pub risen : new + start ≡ old + run.steps → new ≡ old + cost_of now point run.steps
-    risen e =
-        let beyond = row_beyond formed run is in
-        let parts = split app inside h (first_step point) l in
-        rw (cost_is run.steps) (omega (arith, e, beyond, parts, from))
-
-    pub risen_by_less : new + start ≤ old + run.steps → new ≤ old + cost_of now point run.steps
-    risen_by_less e =
-        let beyond = row_beyond formed run is in
-        let parts = split app inside h (first_step point) l in
-        rw (cost_is run.steps) (omega (arith, e, beyond, parts, from))
 
 -- ---- a row with all its events, from those that came into an empty trail
 

@@ -1,3 +1,4 @@
 pub mod Begun
 pub mod Shelves
 pub mod Rests
+pub mod Rows

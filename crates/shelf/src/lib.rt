@@ -6,5 +6,5 @@ mod row;
 mod shelf;
 mod stops;
 
-pub use row::Row;
+pub use row::{Row, RowEnding};
 pub use shelf::Shelf;

@@ -1,8 +1,21 @@
-//! A row with all its events.
-use model::{Point, Run};
+//! Rows.
+use model::{End, Point, Run};
 use std::marker::Model;
 
-/// A row of a campaign: the run with its point's injections where the base run reaches the first of them, and otherwise the base run.
+/// What is said of a row but its events.
+#[derive(Clone, Copy)]
+pub struct RowEnding {
+    /// How many events of the base run come before the row's first injection.
+    pub before: usize,
+    /// How many steps the row has.
+    pub steps: u32,
+    /// How many ticks had passed at its end.
+    pub ticks: u64,
+    /// How it ended.
+    pub end: End,
+}
+
+/// A row of a campaign with all its events: the run with its point's injections where the base run reaches the first of them, and otherwise the base run.
 #[derive(Drop)]
 pub struct Row {
     pub point: Point,

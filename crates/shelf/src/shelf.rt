@@ -6,14 +6,15 @@ ghost use Rattle.model.specs.Run as definition;
 ghost use Rattle.model.specs.Run.{IsRun, IsRow, events_after};
 ghost use Rattle.machine.specs.Logged.{all_of};
 ghost use Rattle.machine.specs.Can.{IsUnderWay};
-ghost use Rattle.kernel.specs.Rows.{Extends, IsRowFrom};
+ghost use Rattle.kernel.specs.Rows.{Extends};
 ghost use Rattle.shelf.specs.Begun.{HasBegun};
 ghost use Rattle.shelf.specs.Rests.{JoinsBase};
+ghost use Rattle.shelf.specs.Rows.{IsRowFrom};
 ghost use Rattle.shelf.specs.Shelves.{IsShelf, cost_of};
 
-use crate::row::Row;
+use crate::row::{Row, RowEnding};
 use crate::stops::{Stop, put_stops};
-use kernel::{Kernel, RowBeginning, RowEnding, StepLog, Trail, begin_row, run_row};
+use kernel::{Kernel, RowBeginning, StepLog, Trail, begin_row};
 use model::{App, Event, Limits, Memory, Meter, Point, Run};
 use std::alloc::Global;
 use std::marker::Model;
@@ -167,21 +168,23 @@ impl Shelf {
         ensures refused { OnErr result ((run : definition.Run) → IsRun app.now point.now self.now.limits run
             → (meter.new ≤ meter.old + cost_of self.now point.now run.steps) × (0 < length run.events)) }
     {
-        point.well_formed();
-        // No row shares more events with the base run than that has, so the sum below fits.
-        let _ = self.count_events();
-        let told = self.go_to_stop(app, point, kernel);
+        self.limits.well_formed();
         let kept = trail.len();
-        match run_row(kernel, app, point, &self.limits, meter, log, trail) {
-            Ok(row) => Ok(RowEnding {
-                before: told + row.before,
-                ..row
-            }),
-            Err(Memory) => {
-                trail.truncate(kept);
-                Err(Memory)
-            }
-        }
+        let Ok(row) = self.begin_row(app, point, u32::MAX, kernel, meter, log, trail) else {
+            trail.truncate(kept);
+            return Err(Memory);
+        };
+        let RowBeginning { before, end } = row;
+        let Some(end) = end else {
+            // No run comes so far (profile).
+            unreachable!();
+        };
+        Ok(RowEnding {
+            before,
+            steps: kernel.steps(),
+            ticks: kernel.ticks(),
+            end,
+        })
     }
 
     /// Begins the row of a point that the base run reaches, from the nearest stop before its first injection, and goes along it up to
