@@ -8,7 +8,7 @@ use Rattle.std.proofs.lemmas.Option.{same_Some, slice_get_within}
 use Rattle.std.specs.Option.{IfSome, option_or}
 use Rattle.model.specs.declared.ids.TaskId.{TaskId}
 use Rattle.model.specs.declared.call.Phase.{Phase}
-use Rattle.model.specs.declared.call.Phase.TheVariants.{Start, Try, Decide, Place, Unlock, Leave, Final}
+use Rattle.model.specs.declared.call.Phase.TheVariants.{Start, Try, Decide, Place, Unlock, Leave}
 use Rattle.model.specs.declared.event.End.{End}
 use Rattle.model.specs.declared.event.End.TheVariants as ending
 use Rattle.model.specs.declared.call.Condition.{Condition}
@@ -339,7 +339,6 @@ module _ (app : Application) (formed : IsWellFormed app) (k : Machine) (state : 
       goes_on Place e = before e
       goes_on Unlock e = in_call Unlock e (λ q. absurd (cc))
       goes_on Leave e = can_leave op is awake e
-      goes_on Final e = absurd (subst (λ (c : Course). IsPhaseOf (hold_of state) c Final) way (fits_phase op is Final e))
 
     -- a set of bits, by an op of that course
     sets : (op : Op) → op_at app task (progress_in k.progress task).op_index ≡ Some op → course (Some op) ≡ ToSetBits → k.suspensions ≡ 0 → (phase : Phase) → (call_at state task).phase ≡ phase → CanSetBits k task phase
@@ -357,14 +356,12 @@ module _ (app : Application) (formed : IsWellFormed app) (k : Machine) (state : 
     sets op is goes awake Decide e = absurd (subst (λ (c : Course). IsPhaseOf (hold_of state) c Decide) goes (fits_phase op is Decide e))
     sets op is goes awake Place e = absurd (subst (λ (c : Course). IsPhaseOf (hold_of state) c Place) goes (fits_phase op is Place e))
     sets op is goes awake Unlock e = absurd (subst (λ (c : Course). IsPhaseOf (hold_of state) c Unlock) goes (fits_phase op is Unlock e))
-    sets op is goes awake Final e = absurd (subst (λ (c : Course). IsPhaseOf (hold_of state) c Final) goes (fits_phase op is Final e))
 
     -- a wait for bits
     waits : (group : ℕ) (condition : Condition) (ticks : Option ℕ) → op_at app task (progress_in k.progress task).op_index ≡ Some (WaitBits group condition ticks) → k.suspensions ≡ 0 → (phase : Phase) → (call_at state task).phase ≡ phase → CanWaitBits k task ticks phase
     waits group c ticks is awake Start e = (can_decide (WaitBits group c ticks) is (free_in Start e refl) awake, short ticks (and_right _ (is_wait ticks) (in_range (WaitBits group c ticks) is)), let l = time_low in omega arith)
     waits group c ticks is awake Leave e = can_leave (WaitBits group c ticks) is awake e
-    waits group c ticks is awake Final e = can_decide (WaitBits group c ticks) is (free_in Final e refl) awake
-    waits group c ticks is awake Try e = absurd (fits_phase (WaitBits group c ticks) is Try e)
+    waits group c ticks is awake Try e = can_decide (WaitBits group c ticks) is (free_in Try e refl) awake
     waits group c ticks is awake Decide e = absurd (fits_phase (WaitBits group c ticks) is Decide e)
     waits group c ticks is awake Place e = absurd (fits_phase (WaitBits group c ticks) is Place e)
     waits group c ticks is awake Unlock e = absurd (fits_phase (WaitBits group c ticks) is Unlock e)

@@ -8,7 +8,7 @@ use Rattle.model.specs.declared.op.Access.TheVariants.{Receive}
 use Rattle.model.specs.declared.op.Command.{Command}
 use Rattle.model.specs.declared.call.Condition.{Condition}
 use Rattle.model.specs.declared.call.Phase.{Phase}
-use Rattle.model.specs.declared.call.Phase.TheVariants.{Start, Try, Decide, Place, Unlock, Leave, Final}
+use Rattle.model.specs.declared.call.Phase.TheVariants.{Start, Try, Decide, Place, Unlock, Leave}
 use Rattle.model.specs.declared.call.WaitList.TheVariants.{ToReceive, ToSend}
 use Rattle.model.specs.declared.event.Misuse.{Misuse}
 use Rattle.model.specs.declared.event.What.TheVariants as what
@@ -64,7 +64,6 @@ steps-await app i o a ticks Decide s = steps-decide i o a s
 steps-await app i o a ticks Place s = refl
 steps-await app i o a ticks Unlock s = steps-unlock s
 steps-await app i o a ticks Leave s = steps-leave_call i s
-steps-await app i o a ticks Final s = steps-leave_call i s
 
 steps-begin_set : (i group mask : ℕ) (s : State) → (begin_set i group mask s).steps ≡ s.steps
 unfolding begin_set
@@ -83,7 +82,6 @@ steps-set_bits app i group mask Decide s = steps-end_set app i s
 steps-set_bits app i group mask Place s = steps-end_set app i s
 steps-set_bits app i group mask Unlock s = steps-end_set app i s
 steps-set_bits app i group mask Leave s = steps-end_set app i s
-steps-set_bits app i group mask Final s = steps-end_set app i s
 
 steps-check : (app : Application) (i group : ℕ) (c : Condition) (ticks : Option ℕ) (s : State) → (check app i group c ticks s).steps ≡ s.steps
 unfolding check begin_bits_wait wait_for_bits set_deadline
@@ -93,12 +91,11 @@ steps-check app i group c ticks s = by_test (is_met (bits_at s group) c || optio
 
 steps-wait_bits : (app : Application) (i group : ℕ) (c : Condition) (ticks : Option ℕ) (phase : Phase) (s : State) → (wait_bits app i group c ticks phase s).steps ≡ s.steps
 steps-wait_bits app i group c ticks Start s = steps-check app i group c ticks s
-steps-wait_bits app i group c ticks Leave s = (keeps-choose (end_hold i Final s)).steps
+steps-wait_bits app i group c ticks Leave s = (keeps-choose (end_hold i Try s)).steps
 steps-wait_bits app i group c ticks Try s = (lasts-final_bits app i group c (call_at s i).kept s).steps
 steps-wait_bits app i group c ticks Decide s = (lasts-final_bits app i group c (call_at s i).kept s).steps
 steps-wait_bits app i group c ticks Place s = (lasts-final_bits app i group c (call_at s i).kept s).steps
 steps-wait_bits app i group c ticks Unlock s = (lasts-final_bits app i group c (call_at s i).kept s).steps
-steps-wait_bits app i group c ticks Final s = (lasts-final_bits app i group c (call_at s i).kept s).steps
 
 steps-next_command : (app : Application) (i o : ℕ) (phase : Phase) (s : State) → (next_command app i o phase s).steps ≡ s.steps
 steps-next_command app i o Start s = (keeps-take_command app i o s).steps
@@ -107,7 +104,6 @@ steps-next_command app i o Decide s = steps-await app i o Receive None Decide s
 steps-next_command app i o Place s = steps-await app i o Receive None Place s
 steps-next_command app i o Unlock s = steps-await app i o Receive None Unlock s
 steps-next_command app i o Leave s = steps-await app i o Receive None Leave s
-steps-next_command app i o Final s = steps-await app i o Receive None Final s
 
 steps-end_command : (app : Application) (i group : ℕ) (s : State) → (end_set_by_daemon app i group s).steps ≡ s.steps
 steps-end_command app i group s =
@@ -124,7 +120,6 @@ steps-obey app i c Decide s = steps-end_command app i c.group s
 steps-obey app i c Place s = steps-end_command app i c.group s
 steps-obey app i c Unlock s = steps-end_command app i c.group s
 steps-obey app i c Leave s = steps-end_command app i c.group s
-steps-obey app i c Final s = steps-end_command app i c.group s
 
 steps-expect : (app : Application) (i : ℕ) (condition : AnswerCondition) (s : State) → (expect app i condition s).steps ≡ s.steps
 unfolding expect

@@ -7,7 +7,7 @@ use Rattle.model.specs.declared.op.Access.{Access}
 use Rattle.model.specs.declared.op.Access.TheVariants.{Receive}
 use Rattle.model.specs.declared.op.Op.TheVariants.{Await, NextCommand}
 use Rattle.model.specs.declared.call.Phase.{Phase}
-use Rattle.model.specs.declared.call.Phase.TheVariants.{Start, Try, Decide, Place, Unlock, Leave, Final}
+use Rattle.model.specs.declared.call.Phase.TheVariants.{Start, Try, Decide, Place, Unlock, Leave}
 use Rattle.model.specs.Invariant.{holds}
 use Rattle.model.specs.contracts.call.Phase.{the_type}
 use Rattle.model.specs.declared.event.Event.{Event}
@@ -46,7 +46,6 @@ holds_silently Decide s a = absurd (a refl)
 holds_silently Place s a = refl
 holds_silently Unlock s a = refl
 holds_silently Leave s a = absurd s
-holds_silently Final s a = absurd s
 
 -- A phase past its tries.
 abbrev pub IsPast : Phase → Type 0
@@ -61,7 +60,6 @@ past_silent Decide s = tt
 past_silent Place s = tt
 past_silent Unlock s = tt
 past_silent Leave s = tt
-past_silent Final s = tt
 
 -- A phase that isn't another than this one.
 pub same_phase : (a b : Phase) → false ≡ not (sameb the_type a b) → a ≡ b

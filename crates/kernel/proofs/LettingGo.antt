@@ -6,7 +6,7 @@ use Rattle.model.specs.Daemon.{command_of, end_set_by_daemon}
 use Rattle.model.specs.declared.op.Op.{Op}
 use Rattle.model.specs.declared.op.Op.TheVariants.{Work, Delay, DelayUntil, Yield, Time, Mark, Expect, Repeat, End, If, Else, EndIf, Break, Stamp, Since, Await, Do, GiveMutex, MessagesWaiting, SpacesAvailable, SetBits, ClearBits, GetBits, WaitBits, Suspend, Resume, SuspendAll, ResumeAll, NextCommand, Obey}
 use Rattle.model.specs.declared.call.Condition.{Condition}
-use Rattle.model.specs.declared.call.Phase.TheVariants.{Start, Leave, Final}
+use Rattle.model.specs.declared.call.Phase.TheVariants.{Start, Leave, Try}
 use Rattle.model.specs.Application.{Application, Limits}
 use Rattle.model.specs.State.{call_at}
 use Rattle.model.specs.Switching.{choose, preempt}
@@ -41,7 +41,7 @@ module _ (app : Application) (k : Machine) (task : ℕ) (op : Op) (l : IsLetting
     pub can_leave_wait : CanLeave k task
     can_leave_wait = subst (CanWaitBits k task ticks) l.reached (subst (CanOp app k task) is can)
 
-    pub leaves_wait : (limits : Limits) (new : Machine) (old_log new_log : Logged) → Does 1 k old_log new new_log (λ s. choose (end_hold task Final s)) → DoesAny 65 k old_log new new_log (λ s. act_current app limits s.current s)
+    pub leaves_wait : (limits : Limits) (new : Machine) (old_log new_log : Logged) → Does 1 k old_log new new_log (λ s. choose (end_hold task Try s)) → DoesAny 65 k old_log new new_log (λ s. act_current app limits s.current s)
     leaves_wait limits new old_log new_log does =
         acts app limits k task l.current op l.at new old_log new_log
         (any_by_form app k new old_log new_log task op (WaitBits group condition ticks) is l.awake (λ s. refl) refl 2 two_within

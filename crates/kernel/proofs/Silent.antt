@@ -9,7 +9,7 @@ use Rattle.model.specs.declared.op.Op.{Op}
 use Rattle.model.specs.declared.op.Op.TheVariants.{Obey, SuspendAll}
 use Rattle.model.specs.declared.call.CallProgress.{CallProgress}
 use Rattle.model.specs.declared.call.Phase.{Phase}
-use Rattle.model.specs.declared.call.Phase.TheVariants.{Start, Try, Decide, Place, Unlock, Leave, Final}
+use Rattle.model.specs.declared.call.Phase.TheVariants.{Start, Try, Decide, Place, Unlock, Leave}
 use Rattle.model.specs.declared.call.WaitList.TheVariants.{ToReceive, ToSend}
 use Rattle.model.specs.Application.{Application, Limits, is_any_awaited, op_at}
 use Rattle.model.specs.State.{State, Task, Waiting, task_at, status_at, progress_at, call_at, object_at, bits_at, with_task, with_call, for_one, for_each, no_task}
@@ -111,7 +111,6 @@ on-await app i o a ticks Decide s silent = on-decide s i o a
 on-await app i o a ticks Place s silent = on-with_call s i (record (call_at s i) { phase = Unlock })
 on-await app i o a ticks Unlock s silent = λ j on. on-with_call (unlock s) i (record (call_at (unlock s) i) { phase = Leave }) j (on-unlock s j on)
 on-await app i o a ticks Leave s silent = absurd silent
-on-await app i o a ticks Final s silent = absurd silent
 
 stopped-decide : (s : State) (i o : ℕ) (a : Access) → (decide i o a s).stopped ≡ s.stopped
 unfolding decide wait_in
@@ -131,7 +130,6 @@ stopped-await app i o a ticks Decide s silent = stopped-decide s i o a
 stopped-await app i o a ticks Place s silent = refl
 stopped-await app i o a ticks Unlock s silent = stopped-unlock s
 stopped-await app i o a ticks Leave s silent = absurd silent
-stopped-await app i o a ticks Final s silent = absurd silent
 
 -- ---- the end of the step
 

@@ -13,7 +13,7 @@ use Rattle.model.specs.declared.op.Access.TheVariants.{Send, Receive}
 use Rattle.model.specs.declared.op.Command.{Command}
 use Rattle.model.specs.declared.call.CallProgress.{CallProgress}
 use Rattle.model.specs.declared.call.Phase.{Phase}
-use Rattle.model.specs.declared.call.Phase.TheVariants.{Start, Try, Decide, Place, Unlock, Leave, Final}
+use Rattle.model.specs.declared.call.Phase.TheVariants.{Start, Try, Decide, Place, Unlock, Leave}
 use Rattle.model.specs.declared.call.WaitList.{WaitList}
 use Rattle.model.specs.declared.call.WaitList.TheVariants.{ToReceive, ToSend}
 use Rattle.model.specs.declared.event.What.{What}
@@ -394,7 +394,6 @@ module _ (P : State → Type 0)
   kept-await app i o a ticks Place s h = kept-with_call i _ s h
   kept-await app i o a ticks Unlock s h = kept-with_call i _ (unlock s) (kept-unlock s h)
   kept-await app i o a ticks Leave s h = kept-leave_call i s h
-  kept-await app i o a ticks Final s h = kept-leave_call i s h
 
   kept-do_now : (app : Application) (i o : ℕ) (a : Access) (s : State) → P s → P (do_now app i o a s)
   unfolding do_now
@@ -449,7 +448,6 @@ module _ (P : State → Type 0)
   kept-set_bits app i group mask Place s h = kept-end_set app i s h
   kept-set_bits app i group mask Unlock s h = kept-end_set app i s h
   kept-set_bits app i group mask Leave s h = kept-end_set app i s h
-  kept-set_bits app i group mask Final s h = kept-end_set app i s h
 
   kept-answer_bits : (app : Application) (i group : ℕ) (c : Condition) (s : State) → P s → P (answer_bits app i group c s)
   unfolding answer_bits
@@ -476,12 +474,11 @@ module _ (P : State → Type 0)
 
   kept-wait_bits : (app : Application) (i group : ℕ) (c : Condition) (ticks : Option ℕ) (phase : Phase) (s : State) → P s → P (wait_bits app i group c ticks phase s)
   kept-wait_bits app i group c ticks Start s h = kept-check app i group c ticks s h
-  kept-wait_bits app i group c ticks Leave s h = kept-choose (end_hold i Final s) (kept-end_hold i Final s h)
+  kept-wait_bits app i group c ticks Leave s h = kept-choose (end_hold i Try s) (kept-end_hold i Try s h)
   kept-wait_bits app i group c ticks Try s h = kept-final_bits app i group c (call_at s i).kept s h
   kept-wait_bits app i group c ticks Decide s h = kept-final_bits app i group c (call_at s i).kept s h
   kept-wait_bits app i group c ticks Place s h = kept-final_bits app i group c (call_at s i).kept s h
   kept-wait_bits app i group c ticks Unlock s h = kept-final_bits app i group c (call_at s i).kept s h
-  kept-wait_bits app i group c ticks Final s h = kept-final_bits app i group c (call_at s i).kept s h
 
   -- ---- the daemon
 
@@ -502,7 +499,6 @@ module _ (P : State → Type 0)
   kept-next_command app i o Place s h = kept-await app i o Receive None Place s h
   kept-next_command app i o Unlock s h = kept-await app i o Receive None Unlock s h
   kept-next_command app i o Leave s h = kept-await app i o Receive None Leave s h
-  kept-next_command app i o Final s h = kept-await app i o Receive None Final s h
 
   kept-obeyed : (app : Application) (i : ℕ) (clear : Bool) (bits : ℕ) (s : State) → P s → P (obeyed app i clear bits s)
   unfolding obeyed
@@ -529,7 +525,6 @@ module _ (P : State → Type 0)
   kept-obey app i c Place s h = kept-end_set_by_daemon app i c.group s h
   kept-obey app i c Unlock s h = kept-end_set_by_daemon app i c.group s h
   kept-obey app i c Leave s h = kept-end_set_by_daemon app i c.group s h
-  kept-obey app i c Final s h = kept-end_set_by_daemon app i c.group s h
 
   -- ---- handlers
 

@@ -10,7 +10,7 @@ use Rattle.model.specs.declared.op.Access.TheVariants.{Receive}
 use Rattle.model.specs.declared.op.Command.{Command}
 use Rattle.model.specs.declared.call.Condition.{Condition}
 use Rattle.model.specs.declared.call.Phase.{Phase}
-use Rattle.model.specs.declared.call.Phase.TheVariants.{Start, Try, Decide, Place, Unlock, Leave, Final}
+use Rattle.model.specs.declared.call.Phase.TheVariants.{Start, Try, Decide, Place, Unlock, Leave}
 use Rattle.model.specs.declared.event.Misuse.{Misuse}
 use Rattle.model.specs.declared.loops.Loop.{Loop}
 use Rattle.model.specs.declared.answer.AnswerCondition.{AnswerCondition}
@@ -216,7 +216,6 @@ idle-await app i o a ticks Decide s r = idle-decide i o a s r
 idle-await app i o a ticks Place s r = still_runs i s (go_on i Unlock s) r refl
 idle-await app i o a ticks Unlock s r = still_runs i s (go_on i Leave (unlock s)) r (current-unlock s)
 idle-await app i o a ticks Leave s r = idle-leave_call i s
-idle-await app i o a ticks Final s r = idle-leave_call i s
 
 idle-do_now : (app : Application) (i o : ℕ) (a : Access) (s : State) → IdleAlone (do_now app i o a s)
 unfolding do_now
@@ -236,7 +235,6 @@ idle-set_bits app i g m Decide s r = idle-preempt _
 idle-set_bits app i g m Place s r = idle-preempt _
 idle-set_bits app i g m Unlock s r = idle-preempt _
 idle-set_bits app i g m Leave s r = idle-preempt _
-idle-set_bits app i g m Final s r = idle-preempt _
 
 current-answer_bits : (app : Application) (i g : ℕ) (c : Condition) (s : State) → (answer_bits app i g c s).current ≡ s.current
 unfolding answer_bits answer go_to
@@ -258,12 +256,11 @@ idle-final app i g c s r = still_runs i s (final_bits app i g c (call_at s i).ke
 
 idle-wait_bits : (app : Application) (i g : ℕ) (c : Condition) (ticks : Option ℕ) (phase : Phase) (s : State) → s.current ≡ Some i → IdleAlone (wait_bits app i g c ticks phase s)
 idle-wait_bits app i g c ticks Start s r = still_runs i s (check app i g c ticks s) r (current-check app i g c ticks s)
-idle-wait_bits app i g c ticks Leave s r = idle-choose (end_hold i Final s)
+idle-wait_bits app i g c ticks Leave s r = idle-choose (end_hold i Try s)
 idle-wait_bits app i g c ticks Try s r = idle-final app i g c s r
 idle-wait_bits app i g c ticks Decide s r = idle-final app i g c s r
 idle-wait_bits app i g c ticks Place s r = idle-final app i g c s r
 idle-wait_bits app i g c ticks Unlock s r = idle-final app i g c s r
-idle-wait_bits app i g c ticks Final s r = idle-final app i g c s r
 
 -- ---- the daemon
 
@@ -280,7 +277,6 @@ idle-next_command app i o Decide s r = idle-await app i o Receive None Decide s 
 idle-next_command app i o Place s r = idle-await app i o Receive None Place s r
 idle-next_command app i o Unlock s r = idle-await app i o Receive None Unlock s r
 idle-next_command app i o Leave s r = idle-await app i o Receive None Leave s r
-idle-next_command app i o Final s r = idle-await app i o Receive None Final s r
 
 idle-begin_command : (app : Application) (i : ℕ) (c : Command) (s : State) → s.current ≡ Some i → IdleAlone (obey app i c Start s)
 unfolding clear_by_daemon obeyed go_to begin_set
@@ -295,7 +291,6 @@ idle-obey app i c Decide s r = idle-preempt _
 idle-obey app i c Place s r = idle-preempt _
 idle-obey app i c Unlock s r = idle-preempt _
 idle-obey app i c Leave s r = idle-preempt _
-idle-obey app i c Final s r = idle-preempt _
 
 -- ---- the scheduler resumed
 

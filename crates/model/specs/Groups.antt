@@ -3,7 +3,7 @@ use Rattle.std.specs.Prelude.{ℕ, ◌-◌, ◌==◌, ◌||◌, Bool, true, fals
 use Rattle.std.specs.Option.{option_eq}
 use Rattle.model.specs.declared.call.Condition.{Condition}
 use Rattle.model.specs.declared.call.Phase.{Phase}
-use Rattle.model.specs.declared.call.Phase.TheVariants.{Start, Leave, Final}
+use Rattle.model.specs.declared.call.Phase.TheVariants.{Start, Try, Leave}
 use Rattle.model.specs.Application.{Application}
 use Rattle.model.specs.State.{State, Task, WaitingForBits, ticket_if_for_bits, take_ticket, call_at, with_call, go_on, bits_at, with_bits, for_each}
 use Rattle.model.specs.Order.{Key, Entry, key, list_by, tasks_of}
@@ -117,8 +117,9 @@ abbrev pub final_bits : Application → ℕ → ℕ → Condition → Option ℕ
 final_bits app task group c None s = answer_bits app task group c s
 final_bits app task group c (Some bits) s = answer app task (Some bits) s
 
--- The phases of a wait: Start, Leave, and Final (`xEventGroupWaitBits`). At Leave a caller who was woken keeps its ticket.
+-- The phases of a wait: Start, Leave, and Try, in which it answers (`xEventGroupWaitBits`). At Leave a caller who was woken keeps
+-- its ticket.
 abbrev pub wait_bits : Application → ℕ → ℕ → Condition → Option ℕ → Phase → State → State
 wait_bits app task group c ticks Start s = check app task group c ticks s
-wait_bits app task group c ticks Leave s = choose (end_hold task Final s)
+wait_bits app task group c ticks Leave s = choose (end_hold task Try s)
 wait_bits app task group c ticks _ s = final_bits app task group c (call_at s task).kept s

@@ -9,7 +9,7 @@ use Rattle.model.specs.declared.op.Access.TheVariants.{Receive}
 use Rattle.model.specs.declared.op.Op.{Op}
 use Rattle.model.specs.declared.op.Op.TheVariants.{Work, Await, SetBits, WaitBits, NextCommand, Obey}
 use Rattle.model.specs.declared.call.Phase.{Phase}
-use Rattle.model.specs.declared.call.Phase.TheVariants.{Start, Try, Decide, Place, Unlock, Leave, Final}
+use Rattle.model.specs.declared.call.Phase.TheVariants.{Start, Try, Decide, Place, Unlock, Leave}
 use Rattle.model.specs.declared.call.WaitList.{WaitList}
 use Rattle.model.specs.declared.loops.Loop.{Loop}
 use Rattle.model.specs.Application.{Application, script_of, op_at}
@@ -116,7 +116,7 @@ IsPhaseOf hold (OnObject object) Place = (hold.held ≡ true) × (hold.locked �
 IsPhaseOf hold (OnObject object) Unlock = (hold.held ≡ true) × (hold.locked ≡ Some object)
 IsPhaseOf hold (OnObject object) Leave = (hold.held ≡ true) × (hold.locked ≡ None)
 IsPhaseOf hold ForBits Leave = (hold.held ≡ true) × (hold.locked ≡ None)
-IsPhaseOf hold ForBits Final = Unit {0}
+IsPhaseOf hold ForBits Try = Unit {0}
 IsPhaseOf hold ToSetBits Leave = (hold.held ≡ true) × (hold.locked ≡ None)
 IsPhaseOf hold _ _ = ⊥
 

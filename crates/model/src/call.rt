@@ -10,7 +10,7 @@ pub enum Phase {
     /// at them.
     #[default]
     Start,
-    /// A later try.
+    /// A later try. A wait for bits, which is over then, answers.
     Try,
     /// The scheduler is held and the queue locked; the task begins to wait, if that is still due.
     Decide,
@@ -20,8 +20,6 @@ pub enum Phase {
     Unlock,
     /// The scheduler is held no more.
     Leave,
-    /// A wait for bits is over, and answers.
-    Final,
 }
 
 /// For which bits of an event group a task waits (`xEventGroupWaitBits`).

@@ -3,7 +3,7 @@ use Rattle.std.proofs.Common.{◌≡◌, ℕ, true, false, List, Option, Some, N
 use Rattle.std.specs.Prelude.{Bool, if◌then◌else◌}
 use Rattle.std.specs.Option.{unwrap_or}
 use Rattle.model.specs.declared.call.Phase.{Phase}
-use Rattle.model.specs.declared.call.Phase.TheVariants.{Start, Try, Decide, Place, Unlock, Leave, Final}
+use Rattle.model.specs.declared.call.Phase.TheVariants.{Start, Try, Decide, Place, Unlock, Leave}
 use Rattle.model.specs.declared.event.Event.{Event}
 use Rattle.model.specs.declared.op.Access.TheVariants.{Receive}
 use Rattle.model.specs.declared.op.Command.{Command}
@@ -34,12 +34,11 @@ module _ (app : Application) (new : Machine) (log : List Event) (s : State) (i o
 -- After its tries the daemon's receive goes as any that waits for ever.
 pub same_after : (app : Application) (task object : ℕ) (phase : Phase) (s : State) → (phase ≡ Start → ⊥) → (phase ≡ Try → ⊥) → await app task object Receive None phase s ≡ next_command app task object phase s
 same_after app task object Start s a b = absurd (a refl)
-same_after app task object Try s a b = absurd (b refl)
 same_after app task object Decide s a b = refl
 same_after app task object Place s a b = refl
 same_after app task object Unlock s a b = refl
 same_after app task object Leave s a b = refl
-same_after app task object Final s a b = refl
+same_after app task object Try s a b = refl
 
 module _ (app : Application) (old new : Machine) (old_log new_log : Logged) (task : ℕ) where
   phase_is : (s : State) → AtAny old old_log.told s → (progress_in old.progress task).call.phase ≡ (call_at s task).phase

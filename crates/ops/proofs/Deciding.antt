@@ -5,7 +5,7 @@ use Rattle.std.specs.Option.{IfSome}
 use Rattle.std.proofs.Math.ListN.{length-set}
 use Rattle.model.specs.declared.call.CallProgress.{CallProgress}
 use Rattle.model.specs.declared.call.Phase.{Phase}
-use Rattle.model.specs.declared.call.Phase.TheVariants.{Place, Unlock, Start, Try, Decide, Leave, Final}
+use Rattle.model.specs.declared.call.Phase.TheVariants.{Place, Unlock, Start, Try, Decide, Leave}
 use Rattle.model.specs.declared.call.WaitList.{WaitList}
 use Rattle.model.specs.declared.op.Access.{Access}
 use Rattle.model.specs.declared.event.Event.{Event}
@@ -377,4 +377,3 @@ none_else Decide s a b c = a refl
 none_else Place s a b c = b refl
 none_else Unlock s a b c = c refl
 none_else Leave s a b c = s
-none_else Final s a b c = s

@@ -6,7 +6,7 @@ use Rattle.std.specs.Option.{is_some, option_eq, option_map}
 use Rattle.std.proofs.Math.ListN.{length-set}
 use Rattle.model.specs.declared.call.Condition.{Condition}
 use Rattle.model.specs.declared.call.Phase.{Phase}
-use Rattle.model.specs.declared.call.Phase.TheVariants.{Start, Try, Decide, Place, Unlock, Leave, Final}
+use Rattle.model.specs.declared.call.Phase.TheVariants.{Start, Try, Decide, Place, Unlock, Leave}
 use Rattle.model.specs.declared.event.Event.{Event}
 use Rattle.model.specs.declared.op.Op.TheVariants.{SetBits, WaitBits}
 use Rattle.model.specs.Application.{Application}
@@ -378,7 +378,6 @@ decides_at_last k task ticks Decide off on can = can
 decides_at_last k task ticks Place off on can = can
 decides_at_last k task ticks Unlock off on can = can
 decides_at_last k task ticks Leave off on can = absurd (on refl)
-decides_at_last k task ticks Final off on can = can
 
 -- ---- the phases
 
@@ -410,7 +409,6 @@ module _ (app : Application) (old new : Machine) (old_log new_log : Logged) (tas
   waits_at_last condition ticks Place off on d = d
   waits_at_last condition ticks Unlock off on d = d
   waits_at_last condition ticks Leave off on d = absurd (on refl)
-  waits_at_last condition ticks Final off on d = d
 
   -- past Start and Leave
   pub wait_at_last : (condition : Condition) (ticks : Option ℕ) (phase : Phase) → (progress_in old.progress task).call.phase ≡ phase → phase ≢ Start → phase ≢ Leave → DoesAny 2 old old_log new new_log (λ s. final_bits app task group condition (call_at s task).kept s) → DoesAny 2 old old_log new new_log (act app task (WaitBits group condition ticks))

@@ -4,7 +4,7 @@ use Rattle.std.specs.Option.{IfSome, is_some, option_and_then}
 use Rattle.std.proofs.Math.ListN.{length-set}
 use Rattle.std.proofs.lemmas.List.{set-set}
 use Rattle.model.specs.declared.call.Phase.{Phase}
-use Rattle.model.specs.declared.call.Phase.TheVariants.{Start, Try, Decide, Place, Unlock, Leave, Final}
+use Rattle.model.specs.declared.call.Phase.TheVariants.{Start, Try, Decide, Place, Unlock, Leave}
 use Rattle.model.specs.declared.call.WaitList.{WaitList}
 use Rattle.model.specs.declared.event.Event.{Event}
 use Rattle.model.specs.Application.{Application, op_count}
@@ -202,7 +202,6 @@ not_resumed_place Decide ne e = absurd (cc)
 not_resumed_place Place ne e = ne e
 not_resumed_place Unlock ne e = absurd (cc)
 not_resumed_place Leave ne e = absurd (cc)
-not_resumed_place Final ne e = absurd (cc)
 
 same_resume : (s : State) (i : ℕ) → can_resume (status_at s i) ≡ true → SameWaits s (with_resumed s i)
 same_resume s i t =

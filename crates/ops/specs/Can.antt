@@ -7,7 +7,7 @@ use Rattle.model.specs.declared.op.IsrOp.TheVariants as isr
 use Rattle.model.specs.declared.op.Op.{Op}
 use Rattle.model.specs.declared.op.Op.TheVariants.{Repeat, Do}
 use Rattle.model.specs.declared.call.Phase.{Phase}
-use Rattle.model.specs.declared.call.Phase.TheVariants.{Start, Try, Decide, Place, Unlock, Leave, Final}
+use Rattle.model.specs.declared.call.Phase.TheVariants.{Start, Try, Decide, Place, Unlock, Leave}
 use Rattle.model.specs.declared.call.WaitList.{WaitList}
 use Rattle.model.specs.Application.{Application, commands_of}
 use Rattle.model.specs.Daemon.{item_of}
@@ -109,7 +109,6 @@ CanGoOn k task object access ticks Decide = CanDecide k task
 CanGoOn k task object access ticks Place = CanPlace k task
 CanGoOn k task object access ticks Unlock = IsInCall k task
 CanGoOn k task object access ticks Leave = CanLeave k task
-CanGoOn k task object access ticks Final = CanLeave k task
 
 -- What a set of bits can do next in this phase.
 abbrev pub CanSetBits : Machine → ℕ → Phase → Type 0

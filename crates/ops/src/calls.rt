@@ -244,7 +244,5 @@ pub fn go_on_waiting<L: Log>(
         Phase::Place => place(machine, task),
         Phase::Unlock => unlock(machine, task),
         Phase::Leave => leave_call(machine, task, log),
-        // A call on an object has no such phase.
-        Phase::Final => leave_call(machine, task, log),
     }
 }

@@ -221,10 +221,10 @@ pub fn leave_bits_wait<L: Log>(machine: &mut Machine, task: TaskId, log: &mut L)
     requires room { 1 ≤ (L.logged log.old).room }
     requires can { CanLeave machine.old task }
     ensures { Does 1 machine.old (L.logged log.old) machine.new (L.logged log.new)
-        (λ s. choose (end_hold task phase.Final s)) }
+        (λ s. choose (end_hold task phase.Try s)) }
 {
     machine.sched.unhold();
-    machine.set_wait(task, Phase::Final, false);
+    machine.set_wait(task, Phase::Try, false);
     machine.choose(log);
 }
 

@@ -297,7 +297,6 @@ impl SlowKernel {
             Phase::Place => self.set_phase(id, Phase::Unlock),
             Phase::Unlock => self.unlock(id),
             Phase::Leave => self.leave(id),
-            Phase::Final => {}
         }
     }
 }

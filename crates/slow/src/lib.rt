@@ -687,7 +687,7 @@ impl SlowKernel {
             None => Phase::Start,
             Some(task) => self.task(task).call.phase,
         };
-        !matches!(phase, Phase::Start | Phase::Try | Phase::Final)
+        !matches!(phase, Phase::Start | Phase::Try)
     }
 
     pub fn is_locked(&self) -> bool {

@@ -159,7 +159,7 @@ impl SlowKernel {
             Phase::Start => self.begin_wait(id, group, condition, ticks),
             Phase::Leave => {
                 self.is_held = false;
-                self.set_phase(id, Phase::Final);
+                self.set_phase(id, Phase::Try);
                 self.choose();
             }
             _ => self.end_wait(app, id, group, condition),

@@ -7,7 +7,7 @@ use Rattle.model.specs.declared.op.Op.{Op}
 use Rattle.model.specs.declared.op.Op.TheVariants.{SetBits, WaitBits}
 use Rattle.model.specs.declared.call.CallProgress.{CallProgress}
 use Rattle.model.specs.declared.call.Condition.{Condition}
-use Rattle.model.specs.declared.call.Phase.TheVariants.{Start, Leave, Final}
+use Rattle.model.specs.declared.call.Phase.TheVariants.{Start, Leave, Try}
 use Rattle.model.specs.Application.{Application, op_at}
 use Rattle.model.specs.Scripts.{IsWellFormed, is_wait}
 use Rattle.model.specs.State.{State, Task, Status, Ready, Awake, Waiting, WaitingForBits, Asleep, Suspended, Ended, Wait, ticket_if_ready, ticket_if_for_bits, task_at, status_at, progress_at, call_at, bits_at, with_task, with_bits, go_on, take_ticket, for_each, no_task}
@@ -266,5 +266,5 @@ module _ (app : Application) (formed : IsWellFormed app) (s : State) (i : ℕ) (
       answered app formed free ended i (SetBits group mask) (hold_ended app formed s i h runs l unlocked Start tt)
       (ap (λ (u : Task). wait_of u.status) at ∙ none) (ap (λ (u : Task). op_at app i u.progress.op_index) at ∙ is) (call_at s i).kept refl
 
-  pub wait_left : IsPhaseOf free (course (op_at app i (progress_at s i).op_index)) Final → IsSound app free (choose (end_hold i Final s))
-  wait_left fits = chosen app formed free (end_hold i Final s) (hold_ended app formed s i h runs l unlocked Final fits)
+  pub wait_left : IsPhaseOf free (course (op_at app i (progress_at s i).op_index)) Try → IsSound app free (choose (end_hold i Try s))
+  wait_left fits = chosen app formed free (end_hold i Try s) (hold_ended app formed s i h runs l unlocked Try fits)

@@ -12,7 +12,7 @@ use Rattle.model.specs.declared.op.Access.{Access}
 use Rattle.model.specs.declared.op.Access.TheVariants.{Send, SendFront, Overwrite, Receive, Peek, Take, Give, Lock}
 use Rattle.model.specs.declared.call.CallProgress.{CallProgress}
 use Rattle.model.specs.declared.call.Phase.{Phase}
-use Rattle.model.specs.declared.call.Phase.TheVariants.{Start, Try, Decide, Place, Unlock, Leave, Final}
+use Rattle.model.specs.declared.call.Phase.TheVariants.{Start, Try, Decide, Place, Unlock, Leave}
 use Rattle.model.specs.declared.call.WaitList.{WaitList}
 use Rattle.model.specs.declared.call.WaitList.TheVariants.{ToReceive, ToSend}
 use Rattle.model.specs.Application.{Application, op_at}
@@ -281,28 +281,24 @@ phase_apart old new InOne Decide t p = absurd p
 phase_apart old new InOne Place t p = absurd p
 phase_apart old new InOne Unlock t p = absurd p
 phase_apart old new InOne Leave t p = absurd p
-phase_apart old new InOne Final t p = absurd p
 phase_apart old new (OnObject o) Start t p = tt
 phase_apart old new (OnObject o) Try t p = tt
 phase_apart old new (OnObject o) Decide t p = tt
 phase_apart old new (OnObject o) Place t p = absurd (cc)
 phase_apart old new (OnObject o) Unlock t p = absurd (cc)
 phase_apart old new (OnObject o) Leave t p = absurd (cc)
-phase_apart old new (OnObject o) Final t p = absurd p
 phase_apart old new ForBits Start t p = tt
-phase_apart old new ForBits Try t p = absurd p
 phase_apart old new ForBits Decide t p = absurd p
 phase_apart old new ForBits Place t p = absurd p
 phase_apart old new ForBits Unlock t p = absurd p
 phase_apart old new ForBits Leave t p = absurd (cc)
-phase_apart old new ForBits Final t p = tt
+phase_apart old new ForBits Try t p = tt
 phase_apart old new ToSetBits Start t p = tt
 phase_apart old new ToSetBits Try t p = absurd p
 phase_apart old new ToSetBits Decide t p = absurd p
 phase_apart old new ToSetBits Place t p = absurd p
 phase_apart old new ToSetBits Unlock t p = absurd p
 phase_apart old new ToSetBits Leave t p = absurd (cc)
-phase_apart old new ToSetBits Final t p = absurd p
 
 -- where nothing is held, no phase holds
 pub phase_free : (hold : Hold) (way : Course) (phase : Phase) → hold.held ≡ false → IsPhaseOf hold way phase → holds phase ≡ false
@@ -312,28 +308,24 @@ phase_free hold InOne Decide t p = absurd p
 phase_free hold InOne Place t p = absurd p
 phase_free hold InOne Unlock t p = absurd p
 phase_free hold InOne Leave t p = absurd p
-phase_free hold InOne Final t p = absurd p
 phase_free hold (OnObject o) Start t p = refl
 phase_free hold (OnObject o) Try t p = refl
 phase_free hold (OnObject o) Decide t p = refl
 phase_free hold (OnObject o) Place t p = let held = p.0 in absurd (cc)
 phase_free hold (OnObject o) Unlock t p = let held = p.0 in absurd (cc)
 phase_free hold (OnObject o) Leave t p = let held = p.0 in absurd (cc)
-phase_free hold (OnObject o) Final t p = absurd p
 phase_free hold ForBits Start t p = refl
-phase_free hold ForBits Try t p = absurd p
 phase_free hold ForBits Decide t p = absurd p
 phase_free hold ForBits Place t p = absurd p
 phase_free hold ForBits Unlock t p = absurd p
 phase_free hold ForBits Leave t p = let held = p.0 in absurd (cc)
-phase_free hold ForBits Final t p = refl
+phase_free hold ForBits Try t p = refl
 phase_free hold ToSetBits Start t p = refl
 phase_free hold ToSetBits Try t p = absurd p
 phase_free hold ToSetBits Decide t p = absurd p
 phase_free hold ToSetBits Place t p = absurd p
 phase_free hold ToSetBits Unlock t p = absurd p
 phase_free hold ToSetBits Leave t p = let held = p.0 in absurd (cc)
-phase_free hold ToSetBits Final t p = absurd p
 
 -- a task that is resumed is in a phase of its op still
 pub phase_again : (hold : Hold) (way : Course) (phase : Phase) → IsPhaseOf hold way phase → IsPhaseOf hold way (phase_resumed phase)
@@ -343,28 +335,24 @@ phase_again hold InOne Decide p = absurd p
 phase_again hold InOne Place p = absurd p
 phase_again hold InOne Unlock p = absurd p
 phase_again hold InOne Leave p = absurd p
-phase_again hold InOne Final p = absurd p
 phase_again hold (OnObject o) Start p = tt
 phase_again hold (OnObject o) Try p = tt
 phase_again hold (OnObject o) Decide p = tt
 phase_again hold (OnObject o) Place p = p
 phase_again hold (OnObject o) Unlock p = p
 phase_again hold (OnObject o) Leave p = p
-phase_again hold (OnObject o) Final p = absurd p
 phase_again hold ForBits Start p = tt
-phase_again hold ForBits Try p = absurd p
 phase_again hold ForBits Decide p = absurd p
 phase_again hold ForBits Place p = absurd p
 phase_again hold ForBits Unlock p = absurd p
 phase_again hold ForBits Leave p = p
-phase_again hold ForBits Final p = tt
+phase_again hold ForBits Try p = tt
 phase_again hold ToSetBits Start p = tt
 phase_again hold ToSetBits Try p = absurd p
 phase_again hold ToSetBits Decide p = absurd p
 phase_again hold ToSetBits Place p = absurd p
 phase_again hold ToSetBits Unlock p = absurd p
 phase_again hold ToSetBits Leave p = p
-phase_again hold ToSetBits Final p = absurd p
 
 -- an op of one phase is in its first
 pub course_of_one : (hold : Hold) (phase : Phase) → IsPhaseOf hold InOne phase → phase ≡ Start
@@ -374,7 +362,6 @@ course_of_one hold Decide p = absurd p
 course_of_one hold Place p = absurd p
 course_of_one hold Unlock p = absurd p
 course_of_one hold Leave p = absurd p
-course_of_one hold Final p = absurd p
 
 pub call_apart : (old new : Hold) (now : ℕ) (op : Option Op) (t : Task) → holds t.progress.call.phase ≡ false → wait_if_awake t.status ≡ None → IsCall old now op t → IsCall new now op t
 call_apart old new now op t free asleep c =

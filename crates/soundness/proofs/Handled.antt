@@ -11,7 +11,7 @@ use Rattle.model.specs.declared.op.IsrOp.TheVariants as isr_op
 use Rattle.model.specs.declared.op.Access.{Access}
 use Rattle.model.specs.declared.op.Access.TheVariants.{Send, Receive}
 use Rattle.model.specs.declared.call.Phase.{Phase}
-use Rattle.model.specs.declared.call.Phase.TheVariants.{Start, Try, Decide, Place, Unlock, Leave, Final}
+use Rattle.model.specs.declared.call.Phase.TheVariants.{Start, Try, Decide, Place, Unlock, Leave}
 use Rattle.model.specs.declared.call.WaitList.{WaitList}
 use Rattle.model.specs.declared.call.WaitList.TheVariants.{ToReceive, ToSend}
 use Rattle.model.specs.declared.event.What.{What}
@@ -314,7 +314,6 @@ place_resumed Decide e = absurd (cc)
 place_resumed Place e = refl
 place_resumed Unlock e = absurd (cc)
 place_resumed Leave e = absurd (cc)
-place_resumed Final e = absurd (cc)
 
 pub holds_resumed : (phase : Phase) → holds (phase_resumed phase) ≡ holds phase
 holds_resumed Start = refl
@@ -323,7 +322,6 @@ holds_resumed Decide = refl
 holds_resumed Place = refl
 holds_resumed Unlock = refl
 holds_resumed Leave = refl
-holds_resumed Final = refl
 
 ready_unsuspended : (u : Status) → is_some (ticket_if_ready u) ≡ true → can_resume u ≡ false
 ready_unsuspended (Ready n) t = refl

@@ -9,7 +9,7 @@ use Rattle.model.specs.declared.op.Access.TheVariants.{Receive}
 use Rattle.model.specs.declared.op.Command.{Command}
 use Rattle.model.specs.declared.call.Condition.{Condition}
 use Rattle.model.specs.declared.call.Phase.{Phase}
-use Rattle.model.specs.declared.call.Phase.TheVariants.{Start, Try, Decide, Place, Unlock, Leave, Final}
+use Rattle.model.specs.declared.call.Phase.TheVariants.{Start, Try, Decide, Place, Unlock, Leave}
 use Rattle.model.specs.declared.call.WaitList.TheVariants.{ToReceive, ToSend}
 use Rattle.model.specs.declared.event.Misuse.{Misuse}
 use Rattle.model.specs.declared.event.Misuse.TheVariants.{NotSuspended}
@@ -78,7 +78,6 @@ lasts-await app i o a ticks Decide s = lasts-decide i o a s
 lasts-await app i o a ticks Place s = record { elapsed = refl; suspension = refl }
 lasts-await app i o a ticks Unlock s = let k = lasts-unlock s in record { elapsed = k.elapsed; suspension = k.suspension }
 lasts-await app i o a ticks Leave s = lasts-leave_call i s
-lasts-await app i o a ticks Final s = lasts-leave_call i s
 
 pub lasts-begin_set : (i group mask : ℕ) (s : State) → Lasts s (begin_set i group mask s)
 unfolding begin_set
@@ -97,7 +96,6 @@ lasts-set_bits app i group mask Decide s = lasts-end_set app i s
 lasts-set_bits app i group mask Place s = lasts-end_set app i s
 lasts-set_bits app i group mask Unlock s = lasts-end_set app i s
 lasts-set_bits app i group mask Leave s = lasts-end_set app i s
-lasts-set_bits app i group mask Final s = lasts-end_set app i s
 
 pub lasts-check : (app : Application) (i group : ℕ) (c : Condition) (ticks : Option ℕ) (s : State) → Lasts s (check app i group c ticks s)
 unfolding check begin_bits_wait wait_for_bits set_deadline
@@ -111,12 +109,11 @@ lasts-final_bits app i group c (Some bits) s = keeps-answer app i (Some bits) s
 
 lasts-wait_bits : (app : Application) (i group : ℕ) (c : Condition) (ticks : Option ℕ) (phase : Phase) (s : State) → Lasts s (wait_bits app i group c ticks phase s)
 lasts-wait_bits app i group c ticks Start s = lasts-check app i group c ticks s
-lasts-wait_bits app i group c ticks Leave s = let k = keeps-choose (end_hold i Final s) in record { elapsed = k.elapsed; suspension = k.suspension }
+lasts-wait_bits app i group c ticks Leave s = let k = keeps-choose (end_hold i Try s) in record { elapsed = k.elapsed; suspension = k.suspension }
 lasts-wait_bits app i group c ticks Try s = lasts s _ (lasts-final_bits app i group c (call_at s i).kept s)
 lasts-wait_bits app i group c ticks Decide s = lasts s _ (lasts-final_bits app i group c (call_at s i).kept s)
 lasts-wait_bits app i group c ticks Place s = lasts s _ (lasts-final_bits app i group c (call_at s i).kept s)
 lasts-wait_bits app i group c ticks Unlock s = lasts s _ (lasts-final_bits app i group c (call_at s i).kept s)
-lasts-wait_bits app i group c ticks Final s = lasts s _ (lasts-final_bits app i group c (call_at s i).kept s)
 
 lasts-next_command : (app : Application) (i o : ℕ) (phase : Phase) (s : State) → Lasts s (next_command app i o phase s)
 lasts-next_command app i o Start s = lasts s _ (keeps-take_command app i o s)
@@ -125,7 +122,6 @@ lasts-next_command app i o Decide s = lasts-await app i o Receive None Decide s
 lasts-next_command app i o Place s = lasts-await app i o Receive None Place s
 lasts-next_command app i o Unlock s = lasts-await app i o Receive None Unlock s
 lasts-next_command app i o Leave s = lasts-await app i o Receive None Leave s
-lasts-next_command app i o Final s = lasts-await app i o Receive None Final s
 
 pub lasts-end_command : (app : Application) (i group : ℕ) (s : State) → Lasts s (end_set_by_daemon app i group s)
 lasts-end_command app i group s =
@@ -142,7 +138,6 @@ lasts-obey app i c Decide s = lasts-end_command app i c.group s
 lasts-obey app i c Place s = lasts-end_command app i c.group s
 lasts-obey app i c Unlock s = lasts-end_command app i c.group s
 lasts-obey app i c Leave s = lasts-end_command app i c.group s
-lasts-obey app i c Final s = lasts-end_command app i c.group s
 
 -- the other op that may change nothing of a task, and yet does something
 pub record Ends (old new : State) : Type 0 where

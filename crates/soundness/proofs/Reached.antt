@@ -16,7 +16,7 @@ use Rattle.model.specs.declared.op.Access.TheVariants.{Receive}
 use Rattle.model.specs.declared.op.Command.{Command}
 use Rattle.model.specs.declared.call.Condition.{Condition}
 use Rattle.model.specs.declared.call.Phase.{Phase}
-use Rattle.model.specs.declared.call.Phase.TheVariants.{Start, Try, Decide, Place, Unlock, Leave, Final}
+use Rattle.model.specs.declared.call.Phase.TheVariants.{Start, Try, Decide, Place, Unlock, Leave}
 use Rattle.model.specs.declared.event.Event.{Event}
 use Rattle.model.specs.declared.event.End as ending
 use Rattle.model.specs.declared.plan.Injection.{Injection}
@@ -334,7 +334,6 @@ module _ (app : Application) (formed : IsWellFormed app) where
       next o a ticks is Place e = placed_next o a (Await o a ticks) is refl e
       next o a ticks is Unlock e = unlocked_next o a (Await o a ticks) is refl e
       next o a ticks is Leave e = left_next o a (Await o a ticks) is refl e
-      next o a ticks is Final e = absurd (phase_of (Await o a ticks) is Final e)
 
       -- of the daemon's receive
       next_of_command : (o : ℕ) → op_at app i (progress_at s i).op_index ≡ Some (NextCommand o) → (phase : Phase) → (call_at s i).phase ≡ phase → IsState app (unless_held settle (next_command app i o phase s))
@@ -344,7 +343,6 @@ module _ (app : Application) (formed : IsWellFormed app) where
       next_of_command o is Place e = placed_next o Receive (NextCommand o) is refl e
       next_of_command o is Unlock e = unlocked_next o Receive (NextCommand o) is refl e
       next_of_command o is Leave e = left_next o Receive (NextCommand o) is refl e
-      next_of_command o is Final e = absurd (phase_of (NextCommand o) is Final e)
 
       -- of a command that it does
       next_of_obey : (c : Command) → op_at app i (progress_at s i).op_index ≡ Some Obey → (phase : Phase) → (call_at s i).phase ≡ phase → IsState app (unless_held settle (obey app i c phase s))
@@ -361,7 +359,6 @@ module _ (app : Application) (formed : IsWellFormed app) where
       next_of_obey c is Decide e = absurd (phase_of Obey is Decide e)
       next_of_obey c is Place e = absurd (phase_of Obey is Place e)
       next_of_obey c is Unlock e = absurd (phase_of Obey is Unlock e)
-      next_of_obey c is Final e = absurd (phase_of Obey is Final e)
 
       -- of a set
       next_of_set : (g m : ℕ) → op_at app i (progress_at s i).op_index ≡ Some (SetBits g m) → (phase : Phase) → (call_at s i).phase ≡ phase → IsState app (unless_held settle (set_bits app i g m phase s))
@@ -377,7 +374,6 @@ module _ (app : Application) (formed : IsWellFormed app) where
       next_of_set g m is Decide e = absurd (phase_of (SetBits g m) is Decide e)
       next_of_set g m is Place e = absurd (phase_of (SetBits g m) is Place e)
       next_of_set g m is Unlock e = absurd (phase_of (SetBits g m) is Unlock e)
-      next_of_set g m is Final e = absurd (phase_of (SetBits g m) is Final e)
 
       -- of a wait for bits
       next_of_wait : (g : ℕ) (c : Condition) (ticks : Option ℕ) → op_at app i (progress_at s i).op_index ≡ Some (WaitBits g c ticks) → (phase : Phase) → (call_at s i).phase ≡ phase → IsState app (unless_held settle (wait_bits app i g c ticks phase s))
@@ -385,12 +381,11 @@ module _ (app : Application) (formed : IsWellFormed app) where
       next_of_wait g c ticks is Leave e =
           let held = held_in Leave e refl in
           let at : IsPhaseOf (hold_of s) ForBits Leave = phase_of (WaitBits g c ticks) is Leave e in
-          let ended : State = end_hold i Final s in
+          let ended : State = end_hold i Try s in
           let same : hold_of ended ≡ free = ap (λ l. record { held = false; locked = l }) at.1 in
-          let fits : IsPhaseOf free (course (op_at app i (progress_at s i).op_index)) Final = subst (λ o. IsPhaseOf free (course o) Final) (sym is) tt in
+          let fits : IsPhaseOf free (course (op_at app i (progress_at s i).op_index)) Try = subst (λ o. IsPhaseOf free (course o) Try) (sym is) tt in
           settled_at_rest (choose ended) (wait_left app formed s i h on there at.1 fits) ((keeps-choose ended).hold ∙ same) ((keeps-choose ended).suspension ∙ calm_held app s h held)
-      next_of_wait g c ticks is Final e = final_next (free_in Final e refl) off g c ticks is
-      next_of_wait g c ticks is Try e = absurd (phase_of (WaitBits g c ticks) is Try e)
+      next_of_wait g c ticks is Try e = final_next (free_in Try e refl) off g c ticks is
       next_of_wait g c ticks is Decide e = absurd (phase_of (WaitBits g c ticks) is Decide e)
       next_of_wait g c ticks is Place e = absurd (phase_of (WaitBits g c ticks) is Place e)
       next_of_wait g c ticks is Unlock e = absurd (phase_of (WaitBits g c ticks) is Unlock e)

@@ -1,5 +1,5 @@
 use Rattle.std.proofs.Common.{[], ap, sym, subst, refl, ◌∙◌, arith}
-use Rattle.model.specs.declared.call.Phase.TheVariants.{Start, Try, Decide, Place, Unlock, Leave, Final}
+use Rattle.model.specs.declared.call.Phase.TheVariants.{Start, Try, Decide, Place, Unlock, Leave}
 use Rattle.model.specs.State.{Progress}
 use Rattle.sched.specs.Schedule.{Schedule, is_ready}
 use Rattle.objects.specs.Queues.{Exchange}
@@ -67,10 +67,3 @@ returns-in-Leave g c =
     let can = subst (CanGoOn c.args.machine.now c.args.task c.args.object c.args.access c.args.ticks) e c.requires.can in
     in_phase c.args.app.now c.args.machine.now c.leave_call.new.machine (g.L.Log.logged c.args.log.now) (g.L.Log.logged c.leave_call.new.log) c.args.task c.args.object c.args.access c.args.ticks Leave e
     (does_more 1 2 c.args.machine.now c.leave_call.new.machine (g.L.Log.logged c.args.log.now) (g.L.Log.logged c.leave_call.new.log) _ (omega arith) (does_any 1 c.args.machine.now c.leave_call.new.machine (g.L.Log.logged c.args.log.now) (g.L.Log.logged c.leave_call.new.log) _ can.call.agrees c.leave_call.ensures))
-
-pub returns-in-Final : goal.returns-in-Final
-returns-in-Final g c =
-    let e = ap (λ (p : Progress). p.call.phase) (sym (c.behind-machine.view_is ∙ c.progress.ensures)) ∙ c.in-Final.is in
-    let can = subst (CanGoOn c.args.machine.now c.args.task c.args.object c.args.access c.args.ticks) e c.requires.can in
-    in_phase c.args.app.now c.args.machine.now c.leave_call-in-Final.new.machine (g.L.Log.logged c.args.log.now) (g.L.Log.logged c.leave_call-in-Final.new.log) c.args.task c.args.object c.args.access c.args.ticks Final e
-    (does_more 1 2 c.args.machine.now c.leave_call-in-Final.new.machine (g.L.Log.logged c.args.log.now) (g.L.Log.logged c.leave_call-in-Final.new.log) _ (omega arith) (does_any 1 c.args.machine.now c.leave_call-in-Final.new.machine (g.L.Log.logged c.args.log.now) (g.L.Log.logged c.leave_call-in-Final.new.log) _ can.call.agrees c.leave_call-in-Final.ensures))
