@@ -6,7 +6,6 @@ ghost use Rattle.model.specs.Suspension.{phase_resumed, resumed};
 ghost use Rattle.machine.specs.Loops.{after_turn, next_turn};
 ghost use Rattle.machine.specs.StandsFor.{Does, DoesAny, progress_in, with_progress};
 
-use crate::boot::without_tasks;
 use crate::log::Log;
 use crate::progress::Progress;
 use clock::Clock;
@@ -31,25 +30,6 @@ pub struct Machine {
     pub next_interrupt: u32,
     pub steps: u32,
     pub stopped: Option<End>,
-}
-
-/// Each progress becomes a copy of the other at its place, in place.
-pub(crate) fn set_progress_from(progress: &mut [Progress; 32], other: &[Progress; 32])
-    ensures { progress.new ≡ other.now }
-{
-    for task in 0..32 {
-        let one = &mut progress[task];
-        one.set_from(&other[task]);
-    }
-}
-
-/// A copy of each progress.
-pub(crate) fn copy_progress(progress: &[Progress; 32]) -> [Progress; 32]
-    ensures { result ≡ progress.now }
-{
-    let mut copy = without_tasks();
-    set_progress_from(&mut copy, progress);
-    copy
 }
 
 /// Whether each progress is the same as the other at its place.
@@ -80,7 +60,7 @@ impl Machine {
         ensures { result ≡ self.now }
     {
         Machine {
-            progress: copy_progress(&self.progress),
+            progress: self.progress,
             sched: self.sched.copy(),
             clock: self.clock.copy(),
             queues: self.queues.copy(),
@@ -97,7 +77,7 @@ impl Machine {
     pub fn set_from(&mut self, other: &Self)
         ensures { self.new ≡ other.now }
     {
-        set_progress_from(&mut self.progress, &other.progress);
+        self.progress = other.progress;
         self.sched.set_from(&other.sched);
         self.clock.set_from(&other.clock);
         self.queues.set_from(&other.queues);

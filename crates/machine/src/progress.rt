@@ -4,7 +4,7 @@ use model::CallProgress;
 use std::marker::Model;
 
 /// Where a task is in its script, and what it keeps there.
-#[derive(Drop)]
+#[derive(Clone, Copy)]
 pub struct Progress {
     /// The index of the op that the task is at.
     pub op_index: u16,
@@ -28,6 +28,8 @@ impl Model for Progress {
     ghost Value = { state.Progress };
 
     ghost view = { λ p. record { op_index = p.op_index; used = p.used; loops = p.loops; answer = p.answer; previous_wake = p.previous_wake; stamp = p.stamp; call = p.call } };
+
+    ghost inverse = { λ p. record { op_index = p.op_index; used = p.used; loops = p.loops; answer = p.answer; previous_wake = p.previous_wake; stamp = p.stamp; call = p.call } };
 }
 
 impl Progress {
@@ -47,28 +49,6 @@ impl Progress {
             stamp: start,
             call: CallProgress::default(),
         }
-    }
-
-    /// A copy.
-    pub(crate) fn copy(&self) -> Progress
-        ensures { result ≡ self.now }
-    {
-        let mut copy = Progress::new(0);
-        copy.set_from(self);
-        copy
-    }
-
-    /// Becomes a copy of the other, in place.
-    pub(crate) fn set_from(&mut self, other: &Self)
-        ensures { self.new ≡ other.now }
-    {
-        self.op_index = other.op_index;
-        self.used = other.used;
-        self.loops.set_from(&other.loops);
-        self.answer = other.answer;
-        self.previous_wake = other.previous_wake;
-        self.stamp = other.stamp;
-        self.call = other.call;
     }
 
     /// Whether the other is at the same place, and keeps the same.

@@ -1,7 +1,7 @@
 //! A kernel as it once was.
 ghost use Rattle.std.specs.Prelude.{◌≡◌, true, IfOk};
 
-use crate::machine::{Machine, copy_progress, is_same_progress, set_progress_from};
+use crate::machine::{Machine, is_same_progress};
 use crate::progress::Progress;
 use clock::Clock;
 use groups::Groups;
@@ -53,7 +53,7 @@ impl Machine {
         ensures { IfOk result (λ snapshot. snapshot ≡ self.now) }
     {
         Ok(Snapshot {
-            progress: copy_progress(&self.progress),
+            progress: self.progress,
             sched: self.sched.copy(),
             clock: self.clock.copy(),
             queues: self.queues.snapshot(alloc)?,
@@ -70,7 +70,7 @@ impl Machine {
     pub fn restore(&mut self, snapshot: &Snapshot)
         ensures { self.new ≡ snapshot.now }
     {
-        set_progress_from(&mut self.progress, &snapshot.progress);
+        self.progress = snapshot.progress;
         self.sched.set_from(&snapshot.sched);
         self.clock.set_from(&snapshot.clock);
         self.queues.restore(&snapshot.queues);
