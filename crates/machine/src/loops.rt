@@ -65,6 +65,14 @@ impl Loops {
         true
     }
 
+    /// Whether no loop is open.
+    #[inline(always)]
+    pub(crate) fn is_empty(&self) -> bool
+        ensures { result ≡ true → self.now ≡ [] }
+    {
+        self.nesting == 0
+    }
+
     /// What distinguishes them from most others: how many are open, and how many turns of the innermost one are left.
     pub(crate) fn hint(&self) -> u64 {
         let Some(innermost) = self.nesting.checked_sub(1) else {

@@ -1,10 +1,10 @@
 //! The kernel's state, and the parts of which each step is made.
-ghost use Rattle.std.specs.Prelude.{◌≡◌, ◌<◌, ◌+◌, ◌++◌, ◌∷◌, [], Some, drop, length, true};
+ghost use Rattle.std.specs.Prelude.{◌≡◌, ◌<◌, ◌≤◌, ◌+◌, ◌++◌, ◌∷◌, [], Some, drop, length, true};
 ghost use Rattle.model.specs.State.{no_call, printed};
 ghost use Rattle.model.specs.Switching.{write};
 ghost use Rattle.model.specs.Suspension.{phase_resumed, resumed};
 ghost use Rattle.machine.specs.Loops.{after_turn, next_turn};
-ghost use Rattle.machine.specs.StandsFor.{Does, DoesAny, progress_in, with_progress};
+ghost use Rattle.machine.specs.StandsFor.{AreBlankFrom, Does, DoesAny, progress_in, with_progress};
 
 use crate::log::Log;
 use crate::progress::Progress;
@@ -32,12 +32,36 @@ pub struct Machine {
     pub stopped: Option<End>,
 }
 
-/// Whether each progress is the same as the other at its place.
-pub(crate) fn is_same_progress(progress: &[Progress; 32], other: &[Progress; 32]) -> bool
+/// How many of the first tasks there are, behind which nothing is done.
+pub(crate) fn tasks_of(progress: &[Progress; 32]) -> usize
+    ensures few { result ≤ 32 }
+    ensures blank { AreBlankFrom result progress.now }
+{
+    for behind in 0..32 {
+        if !progress[31 - behind].is_blank() {
+            return 32 - behind;
+        }
+    }
+    0
+}
+
+/// Whether each progress is the same as the other at its place, which is blank behind the first `tasks`.
+pub(crate) fn is_same_progress(
+    progress: &[Progress; 32],
+    other: &[Progress; 32],
+    tasks: usize,
+) -> bool
+    requires few { tasks ≤ 32 }
+    requires blank { AreBlankFrom tasks other.now }
     ensures { result ≡ true → progress.now ≡ other.now }
 {
-    for task in 0..32 {
+    for task in 0..tasks {
         if !progress[task].is_same(&other[task]) {
+            return false;
+        }
+    }
+    for task in tasks..32 {
+        if !progress[task].is_blank() {
             return false;
         }
     }

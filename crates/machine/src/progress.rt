@@ -66,4 +66,20 @@ impl Progress {
         }
         self.loops.is_same(&other.loops)
     }
+
+    /// Whether nothing is done, and nothing kept, as where there is no task.
+    pub(crate) fn is_blank(&self) -> bool
+        ensures { result ≡ true → self.now ≡ no_progress }
+    {
+        if self.op_index != 0
+            || self.used != 0
+            || self.answer.is_some()
+            || self.previous_wake != 0
+            || self.stamp != 0
+            || self.call != CallProgress::default()
+        {
+            return false;
+        }
+        self.loops.is_empty()
+    }
 }

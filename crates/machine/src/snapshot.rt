@@ -1,7 +1,7 @@
 //! A kernel as it once was.
 ghost use Rattle.std.specs.Prelude.{◌≡◌, true, IfOk};
 
-use crate::machine::{Machine, is_same_progress};
+use crate::machine::{Machine, is_same_progress, tasks_of};
 use crate::progress::Progress;
 use clock::Clock;
 use groups::Groups;
@@ -16,6 +16,8 @@ use std::marker::Model;
 #[derive(Drop)]
 pub struct Snapshot {
     progress: [Progress; 32],
+    // So many of the first tasks may have done something.
+    tasks: usize,
     sched: Sched,
     clock: Clock,
     queues: QueuesSnapshot,
@@ -29,11 +31,15 @@ pub struct Snapshot {
 
 // Clauses see the kernel.
 impl Model for Snapshot {
+    ghost use Rattle.std.specs.Prelude.{◌≤◌};
     ghost use Rattle.machine.specs.declared.machine.Machine as declared;
+    ghost use Rattle.machine.specs.StandsFor.{AreBlankFrom};
 
     ghost Value = { declared.Machine };
 
     ghost view = { λ s. record { progress = s.progress; sched = s.sched; clock = s.clock; queues = s.queues; groups = s.groups; suspensions = s.suspensions; wait_list = s.wait_list; next_interrupt = s.next_interrupt; steps = s.steps; stopped = s.stopped } };
+
+    ghost invariant = { λ s. (s.tasks ≤ 32) × AreBlankFrom s.tasks s.progress };
 }
 
 impl Snapshot {
@@ -54,6 +60,7 @@ impl Machine {
     {
         Ok(Snapshot {
             progress: self.progress,
+            tasks: tasks_of(&self.progress),
             sched: self.sched.copy(),
             clock: self.clock.copy(),
             queues: self.queues.snapshot(alloc)?,
@@ -97,7 +104,7 @@ impl Machine {
         }
         self.clock.is_same(&snapshot.clock)
             && self.sched.is_same(&snapshot.sched)
-            && is_same_progress(&self.progress, &snapshot.progress)
+            && is_same_progress(&self.progress, &snapshot.progress, snapshot.tasks)
             && self.queues.is_at(&snapshot.queues)
             && self.groups.is_same(&snapshot.groups)
     }
