@@ -66,11 +66,11 @@ after_last l ls left e less =
     ap (by_left l ls) e ∙ told
 
 -- the innermost loop's last turn is over
-pub one_loop_less : (cells : List Loop) (n left : ℕ) (old : List Loop) → open_in cells n ≡ old → (n ≡ 0 → ⊥)
-    → (get_or cells (n - 1) no_loop).left ≡ Some left → left ≤ 1 → open_in (set cells (n - 1) no_loop) (n - 1) ≡ after_turn old
-one_loop_less cells zero left old is some here less = absurd (some refl)
-one_loop_less cells (suc m) left old is some here less =
+pub last_turn : (cells : List Loop) (n left : ℕ) (old : List Loop) → open_in cells n ≡ old → (n ≡ 0 → ⊥)
+    → (get_or cells (n - 1) no_loop).left ≡ Some left → left ≤ 1 → drop 1 old ≡ after_turn old
+last_turn cells zero left old is some here less = absurd (some refl)
+last_turn cells (suc m) left old is some here less =
     let e : suc m - 1 ≡ m = omega arith in
     let L : ℕ → Loop = λ k. get_or cells k no_loop in
     let Q : ℕ → Type 0 = λ k. (L k).left ≡ Some left in
-    cleared cells m (suc m - 1) e ∙ sym (after_last (L m) (open_in cells m) left (subst Q e here) less) ∙ ap after_turn is
+    ap (drop 1) (sym is) ∙ sym (after_last (L m) (open_in cells m) left (subst Q e here) less) ∙ ap after_turn is

@@ -106,8 +106,7 @@ impl Loops {
             return Some(turn.start);
         };
         if left <= 1 {
-            self.nesting = innermost;
-            self.cells[innermost as usize] = NO_LOOP;
+            self.leave();
             return None;
         }
         self.cells[innermost as usize].left = Some(left - 1);
@@ -115,6 +114,8 @@ impl Loops {
     }
 
     /// The innermost loop is left, if one is open.
+    // Apart, so that the turns of a loop, of which few are its last, don't bear it.
+    #[inline(never)]
     pub(crate) fn leave(&mut self)
         ensures { self.new ≡ drop 1 self.old }
     {

@@ -58,19 +58,38 @@ impl Machine {
     pub fn snapshot(&self, alloc: Global) -> Result<Snapshot, Memory>
         ensures { IfOk result (λ snapshot. snapshot ≡ self.now) }
     {
-        Ok(Snapshot {
+        let queues = self.queues.snapshot(alloc)?;
+        Ok(self.snapshot_with(queues))
+    }
+
+    /// As `snapshot`, in a box.
+    pub fn boxed_snapshot(&self, alloc: Global) -> Result<Box<Snapshot>, Memory>
+        ensures { IfOk result (λ snapshot. snapshot.value ≡ self.now) }
+    {
+        let queues = self.queues.snapshot(alloc)?;
+        let snapshot = Box::new(alloc, self.snapshot_with(queues))?;
+        Ok(snapshot)
+    }
+
+    /// The kernel as it is now, with what its queues are.
+    #[inline(always)]
+    fn snapshot_with(&self, queues: QueuesSnapshot) -> Snapshot
+        requires { queues ≡ self.now.queues }
+        ensures { result ≡ self.now }
+    {
+        Snapshot {
             progress: self.progress,
             tasks: tasks_of(&self.progress),
             sched: self.sched.copy(),
             clock: self.clock.copy(),
-            queues: self.queues.snapshot(alloc)?,
+            queues,
             groups: self.groups.copy(),
             suspensions: self.suspensions,
             wait_list: self.wait_list,
             next_interrupt: self.next_interrupt,
             steps: self.steps,
             stopped: self.stopped,
-        })
+        }
     }
 
     /// Becomes the kernel of a snapshot, in place. It takes no memory.
