@@ -76,9 +76,15 @@ impl Clock {
     pub fn copy(&self) -> Self
         ensures { result ≡ self.now }
     {
-        let mut copy = Clock::new(0);
-        copy.set_from(self);
-        copy
+        Clock {
+            lists: self.lists.copy(),
+            age: self.age,
+            held: self.held,
+            overflows: self.overflows,
+            tick: self.tick,
+            current: self.current,
+            overflow: self.overflow,
+        }
     }
 
     /// Becomes a copy of the other, in place. It takes no memory.

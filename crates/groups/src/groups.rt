@@ -77,9 +77,11 @@ impl Groups {
     pub fn copy(&self) -> Self
         ensures { result ≡ self.now }
     {
-        let mut copy = Groups::new();
-        copy.set_from(self);
-        copy
+        Groups {
+            bits: self.bits,
+            lists: self.lists.copy(),
+            wants: self.wants,
+        }
     }
 
     /// Becomes a copy of the other, in place. It takes no memory.

@@ -1,11 +1,8 @@
 -- Two tables that have the same lists: what a node in no list has kept is left out.
-use Rattle.std.proofs.Common.{◌≡◌, ℕ, ◌-◌, ◌<◌, ◌≤◌, true, false, Option, None, Some, List, [], get_or, take, drop, length, map, sym, ◌∙◌, ap, arith, refl}
-use Rattle.std.specs.Prelude.{nat_eq, not}
+use Rattle.std.proofs.Common.{◌≡◌, ℕ, ◌-◌, ◌<◌, ◌≤◌, true, Option, None, Some, List, [], get_or, take, drop, length, map, sym, ◌∙◌, ap, arith, refl}
 use Rattle.std.specs.Option.{is_some}
-use Rattle.std.specs.Cmp.Lexicographic.{pointwise}
 use Rattle.std.proofs.lemmas.List.{take_rest}
 use Rattle.lists.specs.Links.{at_link, ends_of, links_of, lists_of, node_at, IsStored, Spells, SpellsRings}
-use Rattle.lists.proofs.Compared.{same_numbers}
 use Rattle.lists.proofs.Entries.{Each-imp}
 use Rattle.lists.proofs.Links.{same_links}
 use Rattle.lists.proofs.Spelled.{lists_of-Spells}
@@ -22,10 +19,9 @@ AreAlike place next values next' values' count =
     (node : ℕ) → node < count → is_some (get_or place node None) ≡ true → IsAlike next values next' values' node
 
 -- what a comparison of the ends has shown
-pub same_ends : (N : ℕ) (next next' : List ℕ) → false ≡ not (pointwise nat_eq (take (length next - N) (drop N next)) (take (length next' - N) (drop N next'))) → ends_of N next' ≡ ends_of N next
+pub same_ends : (N : ℕ) (next next' : List ℕ) → take (length next - N) (drop N next) ≡ take (length next' - N) (drop N next') → ends_of N next' ≡ ends_of N next
 unfolding ends_of
-same_ends N next next' told =
-    let same = same_numbers (take (length next - N) (drop N next)) (take (length next' - N) (drop N next')) told in
+same_ends N next next' same =
     ap (map (node_at N)) (sym (take_rest next' N) ∙ sym same ∙ take_rest next N)
 
 -- the lists are spelled by other links and values too, where these are the same at each node of a list

@@ -106,3 +106,11 @@ pub record SplitsBefore (entries : List (ℕ × ℕ)) (after : Option ℕ) : Typ
   pub rest : List (ℕ × ℕ)
   pub whole : entries ≡ before ++ rest
   pub here : after ≡ first_of rest
+
+-- four nodes from this one on are nodes of the table, and in no list
+pub record AreFree (place : List (Option ℕ)) (node N : ℕ) : Type 0 where
+  pub known : node + 4 ≤ N
+  pub first : get_or place node None ≡ None
+  pub second : get_or place (node + 1) None ≡ None
+  pub third : get_or place (node + 2) None ≡ None
+  pub fourth : get_or place (node + 3) None ≡ None

@@ -9,6 +9,8 @@
 mod ids;
 mod link;
 mod table;
+mod words;
 
 pub use ids::{ListId, NodeId};
 pub use table::Table;
+pub use words::{are_same, are_same_bytes};

@@ -1,7 +1,8 @@
 //! Where a node is: in which list, or in none.
-ghost use Rattle.std.specs.Prelude.{◌≡◌, ◌<◌, Some, None, not};
+ghost use Rattle.std.specs.Prelude.{◌≡◌, ◌<◌, Some, None, not, true};
 ghost use Rattle.std.specs.Option.{is_some};
 
+use crate::words::word_of;
 use std::marker::Model;
 
 /// The number of a list, 0 to 65534, or none. It takes two bytes, where an `Option<u16>` takes four.
@@ -67,4 +68,15 @@ impl Link {
     {
         self.number == u16::MAX
     }
+}
+
+/// Whether none of four links leads anywhere. They are looked at as one number.
+#[inline(always)]
+pub(crate) fn are_none(first: Link, second: Link, third: Link, fourth: Link) -> bool
+    ensures first { result ≡ true → first ≡ None }
+    ensures second { result ≡ true → second ≡ None }
+    ensures third { result ≡ true → third ≡ None }
+    ensures fourth { result ≡ true → fourth ≡ None }
+{
+    word_of(first.number, second.number, third.number, fourth.number) == u64::MAX
 }

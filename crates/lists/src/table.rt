@@ -1,11 +1,12 @@
 //! The table: its lists, and their links.
 ghost use Rattle.std.specs.Prelude.{◌≡◌, ◌≢◌, Some, ℕ, ◌+◌, ◌<◌, ◌≤◌, ◌↔◌, List, [], ◌∷◌, ◌++◌, get_or, length, replicate, slice_set, slice_index_or, map, option_map, true, IsTrue, IsNone};
 ghost use Rattle.std.specs.Option.{ForSome};
-ghost use Rattle.lists.specs.Links.{lists_of, links_of, ends_of, node_at, IsRingTable, SplitsBefore, upper};
+ghost use Rattle.lists.specs.Links.{lists_of, links_of, ends_of, node_at, AreFree, IsRingTable, SplitsBefore, upper};
 ghost use Rattle.lists.specs.Lists.{entries_of, first_of, has_node, insert_sorted, next_of, place_of, rotated, second_of, value_of, without, IsSorted, IsSound};
 
 use crate::ids::{ListId, NodeId};
-use crate::link::Link;
+use crate::link::{Link, are_none};
+use crate::words::are_same;
 use std::marker::Model;
 
 /// `L` lists over `N` nodes, where `L` and `N` are 4096 at most. A node is in one list at most, and there once. In
@@ -71,6 +72,22 @@ fn list_of(place: Link) -> Option<ListId>
     }
 }
 
+/// Whether there are four nodes from this one on, of which none is in a list.
+#[inline(always)]
+fn are_free<const N: usize>(place: &[Link; N], node: usize) -> bool
+    requires node { node < N }
+    requires nodes { N ≤ 4096 }
+    ensures free { result ≡ true → AreFree place.now node N }
+{
+    N - node >= 4
+        && are_none(
+            place[node],
+            place[node + 1],
+            place[node + 2],
+            place[node + 3],
+        )
+}
+
 impl<const L: usize, const N: usize, const M: usize> Table<L, N, M> {
     /// `L` empty lists over `N` nodes, none of which is in a list. Each of the two counts is 4096 at most, and `M` is their sum.
     pub fn new() -> Self
@@ -98,6 +115,19 @@ impl<const L: usize, const N: usize, const M: usize> Table<L, N, M> {
         N + list.number as usize
     }
 
+    /// A copy. It takes no memory.
+    #[inline(always)]
+    pub fn copy(&self) -> Self
+        ensures { result ≡ self.now }
+    {
+        Table {
+            next: self.next,
+            prev: self.prev,
+            place: self.place,
+            values: self.values,
+        }
+    }
+
     /// Becomes a copy of the other, in place. It takes no memory.
     pub fn set_from(&mut self, other: &Self)
         ensures { self.new ≡ other.now }
@@ -114,16 +144,23 @@ impl<const L: usize, const N: usize, const M: usize> Table<L, N, M> {
         ensures { result ≡ true → self.now ≡ other.now }
     {
         let (links, other_links) = (&self.next[..], &other.next[..]);
-        if links[N..] != other_links[N..] {
+        if !are_same(&links[N..], &other_links[N..]) {
             return false;
         }
-        for node in 0..N {
+        let mut node = 0;
+        while node < N {
+            if are_free(&self.place, node) {
+                node += 4;
+                continue;
+            }
             if self.place[node].is_none() {
+                node += 1;
                 continue;
             }
             if self.next[node] != other.next[node] || self.values[node] != other.values[node] {
                 return false;
             }
+            node += 1;
         }
         true
     }

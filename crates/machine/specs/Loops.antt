@@ -1,5 +1,5 @@
 -- The open loops of a task, as the code has them.
-use Rattle.std.specs.Prelude.{ℕ, zero, suc, ◌-◌, Bool, false, List, [], ◌∷◌, Option, Some, None, option_map, nat_le, if◌then◌else◌, slice_index_or}
+use Rattle.std.specs.Prelude.{◌≡◌, ℕ, zero, suc, ◌-◌, ◌≤◌, Bool, false, List, [], ◌∷◌, Option, Some, None, option_map, nat_le, if◌then◌else◌, length, replicate, set, slice_index_or}
 use Rattle.model.specs.declared.loops.Loop.{Loop}
 
 -- what is in a cell that holds no loop
@@ -10,6 +10,17 @@ no_loop = record { start = 0; left = None }
 abbrev pub open_in : List Loop → ℕ → List Loop
 open_in cells zero = []
 open_in cells (suc nesting) = slice_index_or cells nesting no_loop ∷ open_in cells nesting
+
+-- and back: cells that hold these loops, and nothing else
+abbrev pub cells_of : List Loop → List Loop
+cells_of [] = replicate 4 no_loop
+cells_of (l ∷ ls) = set (cells_of ls) (length ls) l
+
+-- four cells, of which so many hold an open loop, and the others nothing
+pub record AreCells (cells : List Loop) (nesting : ℕ) : Type 0 where
+  pub few : nesting ≤ 4
+  pub full : length cells ≡ 4
+  pub blank : (level : ℕ) → nesting ≤ level → slice_index_or cells level no_loop ≡ no_loop
 
 -- The turns that are left, this one included, are over with it; a loop for ever has always more.
 abbrev pub is_last : Option ℕ → Bool

@@ -18,6 +18,10 @@ use Rattle.machine.specs.Logged.{Logged}
 abbrev pub progress_in : List Progress → ℕ → Progress
 progress_in ps task = slice_index_or ps task no_progress
 
+-- that of no task from this one on is more than at reset
+abbrev pub AreBlankFrom : ℕ → List Progress → Type 0
+AreBlankFrom tasks ps = (task : ℕ) → tasks ≤ task → progress_in ps task ≡ no_progress
+
 -- all but the scheduler, where no task has begun to wait without being in its lists yet
 pub record RestStandsFor (k : Machine) (s : State) : Type 0 where
   pub progress : (task : ℕ) → progress_in k.progress task ≡ progress_at s task

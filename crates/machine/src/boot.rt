@@ -21,17 +21,16 @@ use groups::Groups;
 use model::{App, ObjectId, TaskDefinition, TaskId, WaitList};
 use objects::Queues;
 use sched::Sched;
-use std::array;
 
 /// What is kept where no wait at an object has begun yet.
 const NO_WAIT_LIST: WaitList = WaitList::ToReceive(ObjectId { number: 0 });
 
-/// The progress where there are no tasks: a value made for each place, since they are not copied.
+/// The progress where there are no tasks.
 pub(crate) fn without_tasks() -> [Progress; 32]
     ensures progress { (task : ℕ) → progress_in result task ≡ no_progress }
     ensures full { length result ≡ 32 }
 {
-    array::from_fn(|_| Progress::new(0))
+    [Progress::new(0); 32]
 }
 
 /// The progress of the tasks at this time of reset.

@@ -18,28 +18,34 @@ pub(crate) fn numbered(number: Option<u64>) -> u64 {
 }
 
 impl Progress {
+    // Whether nothing of its script is done, as where there is no task.
+    #[inline(always)]
+    fn is_first(&self) -> bool {
+        self.op_index as u32 | self.used == 0
+    }
+
     // What distinguishes it from most others.
+    #[inline(always)]
     fn hint(&self) -> u64 {
         let place = (self.op_index as u64) << 32 | self.used as u64;
         let times = self.stamp ^ self.previous_wake.rotate_left(32);
         let waits = numbered(self.call.deadline)
             ^ numbered(self.answer.map(u64::from)).rotate_left(32);
-        mixed(
-            mixed(place, times),
-            waits ^ self.loops.hint().rotate_left(48),
-        )
+        mixed(place, times) ^ waits ^ self.loops.hint().rotate_left(48)
     }
 }
 
 impl Machine {
     /// A number that kernels have in common which are the same (`is_at`), and most others don't: it is made of nothing else than what
-    /// `is_at` compares. It is a hint, on which nothing rests.
+    /// `is_at` compares. It is a hint, on which nothing rests. A task that is at its first op, with nothing done, is left out.
     pub fn hint(&self) -> u64 {
         let runs = self.sched.current().map(|task| task.number as u64);
         let time = mixed(self.clock.now(), self.clock.elapsed());
         let mut hash = mixed(mixed(time, self.steps as u64), numbered(runs));
-        for progress in &self.progress {
-            hash = mixed(hash, progress.hint());
+        for task in 0..32 {
+            if !self.progress[task].is_first() {
+                hash = mixed(hash, self.progress[task].hint() ^ task as u64);
+            }
         }
         hash
     }

@@ -6,8 +6,15 @@ use crate::hint::numbered;
 use model::Loop;
 use std::marker::Model;
 
-/// The open loops of a task: at most four (profile).
-#[derive(Drop)]
+/// What is in a cell that holds no open loop.
+const NO_LOOP: Loop = Loop {
+    start: 0,
+    left: None,
+};
+
+/// The open loops of a task: at most four (profile). The cells behind them hold nothing of loops that are closed, so that loops
+/// are copied as they lie.
+#[derive(Clone, Copy)]
 pub struct Loops {
     cells: [Loop; 4],
     nesting: u8,
@@ -15,15 +22,20 @@ pub struct Loops {
 
 // Clauses see the open loops, the innermost first.
 impl Model for Loops {
-    ghost use Rattle.std.specs.Prelude.{List, ◌≤◌};
+    ghost use Rattle.std.specs.Prelude.{List, length};
     ghost use Rattle.model.specs.declared.loops.Loop.{Loop};
-    ghost use Rattle.machine.specs.Loops.{open_in};
+    ghost use Rattle.machine.specs.Loops.{cells_of, open_in, AreCells};
+    ghost use Rattle.machine.specs.Cells.{same_loops};
 
     ghost Value = { List Loop };
 
     ghost view = { λ loops. open_in loops.cells loops.nesting };
 
-    ghost invariant = { λ loops. loops.nesting ≤ 4 };
+    ghost inverse = { λ loops. record { cells = cells_of loops; nesting = length loops } };
+
+    ghost inverse_ok = { λ loops cells i. record { cells = (same_loops loops.cells loops.nesting cells).0 i; nesting = (same_loops loops.cells loops.nesting cells).1 i } };
+
+    ghost invariant = { λ loops. AreCells loops.cells loops.nesting };
 }
 
 impl Loops {
@@ -32,23 +44,13 @@ impl Loops {
         ensures { result ≡ [] }
     {
         Loops {
-            cells: [Loop {
-                start: 0,
-                left: None,
-            }; 4],
+            cells: [NO_LOOP; 4],
             nesting: 0,
         }
     }
 
-    /// Becomes a copy of the other, in place.
-    pub(crate) fn set_from(&mut self, other: &Self)
-        ensures { self.new ≡ other.now }
-    {
-        self.cells = other.cells;
-        self.nesting = other.nesting;
-    }
-
-    /// Whether the same loops are open in the other. What a loop that is closed has left doesn't count.
+    /// Whether the same loops are open in the other.
+    #[inline(always)]
     pub(crate) fn is_same(&self, other: &Self) -> bool
         ensures { result ≡ true → self.now ≡ other.now }
     {
@@ -61,6 +63,14 @@ impl Loops {
             }
         }
         true
+    }
+
+    /// Whether no loop is open.
+    #[inline(always)]
+    pub(crate) fn is_empty(&self) -> bool
+        ensures { result ≡ true → self.now ≡ [] }
+    {
+        self.nesting == 0
     }
 
     /// What distinguishes them from most others: how many are open, and how many turns of the innermost one are left.
@@ -96,7 +106,7 @@ impl Loops {
             return Some(turn.start);
         };
         if left <= 1 {
-            self.nesting = innermost;
+            self.leave();
             return None;
         }
         self.cells[innermost as usize].left = Some(left - 1);
@@ -104,9 +114,14 @@ impl Loops {
     }
 
     /// The innermost loop is left, if one is open.
+    // Apart, so that the turns of a loop, of which few are its last, don't bear it.
+    #[inline(never)]
     pub(crate) fn leave(&mut self)
         ensures { self.new ≡ drop 1 self.old }
     {
-        self.nesting = self.nesting.saturating_sub(1);
+        if self.nesting > 0 {
+            self.nesting -= 1;
+            self.cells[self.nesting as usize] = NO_LOOP;
+        }
     }
 }

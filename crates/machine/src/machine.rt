@@ -1,12 +1,11 @@
 //! The kernel's state, and the parts of which each step is made.
-ghost use Rattle.std.specs.Prelude.{◌≡◌, ◌<◌, ◌+◌, ◌++◌, ◌∷◌, [], Some, drop, length, true};
+ghost use Rattle.std.specs.Prelude.{◌≡◌, ◌<◌, ◌≤◌, ◌+◌, ◌++◌, ◌∷◌, [], Some, drop, length, true};
 ghost use Rattle.model.specs.State.{no_call, printed};
 ghost use Rattle.model.specs.Switching.{write};
 ghost use Rattle.model.specs.Suspension.{phase_resumed, resumed};
 ghost use Rattle.machine.specs.Loops.{after_turn, next_turn};
-ghost use Rattle.machine.specs.StandsFor.{Does, DoesAny, progress_in, with_progress};
+ghost use Rattle.machine.specs.StandsFor.{AreBlankFrom, Does, DoesAny, progress_in, with_progress};
 
-use crate::boot::without_tasks;
 use crate::log::Log;
 use crate::progress::Progress;
 use clock::Clock;
@@ -33,31 +32,36 @@ pub struct Machine {
     pub stopped: Option<End>,
 }
 
-/// Each progress becomes a copy of the other at its place, in place.
-pub(crate) fn set_progress_from(progress: &mut [Progress; 32], other: &[Progress; 32])
-    ensures { progress.new ≡ other.now }
+/// How many of the first tasks there are, behind which nothing is done.
+pub(crate) fn tasks_of(progress: &[Progress; 32]) -> usize
+    ensures few { result ≤ 32 }
+    ensures blank { AreBlankFrom result progress.now }
 {
-    for task in 0..32 {
-        let one = &mut progress[task];
-        one.set_from(&other[task]);
+    for behind in 0..32 {
+        if !progress[31 - behind].is_blank() {
+            return 32 - behind;
+        }
     }
+    0
 }
 
-/// A copy of each progress.
-pub(crate) fn copy_progress(progress: &[Progress; 32]) -> [Progress; 32]
-    ensures { result ≡ progress.now }
-{
-    let mut copy = without_tasks();
-    set_progress_from(&mut copy, progress);
-    copy
-}
-
-/// Whether each progress is the same as the other at its place.
-pub(crate) fn is_same_progress(progress: &[Progress; 32], other: &[Progress; 32]) -> bool
+/// Whether each progress is the same as the other at its place, which is blank behind the first `tasks`.
+pub(crate) fn is_same_progress(
+    progress: &[Progress; 32],
+    other: &[Progress; 32],
+    tasks: usize,
+) -> bool
+    requires few { tasks ≤ 32 }
+    requires blank { AreBlankFrom tasks other.now }
     ensures { result ≡ true → progress.now ≡ other.now }
 {
-    for task in 0..32 {
+    for task in 0..tasks {
         if !progress[task].is_same(&other[task]) {
+            return false;
+        }
+    }
+    for task in tasks..32 {
+        if !progress[task].is_blank() {
             return false;
         }
     }
@@ -80,7 +84,7 @@ impl Machine {
         ensures { result ≡ self.now }
     {
         Machine {
-            progress: copy_progress(&self.progress),
+            progress: self.progress,
             sched: self.sched.copy(),
             clock: self.clock.copy(),
             queues: self.queues.copy(),
@@ -97,7 +101,7 @@ impl Machine {
     pub fn set_from(&mut self, other: &Self)
         ensures { self.new ≡ other.now }
     {
-        set_progress_from(&mut self.progress, &other.progress);
+        self.progress = other.progress;
         self.sched.set_from(&other.sched);
         self.clock.set_from(&other.clock);
         self.queues.set_from(&other.queues);

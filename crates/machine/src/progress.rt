@@ -4,7 +4,7 @@ use model::CallProgress;
 use std::marker::Model;
 
 /// Where a task is in its script, and what it keeps there.
-#[derive(Drop)]
+#[derive(Clone, Copy)]
 pub struct Progress {
     /// The index of the op that the task is at.
     pub op_index: u16,
@@ -28,6 +28,8 @@ impl Model for Progress {
     ghost Value = { state.Progress };
 
     ghost view = { λ p. record { op_index = p.op_index; used = p.used; loops = p.loops; answer = p.answer; previous_wake = p.previous_wake; stamp = p.stamp; call = p.call } };
+
+    ghost inverse = { λ p. record { op_index = p.op_index; used = p.used; loops = p.loops; answer = p.answer; previous_wake = p.previous_wake; stamp = p.stamp; call = p.call } };
 }
 
 impl Progress {
@@ -49,28 +51,6 @@ impl Progress {
         }
     }
 
-    /// A copy.
-    pub(crate) fn copy(&self) -> Progress
-        ensures { result ≡ self.now }
-    {
-        let mut copy = Progress::new(0);
-        copy.set_from(self);
-        copy
-    }
-
-    /// Becomes a copy of the other, in place.
-    pub(crate) fn set_from(&mut self, other: &Self)
-        ensures { self.new ≡ other.now }
-    {
-        self.op_index = other.op_index;
-        self.used = other.used;
-        self.loops.set_from(&other.loops);
-        self.answer = other.answer;
-        self.previous_wake = other.previous_wake;
-        self.stamp = other.stamp;
-        self.call = other.call;
-    }
-
     /// Whether the other is at the same place, and keeps the same.
     pub(crate) fn is_same(&self, other: &Self) -> bool
         ensures { result ≡ true → self.now ≡ other.now }
@@ -85,5 +65,21 @@ impl Progress {
             return false;
         }
         self.loops.is_same(&other.loops)
+    }
+
+    /// Whether nothing is done, and nothing kept, as where there is no task.
+    pub(crate) fn is_blank(&self) -> bool
+        ensures { result ≡ true → self.now ≡ no_progress }
+    {
+        if self.op_index != 0
+            || self.used != 0
+            || self.answer.is_some()
+            || self.previous_wake != 0
+            || self.stamp != 0
+            || self.call != CallProgress::default()
+        {
+            return false;
+        }
+        self.loops.is_empty()
     }
 }

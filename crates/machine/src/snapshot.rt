@@ -1,7 +1,7 @@
 //! A kernel as it once was.
 ghost use Rattle.std.specs.Prelude.{◌≡◌, true, IfOk};
 
-use crate::machine::{Machine, copy_progress, is_same_progress, set_progress_from};
+use crate::machine::{Machine, is_same_progress, tasks_of};
 use crate::progress::Progress;
 use clock::Clock;
 use groups::Groups;
@@ -16,6 +16,8 @@ use std::marker::Model;
 #[derive(Drop)]
 pub struct Snapshot {
     progress: [Progress; 32],
+    // So many of the first tasks may have done something.
+    tasks: usize,
     sched: Sched,
     clock: Clock,
     queues: QueuesSnapshot,
@@ -29,11 +31,15 @@ pub struct Snapshot {
 
 // Clauses see the kernel.
 impl Model for Snapshot {
+    ghost use Rattle.std.specs.Prelude.{◌≤◌};
     ghost use Rattle.machine.specs.declared.machine.Machine as declared;
+    ghost use Rattle.machine.specs.StandsFor.{AreBlankFrom};
 
     ghost Value = { declared.Machine };
 
     ghost view = { λ s. record { progress = s.progress; sched = s.sched; clock = s.clock; queues = s.queues; groups = s.groups; suspensions = s.suspensions; wait_list = s.wait_list; next_interrupt = s.next_interrupt; steps = s.steps; stopped = s.stopped } };
+
+    ghost invariant = { λ s. (s.tasks ≤ 32) × AreBlankFrom s.tasks s.progress };
 }
 
 impl Snapshot {
@@ -52,25 +58,45 @@ impl Machine {
     pub fn snapshot(&self, alloc: Global) -> Result<Snapshot, Memory>
         ensures { IfOk result (λ snapshot. snapshot ≡ self.now) }
     {
-        Ok(Snapshot {
-            progress: copy_progress(&self.progress),
+        let queues = self.queues.snapshot(alloc)?;
+        Ok(self.snapshot_with(queues))
+    }
+
+    /// As `snapshot`, in a box.
+    pub fn boxed_snapshot(&self, alloc: Global) -> Result<Box<Snapshot>, Memory>
+        ensures { IfOk result (λ snapshot. snapshot.value ≡ self.now) }
+    {
+        let queues = self.queues.snapshot(alloc)?;
+        let snapshot = Box::new(alloc, self.snapshot_with(queues))?;
+        Ok(snapshot)
+    }
+
+    /// The kernel as it is now, with what its queues are.
+    #[inline(always)]
+    fn snapshot_with(&self, queues: QueuesSnapshot) -> Snapshot
+        requires { queues ≡ self.now.queues }
+        ensures { result ≡ self.now }
+    {
+        Snapshot {
+            progress: self.progress,
+            tasks: tasks_of(&self.progress),
             sched: self.sched.copy(),
             clock: self.clock.copy(),
-            queues: self.queues.snapshot(alloc)?,
+            queues,
             groups: self.groups.copy(),
             suspensions: self.suspensions,
             wait_list: self.wait_list,
             next_interrupt: self.next_interrupt,
             steps: self.steps,
             stopped: self.stopped,
-        })
+        }
     }
 
     /// Becomes the kernel of a snapshot, in place. It takes no memory.
     pub fn restore(&mut self, snapshot: &Snapshot)
         ensures { self.new ≡ snapshot.now }
     {
-        set_progress_from(&mut self.progress, &snapshot.progress);
+        self.progress = snapshot.progress;
         self.sched.set_from(&snapshot.sched);
         self.clock.set_from(&snapshot.clock);
         self.queues.restore(&snapshot.queues);
@@ -97,7 +123,7 @@ impl Machine {
         }
         self.clock.is_same(&snapshot.clock)
             && self.sched.is_same(&snapshot.sched)
-            && is_same_progress(&self.progress, &snapshot.progress)
+            && is_same_progress(&self.progress, &snapshot.progress, snapshot.tasks)
             && self.queues.is_at(&snapshot.queues)
             && self.groups.is_same(&snapshot.groups)
     }

@@ -9,6 +9,7 @@ ghost use Rattle.objects.specs.Places.{object_places};
 ghost use Rattle.objects.specs.Rings.{wrap};
 
 use crate::OBJECTS;
+use lists::are_same;
 use model::{Memory, ObjectKind};
 use std::alloc::Global;
 use std::marker::Model;
@@ -263,11 +264,16 @@ impl Items {
     pub(crate) fn is_at(&self, snapshot: &ItemsSnapshot) -> bool
         ensures { result ≡ true → self.now ≡ snapshot.now }
     {
-        // Where queues differ, a count mostly does, and all counts are compared at once.
-        if self.counts != snapshot.counts {
+        // Where queues differ, a count mostly does.
+        if !are_same(&self.counts, &snapshot.counts)
+            || !are_same(&self.lengths, &snapshot.lengths)
+        {
             return false;
         }
         for queue in 0..OBJECTS {
+            if self.counts[queue] == 0 {
+                continue;
+            }
             if !self.is_queue_at(queue, snapshot) {
                 return false;
             }

@@ -59,7 +59,12 @@ impl Mutexes {
     pub(crate) fn is_same(&self, other: &Self) -> bool
         ensures { result ≡ true → self.now ≡ other.now }
     {
-        self.holders == other.holders
+        for object in 0..OBJECTS {
+            if self.holders[object] != other.holders[object] {
+                return false;
+            }
+        }
+        true
     }
 
     /// The holder of an object; `None` where it has none.

@@ -8,6 +8,7 @@ ghost use Rattle.objects.specs.Places.{object_places};
 ghost use Rattle.objects.specs.Semaphores.{AreSemaphores, count_in, max_count_in};
 
 use crate::OBJECTS;
+use lists::are_same;
 use model::ObjectKind;
 use std::marker::Model;
 
@@ -81,7 +82,7 @@ impl Semaphores {
     pub(crate) fn is_same(&self, other: &Self) -> bool
         ensures { result ≡ true → self.now ≡ other.now }
     {
-        self.counts == other.counts && self.max_counts == other.max_counts
+        are_same(&self.counts, &other.counts) && are_same(&self.max_counts, &other.max_counts)
     }
 
     /// Whether one can be taken from a count.

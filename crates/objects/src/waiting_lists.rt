@@ -91,9 +91,9 @@ impl WaitingLists {
     pub(crate) fn copy(&self) -> Self
         ensures { result ≡ self.now }
     {
-        let mut copy = WaitingLists::new();
-        copy.set_from(self);
-        copy
+        WaitingLists {
+            lists: self.lists.copy(),
+        }
     }
 
     /// Becomes a copy of the other, in place.

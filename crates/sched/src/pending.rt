@@ -35,6 +35,16 @@ impl PendingReadyList {
         }
     }
 
+    /// A copy.
+    #[inline(always)]
+    pub(crate) fn copy(&self) -> Self
+        ensures { result ≡ self.now }
+    {
+        PendingReadyList {
+            lists: self.lists.copy(),
+        }
+    }
+
     /// Becomes a copy of the other, in place.
     pub(crate) fn set_from(&mut self, other: &Self)
         ensures { self.new ≡ other.now }

@@ -41,6 +41,17 @@ impl ReadyLists {
         }
     }
 
+    /// A copy.
+    #[inline(always)]
+    pub(crate) fn copy(&self) -> Self
+        ensures { result ≡ self.now }
+    {
+        ReadyLists {
+            lists: self.lists.copy(),
+            occupied: self.occupied,
+        }
+    }
+
     /// Becomes a copy of the other, in place.
     pub(crate) fn set_from(&mut self, other: &Self)
         ensures { self.new ≡ other.now }

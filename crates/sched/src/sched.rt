@@ -13,7 +13,7 @@ ghost use Rattle.sched.specs.StandsFor.{StandsFor, StandsBefore, DoesFree};
 
 use crate::pending::PendingReadyList;
 use crate::ready_lists::ReadyLists;
-use lists::ListId;
+use lists::{ListId, are_same_bytes};
 use model::TaskId;
 use std::marker::Model;
 
@@ -78,9 +78,15 @@ impl Sched {
     pub fn copy(&self) -> Self
         ensures { result ≡ self.now }
     {
-        let mut copy = Sched::new([0; 32]);
-        copy.set_from(self);
-        copy
+        Sched {
+            ready: self.ready.copy(),
+            pending: self.pending.copy(),
+            current: self.current,
+            priorities: self.priorities,
+            base_priorities: self.base_priorities,
+            depth: self.depth,
+            suspended: self.suspended,
+        }
     }
 
     /// Becomes a copy of the other, in place. It takes no memory.
@@ -104,8 +110,8 @@ impl Sched {
         if self.current != other.current
             || self.depth != other.depth
             || self.suspended != other.suspended
-            || self.priorities != other.priorities
-            || self.base_priorities != other.base_priorities
+            || !are_same_bytes(&self.priorities, &other.priorities)
+            || !are_same_bytes(&self.base_priorities, &other.base_priorities)
         {
             return false;
         }

@@ -64,6 +64,16 @@ impl<const L: usize, const M: usize> TaskLists<L, M> {
         }
     }
 
+    /// A copy. It takes no memory.
+    #[inline(always)]
+    pub fn copy(&self) -> Self
+        ensures { result ≡ self.now }
+    {
+        TaskLists {
+            table: self.table.copy(),
+        }
+    }
+
     /// Becomes a copy of the other, in place. It takes no memory.
     #[inline]
     pub fn set_from(&mut self, other: &Self)

@@ -1,8 +1,8 @@
-use Rattle.std.proofs.Common.{◌≡◌, sym, ◌∙◌}
-use Rattle.lists.proofs.Compared.{same_list, same_number, same_option}
+use Rattle.std.proofs.Common.{◌≡◌, None, sym, ◌∙◌, arith}
+use Rattle.std.proofs.lemmas.List.{ext_get_or}
 use Rattle.objects.proofs.mutexes.Mutexes.is_same.Goals as goal
 
 pub returns : goal.returns
-returns c = λ same.
-    let holders : c.self.inside.holders ≡ c.other.inside.holders = same_list _ (same_option _ same_number) c.self.inside.holders c.other.inside.holders (sym c.eq.ensures ∙ same) in
+returns c = λ told.
+    let holders : c.self.inside.holders ≡ c.other.inside.holders = ext_get_or None _ _ (c.self.invariant.as_many ∙ sym c.other.invariant.as_many) (λ i below. c.loop-object.invariant i (omega (arith, below, c.self.invariant.as_many))) in
     cc

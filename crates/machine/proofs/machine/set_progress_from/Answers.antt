@@ -1,7 +1,0 @@
-use Rattle.std.proofs.Common.{arith}
-use Rattle.std.proofs.lemmas.List.{ext_get_or}
-use Rattle.model.specs.State.{no_progress}
-use Rattle.machine.proofs.machine.set_progress_from.Goals as goal
-
-pub returns : goal.returns
-returns c = ext_get_or no_progress _ _ c.loop-task.invariant.many (λ i l. c.loop-task.invariant.same i (omega arith))
