@@ -1,5 +1,6 @@
 -- What several calls of a sink send together.
-use Rattle.std.proofs.Common.{◌≡◌, ℕ, ◌≤◌, ◌<◌, ◌+◌, ◌-◌, List, [], ◌++◌, length, take, drop, get_or, Option, Result, Ok, Err, refl, sym, ap, ◌∙◌, append_assoc, append-nil, arith, take-append-drop}
+use Rattle.std.proofs.Common.{◌≡◌, ℕ, ◌≤◌, ◌<◌, ◌+◌, ◌-◌, List, [], ◌++◌, length, take, drop, get_or, Option, Result, Ok, Err, refl}
+use Rattle.std.proofs.Common.{sym, ap, ◌∙◌, append_assoc, append-nil, arith, take-append-drop}
 use Rattle.std.proofs.lemmas.Grind.{common_steps}
 use Rattle.std.proofs.lemmas.Bool.{false≢true}
 use Rattle.std.proofs.lemmas.List.{drop_all, drop_more}
@@ -16,7 +17,9 @@ Sent-more a b c text rest n sent within more =
     let whole_rest : take (length rest - n) (drop n rest) ≡ drop n rest = grind (arith, common_steps) in
     record {
       front = sent.front ++ take n rest;
-      whole = rw whole_rest (sent.whole ∙ ap (λ l. sent.front ++ l) (sym (take-append-drop n rest)) ∙ sym (append_assoc sent.front (take n rest) (drop n rest)));
+      whole =
+          rw whole_rest (sent.whole ∙ ap (λ l. sent.front ++ l) (sym (take-append-drop n rest))
+          ∙ sym (append_assoc sent.front (take n rest) (drop n rest)));
       appends = Appends-trans a b c sent.front (take n rest) sent.appends more;
     }
 
@@ -48,17 +51,21 @@ SentFront_then a b c text rest first second = (second.0, Sent_then a b c text re
 pub SentFront_longer : (a b : Option (List ℕ)) (text more : List ℕ) → SentFront a b text → SentFront a b (text ++ more)
 SentFront_longer a b text more sent = (sent.0 ++ more, Sent_longer a b text sent.0 more sent.1)
 
-pub Writes_then : {T E : Type 0} (a b c : Option (List ℕ)) (r : Result T E) (text rest : List ℕ) → Sent a b text rest → Writes b c r rest → Writes a c r text
+pub Writes_then : {T E : Type 0} (a b c : Option (List ℕ)) (r : Result T E) (text rest : List ℕ)
+    → Sent a b text rest → Writes b c r rest → Writes a c r text
 Writes_then a b c (Ok x) text rest first second = rw first.whole (Appends-trans a b c first.front rest first.appends second)
 Writes_then a b c (Err e) text rest first second = SentFront_then a b c text rest first second
 
 -- Two texts are added one after the other.
 
-pub Sent_two : (a b c : Option (List ℕ)) (page x mid y kept : List ℕ) → Sent a b (page ++ x) mid → Sent b c (mid ++ y) kept → Sent a c (page ++ (x ++ y)) kept
+pub Sent_two : (a b c : Option (List ℕ)) (page x mid y kept : List ℕ)
+    → Sent a b (page ++ x) mid → Sent b c (mid ++ y) kept → Sent a c (page ++ (x ++ y)) kept
 Sent_two a b c page x mid y kept first second =
-    rw (← append_assoc page x y) (Sent_then a b c ((page ++ x) ++ y) (mid ++ y) kept (Sent_longer a b (page ++ x) mid y first) second)
+    rw (← append_assoc page x y)
+    (Sent_then a b c ((page ++ x) ++ y) (mid ++ y) kept (Sent_longer a b (page ++ x) mid y first) second)
 
-pub SentFront_two : (a b c : Option (List ℕ)) (page x mid y : List ℕ) → Sent a b (page ++ x) mid → SentFront b c (mid ++ y) → SentFront a c (page ++ (x ++ y))
+pub SentFront_two : (a b c : Option (List ℕ)) (page x mid y : List ℕ)
+    → Sent a b (page ++ x) mid → SentFront b c (mid ++ y) → SentFront a c (page ++ (x ++ y))
 SentFront_two a b c page x mid y first second = (second.0, Sent_two a b c page x mid y second.0 first second.1)
 
 pub SentFront_one : (a b : Option (List ℕ)) (page x y : List ℕ) → SentFront a b (page ++ x) → SentFront a b (page ++ (x ++ y))
@@ -101,21 +108,26 @@ SentFront_item f xs i x d a b c text page within is sent more =
 pub Sent_rest : {A : Type 0} (f : A → List ℕ) (xs : List A) (i : ℕ) (a b : Option (List ℕ)) (text page : List ℕ) → i ≡ length xs
     → Sent a b text (page ++ flat_map f (drop i xs)) → Sent a b text page
 Sent_rest f xs i a b text page all sent =
-    let none : page ++ flat_map f (drop i xs) ≡ page = ap (λ l. page ++ flat_map f l) (drop_all i xs (omega (arith, all))) ∙ append-nil page in
+    let none : page ++ flat_map f (drop i xs) ≡ page =
+    ap (λ l. page ++ flat_map f l) (drop_all i xs (omega (arith, all))) ∙ append-nil page in
     rw (← none) sent
 
 -- a call that fails before or while it adds a text
 
-pub Adds_unable : {T E : Type 0} (a b : Option (List ℕ)) (page kept text : List ℕ) (r : Result T E) → IsErr r → SentFront a b page → Adds a b page kept r text
+pub Adds_unable : {T E : Type 0} (a b : Option (List ℕ)) (page kept text : List ℕ) (r : Result T E)
+    → IsErr r → SentFront a b page → Adds a b page kept r text
 Adds_unable a b page kept text (Ok v) err front = absurd (false≢true err)
 Adds_unable a b page kept text (Err e) err front = SentFront_longer a b page text front
 
-pub Adds_failed : {T E : Type 0} (a b : Option (List ℕ)) (page kept text : List ℕ) (r : Result T E) → IsErr r → SentFront a b (page ++ text) → Adds a b page kept r text
+pub Adds_failed : {T E : Type 0} (a b : Option (List ℕ)) (page kept text : List ℕ) (r : Result T E)
+    → IsErr r → SentFront a b (page ++ text) → Adds a b page kept r text
 Adds_failed a b page kept text (Ok v) err front = absurd (false≢true err)
 Adds_failed a b page kept text (Err e) err front = front
 
 -- the page goes out, and then the text past it
 pub Adds_past : {T E : Type 0} (a b c : Option (List ℕ)) (page kept text : List ℕ) (r : Result T E)
     → Appends a b page → kept ≡ [] → Writes b c r text → Adds a c page kept r text
-Adds_past a b c page kept text (Ok v) first empty second = rw empty (Sent_all a c (page ++ text) (Appends-trans a b c page text first second))
-Adds_past a b c page kept text (Err e) first empty second = SentFront_then a b c (page ++ text) text (Sent_longer a b page [] text (Sent_all a b page first)) second
+Adds_past a b c page kept text (Ok v) first empty second =
+    rw empty (Sent_all a c (page ++ text) (Appends-trans a b c page text first second))
+Adds_past a b c page kept text (Err e) first empty second =
+    SentFront_then a b c (page ++ text) text (Sent_longer a b page [] text (Sent_all a b page first)) second

@@ -1,8 +1,10 @@
 -- What a worker has made between two blocks.
 use Rattle.std.specs.Prelude.{true, false, Result, Ok, Err, OnOk, is_err, is_ok, if◌then◌else◌}
-use Rattle.std.proofs.Common.{◌≡◌, ◌≢◌, ◌≤◌, ◌<◌, ◌+◌, ⊎_elim, ℕ, zero, suc, List, [], ◌∷◌, ◌++◌, length, take, drop, sum, slice_index, refl, sym, ap, ap₂, subst, ◌∙◌, arith}
+use Rattle.std.proofs.Common.{◌≡◌, ◌≢◌, ◌≤◌, ◌<◌, ◌+◌, ⊎_elim, ℕ, zero, suc, List, [], ◌∷◌, ◌++◌, length, take, drop, sum}
+use Rattle.std.proofs.Common.{slice_index, refl, sym, ap, ap₂, subst, ◌∙◌, arith}
 use Rattle.std.specs.List.{AllByRecursion}
-use Rattle.std.proofs.lemmas.List.{map-append, take-append-le, drop-append-le, length-drop, length-append, length-take, length-take-le, length-map, drop_at, take_all}
+use Rattle.std.proofs.lemmas.List.{map-append, take-append-le, drop-append-le, length-drop, length-append, length-take}
+use Rattle.std.proofs.lemmas.List.{length-take-le, length-map, drop_at, take_all}
 use Rattle.std.proofs.lemmas.List.Sums.{sum_by_more_le}
 use Rattle.model.specs.Campaign.{Row}
 use Rattle.campaign.specs.Seen.{AreSeen}
@@ -19,14 +21,16 @@ use Rattle.deal.specs.Sharing.{HasSeenAll}
 use Rattle.campaign.specs.Kinds.{kind_in}
 use Rattle.campaign.specs.Links.{Store, AreLegs, Grows}
 use Rattle.campaign.specs.Report.{row_of, rows_of, store_of, IsKept}
-use Rattle.campaign.specs.Working.{Work, GainsRows, HasRoom, block_points, IsKeptBlock, AreKeptBlocks, numbers_of, CountsBlocks, IsDone}
+use Rattle.campaign.specs.Working.{Work, GainsRows, HasRoom, block_points, IsKeptBlock, AreKeptBlocks, numbers_of, CountsBlocks}
+use Rattle.campaign.specs.Working.{IsDone}
 use Rattle.campaign.proofs.Keeping.{all-append, same_rows, still_kept, gained_few}
 use Rattle.campaign.proofs.Determined.{one_list}
 use Rattle.campaign.proofs.Linked.{without_legs}
 use Rattle.campaign.proofs.Multiplicity.{total_within, total_places}
 
 -- Rows of the blocks that were answered are kept, and the seat counted them.
-pub record HasWorked (work : Work) (kept : List KeptRow) (store : Store) (blocks : List KeptBlock) (answered : List ℕ) (old seat : Tallied) : Type 0 where
+pub record HasWorked (work : Work) (kept : List KeptRow) (store : Store)
+    (blocks : List KeptBlock) (answered : List ℕ) (old seat : Tallied) : Type 0 where
   pub rows : AllByRecursion (IsKept work.base store) kept
   pub legs : AreLegs work.base.events store
   pub made : AreKeptBlocks work kept store blocks
@@ -34,7 +38,8 @@ pub record HasWorked (work : Work) (kept : List KeptRow) (store : Store) (blocks
   pub same : seat.sheet ≡ old.sheet
   pub counts : CountsBlocks work answered old seat
   pub once : (x : ℕ) → times x answered ≤ times x (range 0 (length work.lengths))
-  pub few : (kind : ℕ) → kind < 7 → slice_index seat.added kind ≤ slice_index old.added kind + total (λ b. slice_index work.lengths b) answered
+  pub few : (kind : ℕ) → kind < 7
+      → slice_index seat.added kind ≤ slice_index old.added kind + total (λ b. slice_index work.lengths b) answered
 
 pub none_worked : (work : Work) (kept : List KeptRow) (store : Store) (blocks : List KeptBlock) (answered : List ℕ) (seat : Tallied)
     → kept ≡ [] → store.legs ≡ [] → blocks ≡ [] → answered ≡ [] → HasWorked work kept store blocks answered seat seat
@@ -53,7 +58,8 @@ none_worked work kept store blocks answered seat no_rows no_legs no_blocks none 
 
 module _ (work : Work) (kept : List KeptRow) (store : Store) (blocks : List KeptBlock) (answered : List ℕ) (old seat : Tallied)
     (worked : HasWorked work kept store blocks answered old seat) (number first count : ℕ)
-    (block : IsBlock work.lengths number first count) (new : times number answered ≡ 0) (whole : sum work.lengths ≡ length work.points) where
+    (block : IsBlock work.lengths number first count) (new : times number answered ≡ 0)
+    (whole : sum work.lengths ≡ length work.points) where
   pub points_within : first + count ≤ length work.points
   points_within =
       let most = sum_by_more_le (λ (x : ℕ). x) work.lengths number 0 block.0 in
@@ -68,14 +74,21 @@ module _ (work : Work) (kept : List KeptRow) (store : Store) (blocks : List Kept
       let old_once = worked.once x in
       ⊎_elim
       (λ (e : number ≡ x). subst (λ y. times y (answered ++ number ∷ []) ≤ times y (range 0 (length work.lengths))) e
-      (omega (arith, new, total_append (one_at number) answered (number ∷ []), times_one number, once_within number 0 (length work.lengths) (omega arith) (omega (arith, block.0)))))
+      (omega (
+        arith,
+        new,
+        total_append (one_at number) answered (number ∷ []),
+        times_one number,
+        once_within number 0 (length work.lengths) (omega arith) (omega (arith, block.0)),
+      )))
       (λ (d : number ≢ x). omega (arith, old_once, split, elsewhere x number d))
       (same_or number x)
 
   pub room_left : (read : Tallied) → read.added ≡ seat.added → HasRoom (length work.points) old → HasRoom count read
   room_left read same room kind l =
       let few = worked.few kind l in
-      let most = total_within (answered ++ number ∷ []) (range 0 (length work.lengths)) still_once (λ b. slice_index work.lengths b) in
+      let most =
+      total_within (answered ++ number ∷ []) (range 0 (length work.lengths)) still_once (λ b. slice_index work.lengths b) in
       let split = total_append (λ b. slice_index work.lengths b) answered (number ∷ []) in
       let all = total_places work.lengths in
       let at = ap (λ (xs : List ℕ). slice_index xs kind) same in
@@ -86,7 +99,8 @@ module _ (work : Work) (kept : List KeptRow) (store : Store) (blocks : List Kept
 -- ---- a block more
 
 -- what was kept is kept
-part_same : {X : Type 0} (kept more : List X) (first count : ℕ) → first + count ≤ length kept → take count (drop first (kept ++ more)) ≡ take count (drop first kept)
+part_same : {X : Type 0} (kept more : List X) (first count : ℕ) → first + count ≤ length kept
+    → take count (drop first (kept ++ more)) ≡ take count (drop first kept)
 part_same kept more first count within =
     let start : first ≤ length kept = omega arith in
     let long : count ≤ length (drop first kept) = omega (arith, length-drop first kept) in
@@ -103,7 +117,8 @@ all-drop P zero xs h = h
 all-drop P (suc n) [] h = tt
 all-drop P (suc n) (x ∷ xs) h = all-drop P n xs h.1
 
-module _ (work : Work) (kept more : List KeptRow) (store new : Store) (legs : AreLegs work.base.events store) (grown : Grows store new) (rows : AllByRecursion (IsKept work.base store) kept) where
+module _ (work : Work) (kept more : List KeptRow) (store new : Store) (legs : AreLegs work.base.events store)
+    (grown : Grows store new) (rows : AllByRecursion (IsKept work.base store) kept) where
   old_block : (block : KeptBlock) → IsKeptBlock work kept store block → IsKeptBlock work (kept ++ more) new block
   old_block block is =
       let part = take block.count (drop block.first kept) in
@@ -120,11 +135,14 @@ module _ (work : Work) (kept more : List KeptRow) (store new : Store) (legs : Ar
   old_blocks [] all = tt
   old_blocks (block ∷ blocks) all = (old_block block all.0, old_blocks blocks all.1)
 
-module _ (work : Work) (kept kept' : List KeptRow) (store store' : Store) (blocks blocks' : List KeptBlock) (answered : List ℕ) (old seat read seat' : Tallied)
+module _ (work : Work) (kept kept' : List KeptRow) (store store' : Store)
+    (blocks blocks' : List KeptBlock) (answered : List ℕ) (old seat read seat' : Tallied)
     (worked : HasWorked work kept store blocks answered old seat) (number first count : ℕ)
-    (block : IsBlock work.lengths number first count) (new : times number answered ≡ 0) (whole : sum work.lengths ≡ length work.points)
+    (block : IsBlock work.lengths number first count) (new : times number answered ≡ 0)
+    (whole : sum work.lengths ≡ length work.points)
     (same : read.sheet ≡ seat.sheet) (same_counts : read.added ≡ seat.added)
-    (gains : GainsRows work.app work.limits work.view work.base (take count (drop first work.points)) kept kept' store store' read seat')
+    (gains : GainsRows work.app work.limits work.view work.base
+    (take count (drop first work.points)) kept kept' store store' read seat')
     (pushed : blocks' ≡ blocks ++ record { number = number; first = length kept; count = count } ∷ []) where
   its_points : block_points work number ≡ take count (drop first work.points)
   its_points = ap₂ (λ (n : ℕ) (m : ℕ). take n (drop m work.points)) (sym block.2) (sym block.1)
@@ -136,7 +154,8 @@ module _ (work : Work) (kept kept' : List KeptRow) (store store' : Store) (block
   many =
       let within = points_within work kept store blocks answered old seat worked number first count block new whole in
       let long : count ≤ length (drop first work.points) = omega (arith, length-drop first work.points) in
-      sym (length-map gains.more (row_of work.base store')) ∙ sym (length-map (rows_of work.base store' gains.more) (λ (row : Row). row.point)) ∙ ap length gains.made.one_each
+      sym (length-map gains.more (row_of work.base store'))
+      ∙ sym (length-map (rows_of work.base store' gains.more) (λ (row : Row). row.point)) ∙ ap length gains.made.one_each
       ∙ length-take-le count (drop first work.points) long
 
   last : take count (drop (length kept) kept') ≡ gains.more
@@ -163,7 +182,9 @@ module _ (work : Work) (kept kept' : List KeptRow) (store store' : Store) (block
         let first = (worked.counts rows are).rises kind l in
         let its_gain = gains.gained.rises kind l in
         let at = ap (λ (xs : List ℕ). slice_index xs kind) same_counts in
-        let its = ap (λ (r : List Row). kind_in r kind) (one_list work.app work.limits work.view (block_points work number) (rows_of work.base store' gains.more) (rows number) its_rows (are number block.0)) in
+        let its =
+        ap (λ (r : List Row). kind_in r kind) (one_list work.app work.limits work.view (block_points work number)
+        (rows_of work.base store' gains.more) (rows number) its_rows (are number block.0)) in
         let split = total_append f answered (number ∷ []) in
         omega arith);
   }
@@ -173,7 +194,9 @@ module _ (work : Work) (kept kept' : List KeptRow) (store store' : Store) (block
     rows = rw gains.rows_are (all-append _ kept gains.more still gains.sound);
     legs = gains.legs;
     made = rw pushed (all-append _ blocks _ old_ones (new_block, tt));
-    numbers = ap numbers_of pushed ∙ map-append (λ (b : KeptBlock). b.number) blocks _ ∙ ap (λ (xs : List ℕ). xs ++ number ∷ []) worked.numbers;
+    numbers =
+        ap numbers_of pushed ∙ map-append (λ (b : KeptBlock). b.number) blocks _
+        ∙ ap (λ (xs : List ℕ). xs ++ number ∷ []) worked.numbers;
     same = gains.gained.same ∙ same ∙ worked.same;
     counts = counts_more;
     once = still_once work kept store blocks answered old seat worked number first count block new whole;
@@ -193,7 +216,8 @@ pub done_refused : (work : Work) (job : Job) (done : Done) → done.refused ≡ 
 done_refused work job done is e = absurd (cc)
 
 pub done_whole : (work : Work) (job : Job) (done : Done) → done.lane.game ≡ job.lane.game → HasSeenAll done.lane
-    → HasWorked work done.part.kept (store_of done.part) done.part.blocks.items done.lane.answered job.seat done.seat → IsDone work job done
+    → HasWorked work done.part.kept (store_of done.part) done.part.blocks.items done.lane.answered job.seat done.seat
+    → IsDone work job done
 done_whole work job done lane all worked e = record {
   lane = lane;
   seat = worked.same;

@@ -34,5 +34,6 @@ ready : (tally : Sheet) (count n : ℕ) → count ≤ 2 ^ 40 → AreReady tally 
 ready tally count zero few = tt
 ready tally count (suc n) few = ((refl, λ kind l. let none = none_added kind in omega arith), ready tally count n few)
 
-pub ready_seats : (tally : Sheet) (count n : ℕ) (seats : List Tallied) → count ≤ 2 ^ 40 → seats ≡ replicate n (fresh_seat tally) → AreReady tally count seats
+pub ready_seats : (tally : Sheet) (count n : ℕ) (seats : List Tallied) → count ≤ 2 ^ 40
+    → seats ≡ replicate n (fresh_seat tally) → AreReady tally count seats
 ready_seats tally count n seats few is = rw is (ready tally count n few)

@@ -1,7 +1,9 @@
 -- A cursor that goes over rows.
 use Rattle.std.specs.List.{flat_map}
-use Rattle.std.proofs.Common.{◌≡◌, ◌<◌, ◌≤◌, ◌+◌, ◌-◌, ℕ, zero, suc, List, [], ◌∷◌, ◌++◌, length, map, take, drop, slice_index_or, refl, sym, ap, ◌∙◌, length-append, arith}
-use Rattle.std.proofs.lemmas.List.{drop_all, drop_at, drop_more, drop-drop, drop-append-le, drop-map, drop-take, length-drop, take-append-le, take-map, take-take}
+use Rattle.std.proofs.Common.{◌≡◌, ◌<◌, ◌≤◌, ◌+◌, ◌-◌, ℕ, zero, suc, List, [], ◌∷◌, ◌++◌, length, map, take, drop, slice_index_or}
+use Rattle.std.proofs.Common.{refl, sym, ap, ◌∙◌, length-append, arith}
+use Rattle.std.proofs.lemmas.List.{drop_all, drop_at, drop_more, drop-drop, drop-append-le, drop-map, drop-take, length-drop}
+use Rattle.std.proofs.lemmas.List.{take-append-le, take-map, take-take}
 use Rattle.model.specs.Campaign.{Row}
 use Rattle.campaign.specs.declared.campaign_report.Rows.{Rows}
 use Rattle.campaign.specs.declared.cursor.Cursor.{Cursor}
@@ -14,9 +16,11 @@ use Rattle.campaign.proofs.Totalling.{length_at, rows_there}
 -- ---- lists
 
 -- Where the lists behind a place have something, there is a place.
-in_lists : {X A : Type 0} (f : X → List A) (xs : List X) (n row : ℕ) → 0 < length (drop row (flat_map f (drop n xs))) → n < length xs
+in_lists : {X A : Type 0} (f : X → List A) (xs : List X) (n row : ℕ)
+    → 0 < length (drop row (flat_map f (drop n xs))) → n < length xs
 in_lists f [] n row l =
-    let none : drop row (flat_map f (drop n [])) ≡ [] = ap (λ ys. drop row (flat_map f ys)) (drop_all n [] (omega arith)) ∙ drop_all row [] (omega arith) in
+    let none : drop row (flat_map f (drop n [])) ≡ [] =
+    ap (λ ys. drop row (flat_map f ys)) (drop_all n [] (omega arith)) ∙ drop_all row [] (omega arith) in
     let long = ap length none in
     absurd (omega arith)
 in_lists f (x ∷ xs) zero row l = omega arith
@@ -31,10 +35,12 @@ lists_from f xs n x l is = ap (flat_map f) (drop_more xs n x l ∙ ap (λ y. y �
 past_first : {A : Type 0} (xs ys : List A) (n : ℕ) → length xs ≤ n → drop n (xs ++ ys) ≡ drop (n - length xs) ys
 past_first xs ys n l =
     let split : n ≡ length xs + (n - length xs) = omega arith in
-    ap (λ k. drop k (xs ++ ys)) split ∙ sym (drop-drop (n - length xs) (length xs) (xs ++ ys)) ∙ ap (drop (n - length xs)) (drop_at xs ys (length xs) refl)
+    ap (λ k. drop k (xs ++ ys)) split ∙ sym (drop-drop (n - length xs) (length xs) (xs ++ ys))
+    ∙ ap (drop (n - length xs)) (drop_at xs ys (length xs) refl)
 
 -- some of the first list
-of_first : {A : Type 0} (xs ys : List A) (n count : ℕ) → n + count ≤ length xs → take count (drop n (xs ++ ys)) ≡ take count (drop n xs)
+of_first : {A : Type 0} (xs ys : List A) (n count : ℕ) → n + count ≤ length xs
+    → take count (drop n (xs ++ ys)) ≡ take count (drop n xs)
 of_first xs ys n count l =
     let long = length-drop n xs in
     ap (take count) (drop-append-le n xs ys (omega arith)) ∙ take-append-le count (drop n xs) ys (omega arith)
@@ -45,7 +51,8 @@ some_of_some : {A B : Type 0} (f : A → B) (xs : List A) (first total n count :
 some_of_some f xs first total n count l =
     let ys = drop first xs in
     let split : total ≡ n + (total - n) = omega arith in
-    ap (take count) (drop-map f n (take total ys) ∙ ap (λ k. map f (drop n (take k ys))) split ∙ ap (map f) (drop-take n (total - n) ys))
+    ap (take count)
+    (drop-map f n (take total ys) ∙ ap (λ k. map f (drop n (take k ys))) split ∙ ap (map f) (drop-take n (total - n) ys))
     ∙ take-map f count (take (total - n) (drop n ys))
     ∙ ap (map f) (take-take count (total - n) (drop n ys) (omega arith) ∙ ap (take count) (drop-drop n first xs))
 
@@ -62,7 +69,8 @@ module _ (rows : Rows) (cursor : Cursor) (at : IsAt rows cursor) where
       let left = length-drop cursor.number (whole rows) in
       in_lists (rows_at rows.base rows.parts.items) rows.places.items cursor.place cursor.row (omega arith)
 
-  module _ (sound : IsSound rows) (place : Place) (l : cursor.place < length rows.places.items) (is : place ≡ slice_index_or rows.places.items cursor.place place) where
+  module _ (sound : IsSound rows) (place : Place) (l : cursor.place < length rows.places.items)
+      (is : place ≡ slice_index_or rows.places.items cursor.place place) where
     abbrev f : Place → List Row
     f = rows_at rows.base rows.parts.items
 
@@ -72,14 +80,18 @@ module _ (rows : Rows) (cursor : Cursor) (at : IsAt rows cursor) where
     its_count : length (f place) ≡ place.count
     its_count = length_at rows.base rows.parts.items place its_place
 
-    behind_both : drop cursor.number (whole rows) ≡ drop cursor.row (f place ++ flat_map f (drop (cursor.place + 1) rows.places.items))
+    behind_both : drop cursor.number (whole rows)
+        ≡ drop cursor.row (f place ++ flat_map f (drop (cursor.place + 1) rows.places.items))
     behind_both = at.behind ∙ ap (drop cursor.row) (lists_from f rows.places.items cursor.place place l is)
 
     -- the place is left
-    pub left_at : place.count ≤ cursor.row → IsAt rows (record { number = cursor.number; place = cursor.place + 1; row = cursor.row - place.count })
+    pub left_at : place.count ≤ cursor.row
+        → IsAt rows (record { number = cursor.number; place = cursor.place + 1; row = cursor.row - place.count })
     left_at ended = record {
       within = at.within;
-      behind = behind_both ∙ past_first (f place) (flat_map f (drop (cursor.place + 1) rows.places.items)) cursor.row (omega (arith, its_count))
+      behind =
+          behind_both
+          ∙ past_first (f place) (flat_map f (drop (cursor.place + 1) rows.places.items)) cursor.row (omega (arith, its_count))
           ∙ ap (λ n. drop (cursor.row - n) (flat_map f (drop (cursor.place + 1) rows.places.items))) its_count;
     }
 
@@ -97,19 +109,27 @@ module _ (rows : Rows) (cursor : Cursor) (at : IsAt rows cursor) where
       pub over_at : IsAt rows (record { number = cursor.number + count; place = cursor.place; row = cursor.row + count })
       over_at = record {
         within = enough;
-        behind = sym (drop-drop count cursor.number (whole rows)) ∙ ap (drop count) at.behind ∙ drop-drop count cursor.row (flat_map f (drop cursor.place rows.places.items));
+        behind =
+            sym (drop-drop count cursor.number (whole rows)) ∙ ap (drop count) at.behind
+            ∙ drop-drop count cursor.row (flat_map f (drop cursor.place rows.places.items));
       }
 
       pub over_place : IsPlace rows.parts.items (record { part = place.part; first = place.first + cursor.row; count = count })
-      over_place = let within = its_place.within in record { part = its_place.part; at_part = its_place.at_part; within = omega arith }
+      over_place =
+          let within = its_place.within in
+          record { part = its_place.part; at_part = its_place.at_part; within = omega arith }
 
-      pub over_rows : f (record { part = place.part; first = place.first + cursor.row; count = count }) ≡ some_of (whole rows) cursor.number count
+      pub over_rows : f (record { part = place.part; first = place.first + cursor.row; count = count })
+          ≡ some_of (whole rows) cursor.number count
       over_rows =
           let part = its_place.part in
           let row = row_of rows.base (store_of part) in
           let them = rows_there rows.base rows.parts.items place part its_place.at_part in
-          let some_them = rows_there rows.base rows.parts.items (record { part = place.part; first = place.first + cursor.row; count = count }) part its_place.at_part in
+          let some_them =
+          rows_there rows.base rows.parts.items
+          (record { part = place.part; first = place.first + cursor.row; count = count }) part its_place.at_part in
           some_them ∙ sym (some_of_some row part.kept place.first place.count cursor.row count some)
           ∙ ap (λ (rs : List Row). take count (drop cursor.row rs)) (sym them)
-          ∙ sym (of_first (f place) (flat_map f (drop (cursor.place + 1) rows.places.items)) cursor.row count (omega (arith, its_count)))
+          ∙ sym (of_first (f place) (flat_map f (drop (cursor.place + 1) rows.places.items))
+          cursor.row count (omega (arith, its_count)))
           ∙ ap (take count) (sym behind_both)

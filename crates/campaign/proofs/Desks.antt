@@ -1,5 +1,6 @@
 -- What becomes of spellers and their desks.
-use Rattle.std.proofs.Common.{◌≡◌, ◌<◌, ℕ, zero, suc, List, [], ◌∷◌, ◌++◌, length, set, slice_index_or, refl, sym, subst, ◌∙◌, arith}
+use Rattle.std.proofs.Common.{◌≡◌, ◌<◌, ℕ, zero, suc, List, [], ◌∷◌, ◌++◌, length, set, slice_index_or, refl, sym, subst, ◌∙◌}
+use Rattle.std.proofs.Common.{arith}
 use Rattle.std.specs.List.{AllByRecursion}
 use Rattle.rtrb.specs.Ends.{SameRing}
 use Rattle.rtrb.specs.Ring.{received, IsPair, SameConsumer, SameProducer}
@@ -57,11 +58,13 @@ module _ (new : Desk) where
   received_set (e ∷ ds) zero d l on spelling h = (on.received spelling h.0, h.1)
   received_set (e ∷ ds) (suc i) d l on spelling h = (h.0, received_set ds i d (omega (arith, l)) on spelling h.1)
 
-  pub go_one : (desks : List Desk) (i : ℕ) (d : Desk) → i < length desks → GoesOn (slice_index_or desks i d) new → GoOn desks (set desks i new)
+  pub go_one : (desks : List Desk) (i : ℕ) (d : Desk) → i < length desks
+      → GoesOn (slice_index_or desks i d) new → GoOn desks (set desks i new)
   go_one desks i d l on = record { pairs = pairs_set desks i d l on; received = received_set desks i d l on }
 
   -- what has arrived there
-  pub received_there : (spelling : Spelling) (desks : List Desk) (i : ℕ) → i < length desks → HaveReceived spelling (set desks i new) → HasReceived spelling new
+  pub received_there : (spelling : Spelling) (desks : List Desk) (i : ℕ) → i < length desks
+      → HaveReceived spelling (set desks i new) → HasReceived spelling new
   received_there spelling [] i l h = absurd (omega (arith, l))
   received_there spelling (d ∷ ds) zero l h = h.0
   received_there spelling (d ∷ ds) (suc i) l h = received_there spelling ds i (omega (arith, l)) h.1
@@ -76,19 +79,24 @@ pairs_each [] [] long each desks are = are
 pairs_each [] (n ∷ ns) long each desks are = absurd (omega (arith, long))
 pairs_each (o ∷ os) [] long each desks are = absurd (omega (arith, long))
 pairs_each (o ∷ os) (n ∷ ns) long each [] are = absurd are
-pairs_each (o ∷ os) (n ∷ ns) long each (d ∷ ds) are =
-    (other_end o.spelled.end n.spelled.end d.spelled.end (each 0 o (omega arith)).0 are.0, pairs_each os ns (omega (arith, long)) (λ i e l. each (suc i) e (omega (arith, l))) ds are.1)
+pairs_each (o ∷ os) (n ∷ ns) long each (d ∷ ds) are = (
+  other_end o.spelled.end n.spelled.end d.spelled.end (each 0 o (omega arith)).0 are.0,
+  pairs_each os ns (omega (arith, long)) (λ i e l. each (suc i) e (omega (arith, l))) ds are.1,
+)
 
 pub sent_each : (spelling : Spelling) (olds news : List Speller) → length news ≡ length olds
-    → ((i : ℕ) (d : Speller) → i < length olds → HasSent spelling (slice_index_or olds i d) → HasSent spelling (slice_index_or news i d))
+    → ((i : ℕ) (d : Speller) → i < length olds → HasSent spelling (slice_index_or olds i d)
+    → HasSent spelling (slice_index_or news i d))
     → HaveSent spelling olds → HaveSent spelling news
 sent_each spelling [] [] long each h = h
 sent_each spelling [] (n ∷ ns) long each h = absurd (omega (arith, long))
 sent_each spelling (o ∷ os) [] long each h = absurd (omega (arith, long))
-sent_each spelling (o ∷ os) (n ∷ ns) long each h = (each 0 o (omega arith) h.0, sent_each spelling os ns (omega (arith, long)) (λ i e l. each (suc i) e (omega (arith, l))) h.1)
+sent_each spelling (o ∷ os) (n ∷ ns) long each h =
+    (each 0 o (omega arith) h.0, sent_each spelling os ns (omega (arith, long)) (λ i e l. each (suc i) e (omega (arith, l))) h.1)
 
 -- one more, of which nothing is handed on
-pub pairs_more : (spellers : List Speller) (desks : List Desk) (speller : Speller) (desk : Desk) → ArePairs spellers desks → IsPair speller.spelled desk.spelled → ArePairs (spellers ++ speller ∷ []) (desks ++ desk ∷ [])
+pub pairs_more : (spellers : List Speller) (desks : List Desk) (speller : Speller) (desk : Desk) → ArePairs spellers desks
+    → IsPair speller.spelled desk.spelled → ArePairs (spellers ++ speller ∷ []) (desks ++ desk ∷ [])
 pairs_more [] [] s d are pair = (pair, tt)
 pairs_more [] (e ∷ ds) s d are pair = absurd are
 pairs_more (t ∷ ss) [] s d are pair = absurd are
@@ -100,7 +108,9 @@ fresh_sent spelling [] fresh = tt
 fresh_sent spelling (s ∷ ss) fresh = (subst (AllByRecursion (IsRight spelling)) (sym fresh.0) tt, fresh_sent spelling ss fresh.1)
 
 -- this one and the others go on
-pub pairs_both : (own after : Speller) (others them : List Speller) → SameProducer own.spelled after.spelled → ((desks : List Desk) → ArePairs others desks → ArePairs them desks)
+pub pairs_both : (own after : Speller) (others them : List Speller) → SameProducer own.spelled after.spelled
+    → ((desks : List Desk) → ArePairs others desks → ArePairs them desks)
     → (desks : List Desk) → ArePairs (own ∷ others) desks → ArePairs (after ∷ them) desks
 pairs_both own after others them ring on [] are = absurd are
-pairs_both own after others them ring on (d ∷ ds) are = (other_end own.spelled.end after.spelled.end d.spelled.end ring.0 are.0, on ds are.1)
+pairs_both own after others them ring on (d ∷ ds) are =
+    (other_end own.spelled.end after.spelled.end d.spelled.end ring.0 are.0, on ds are.1)

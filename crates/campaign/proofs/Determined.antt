@@ -12,7 +12,8 @@ use Rattle.campaign.specs.Seen.{AreSeen, IsSeen, seen}
 use Rattle.campaign.proofs.Seeing.{same_point}
 
 -- rows by their parts
-same_row : (app : Application) (limits : Limits) (a b : Row) → a.point ≡ b.point → IsRow app limits a.point a.reached a.run → IsRow app limits b.point b.reached b.run → a ≡ b
+same_row : (app : Application) (limits : Limits) (a b : Row) → a.point ≡ b.point
+    → IsRow app limits a.point a.reached a.run → IsRow app limits b.point b.reached b.run → a ≡ b
 same_row app limits a b point h k =
     let j = subst (λ (p : List Injection). IsRow app limits p a.reached a.run) point h in
     let same = one_row app limits b.point a.reached b.reached a.run b.run j k in
@@ -26,7 +27,8 @@ module _ (app : Application) (limits : Limits) (view : View) where
 
   same_seen : (a b : Row) → a.point ≡ b.point → IsSeen app limits view a → IsSeen app limits view b → a ≡ b
   same_seen a b point h k =
-      let whole : h.whole ≡ k.whole = same_row app limits h.whole k.whole (whole_point a h ∙ point ∙ sym (whole_point b k)) h.is_row k.is_row in
+      let whole : h.whole ≡ k.whole =
+      same_row app limits h.whole k.whole (whole_point a h ∙ point ∙ sym (whole_point b k)) h.is_row k.is_row in
       h.is ∙ ap (seen view) whole ∙ sym k.is
 
   rows_by_points : (rows others : List Row) → map (λ (row : Row). row.point) rows ≡ map (λ (row : Row). row.point) others
@@ -41,5 +43,6 @@ module _ (app : Application) (limits : Limits) (view : View) where
       let then : xs ≡ bs = rows_by_points xs bs rest h.1 k.1 in
       cc
 
-  pub one_list : (points : List (List Injection)) (rows others : List Row) → AreSeen app limits view points rows → AreSeen app limits view points others → rows ≡ others
+  pub one_list : (points : List (List Injection)) (rows others : List Row)
+      → AreSeen app limits view points rows → AreSeen app limits view points others → rows ≡ others
   one_list points rows others h k = rows_by_points rows others (h.one_each ∙ sym k.one_each) h.each k.each

@@ -9,7 +9,8 @@ use Rattle.toml.proofs.OnLiterals.{toml_on_literals}
 use Rattle.model.specs.Application.{Application}
 use Rattle.model.specs.declared.event.End.{End}
 use Rattle.model.specs.declared.totals.Totals.{Totals}
-use Rattle.script.specs.Sections.{objects_fault, objects_named, more_objects_fault, with_objects, groups_fault, groups_named, handlers_fault, handlers_named, tasks_fault, tasks_named}
+use Rattle.script.specs.Sections.{objects_fault, objects_named, more_objects_fault, with_objects, groups_fault, groups_named}
+use Rattle.script.specs.Sections.{handlers_fault, handlers_named, tasks_fault, tasks_named}
 use Rattle.script.specs.Faults.{Loads}
 use Rattle.script.specs.Load.{app_named, entries_of, entries_fault, load_fault}
 use Rattle.script.specs.declared.fault.LoadError.{LoadError}
@@ -22,7 +23,8 @@ use Rattle.report.specs.declared.view.View.{View}
 use Rattle.campaign.specs.declared.at.At.{At}
 use Rattle.campaign.specs.declared.file.ServeFault.{ServeFault}
 use Rattle.campaign.specs.declared.file.ServeFault.TheVariants.{Read, NotToml, Load, UnknownHandler, TooManyPoints, Memory, Write}
-use Rattle.campaign.specs.Serving.{Answers, Serves, Known, IsDocument, IsFileOf, HasFileFault, of_loading, of_reading, is_read_fault, is_write_fault}
+use Rattle.campaign.specs.Serving.{Answers, Serves, Known, IsDocument, IsFileOf, HasFileFault, of_loading, of_reading}
+use Rattle.campaign.specs.Serving.{is_read_fault, is_write_fault}
 use Rattle.campaign.specs.OneRun.{IsRunFault, HasFault, ServesRun}
 use Rattle.campaign.specs.Campaigns.{IsCampaignFault, HasCampaignFault, ServesCampaign}
 
@@ -54,7 +56,8 @@ unfolding toml_on_literals
 nothing_parsed = refl
 
 nothing_names_no_task : load_fault no_members ≡ None → ⊥
-unfolding entries_fault entries_of objects_fault objects_named more_objects_fault with_objects groups_fault groups_named handlers_fault handlers_named tasks_fault tasks_named
+unfolding entries_fault entries_of objects_fault objects_named more_objects_fault with_objects
+    groups_fault groups_named handlers_fault handlers_named tasks_fault tasks_named
 nothing_names_no_task sound = cc sound
 
 no_fault_in_nothing : (document : Members) → parse_document [] ≡ Some document → load_fault document ≡ None → ⊥
@@ -63,7 +66,8 @@ no_fault_in_nothing document parsed sound =
     let is : document ≡ no_members = cc same in
     nothing_names_no_task (subst (λ (d : Members). load_fault d ≡ None) is sound)
 
-pub document_has_bytes : (bytes : List ℕ) (document : Members) → parse_document bytes ≡ Some document → load_fault document ≡ None → bytes ≢ []
+pub document_has_bytes : (bytes : List ℕ) (document : Members)
+    → parse_document bytes ≡ Some document → load_fault document ≡ None → bytes ≢ []
 document_has_bytes [] document parsed sound e = no_fault_in_nothing document parsed sound
 document_has_bytes (byte ∷ bytes) document parsed sound e = not_nothing byte bytes e
 
@@ -103,10 +107,12 @@ same_write A B Write = refl
 
 -- ---- whatever is asked for
 
-module _ {A : Type 0} (IsReport : (bytes report : List ℕ) → A → Type 0) (HasFaultOf : (bytes : List ℕ) → ServeFault → Type 0) (input : Option (List ℕ)) (rf wf : Bool) where
+module _ {A : Type 0} (IsReport : (bytes report : List ℕ) → A → Type 0)
+    (HasFaultOf : (bytes : List ℕ) → ServeFault → Type 0) (input : Option (List ℕ)) (rf wf : Bool) where
   -- a fault, at which nothing is written
   pub serves_fault : (old : Option (List ℕ)) (f : ServeFault) → ((bytes : List ℕ) × Known input bytes × HasFaultOf bytes f)
-      → rf ≡ is_read_fault {A = A} (Err f) → is_write_fault {A = A} (Err f) ≡ false → wf ≡ false → Serves A IsReport HasFaultOf input rf old old wf (Err f)
+      → rf ≡ is_read_fault {A = A} (Err f) → is_write_fault {A = A} (Err f) ≡ false
+      → wf ≡ false → Serves A IsReport HasFaultOf input rf old old wf (Err f)
   serves_fault old Read h r w e = record { answers = (h, Keeps-refl old); read = r; write = e }
   serves_fault old NotToml h r w e = record { answers = (h, Keeps-refl old); read = r; write = e }
   serves_fault old (Load fault) h r w e = record { answers = (h, Keeps-refl old); read = r; write = e }
@@ -155,7 +161,8 @@ file_fault at bytes Memory h = h
 file_fault at bytes Write h = h
 
 -- So is why its application was not run.
-run_fault : (at : Option At) (bytes : List ℕ) (app : Application) (f : ServeFault) → IsFileOf bytes app → IsRunFault at app f → HasFault at bytes f
+run_fault : (at : Option At) (bytes : List ℕ) (app : Application) (f : ServeFault)
+    → IsFileOf bytes app → IsRunFault at app f → HasFault at bytes f
 run_fault at bytes app Read file h = absurd h
 run_fault at bytes app NotToml file h = absurd h
 run_fault at bytes app (Load fault) file h = absurd h
@@ -165,8 +172,10 @@ run_fault at bytes app Memory file h = file_has_bytes bytes app file
 run_fault at bytes app Write file h = absurd h
 
 -- a fault of the file itself
-pub serves_file_fault : (at : Option At) (input : Option (List ℕ)) (rf wf : Bool) (old : Option (List ℕ)) (f : ServeFault) → ((bytes : List ℕ) × Known input bytes × HasFileFault bytes f)
-    → rf ≡ is_read_fault {A = End} (Err f) → is_write_fault {A = End} (Err f) ≡ false → wf ≡ false → ServesRun at input rf old old wf (Err f)
+pub serves_file_fault : (at : Option At) (input : Option (List ℕ)) (rf wf : Bool) (old : Option (List ℕ)) (f : ServeFault)
+    → ((bytes : List ℕ) × Known input bytes × HasFileFault bytes f)
+    → rf ≡ is_read_fault {A = End} (Err f) → is_write_fault {A = End} (Err f) ≡ false
+    → wf ≡ false → ServesRun at input rf old old wf (Err f)
 serves_file_fault at input rf wf old f h r w e = serves_fault _ _ input rf wf old f (h.0, h.1, file_fault at h.0 f h.2) r w e
 
 run_reads : (at : Option At) (app : Application) (f : ServeFault) → IsRunFault at app f → is_read_fault {A = End} (Err f) ≡ false
@@ -188,10 +197,13 @@ run_writes at app Memory h = refl
 run_writes at app Write h = absurd h
 
 -- an application that was not run
-pub serves_run_fault : (at : Option At) (input : Option (List ℕ)) (rf wf : Bool) (old : Option (List ℕ)) (f : ServeFault) (app : Application)
-    → ((bytes : List ℕ) × Known input bytes × IsFileOf bytes app) → IsRunFault at app f → rf ≡ false → wf ≡ false → ServesRun at input rf old old wf (Err f)
+pub serves_run_fault : (at : Option At) (input : Option (List ℕ))
+    (rf wf : Bool) (old : Option (List ℕ)) (f : ServeFault) (app : Application)
+    → ((bytes : List ℕ) × Known input bytes × IsFileOf bytes app) → IsRunFault at app f
+    → rf ≡ false → wf ≡ false → ServesRun at input rf old old wf (Err f)
 serves_run_fault at input rf wf old f app file h r e =
-    serves_fault _ _ input rf wf old f (file.0, file.1, run_fault at file.0 app f file.2 h) (r ∙ sym (run_reads at app f h)) (run_writes at app f h) e
+    serves_fault _ _ input rf wf old f (file.0, file.1, run_fault at file.0 app f file.2 h)
+    (r ∙ sym (run_reads at app f h)) (run_writes at app f h) e
 
 -- ---- a campaign
 
@@ -206,7 +218,8 @@ campaign_file_fault bytes Memory h = h
 campaign_file_fault bytes Write h = h
 
 -- So is why its rows were not made.
-campaign_fault : (bytes : List ℕ) (app : Application) (f : ServeFault) → IsFileOf bytes app → IsCampaignFault app f → HasCampaignFault bytes f
+campaign_fault : (bytes : List ℕ) (app : Application) (f : ServeFault)
+    → IsFileOf bytes app → IsCampaignFault app f → HasCampaignFault bytes f
 campaign_fault bytes app Read file h = absurd h
 campaign_fault bytes app NotToml file h = absurd h
 campaign_fault bytes app (Load fault) file h = absurd h
@@ -216,9 +229,13 @@ campaign_fault bytes app Memory file h = file_has_bytes bytes app file
 campaign_fault bytes app Write file h = absurd h
 
 -- a fault of the file itself
-pub campaign_serves_file_fault : (view : View) (shard : Shard) (input : Option (List ℕ)) (rf wf : Bool) (old : Option (List ℕ)) (f : ServeFault) → ((bytes : List ℕ) × Known input bytes × HasFileFault bytes f)
-    → rf ≡ is_read_fault {A = Totals} (Err f) → is_write_fault {A = Totals} (Err f) ≡ false → wf ≡ false → ServesCampaign view shard input rf old old wf (Err f)
-campaign_serves_file_fault view shard input rf wf old f h r w e = serves_fault _ _ input rf wf old f (h.0, h.1, campaign_file_fault h.0 f h.2) r w e
+pub campaign_serves_file_fault : (view : View) (shard : Shard)
+    (input : Option (List ℕ)) (rf wf : Bool) (old : Option (List ℕ)) (f : ServeFault)
+    → ((bytes : List ℕ) × Known input bytes × HasFileFault bytes f)
+    → rf ≡ is_read_fault {A = Totals} (Err f) → is_write_fault {A = Totals} (Err f) ≡ false
+    → wf ≡ false → ServesCampaign view shard input rf old old wf (Err f)
+campaign_serves_file_fault view shard input rf wf old f h r w e =
+    serves_fault _ _ input rf wf old f (h.0, h.1, campaign_file_fault h.0 f h.2) r w e
 
 campaign_reads : (app : Application) (f : ServeFault) → IsCampaignFault app f → is_read_fault {A = Totals} (Err f) ≡ false
 campaign_reads app Read h = absurd h
@@ -239,7 +256,10 @@ campaign_writes app Memory h = refl
 campaign_writes app Write h = absurd h
 
 -- an application whose rows were not made
-pub campaign_serves_rows_fault : (view : View) (shard : Shard) (input : Option (List ℕ)) (rf wf : Bool) (old : Option (List ℕ)) (f : ServeFault) (app : Application)
-    → ((bytes : List ℕ) × Known input bytes × IsFileOf bytes app) → IsCampaignFault app f → rf ≡ false → wf ≡ false → ServesCampaign view shard input rf old old wf (Err f)
+pub campaign_serves_rows_fault : (view : View) (shard : Shard) (input : Option (List ℕ))
+    (rf wf : Bool) (old : Option (List ℕ)) (f : ServeFault) (app : Application)
+    → ((bytes : List ℕ) × Known input bytes × IsFileOf bytes app) → IsCampaignFault app f
+    → rf ≡ false → wf ≡ false → ServesCampaign view shard input rf old old wf (Err f)
 campaign_serves_rows_fault view shard input rf wf old f app file h r e =
-    serves_fault _ _ input rf wf old f (file.0, file.1, campaign_fault file.0 app f file.2 h) (r ∙ sym (campaign_reads app f h)) (campaign_writes app f h) e
+    serves_fault _ _ input rf wf old f (file.0, file.1, campaign_fault file.0 app f file.2 h)
+    (r ∙ sym (campaign_reads app f h)) (campaign_writes app f h) e

@@ -1,5 +1,6 @@
 -- How rows go on from a kernel that they have come to.
-use Rattle.std.proofs.Common.{◌≡◌, ◌≤◌, ◌<◌, ℕ, true, false, Some, List, [], ◌∷◌, ◌++◌, drop, length, length-append, refl, sym, ap, subst, ◌∙◌, append-nil, arith}
+use Rattle.std.proofs.Common.{◌≡◌, ◌≤◌, ◌<◌, ℕ, true, false, Some, List, [], ◌∷◌, ◌++◌, drop, length, length-append, refl, sym, ap}
+use Rattle.std.proofs.Common.{subst, ◌∙◌, append-nil, arith}
 use Rattle.std.specs.List.{AllByRecursion}
 use Rattle.std.proofs.lemmas.List.{drop-append-le}
 use Rattle.std.proofs.Math.Seq.{drop-length}
@@ -31,7 +32,8 @@ use Rattle.campaign.proofs.Keeping.{known_more}
 use Rattle.campaign.proofs.Linked.{closed_tells, still_tells, told_no_more}
 
 -- behind the last injection nothing is injected
-pub none_from : (point : List Injection) → IsPoint point → (k : Machine) → last_step point < k.steps → (n : ℕ) → k.steps ≤ n → injected point n ≡ []
+pub none_from : (point : List Injection) → IsPoint point → (k : Machine)
+    → last_step point < k.steps → (n : ℕ) → k.steps ≤ n → injected point n ≡ []
 none_from point formed k l n from = none_past point formed.in_order n (omega arith)
 
 pub all_more : {X : Type 0} (P : X → Type 0) (xs : List X) (x : X) → AllByRecursion P xs → P x → AllByRecursion P (xs ++ x ∷ [])
@@ -48,7 +50,8 @@ module _ (app : Application) (limits : Limits) where
       record { within = omega arith; leads = rw none (leads_here app limits p.kernel.value) }
 
   -- those that are behind stay so, when the row goes on
-  pub behind_on : (trail after : List Event) (old new : Machine) → IsLed app limits old new trail after → (ps : List Passed) → AreBehind app limits trail old ps → AreBehind app limits after new ps
+  pub behind_on : (trail after : List Event) (old new : Machine) → IsLed app limits old new trail after
+      → (ps : List Passed) → AreBehind app limits trail old ps → AreBehind app limits after new ps
   behind_on trail after old new led [] all = tt
   behind_on trail after old new led (p ∷ ps) all =
       let within = all.0.within in
@@ -64,7 +67,8 @@ module _ (app : Application) (limits : Limits) (view : View) (base : Run) where
   -- ---- marks
 
   -- marks stay right when the store becomes more
-  pub still_marked : (store new : Store) → AreLegs base.events store → Grows store new → (marks : List Mark) → AreMarked app limits view base store marks → AreMarked app limits view base new marks
+  pub still_marked : (store new : Store) → AreLegs base.events store → Grows store new → (marks : List Mark)
+      → AreMarked app limits view base store marks → AreMarked app limits view base new marks
   still_marked store new legs grown [] are = tt
   still_marked store new legs grown (mark ∷ marks) are = (
     record {
@@ -76,8 +80,10 @@ module _ (app : Application) (limits : Limits) (view : View) (base : Run) where
   )
 
   -- what is known stays known, and so is what was gained
-  pub knows_more : (points : List (List Injection)) (a b : List KeptRow) (t u : Store) (x y : Tallied) (marks marks' : List Mark) → Knows app limits view base a t marks
-      → GainsRows app limits view base points a b t u x y → AreMarked app limits view base u marks' → Knows app limits view base b u marks'
+  pub knows_more : (points : List (List Injection)) (a b : List KeptRow) (t u : Store) (x y : Tallied) (marks marks' : List Mark)
+      → Knows app limits view base a t marks
+      → GainsRows app limits view base points a b t u x y
+      → AreMarked app limits view base u marks' → Knows app limits view base b u marks'
   knows_more points a b t u x y marks marks' knows gains are = record {
     rows = known_more app limits view base points a b t u x y knows.legs knows.rows gains;
     legs = gains.legs;
@@ -92,14 +98,16 @@ module _ (app : Application) (limits : Limits) (view : View) (base : Run) where
       → IsRestIn app limits view base store k (record { told = told; steps = steps; ticks = ticks; end = end })
   rest_over store k told steps ticks end to is = record {
     events = [];
-    told = λ shown. subst (λ (l : Link). Tells base.events store l []) (sym to) (told_no_more base.events store (length base.events) refl);
+    told = λ shown.
+        subst (λ (l : Link). Tells base.events store l []) (sym to) (told_no_more base.events store (length base.events) refl);
     is_rest = is;
   }
 
   -- how one goes on that the base run's kernel was: as that does
   pub rest_of_base : (store : Store) (k : Machine) (from : ℕ) → from ≤ length base.events
       → IsRest app limits k (record base { events = drop from base.events })
-      → IsRestIn app limits view base store k (record { told = link.Base from; steps = base.steps; ticks = base.ticks; end = base.end })
+      → IsRestIn app limits view base store k
+      (record { told = link.Base from; steps = base.steps; ticks = base.ticks; end = base.end })
   rest_of_base store k from within is = record {
     events = drop from base.events;
     told = λ shown. record { there = within; are = refl };
@@ -107,8 +115,10 @@ module _ (app : Application) (limits : Limits) (view : View) (base : Run) where
   }
 
   module _ (point : List Injection) (k : Machine) (way : IsUnderWay app point limits k) where
-    -- the row of a point that has come to the kernel, behind its last injection, goes on to another one, and from there as each does
-    pub led_rest : (old new : Store) (now : Machine) (rest : Ahead) → IsPoint point → last_step point < k.steps → IsLed app limits k now old.trail new.trail
+    -- the row of a point that has come to the kernel, behind its last injection,
+    -- goes on to another one, and from there as each does
+    pub led_rest : (old new : Store) (now : Machine) (rest : Ahead) → IsPoint point
+        → last_step point < k.steps → IsLed app limits k now old.trail new.trail
         → IsRestIn app limits view base new now rest → IsRestOf app limits view base old new point k rest
     led_rest old new now rest formed l led is =
         let ahead : Run = record { events = is.events; steps = rest.steps; ticks = rest.ticks; end = rest.end } in
@@ -121,14 +131,16 @@ module _ (app : Application) (limits : Limits) (view : View) (base : Run) where
         }
 
     -- one that has come to its end tells no more
-    pub ended_rest : (store : Store) (told : Link) (steps ticks : ℕ) (end : End) → end_of app limits (state_after app limits point k.steps) ≡ Some end → told ≡ link.Base (length base.events)
+    pub ended_rest : (store : Store) (told : Link) (steps ticks : ℕ) (end : End)
+        → end_of app limits (state_after app limits point k.steps) ≡ Some end → told ≡ link.Base (length base.events)
         → steps ≡ k.steps → ticks ≡ (state_after app limits point k.steps).elapsed
         → IsRestOf app limits view base store store point k (record { told = told; steps = steps; ticks = ticks; end = end })
     ended_rest store told steps ticks end ends to same t = record {
       own = [];
       trail = sym (append-nil store.trail);
       events = [];
-      told = λ shown. subst (λ (l : Link). Tells base.events store l []) (sym to) (told_no_more base.events store (length base.events) refl);
+      told = λ shown.
+          subst (λ (l : Link). Tells base.events store l []) (sym to) (told_no_more base.events store (length base.events) refl);
       is_row = rw same (record {
         goes_on = way.goes_on;
         ends = ends;
@@ -138,7 +150,8 @@ module _ (app : Application) (limits : Limits) (view : View) (base : Run) where
     }
 
   -- each that comes to a kernel behind goes on by the trail from there on, and then so
-  pub all_passed : (store : Store) (now : Machine) (rest : Ahead) → IsRestIn app limits view base store now rest → (ps : List Passed) → AreBehind app limits store.trail now ps
+  pub all_passed : (store : Store) (now : Machine) (rest : Ahead) → IsRestIn app limits view base store now rest
+      → (ps : List Passed) → AreBehind app limits store.trail now ps
       → AllByRecursion (IsPassed app limits view base store rest) ps
   all_passed store now rest is [] all = tt
   all_passed store now rest is (p ∷ ps) all =
@@ -155,7 +168,8 @@ module _ (app : Application) (limits : Limits) (view : View) (base : Run) where
   -- ---- a row that is over
 
   -- From each kernel that it passed it is told by its leg.
-  pub all_closed : (over new : Store) (rest : Ahead) → AreLegs base.events over → new.trail ≡ over.trail → new.legs ≡ over.legs ++ record { to = length over.trail; next = rest.told } ∷ []
+  pub all_closed : (over new : Store) (rest : Ahead) → AreLegs base.events over → new.trail ≡ over.trail
+      → new.legs ≡ over.legs ++ record { to = length over.trail; next = rest.told } ∷ []
       → (ps : List Passed) → AllByRecursion (IsPassed app limits view base over rest) ps
       → AllByRecursion (λ (p : Passed). IsRestIn app limits view base new p.kernel.value (rest_from (length over.legs) rest p)) ps
   all_closed over new rest legs trail pushed [] all = tt
@@ -163,14 +177,17 @@ module _ (app : Application) (limits : Limits) (view : View) (base : Run) where
       let is = all.0 in (
         record {
           events = drop p.from over.trail ++ is.events;
-          told = λ shown. closed_tells base.events over new legs (record { to = length over.trail; next = rest.told }) trail pushed refl is.events (is.told shown) p.from is.within;
+          told = λ shown.
+              closed_tells base.events over new legs (record { to = length over.trail; next = rest.told })
+              trail pushed refl is.events (is.told shown) p.from is.within;
           is_rest = is.is_rest;
         },
         all_closed over new rest legs trail pushed ps all.1,
       )
 
   -- where its events are not shown, nothing need be told
-  pub all_bare : (over new : Store) (number : ℕ) (rest : Ahead) → shows_events view rest.end ≡ false → (ps : List Passed) → AllByRecursion (IsPassed app limits view base over rest) ps
+  pub all_bare : (over new : Store) (number : ℕ) (rest : Ahead) → shows_events view rest.end ≡ false
+      → (ps : List Passed) → AllByRecursion (IsPassed app limits view base over rest) ps
       → AllByRecursion (λ (p : Passed). IsRestIn app limits view base new p.kernel.value (rest_from number rest p)) ps
   all_bare over new number rest hidden [] all = tt
   all_bare over new number rest hidden (p ∷ ps) all =
@@ -185,9 +202,10 @@ module _ (app : Application) (limits : Limits) (view : View) (base : Run) where
 
 -- ---- marks are put, one after another
 
--- Where the marks are right, and each row that comes to one of the kernels that were passed goes on so, the same holds of what is left
--- of them and the marks that there are then.
-pub record LeavesRight (number : ℕ) (rest : Ahead) (passed : List Passed) (marks : List Mark) (left : List Passed) (more : List Mark) : Type 0 where
+-- Where the marks are right, and each row that comes to one of the kernels that were passed goes on so, the same holds of what is
+-- left of them and the marks that there are then.
+pub record LeavesRight (number : ℕ) (rest : Ahead) (passed : List Passed)
+    (marks : List Mark) (left : List Passed) (more : List Mark) : Type 0 where
   pub marked : ArePut number rest passed marks more
   pub still : (app : Application) (limits : Limits) (view : View) (base : Run) (store : Store)
       → AllByRecursion (λ (p : Passed). IsRestIn app limits view base store p.kernel.value (rest_from number rest p)) passed
@@ -202,12 +220,17 @@ module _ (number : ℕ) (rest : Ahead) (passed : List Passed) (marks : List Mark
   right_here = record { marked = λ app limits view base store are all. are; still = λ app limits view base store all. all }
 
   -- the last one that was passed becomes a mark
-  pub right_then : (left : List Passed) (before : List Mark) (p : Passed) (fewer : List Passed) (more : List Mark) → LeavesRight number rest passed marks left before → left ≡ fewer ++ p ∷ []
-      → IsPutAt before more (record { kernel = p.kernel; hint = p.hint; rest = rest_from number rest p }) → LeavesRight number rest passed marks fewer more
+  pub right_then : (left : List Passed) (before : List Mark) (p : Passed) (fewer : List Passed) (more : List Mark)
+      → LeavesRight number rest passed marks left before → left ≡ fewer ++ p ∷ []
+      → IsPutAt before more (record { kernel = p.kernel; hint = p.hint; rest = rest_from number rest p })
+      → LeavesRight number rest passed marks fewer more
   right_then left before p fewer more right is put = record {
     marked = λ app limits view base store are all.
-        let its = all_last (λ (q : Passed). IsRestIn app limits view base store q.kernel.value (rest_from number rest q)) fewer p (rw is at (right.still app limits view base store all)) in
+        let its =
+        all_last (λ (q : Passed). IsRestIn app limits view base store q.kernel.value (rest_from number rest q))
+        fewer p (rw is at (right.still app limits view base store all)) in
         put app limits view base store (right.marked app limits view base store are all) its.1;
     still = λ app limits view base store all.
-        (all_last (λ (q : Passed). IsRestIn app limits view base store q.kernel.value (rest_from number rest q)) fewer p (rw is at (right.still app limits view base store all))).0;
+        (all_last (λ (q : Passed). IsRestIn app limits view base store q.kernel.value (rest_from number rest q))
+        fewer p (rw is at (right.still app limits view base store all))).0;
   }

@@ -1,7 +1,8 @@
 -- Elements that are looked up by their places.
 use Rattle.std.specs.Prelude.{slice_get, Some}
 use Rattle.std.specs.List.{AllByRecursion, filter_map}
-use Rattle.std.proofs.Common.{◌≡◌, ◌<◌, ◌≤◌, ◌+◌, ℕ, zero, suc, List, [], ◌∷◌, ◌++◌, length, take, drop, slice_index_or, refl, sym, subst, ap, ◌∙◌, length-append, arith}
+use Rattle.std.proofs.Common.{◌≡◌, ◌<◌, ◌≤◌, ◌+◌, ℕ, zero, suc, List, [], ◌∷◌, ◌++◌, length, take, drop, slice_index_or, refl, sym}
+use Rattle.std.proofs.Common.{subst, ap, ◌∙◌, length-append, arith}
 use Rattle.std.proofs.lemmas.List.{get_or-drop, get_or-take, length-drop, length-take-le}
 use Rattle.std.proofs.lemmas.List.Elements.{filter_map-append}
 use Rattle.std.proofs.lemmas.Option.{get_or_from_slice_get, slice_get_read}
@@ -52,7 +53,8 @@ module _ {X : Type 0} where
   -- more elements change none
   pub more_there : (xs more : List X) (places : List ℕ) → AreThere xs places → AreThere (xs ++ more) places
   more_there xs more [] there = tt
-  more_there xs more (place ∷ places) there = (let l = there.0 in omega (arith, length-append xs more), more_there xs more places there.1)
+  more_there xs more (place ∷ places) there =
+      (let l = there.0 in omega (arith, length-append xs more), more_there xs more places there.1)
 
   pub more_found : (xs more : List X) (places : List ℕ) → AreThere xs places → looked_up (xs ++ more) places ≡ looked_up xs places
   more_found xs more [] there = refl
@@ -61,11 +63,13 @@ module _ {X : Type 0} where
       rw (here, still_found xs more place x here, more_found xs more places there.1) refl
 
   -- one more place
-  pub one_there : (xs : List X) (places : List ℕ) (place : ℕ) → AreThere xs places → place < length xs → AreThere xs (places ++ place ∷ [])
+  pub one_there : (xs : List X) (places : List ℕ) (place : ℕ) → AreThere xs places
+      → place < length xs → AreThere xs (places ++ place ∷ [])
   one_there xs [] place there l = (l, tt)
   one_there xs (p ∷ places) place there l = (there.0, one_there xs places place there.1 l)
 
-  pub one_found : (xs : List X) (places : List ℕ) (place : ℕ) (x : X) → slice_get xs place ≡ Some x → looked_up xs (places ++ place ∷ []) ≡ looked_up xs places ++ x ∷ []
+  pub one_found : (xs : List X) (places : List ℕ) (place : ℕ) (x : X) → slice_get xs place ≡ Some x
+      → looked_up xs (places ++ place ∷ []) ≡ looked_up xs places ++ x ∷ []
   one_found xs places place x is = filter_map-append (slice_get xs) places (place ∷ []) ∙ rw is refl
 
   last_found : (xs : List X) (x : X) → slice_get (xs ++ x ∷ []) (length xs) ≡ Some x
@@ -73,9 +77,11 @@ module _ {X : Type 0} where
   last_found (y ∷ xs) x = last_found xs x
 
   -- an element behind the others, in a place of its own
-  pub new_found : (xs : List X) (places : List ℕ) (x : X) → AreThere xs places → looked_up (xs ++ x ∷ []) (places ++ length xs ∷ []) ≡ looked_up xs places ++ x ∷ []
+  pub new_found : (xs : List X) (places : List ℕ) (x : X) → AreThere xs places
+      → looked_up (xs ++ x ∷ []) (places ++ length xs ∷ []) ≡ looked_up xs places ++ x ∷ []
   new_found xs places x there =
-      one_found (xs ++ x ∷ []) places (length xs) x (last_found xs x) ∙ ap (λ (ys : List X). ys ++ x ∷ []) (more_found xs (x ∷ []) places there)
+      one_found (xs ++ x ∷ []) places (length xs) x (last_found xs x)
+      ∙ ap (λ (ys : List X). ys ++ x ∷ []) (more_found xs (x ∷ []) places there)
 
   pub new_there : (xs : List X) (places : List ℕ) (x : X) → AreThere xs places → AreThere (xs ++ x ∷ []) (places ++ length xs ∷ [])
   new_there xs places x there =
@@ -108,4 +114,5 @@ module _ {X : Type 0} where
   pub some_at : (xs : List X) (first count index : ℕ) (x : X) → index < count → slice_get xs (first + index) ≡ Some x
       → x ≡ slice_index_or (take count (drop first xs)) index x
   some_at xs first count index x l is =
-      sym (get_or-take count (drop first xs) index x l ∙ get_or-drop first xs index x ∙ get_or_from_slice_get xs (first + index) x x is)
+      sym (get_or-take count (drop first xs) index x l ∙ get_or-drop first xs index x
+      ∙ get_or_from_slice_get xs (first + index) x x is)

@@ -1,6 +1,7 @@
 -- Sums over lists with the same numbers in them.
 use Rattle.std.specs.Prelude.{nat_lt}
-use Rattle.std.proofs.Common.{◌≡◌, ◌≢◌, ◌≤◌, ◌<◌, ◌+◌, ℕ, zero, suc, Bool, true, false, cond, List, [], ◌∷◌, ◌++◌, length, slice_index, sum, add-one, refl, sym, ap, ◌∙◌, arith, ⊎_elim}
+use Rattle.std.proofs.Common.{◌≡◌, ◌≢◌, ◌≤◌, ◌<◌, ◌+◌, ℕ, zero, suc, Bool, true, false, cond, List, [], ◌∷◌, ◌++◌, length}
+use Rattle.std.proofs.Common.{slice_index, sum, add-one, refl, sym, ap, ◌∙◌, arith, ⊎_elim}
 use Rattle.std.proofs.lemmas.Bool.Decides.{nat_tests}
 use Rattle.std.proofs.lemmas.List.Sums.{sum_by-cons}
 use Rattle.deal.specs.Totals.{total, range, one_at, times, HasEachOnce}
@@ -29,9 +30,11 @@ total_within (x ∷ xs) ys within h =
     let at = found x ys (omega (arith, within x, here x x refl)) in
     let rest : (z : ℕ) → times z xs ≤ times z (at.front ++ at.back) = λ z. (
     let all = within z in
-    let split : times z ys ≡ times z at.front + (one_at z x + times z at.back) = ap (times z) at.whole ∙ total_append (one_at z) at.front (x ∷ at.back) in
+    let split : times z ys ≡ times z at.front + (one_at z x + times z at.back) =
+    ap (times z) at.whole ∙ total_append (one_at z) at.front (x ∷ at.back) in
     omega (arith, all, split, total_append (one_at z) at.front at.back)) in
-    let split : total h ys ≡ total h at.front + (h x + total h at.back) = ap (total h) at.whole ∙ total_append h at.front (x ∷ at.back) in
+    let split : total h ys ≡ total h at.front + (h x + total h at.back) =
+    ap (total h) at.whole ∙ total_append h at.front (x ∷ at.back) in
     omega (arith, total_within xs (at.front ++ at.back) rest h, split, total_append h at.front at.back)
 
 -- the numbers below n are in their range

@@ -16,16 +16,20 @@ use Rattle.campaign.proofs.Seeing.{rows_of_seen}
 use Rattle.campaign.specs.Points.{IsExpandFault}
 use Rattle.shelf.specs.Shelves.{Shelved, IsShelf}
 
-module _ (app : Application) (shelf : Shelved) (base : Run) (is : IsShelf app shelf) (own : shelf.limits ≡ app.limits) (same : base ≡ shelf.base) where
+module _ (app : Application) (shelf : Shelved) (base : Run) (is : IsShelf app shelf)
+    (own : shelf.limits ≡ app.limits) (same : base ≡ shelf.base) where
   its_run : IsRun app [] app.limits base
-  its_run = subst (λ r. IsRun app [] app.limits r) (sym same) (subst (λ (limits : Limits). IsRun app [] limits shelf.base) own is.is_base)
+  its_run =
+      subst (λ r. IsRun app [] app.limits r) (sym same) (subst (λ (limits : Limits). IsRun app [] limits shelf.base) own is.is_base)
 
   pub expand_fault : (fault : ExpandFault) → IsExpandFault app base.steps fault → IsCampaignFault app (of_expanding fault)
   expand_fault TooManyPoints many = record { base = base; is_base = its_run; many = many }
   expand_fault Memory few = tt
 
-  pub app_rows : (view : View) (shard : Shard) (points some : List (List Injection)) (report : Shown) → points ≡ points_in app base.steps → length points ≤ most_points
-      → some ≡ part_of shard points → report.view ≡ view → report.first ≡ first_of shard (length points) → AreSeen app shelf.limits view some report.rows → IsShownOf app view shard report
+  pub app_rows : (view : View) (shard : Shard) (points some : List (List Injection)) (report : Shown)
+      → points ≡ points_in app base.steps → length points ≤ most_points
+      → some ≡ part_of shard points → report.view ≡ view → report.first ≡ first_of shard (length points)
+      → AreSeen app shelf.limits view some report.rows → IsShownOf app view shard report
   app_rows view shard points some report its few part in_view first are =
       let of = rows_of_seen app shelf.limits view some report.rows are in
       record {
@@ -34,11 +38,15 @@ module _ (app : Application) (shelf : Shelved) (base : Run) (is : IsShelf app sh
           base = base;
           is_base = its_run;
           few = subst (λ (ps : List (List Injection)). length ps ≤ most_points) its few;
-          are_rows = subst (λ (ps : List (List Injection)). AreRows app app.limits ps of.whole) (part ∙ ap (part_of shard) its) (subst (λ (limits : Limits). AreRows app limits some of.whole) own of.are_rows);
+          are_rows =
+              subst (λ (ps : List (List Injection)). AreRows app app.limits ps of.whole) (part ∙ ap (part_of shard) its)
+              (subst (λ (limits : Limits). AreRows app limits some of.whole) own of.are_rows);
         };
-        shown = same_shown report _ in_view (first ∙ ap (λ (ps : List (List Injection)). first_of shard (length ps)) its) of.as_seen;
+        shown =
+            same_shown report _ in_view (first ∙ ap (λ (ps : List (List Injection)). first_of shard (length ps)) its) of.as_seen;
       }
     where
       same_shown : (a b : Shown) → a.view ≡ b.view → a.first ≡ b.first → a.rows ≡ b.rows → a ≡ b
       same_shown a b v f r =
-          ap (λ (x : View). record a { view = x }) v ∙ ap (λ (x : ℕ). record a { view = b.view; first = x }) f ∙ ap (λ (x : List Row). record b { rows = x }) r
+          ap (λ (x : View). record a { view = x }) v ∙ ap (λ (x : ℕ). record a { view = b.view; first = x }) f
+          ∙ ap (λ (x : List Row). record b { rows = x }) r

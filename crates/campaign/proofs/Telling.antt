@@ -1,6 +1,7 @@
 -- Events behind a link, which are written leg by leg.
 use Rattle.std.specs.List.{flat_map}
-use Rattle.std.proofs.Common.{◌≡◌, ◌∙◌, ◌++◌, ℕ, List, Option, Some, Result, Ok, Err, slice_get, slice_range, ap, subst, sym, append_assoc}
+use Rattle.std.proofs.Common.{◌≡◌, ◌∙◌, ◌++◌, ℕ, List, Option, Some, Result, Ok, Err, slice_get, slice_range, ap, subst, sym}
+use Rattle.std.proofs.Common.{append_assoc}
 use Rattle.std.proofs.lemmas.Grind.{flat_map-append}
 use Rattle.byte_io.specs.Bytes.{Adds, Sent, SentFront}
 use Rattle.byte_io.proofs.Sending.{Sent_longer, Sent_then, SentFront_longer, SentFront_then}
@@ -13,16 +14,21 @@ use Rattle.campaign.specs.Links.{Store, told_at, AreLegs}
 use Rattle.campaign.proofs.Linked.{told_on}
 
 -- The text of a row: its head line, the events with which it begins, and those with which it goes on.
-pub row_parts : (f : Event → List ℕ) (head : List ℕ) (xs ys : List Event) → head ++ flat_map f (xs ++ ys) ≡ (head ++ flat_map f xs) ++ flat_map f ys
-row_parts f head xs ys = ap (λ (t : List ℕ). head ++ t) (flat_map-append f xs ys) ∙ sym (append_assoc head (flat_map f xs) (flat_map f ys))
+pub row_parts : (f : Event → List ℕ) (head : List ℕ) (xs ys : List Event)
+    → head ++ flat_map f (xs ++ ys) ≡ (head ++ flat_map f xs) ++ flat_map f ys
+row_parts f head xs ys =
+    ap (λ (t : List ℕ). head ++ t) (flat_map-append f xs ys) ∙ sym (append_assoc head (flat_map f xs) (flat_map f ys))
 
 -- What was left of a text is added, and it was all that was left.
-pub last_sent : {T E : Type 0} (a b c : Option (List ℕ)) (page whole mid text kept : List ℕ) (r : Result T E) → Sent a b (page ++ whole) (mid ++ text) → Adds b c mid kept r text → Adds a c page kept r whole
+pub last_sent : {T E : Type 0} (a b c : Option (List ℕ)) (page whole mid text kept : List ℕ) (r : Result T E)
+    → Sent a b (page ++ whole) (mid ++ text) → Adds b c mid kept r text → Adds a c page kept r whole
 last_sent a b c page whole mid text kept (Ok x) first second = Sent_then a b c (page ++ whole) (mid ++ text) kept first second
 last_sent a b c page whole mid text kept (Err e) first second = SentFront_then a b c (page ++ whole) (mid ++ text) first second
 
-module _ (app : Application) (base : List Event) (store : Store) (legs : AreLegs base store) (number from : ℕ) (leg : Leg) (at : slice_get store.legs number ≡ Some leg)
-    (a b c : Option (List ℕ)) (whole page : List ℕ) (sent : Sent a b whole (page ++ flat_map (event_text app) (told_at base store (link.Leg number from)))) where
+module _ (app : Application) (base : List Event) (store : Store) (legs : AreLegs base store)
+    (number from : ℕ) (leg : Leg) (at : slice_get store.legs number ≡ Some leg)
+    (a b c : Option (List ℕ)) (whole page : List ℕ)
+    (sent : Sent a b whole (page ++ flat_map (event_text app) (told_at base store (link.Leg number from)))) where
   abbrev text : List Event → List ℕ
   text events = flat_map (event_text app) events
 
@@ -34,7 +40,8 @@ module _ (app : Application) (base : List Event) (store : Store) (legs : AreLegs
 
   both : (page ++ text here) ++ text behind ≡ page ++ text (told_at base store (link.Leg number from))
   both = append_assoc page (text here) (text behind)
-      ∙ ap (λ (t : List ℕ). page ++ t) (sym (ap text (told_on base store legs number from leg at) ∙ flat_map-append (event_text app) here behind))
+      ∙ ap (λ (t : List ℕ). page ++ t)
+      (sym (ap text (told_on base store legs number from leg at) ∙ flat_map-append (event_text app) here behind))
 
   -- the events of a leg are added, and those behind it are left
   pub leg_sent : (mid : List ℕ) → Sent b c (page ++ text here) mid → Sent a c whole (mid ++ text behind)

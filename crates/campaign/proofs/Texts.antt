@@ -12,9 +12,12 @@ use Rattle.campaign.specs.Report.{row_of, store_of}
 use Rattle.campaign.specs.Texts.{IsTextOf}
 
 -- A text that was found is that of the row.
-pub text_found : {X : Type 0} (text : X → List ℕ) (app : Application) (rows : Rows) (base : Run) (store : Store) (number place : ℕ) (part : Part) (row : KeptRow)
-    → slice_get rows.parts.items number ≡ Some part → slice_get part.kept place ≡ Some row → rows.base ≡ base → store ≡ store_of part
-    → (known : Option X) → IfSome known (λ t. IsTextOf app rows number place (text t)) → IfSome known (λ t. text t ≡ row_text app 0 (row_of base store row))
+pub text_found : {X : Type 0} (text : X → List ℕ) (app : Application) (rows : Rows)
+    (base : Run) (store : Store) (number place : ℕ) (part : Part) (row : KeptRow)
+    → slice_get rows.parts.items number ≡ Some part
+    → slice_get part.kept place ≡ Some row → rows.base ≡ base → store ≡ store_of part
+    → (known : Option X) → IfSome known (λ t. IsTextOf app rows number place (text t))
+    → IfSome known (λ t. text t ≡ row_text app 0 (row_of base store row))
 text_found text app rows base store number place part row there here same told None is = tt
 text_found text app rows base store number place part row there here same told (Some t) is =
     is part row there here ∙ ap₂ (λ (b : Run) (s : Store). row_text app 0 (row_of b s row)) same (sym told)

@@ -1,5 +1,5 @@
--- What the campaign of a file comes to: the report of one row for each of its points, or of a part of these, as a view shows it; or the
--- fault that prevents it.
+-- What the campaign of a file comes to: the report of one row for each of its points, or of a part of these, as a view shows it; or
+-- the fault that prevents it.
 use Rattle.std.specs.Prelude.{◌≡◌, ◌<◌, ◌≤◌, ℕ, Bool, List, [], length, map, Option, Result}
 use Rattle.model.specs.Application.{Application}
 use Rattle.model.specs.Scripts.{most_points}
@@ -41,8 +41,8 @@ pub record HasTooManyPoints (app : Application) : Type 0 where
   pub is_base : IsRun app [] app.limits base
   pub many : most_points < length (points_in app base.steps)
 
--- The bytes are a file whose campaign has this report, of a part of its rows as the view shows them, and these totals of that part's
--- rows.
+-- The bytes are a file whose campaign has this report, of a part of its rows as the view shows them, and these totals of that
+-- part's rows.
 pub record IsCampaignOf (view : View) (shard : Shard) (bytes report : List ℕ) (totals : Totals) : Type 0 where
   pub app : Application
   pub file : IsFileOf bytes app
@@ -67,7 +67,8 @@ of_expanding expanding.TooManyPoints = TooManyPoints
 of_expanding expanding.Memory = Memory
 
 -- a call that serves a part of the campaign of a file, as the view shows it, and answers that part's totals
-abbrev pub ServesCampaign : View → Shard → Option (List ℕ) → (read_failed : Bool) → (old new : Option (List ℕ)) → (write_failed : Bool)
+abbrev pub ServesCampaign : View → Shard → Option (List ℕ)
+    → (read_failed : Bool) → (old new : Option (List ℕ)) → (write_failed : Bool)
     → Result Totals ServeFault → Type 0
 ServesCampaign view shard input read_failed old new write_failed outcome =
     Serves Totals (IsCampaignOf view shard) HasCampaignFault input read_failed old new write_failed outcome

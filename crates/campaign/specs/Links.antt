@@ -1,5 +1,6 @@
 -- Events by legs: each leg has a stretch of a trail, and goes on as one before it does, or as the base run.
-use Rattle.std.specs.Prelude.{◌≡◌, ℕ, zero, suc, ◌+◌, ◌≤◌, List, [], ◌++◌, length, drop, slice_range, slice_get, Some, option_map, unwrap_or}
+use Rattle.std.specs.Prelude.{◌≡◌, ℕ, zero, suc, ◌+◌, ◌≤◌, List, [], ◌++◌, length, drop, slice_range, slice_get, Some, option_map}
+use Rattle.std.specs.Prelude.{unwrap_or}
 use Rattle.model.specs.declared.event.Event.{Event}
 use Rattle.campaign.specs.declared.link.Leg.{Leg}
 use Rattle.campaign.specs.declared.link.Link.{Link}
@@ -15,7 +16,9 @@ abbrev pub told_by : (base : List Event) → Store → ℕ → Link → List Eve
 told_by base store n (link.Base from) = drop from base
 told_by base store zero (link.Leg number from) = []
 told_by base store (suc n) (link.Leg number from) =
-    unwrap_or (option_map (λ (leg : Leg). slice_range store.trail from leg.to ++ told_by base store n leg.next) (slice_get store.legs number)) []
+    unwrap_or (option_map (λ (leg : Leg). slice_range store.trail from leg.to ++ told_by base store n leg.next)
+    (slice_get store.legs number))
+    []
 
 -- over how many legs a link goes at most, since each goes on as one before it
 abbrev pub height : Link → ℕ

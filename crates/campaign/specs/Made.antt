@@ -38,7 +38,8 @@ pub record ComeBack (tally : Sheet) (old new : List Tallied) : Type 0 where
   pub same : AllByRecursion (λ (seat : Tallied). seat.sheet ≡ tally) new
 
 -- The same, and the seats counted those rows.
-pub record IsBrought (work : Work) (deal : Game) (tally : Sheet) (old : List Tallied) (lanes : List Sight) (new : List Tallied) (parts : List Part) : Type 0 where
+pub record IsBrought (work : Work) (deal : Game) (tally : Sheet) (old : List Tallied)
+    (lanes : List Sight) (new : List Tallied) (parts : List Part) : Type 0 where
   pub brings : BringsWhole work deal lanes parts
   pub back : ComeBack tally old new
   pub counts : (rows : ℕ → List Row) → AreRowsByBlock work rows → (kind : ℕ) → kind < 7

@@ -19,7 +19,8 @@ use Rattle.campaign.specs.Working.{AreKnown, IsRestIn}
 
 -- Each mark has the rest of each row that comes to its kernel.
 abbrev pub AreMarked : Application → Limits → View → Run → Store → List Mark → Type 0
-AreMarked app limits view base store marks = AllByRecursion (λ (m : Mark). IsRestIn app limits view base store m.kernel.value m.rest) marks
+AreMarked app limits view base store marks =
+    AllByRecursion (λ (m : Mark). IsRestIn app limits view base store m.kernel.value m.rest) marks
 
 -- Where the marks are right, so is this rest of the kernel.
 abbrev pub IsRestAt : List Mark → Machine → Ahead → Type 0
@@ -54,22 +55,25 @@ AreBehind app limits trail now passed = AllByRecursion (IsBehind app limits trai
 
 -- Where each of the old ones is behind the kernel, so is each of the new ones.
 abbrev pub IsNoted : (trail : List Event) → (now : Machine) → (old new : List Passed) → Type 0
-IsNoted trail now old new = (app : Application) (limits : Limits) → AreBehind app limits trail now old → AreBehind app limits trail now new
+IsNoted trail now old new =
+    (app : Application) (limits : Limits) → AreBehind app limits trail now old → AreBehind app limits trail now new
 
 -- how each row goes on that comes to the kernel that was passed, where that is by the leg of this number and then so
 abbrev pub rest_from : (number : ℕ) → Ahead → Passed → Ahead
 rest_from number rest passed = record rest { told = link.Leg number passed.from }
 
--- Where the old marks are right, and each row that comes to one of the kernels that were passed goes on so, the new marks are right.
+-- Where the old marks are right, and each row that comes to one of the kernels that were passed goes on so, the new marks are
+-- right.
 abbrev pub ArePut : (number : ℕ) → Ahead → List Passed → (old new : List Mark) → Type 0
 ArePut number rest passed old new = (app : Application) (limits : Limits) (view : View) (base : Run) (store : Store)
     → AreMarked app limits view base store old
     → AllByRecursion (λ (p : Passed). IsRestIn app limits view base store p.kernel.value (rest_from number rest p)) passed
     → AreMarked app limits view base store new
 
--- What a worker knows: of each of its rows that it is that of its point, that its legs go on as those before them, and of its marks that
--- they are right.
-pub record Knows (app : Application) (limits : Limits) (view : View) (base : Run) (kept : List KeptRow) (store : Store) (marks : List Mark) : Type 0 where
+-- What a worker knows: of each of its rows that it is that of its point, that its legs go on as those before them, and of its marks
+-- that they are right.
+pub record Knows (app : Application) (limits : Limits) (view : View) (base : Run)
+    (kept : List KeptRow) (store : Store) (marks : List Mark) : Type 0 where
   pub rows : AreKnown app limits view base kept store
   pub legs : AreLegs base.events store
   pub marked : AreMarked app limits view base store marks

@@ -21,7 +21,8 @@ all_placed first (part ∷ parts) places = all_placed (first + 1) parts (placed 
 
 -- each block's number is below this one
 abbrev pub AreBelow : ℕ → List Part → Type 0
-AreBelow count parts = AllByRecursion (λ (part : Part). AllByRecursion (λ (block : KeptBlock). block.number < count) part.blocks.items) parts
+AreBelow count parts =
+    AllByRecursion (λ (part : Part). AllByRecursion (λ (block : KeptBlock). block.number < count) part.blocks.items) parts
 
 -- the blocks of the parts, one part after the other
 abbrev pub all_numbers : List Part → List ℕ

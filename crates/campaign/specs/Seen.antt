@@ -24,6 +24,7 @@ pub record IsSeen (app : Application) (limits : Limits) (view : View) (row : Row
   pub is : row ≡ seen view whole
 
 -- They are the rows of these points, as far as the view shows them.
-pub record AreSeen (app : Application) (limits : Limits) (view : View) (points : List (List Injection)) (rows : List Row) : Type 0 where
+pub record AreSeen (app : Application) (limits : Limits) (view : View)
+    (points : List (List Injection)) (rows : List Row) : Type 0 where
   pub one_each : map (λ (row : Row). row.point) rows ≡ points
   pub each : AllByRecursion (IsSeen app limits view) rows

@@ -63,7 +63,8 @@ Known input bytes = IfSome input (λ known. bytes ≡ known)
 -- What goes out, for some bytes of the input, where this says which text is their report, and what is answered with it. With an
 -- answer: the whole report. At a write fault: a beginning of such a report. At any other fault, which these bytes have:
 -- nothing.
-abbrev pub Answers : {A : Type 0} → (IsReport : (bytes report : List ℕ) → A → Type 0) → (HasFault : (bytes : List ℕ) → ServeFault → Type 0)
+abbrev pub Answers : {A : Type 0} → (IsReport : (bytes report : List ℕ) → A → Type 0)
+    → (HasFault : (bytes : List ℕ) → ServeFault → Type 0)
     → Option (List ℕ) → (old new : Option (List ℕ)) → Result A ServeFault → Type 0
 Answers IsReport HasFault input old new (Ok answer) =
     (bytes : List ℕ) × Known input bytes

@@ -1,5 +1,6 @@
 -- What workers make: the rows of blocks.
-use Rattle.std.specs.Prelude.{◌≡◌, ℕ, ◌+◌, ◌<◌, ◌≤◌, ◌^◌, false, List, [], ◌∷◌, ◌++◌, length, map, take, drop, sum, slice_get, slice_index, true, Option, None, Some, IfSome}
+use Rattle.std.specs.Prelude.{◌≡◌, ℕ, ◌+◌, ◌<◌, ◌≤◌, ◌^◌, false, List, [], ◌∷◌, ◌++◌, length, map, take, drop, sum, slice_get}
+use Rattle.std.specs.Prelude.{slice_index, true, Option, None, Some, IfSome}
 use Rattle.std.specs.List.{AllByRecursion}
 use Rattle.machine.specs.Logged.{all_of}
 use Rattle.machine.specs.declared.machine.Machine.{Machine}
@@ -31,8 +32,8 @@ use Rattle.campaign.specs.Links.{Store, AreLegs, Grows, Tells}
 use Rattle.campaign.specs.Report.{row_of, rows_of, store_of, IsKept, AreKept}
 use Rattle.campaign.specs.Seen.{AreSeen, IsSeen}
 
--- What there is to be done: rows of the application under these limits, for this view, with this base run, at these points, which are
--- cut into blocks of these lengths.
+-- What there is to be done: rows of the application under these limits, for this view, with this base run, at these points, which
+-- are cut into blocks of these lengths.
 pub record Work : Type 0 where
   pub app : Application
   pub limits : Limits
@@ -44,13 +45,15 @@ pub record Work : Type 0 where
 -- ---- one row
 
 -- The row of this point is kept so, as far as the view shows it.
-pub record IsKeptRow (app : Application) (limits : Limits) (view : View) (base : Run) (store : Store) (point : List Injection) (kept : KeptRow) : Type 0 where
+pub record IsKeptRow (app : Application) (limits : Limits) (view : View) (base : Run)
+    (store : Store) (point : List Injection) (kept : KeptRow) : Type 0 where
   pub at_point : kept.point ≡ point
   pub is_kept : IsKept base store kept
   pub is_seen : IsSeen app limits view (row_of base store kept)
 
 -- A store gains some events and legs, with which a row is kept.
-pub record GainsRow (app : Application) (limits : Limits) (view : View) (base : Run) (point : List Injection) (old new : Store) (kept : KeptRow) : Type 0 where
+pub record GainsRow (app : Application) (limits : Limits) (view : View) (base : Run)
+    (point : List Injection) (old new : Store) (kept : KeptRow) : Type 0 where
   pub grows : Grows old new
   pub legs : AreLegs base.events new
   pub row : IsKeptRow app limits view base new point kept
@@ -66,7 +69,8 @@ pub record IsAmong (rows : List KeptRow) (point : List Injection) (number : ℕ)
   pub at_point : row.point ≡ point
 
 -- Behind these rows comes that of this point, with what the store gains, and ends so.
-pub record KeepsRow (app : Application) (limits : Limits) (view : View) (base : Run) (point : List Injection) (kept kept' : List KeptRow)
+pub record KeepsRow (app : Application) (limits : Limits) (view : View)
+    (base : Run) (point : List Injection) (kept kept' : List KeptRow)
     (old new : Store) (end : End) : Type 0 where
   pub row : KeptRow
   pub rows_are : kept' ≡ kept ++ row ∷ []
@@ -84,27 +88,36 @@ abbrev pub IsTold : View → (base : List Event) → Store → Link → End → 
 IsTold view base store link end events = shows_events view end ≡ true → Tells base store link events
 
 -- Each row that comes to the kernel goes on so, and what it reports is there, where the view shows it.
-pub record IsRestIn (app : Application) (limits : Limits) (view : View) (base : Run) (store : Store) (k : Machine) (rest : Ahead) : Type 0 where
+pub record IsRestIn (app : Application) (limits : Limits) (view : View)
+    (base : Run) (store : Store) (k : Machine) (rest : Ahead) : Type 0 where
   pub events : List Event
   pub told : IsTold view base.events store rest.told rest.end events
   pub is_rest : IsRest app limits k (record { events = events; steps = rest.steps; ticks = rest.ticks; end = rest.end })
 
--- The row of this point, which has come to the kernel, goes on by what the trail gained, and then so; and what it reports then is there,
--- where the view shows it.
-pub record IsRestOf (app : Application) (limits : Limits) (view : View) (base : Run) (old new : Store) (point : List Injection) (k : Machine) (rest : Ahead) : Type 0 where
+-- The row of this point, which has come to the kernel, goes on by what the trail gained, and then so; and what it reports then is
+-- there, where the view shows it.
+pub record IsRestOf (app : Application) (limits : Limits) (view : View) (base : Run)
+    (old new : Store) (point : List Injection) (k : Machine) (rest : Ahead) : Type 0 where
   pub own : List Event
   pub trail : new.trail ≡ old.trail ++ own
   pub events : List Event
   pub told : IsTold view base.events new rest.told rest.end events
-  pub is_row : IsRun app point limits (record { events = events_after app limits point k.steps ++ (own ++ events); steps = rest.steps; ticks = rest.ticks; end = rest.end })
+  pub is_row : IsRun app point limits (record {
+    events = events_after app limits point k.steps ++ (own ++ events);
+    steps = rest.steps;
+    ticks = rest.ticks;
+    end = rest.end;
+  })
 
--- Each row that comes to the kernel that was passed goes on by the trail from there on, and then so; and what it reports then is there,
--- where the view shows it.
-pub record IsPassed (app : Application) (limits : Limits) (view : View) (base : Run) (store : Store) (rest : Ahead) (passed : Passed) : Type 0 where
+-- Each row that comes to the kernel that was passed goes on by the trail from there on, and then so; and what it reports then is
+-- there, where the view shows it.
+pub record IsPassed (app : Application) (limits : Limits) (view : View)
+    (base : Run) (store : Store) (rest : Ahead) (passed : Passed) : Type 0 where
   pub within : passed.from ≤ length store.trail
   pub events : List Event
   pub told : IsTold view base.events store rest.told rest.end events
-  pub is_rest : IsRest app limits passed.kernel.value (record { events = drop passed.from store.trail ++ events; steps = rest.steps; ticks = rest.ticks; end = rest.end })
+  pub is_rest : IsRest app limits passed.kernel.value
+      (record { events = drop passed.from store.trail ++ events; steps = rest.steps; ticks = rest.ticks; end = rest.end })
 
 -- ---- seats
 
@@ -138,13 +151,15 @@ block_points work block = take (slice_index work.lengths block) (drop (sum (take
 
 -- these are the rows of each block
 abbrev pub AreRowsByBlock : Work → (ℕ → List Row) → Type 0
-AreRowsByBlock work rows = (block : ℕ) → block < length work.lengths → AreSeen work.app work.limits work.view (block_points work block) (rows block)
+AreRowsByBlock work rows =
+    (block : ℕ) → block < length work.lengths → AreSeen work.app work.limits work.view (block_points work block) (rows block)
 
 -- The rows of a block are kept.
 pub record IsKeptBlock (work : Work) (kept : List KeptRow) (store : Store) (block : KeptBlock) : Type 0 where
   pub is_block : block.number < length work.lengths
   pub within : block.first + block.count ≤ length kept
-  pub made : AreSeen work.app work.limits work.view (block_points work block.number) (rows_of work.base store (take block.count (drop block.first kept)))
+  pub made : AreSeen work.app work.limits work.view (block_points work block.number)
+      (rows_of work.base store (take block.count (drop block.first kept)))
 
 abbrev pub AreKeptBlocks : Work → List KeptRow → Store → List KeptBlock → Type 0
 AreKeptBlocks work kept store blocks = AllByRecursion (IsKeptBlock work kept store) blocks

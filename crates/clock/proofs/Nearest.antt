@@ -1,5 +1,6 @@
 -- How many ticks it is until the first sleeper wakes: the least of those of the definitions.
-use Rattle.std.proofs.Common.{◌≡◌, ◌<◌, ◌≤◌, ◌+◌, ◌-◌, inl, inr, ℕ, Bool, zero, suc, true, false, eqb, get_or, length, min, fold, filter_map, List, [], ◌∷◌, Option, Some, None, refl, ap, sym, subst, ◌∙◌, arith}
+use Rattle.std.proofs.Common.{◌≡◌, ◌<◌, ◌≤◌, ◌+◌, ◌-◌, inl, inr, ℕ, Bool, zero, suc, true, false, eqb, get_or, length, min, fold}
+use Rattle.std.proofs.Common.{filter_map, List, [], ◌∷◌, Option, Some, None, refl, ap, sym, subst, ◌∙◌, arith}
 use Rattle.std.specs.Prelude.{◌==◌, ◌||◌, nat_eq}
 use Rattle.std.specs.List.{AllByRecursion, cons_option, list_any}
 use Rattle.std.specs.Option.{is_some, option_eq, option_map}
@@ -30,7 +31,8 @@ least_already b (x ∷ xs) h =
     ap (λ (n : ℕ). fold min n xs) e ∙ least_already b xs h.1
 
 -- One of them is this, and none is less.
-pub least_with : (m a : ℕ) (xs : List ℕ) → AllByRecursion (λ x. m ≤ x) xs → list_any (λ x. eqb x m) xs ≡ true → fold min a xs ≡ min a m
+pub least_with : (m a : ℕ) (xs : List ℕ) → AllByRecursion (λ x. m ≤ x) xs
+    → list_any (λ x. eqb x m) xs ≡ true → fold min a xs ≡ min a m
 least_with m a [] h t = absurd (cc)
 least_with m a (x ∷ xs) h t =
     let l = h.0 in
@@ -54,19 +56,23 @@ at_time_only : (o : Option ℕ) (w : ℕ) → is_at w o ≡ true → o ≡ Some 
 at_time_only None w t = absurd (cc)
 at_time_only (Some v) w t = ap Some (eqb-same v w t)
 
-none_first : (now : ℕ) (o : Option ℕ) (xs : List ℕ) → is_some o ≡ false → xs ≡ [] → cons_option (option_map (λ time. time - now) o) xs ≡ []
+none_first : (now : ℕ) (o : Option ℕ) (xs : List ℕ) → is_some o ≡ false
+    → xs ≡ [] → cons_option (option_map (λ time. time - now) o) xs ≡ []
 none_first now None xs e none = none
 none_first now (Some w) xs e none = absurd (cc)
 
-none_from : (now : ℕ) (ts : List Task) → ((i : ℕ) → is_some (wake_time_of (get_or ts i no_task).status) ≡ false) → ticks_from now ts ≡ []
+none_from : (now : ℕ) (ts : List Task)
+    → ((i : ℕ) → is_some (wake_time_of (get_or ts i no_task).status) ≡ false) → ticks_from now ts ≡ []
 none_from now [] h = refl
 none_from now (t ∷ ts) h = none_first now (wake_time_of t.status) (ticks_from now ts) (h 0) (none_from now ts (λ i. h (suc i)))
 
-all_first : (now n : ℕ) (o : Option ℕ) (xs : List ℕ) → ((w : ℕ) → o ≡ Some w → now + n ≤ w) → AllByRecursion (λ x. n ≤ x) xs → AllByRecursion (λ x. n ≤ x) (cons_option (option_map (λ time. time - now) o) xs)
+all_first : (now n : ℕ) (o : Option ℕ) (xs : List ℕ) → ((w : ℕ) → o ≡ Some w → now + n ≤ w)
+    → AllByRecursion (λ x. n ≤ x) xs → AllByRecursion (λ x. n ≤ x) (cons_option (option_map (λ time. time - now) o) xs)
 all_first now n None xs k all = all
 all_first now n (Some w) xs k all = (let l = k w refl in omega arith, all)
 
-all_from : (now n : ℕ) (ts : List Task) → ((i w : ℕ) → wake_time_of (get_or ts i no_task).status ≡ Some w → now + n ≤ w) → AllByRecursion (λ x. n ≤ x) (ticks_from now ts)
+all_from : (now n : ℕ) (ts : List Task) → ((i w : ℕ) → wake_time_of (get_or ts i no_task).status ≡ Some w → now + n ≤ w)
+    → AllByRecursion (λ x. n ≤ x) (ticks_from now ts)
 all_from now n [] h = tt
 all_from now n (t ∷ ts) h = all_first now n (wake_time_of t.status) (ticks_from now ts) (h 0) (all_from now n ts (λ i. h (suc i)))
 
@@ -74,22 +80,31 @@ or_later : (a b : Bool) → b ≡ true → a || b ≡ true
 or_later true b t = refl
 or_later false b t = t
 
-one_behind : (now n : ℕ) (o : Option ℕ) (xs : List ℕ) → list_any (λ x. eqb x n) xs ≡ true → list_any (λ x. eqb x n) (cons_option (option_map (λ time. time - now) o) xs) ≡ true
+one_behind : (now n : ℕ) (o : Option ℕ) (xs : List ℕ) → list_any (λ x. eqb x n) xs ≡ true
+    → list_any (λ x. eqb x n) (cons_option (option_map (λ time. time - now) o) xs) ≡ true
 one_behind now n None xs t = t
 one_behind now n (Some v) xs t = or_later (eqb (v - now) n) (list_any (λ x. eqb x n) xs) t
 
-one_from : (now w i : ℕ) (ts : List Task) → wake_time_of (get_or ts i no_task).status ≡ Some w → list_any (λ x. eqb x (w - now)) (ticks_from now ts) ≡ true
+one_from : (now w i : ℕ) (ts : List Task) → wake_time_of (get_or ts i no_task).status ≡ Some w
+    → list_any (λ x. eqb x (w - now)) (ticks_from now ts) ≡ true
 one_from now w i [] e = absurd (cc)
-one_from now w zero (t ∷ ts) e = subst (λ (o : Option ℕ). list_any (λ x. eqb x (w - now)) (cons_option (option_map (λ time. time - now) o) (ticks_from now ts)) ≡ true) (sym e) (rw (eqb-refl (w - now)) refl)
+one_from now w zero (t ∷ ts) e =
+    subst (λ (o : Option ℕ).
+    list_any (λ x. eqb x (w - now)) (cons_option (option_map (λ time. time - now) o) (ticks_from now ts)) ≡ true)
+    (sym e) (rw (eqb-refl (w - now)) refl)
 one_from now w (suc i) (t ∷ ts) e = one_behind now (w - now) (wake_time_of t.status) (ticks_from now ts) (one_from now w i ts e)
 
-none_here : (now : ℕ) (o : Option ℕ) (xs : List ℕ) (any : Bool) → cons_option (option_map (λ time. time - now) o) xs ≡ [] → (xs ≡ [] → any ≡ false) → is_some o || any ≡ false
+none_here : (now : ℕ) (o : Option ℕ) (xs : List ℕ) (any : Bool)
+    → cons_option (option_map (λ time. time - now) o) xs ≡ [] → (xs ≡ [] → any ≡ false) → is_some o || any ≡ false
 none_here now None xs any e f = f e
 none_here now (Some w) xs any e f = absurd (cc)
 
-none_wake : (now : ℕ) (ts : List Task) → ticks_from now ts ≡ [] → list_any (λ (t : Task). is_some (wake_time_of t.status)) ts ≡ false
+none_wake : (now : ℕ) (ts : List Task) → ticks_from now ts ≡ []
+    → list_any (λ (t : Task). is_some (wake_time_of t.status)) ts ≡ false
 none_wake now [] e = refl
-none_wake now (t ∷ ts) e = none_here now (wake_time_of t.status) (ticks_from now ts) (list_any (λ (t : Task). is_some (wake_time_of t.status)) ts) e (λ f. none_wake now ts f)
+none_wake now (t ∷ ts) e =
+    none_here now (wake_time_of t.status) (ticks_from now ts)
+    (list_any (λ (t : Task). is_some (wake_time_of t.status)) ts) e (λ f. none_wake now ts f)
 
 -- ---- as the clock has it
 
@@ -102,7 +117,8 @@ entry_from m i w (x ∷ xs) h t = elim (cases_eq x.1 w) [
 ]
 
 -- the first sleeper, of whom the clock speaks
-pub first_sleeper : (t : Timeline) (n : ℕ) → Some n ≡ option_map (λ time. time - t.now) (first_time t.delayed_list) → (w : ℕ) × (first_time t.delayed_list ≡ Some w) × (n ≡ w - t.now)
+pub first_sleeper : (t : Timeline) (n : ℕ) → Some n ≡ option_map (λ time. time - t.now) (first_time t.delayed_list)
+    → (w : ℕ) × (first_time t.delayed_list ≡ Some w) × (n ≡ w - t.now)
 first_sleeper t n e = by_time (first_time t.delayed_list) e where
   by_time : (o : Option ℕ) → Some n ≡ option_map (λ time. time - t.now) o → (w : ℕ) × (o ≡ Some w) × (n ≡ w - t.now)
   by_time None f = absurd (cc)
@@ -111,7 +127,9 @@ first_sleeper t n e = by_time (first_time t.delayed_list) e where
 module _ (t : Timeline) (s : State) (h : StandsFor t s) where
   -- who is among those of a time wakes then
   pub wakes_at : (i w : ℕ) → among i (tasks_at w t.delayed_list) ≡ true → wake_time_of (status_at s i) ≡ Some w
-  wakes_at i w a = at_time_only (wake_time_of (status_at s i)) w (due-until s.tasks i w (list_by delayed_key s.tasks) (sym (ap (among i) (h.delayed w)) ∙ a))
+  wakes_at i w a =
+      at_time_only (wake_time_of (status_at s i)) w
+      (due-until s.tasks i w (list_by delayed_key s.tasks) (sym (ap (among i) (h.delayed w)) ∙ a))
 
   -- and who wakes at a time is among those of it
   among_at : (i w : ℕ) → wake_time_of (status_at s i) ≡ Some w → among i (tasks_at w t.delayed_list) ≡ true
@@ -124,21 +142,26 @@ module _ (t : Timeline) (s : State) (h : StandsFor t s) where
 
   -- Nobody sleeps.
   pub none_to_wake : t.delayed_list ≡ [] → ticks_to_wake s ≡ []
-  none_to_wake none = none_from s.time s.tasks (λ i. sym (asleep_same t s i h) ∙ ap (λ (xs : List (ℕ × ℕ)). is_asleep (record t { delayed_list = xs }) i) none)
+  none_to_wake none =
+      none_from s.time s.tasks
+      (λ i. sym (asleep_same t s i h) ∙ ap (λ (xs : List (ℕ × ℕ)). is_asleep (record t { delayed_list = xs }) i) none)
 
   pub none_wakes : t.delayed_list ≡ [] → will_wake s ≡ false
   none_wakes none = none_wake s.time s.tasks (none_to_wake none)
 
   -- The first sleeper wakes in this many ticks.
-  pub least_to_wake : (n w a : ℕ) → first_time t.delayed_list ≡ Some w → n ≡ w - t.now → Each (λ e. t.now + n ≤ e.1) t.delayed_list → fold min a (ticks_to_wake s) ≡ min a n
+  pub least_to_wake : (n w a : ℕ) → first_time t.delayed_list ≡ Some w → n ≡ w - t.now
+      → Each (λ e. t.now + n ≤ e.1) t.delayed_list → fold min a (ticks_to_wake s) ≡ min a n
   least_to_wake n w a first is all =
       let own = by_first t.delayed_list first in
       let now : t.now ≡ s.time = h.now in
       let later : (i v : ℕ) → wake_time_of (status_at s i) ≡ Some v → s.time + n ≤ v = λ i v e.
       (let l = entry_from (t.now + n) i v t.delayed_list all (among_at i v e) in omega arith) in
       let ticks : w - s.time ≡ n = omega arith in
-      let some : list_any (λ x. eqb x (w - s.time)) (ticks_to_wake s) ≡ true = one_from s.time w own.0 s.tasks (wakes_at own.0 w own.1) in
-      least_with n a (ticks_to_wake s) (all_from s.time n s.tasks later) (subst (λ (m : ℕ). list_any (λ x. eqb x m) (ticks_to_wake s) ≡ true) ticks some) where
+      let some : list_any (λ x. eqb x (w - s.time)) (ticks_to_wake s) ≡ true =
+      one_from s.time w own.0 s.tasks (wakes_at own.0 w own.1) in
+      least_with n a (ticks_to_wake s) (all_from s.time n s.tasks later)
+      (subst (λ (m : ℕ). list_any (λ x. eqb x m) (ticks_to_wake s) ≡ true) ticks some) where
         by_first : (xs : List (ℕ × ℕ)) → first_time xs ≡ Some w → (i : ℕ) × (among i (tasks_at w xs) ≡ true)
         by_first [] e = absurd (cc)
         by_first (x ∷ xs) e =

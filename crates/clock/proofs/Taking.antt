@@ -1,5 +1,6 @@
 -- The first entries of a list are taken out, one after another.
-use Rattle.std.proofs.Common.{◌≡◌, ◌≢◌, ℕ, ◌<◌, ◌≤◌, inl, inr, Some, None, List, [], ◌∷◌, ◌++◌, length, map, sym, ◌∙◌, ap, ap₂, subst, arith, refl, append_assoc, true, false}
+use Rattle.std.proofs.Common.{◌≡◌, ◌≢◌, ℕ, ◌<◌, ◌≤◌, inl, inr, Some, None, List, [], ◌∷◌, ◌++◌, length, map, sym, ◌∙◌, ap, ap₂}
+use Rattle.std.proofs.Common.{subst, arith, refl, append_assoc, true, false}
 use Rattle.std.specs.Prelude.{◌==◌}
 use Rattle.std.proofs.lemmas.Bool.{cases_eq, eq-eqb, ne_eqb}
 use Rattle.std.proofs.lemmas.Option.{same_Some}
@@ -37,12 +38,14 @@ split_at tick n (x ∷ xs) e = elim (cases_eq x.1 tick) [
   | inr other ↦ absurd (none-some n (sym (e ∙ first_later tick x xs other)))
 ]
 
-pub head_of : (list tick n : ℕ) (lists : List (List (ℕ × ℕ))) → Some n ≡ first_at tick (entries_of lists list) → First list tick n lists
+pub head_of : (list tick n : ℕ) (lists : List (List (ℕ × ℕ)))
+    → Some n ≡ first_at tick (entries_of lists list) → First list tick n lists
 head_of list tick n lists e =
     let f = split_at tick n (entries_of lists list) e in
     record { rest = f.0; is = f.1 }
 
-pub takes_one : (old new : List (List (ℕ × ℕ))) (list tick n : ℕ) (due : List ℕ) → IsSound 2 32 new → Taking old new list tick due → (f : First list tick n new) → Taking old (map (without n) new) list tick (due ++ n ∷ [])
+pub takes_one : (old new : List (List (ℕ × ℕ))) (list tick n : ℕ) (due : List ℕ) → IsSound 2 32 new
+    → Taking old new list tick due → (f : First list tick n new) → Taking old (map (without n) new) list tick (due ++ n ∷ [])
 takes_one old new list tick n due sound t f =
     let rest_is : entries_of (map (without n) new) list ≡ f.rest = without-first sound n tick list f.rest f.is in
     let sorted : IsSorted ((n, tick) ∷ f.rest) = subst IsSorted f.is t.sorted in
@@ -59,14 +62,17 @@ takes_one old new list tick n due sound t f =
     }
 
 -- the list is shorter without its first node
-pub shorter : (list tick n : ℕ) (lists : List (List (ℕ × ℕ))) → IsSound 2 32 lists → (f : First list tick n lists) → length (entries_of (map (without n) lists) list) < length (entries_of lists list)
+pub shorter : (list tick n : ℕ) (lists : List (List (ℕ × ℕ))) → IsSound 2 32 lists → (f : First list tick n lists)
+    → length (entries_of (map (without n) lists) list) < length (entries_of lists list)
 shorter list tick n lists sound f =
-    let after : length (entries_of (map (without n) lists) list) ≡ length f.rest = ap length (without-first sound n tick list f.rest f.is) in
+    let after : length (entries_of (map (without n) lists) list) ≡ length f.rest =
+    ap length (without-first sound n tick list f.rest f.is) in
     let before : length (entries_of lists list) ≡ length ((n, tick) ∷ f.rest) = ap length f.is in
     omega (arith, after, before)
 
 -- what is left where no more are due
-pub none_left : (tick : ℕ) (xs : List (ℕ × ℕ)) → None ≡ first_at tick xs → IsSorted xs → Each (λ e. tick ≤ e.1) xs → Each (λ e. tick < e.1) xs
+pub none_left : (tick : ℕ) (xs : List (ℕ × ℕ)) → None ≡ first_at tick xs
+    → IsSorted xs → Each (λ e. tick ≤ e.1) xs → Each (λ e. tick < e.1) xs
 none_left tick [] e s a = tt
 none_left tick (x ∷ xs) e s a = elim (cases_eq x.1 tick) [
   | inl same ↦ absurd (none-some x.0 (e ∙ first_here tick x xs same))

@@ -26,11 +26,14 @@ ready_within s i on = elim (cases_lt i (length s.tasks)) [
 ]
 
 -- a task changes, but not what it is doing
-stands_changed : (t : Timeline) (s : State) (i : ℕ) (u : Task) → StandsFor t s → u.status ≡ status_at s i → StandsFor t (with_task i u s)
+stands_changed : (t : Timeline) (s : State) (i : ℕ) (u : Task) → StandsFor t s
+    → u.status ≡ status_at s i → StandsFor t (with_task i u s)
 stands_changed t s i u h same = elim (cases_lt i (length s.tasks)) [
   | inl l ↦
-      let alike : SleepsAlike u.status (status_at s i) = record { key = ap delayed_status_key same; wake_time = ap wake_time_of same } in
-      let below : HasTicketBelow s.next_ticket u.status = subst (HasTicketBelow s.next_ticket) (sym same) (ticket_at s.next_ticket i s.tasks h.table.tickets) in
+      let alike : SleepsAlike u.status (status_at s i) =
+      record { key = ap delayed_status_key same; wake_time = ap wake_time_of same } in
+      let below : HasTicketBelow s.next_ticket u.status =
+      subst (HasTicketBelow s.next_ticket) (sym same) (ticket_at s.next_ticket i s.tasks h.table.tickets) in
       stands_kept t s (with_task i u s) i u h l refl refl refl alike (table-set s i u h.table below)
   | inr past ↦ subst (StandsFor t) (sym (with_task-past s i u past)) h
 ]
@@ -39,7 +42,8 @@ stands_changed t s i u h same = elim (cases_lt i (length s.tasks)) [
 stands_back : (t : Timeline) (s : State) (i : ℕ) → StandsFor t s → is_ready s i ≡ true → StandsFor t (make_ready i s)
 stands_back t s i h on =
     let u : Task = record (task_at s i) { status = Ready s.next_ticket } in
-    let alike : SleepsAlike u.status (status_at s i) = record { key = sym (asleep_none (status_at s i) on); wake_time = sym (ready_awake (status_at s i) on) } in
+    let alike : SleepsAlike u.status (status_at s i) =
+    record { key = sym (asleep_none (status_at s i) on); wake_time = sym (ready_awake (status_at s i) on) } in
     stands_kept t s (make_ready i s) i u h (ready_within s i on) refl refl refl alike (table-make_ready s i h.table)
 
 pub stands_prioritised : (t : Timeline) (s : State) (i priority : ℕ) → StandsFor t s → StandsFor t (set_priority i priority s)

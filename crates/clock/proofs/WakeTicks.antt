@@ -1,5 +1,6 @@
 -- The tick that is shown when a task's sleep ends.
-use Rattle.std.proofs.Common.{◌≡◌, ◌<◌, ◌+◌, ◌*◌, ◌%◌, ◌^◌, inl, inr, ℕ, Bool, true, false, List, [], ◌∷◌, ◌++◌, Option, Some, None, map, refl, ap, ap₂, sym, subst, ◌∙◌, arith}
+use Rattle.std.proofs.Common.{◌≡◌, ◌<◌, ◌+◌, ◌*◌, ◌%◌, ◌^◌, inl, inr, ℕ, Bool, true, false, List, [], ◌∷◌, ◌++◌, Option, Some, None}
+use Rattle.std.proofs.Common.{map, refl, ap, ap₂, sym, subst, ◌∙◌, arith}
 use Rattle.std.specs.Prelude.{IsTrue, ◌==◌, ◌||◌}
 use Rattle.std.specs.List.{filter, list_any}
 use Rattle.std.specs.Option.{is_some, option_map}
@@ -43,7 +44,8 @@ has_node-counted n b [] = refl
 has_node-counted n b (x ∷ xs) = ap (λ (c : Bool). x.0 == n || c) (has_node-counted n b xs)
 
 -- it sleeps until that tick, counted from the base
-at_value : (b i v : ℕ) (xs : List (ℕ × ℕ)) → has_node i xs ≡ true → v ≡ value_of i xs → among i (tasks_at (b + v) (count_from b xs)) ≡ true
+at_value : (b i v : ℕ) (xs : List (ℕ × ℕ)) → has_node i xs ≡ true
+    → v ≡ value_of i xs → among i (tasks_at (b + v) (count_from b xs)) ≡ true
 at_value b i v [] h e = absurd (cc)
 at_value b i v (x ∷ xs) h e = elim (cases_eq x.0 i) [
   | inl same ↦
@@ -59,7 +61,8 @@ at_value b i v (x ∷ xs) h e = elim (cases_eq x.0 i) [
       ]
 ]
 
-among-append : (i m : ℕ) (xs ys : List (ℕ × ℕ)) → among i (tasks_at m (xs ++ ys)) ≡ (among i (tasks_at m xs) || among i (tasks_at m ys))
+among-append : (i m : ℕ) (xs ys : List (ℕ × ℕ))
+    → among i (tasks_at m (xs ++ ys)) ≡ (among i (tasks_at m xs) || among i (tasks_at m ys))
 among-append i m xs ys =
     let p : ℕ × ℕ → Bool = λ e. e.1 == m in
     ap (λ (es : List (ℕ × ℕ)). among i (tasks_in es)) (filter-append p xs ys)
@@ -77,8 +80,10 @@ shown turns v l =
     let is : 2 ^ 32 * turns + v ≡ turns * 4294967296 + v = omega arith in
     ap printed is ∙ mod-mul-add turns 4294967296 v l
 
-module _ {ls : List (List (ℕ × ℕ))} {age tick current overflow : ℕ} (turns : ℕ) (c : IsClock ls age (2 ^ 32 * turns) tick current overflow) where
-  pub sleeps_until : (i v : ℕ) → has_node i (delayed_list_of ls (2 ^ 32 * turns) current overflow) ≡ true → ((l : ℕ) → IsTrue (has_node i (entries_of ls l)) → v ≡ value_of i (entries_of ls l))
+module _ {ls : List (List (ℕ × ℕ))} {age tick current overflow : ℕ} (turns : ℕ)
+    (c : IsClock ls age (2 ^ 32 * turns) tick current overflow) where
+  pub sleeps_until : (i v : ℕ) → has_node i (delayed_list_of ls (2 ^ 32 * turns) current overflow) ≡ true
+      → ((l : ℕ) → IsTrue (has_node i (entries_of ls l)) → v ≡ value_of i (entries_of ls l))
       → SleepsUntil (delayed_list_of ls (2 ^ 32 * turns) current overflow) i v
   sleeps_until i v has value =
       let base : ℕ = 2 ^ 32 * turns in
@@ -94,24 +99,29 @@ module _ {ls : List (List (ℕ × ℕ))} {age tick current overflow : ℕ} (turn
             )
         | inr none ↦
             let there : has_node i (entries_of ls overflow) ≡ true =
-            sym (has_node-counted i (base + 2 ^ 32) (entries_of ls overflow)) ∙ sym (has_node-append i xs ys (has_node-counted i base (entries_of ls current) ∙ none)) ∙ has in
+            sym (has_node-counted i (base + 2 ^ 32) (entries_of ls overflow))
+            ∙ sym (has_node-append i xs ys (has_node-counted i base (entries_of ls current) ∙ none)) ∙ has in
             let is : v ≡ value_of i (entries_of ls overflow) = value overflow there in
             let m : ℕ = base + 2 ^ 32 + value_of i (entries_of ls overflow) in
             let time : m ≡ 2 ^ 32 * (turns + 1) + value_of i (entries_of ls overflow) = omega arith in (
               m,
-              among-append i m xs ys ∙ or-right (among i (tasks_at m xs)) _ (at_value (base + 2 ^ 32) i _ (entries_of ls overflow) there refl),
-              ap printed time ∙ shown (turns + 1) _ (value_below (2 ^ 32) i (entries_of ls overflow) there c.overflow_fits) ∙ sym is,
+              among-append i m xs ys
+                  ∙ or-right (among i (tasks_at m xs)) _ (at_value (base + 2 ^ 32) i _ (entries_of ls overflow) there refl),
+              ap printed time
+                  ∙ shown (turns + 1) _ (value_below (2 ^ 32) i (entries_of ls overflow) there c.overflow_fits) ∙ sym is,
             )
       ]
 
 -- ---- in the definitions
 
-pub wakes_with : (t : Timeline) (s : State) (i v : ℕ) → StandsFor t s → SleepsUntil t.delayed_list i v → Some v ≡ option_map printed (wake_time_of (status_at s i))
+pub wakes_with : (t : Timeline) (s : State) (i v : ℕ) → StandsFor t s
+    → SleepsUntil t.delayed_list i v → Some v ≡ option_map printed (wake_time_of (status_at s i))
 wakes_with t s i v h until = ap Some (sym until.2) ∙ sym (ap (option_map printed) (wakes_at t s h i until.0 until.1))
 
 no_time : (o : Option ℕ) → is_some o ≡ false → None ≡ option_map printed o
 no_time None e = refl
 no_time (Some w) e = absurd (cc)
 
-pub wakes_not : (t : Timeline) (s : State) (i : ℕ) → StandsFor t s → has_node i t.delayed_list ≡ false → None ≡ option_map printed (wake_time_of (status_at s i))
+pub wakes_not : (t : Timeline) (s : State) (i : ℕ) → StandsFor t s
+    → has_node i t.delayed_list ≡ false → None ≡ option_map printed (wake_time_of (status_at s i))
 wakes_not t s i h awake = no_time (wake_time_of (status_at s i)) (sym (asleep_same t s i h) ∙ awake)

@@ -53,6 +53,7 @@ pub record StandsBefore (task : ℕ) (deadline : Option ℕ) (t : Timeline) (s :
   pub held : t.held ≡ s.held_ticks
   pub sorted : IsSorted t.delayed_list
   pub once : EachOnce t.delayed_list
-  pub delayed : (time : ℕ) → tasks_at time t.delayed_list ++ tasks_at time (with_deadline task deadline) ≡ tasks_of (due (at_time s time))
+  pub delayed : (time : ℕ)
+      → tasks_at time t.delayed_list ++ tasks_at time (with_deadline task deadline) ≡ tasks_of (due (at_time s time))
   pub awake : is_asleep t task ≡ false
   pub table : IsTable s

@@ -1,5 +1,6 @@
 -- What callers see of a clock: time without bound, and who sleeps until when.
-use Rattle.std.specs.Prelude.{◌≡◌, ◌≢◌, ℕ, ◌+◌, ◌^◌, ◌<◌, ◌≤◌, ◌==◌, if◌then◌else◌, Bool, Option, Some, None, List, [], ◌∷◌, ◌++◌, map}
+use Rattle.std.specs.Prelude.{◌≡◌, ◌≢◌, ℕ, ◌+◌, ◌^◌, ◌<◌, ◌≤◌, ◌==◌, if◌then◌else◌, Bool, Option, Some, None, List, [], ◌∷◌, ◌++◌}
+use Rattle.std.specs.Prelude.{map}
 use Rattle.lists.specs.Lists.{Each, IsSorted, IsSound, entries_of, has_node}
 
 pub record Timeline : Type 0 where
@@ -50,7 +51,8 @@ count_from base entries = map (λ e. (e.0, base + e.1)) entries
 -- The sleepers of a clock whose turn of the 32 bits began at `base`: those of the current list wake in this turn, and
 -- those of the overflow list in the next.
 abbrev pub delayed_list_of : List (List (ℕ × ℕ)) → ℕ → ℕ → ℕ → List (ℕ × ℕ)
-delayed_list_of lists base current overflow = count_from base (entries_of lists current) ++ count_from (base + 2 ^ 32) (entries_of lists overflow)
+delayed_list_of lists base current overflow =
+    count_from base (entries_of lists current) ++ count_from (base + 2 ^ 32) (entries_of lists overflow)
 
 abbrev pub timeline_of : List (List (ℕ × ℕ)) → ℕ → ℕ → ℕ → ℕ → ℕ → ℕ → Timeline
 timeline_of lists age held base tick current overflow = record {

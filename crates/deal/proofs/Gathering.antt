@@ -1,5 +1,8 @@
 -- What is known of the blocks when lanes come back.
-use Rattle.std.proofs.Common.{◌≡◌, ◌≢◌, ◌≤◌, ◌<◌, ℕ, zero, suc, ◌+◌, Bool, true, false, nat_lt, List, [], ◌∷◌, ◌++◌, length, length-append, take, set, map, replicate, reverse, get_or, get_or-set_same, get_or-set_other, append_assoc, append-nil, refl, sym, ap, ◌∙◌, arith, subst, ⊎_elim, inl, inr, ◌⊎◌, Vec, if◌then◌else◌, ◌==◌, true≢false}
+use Rattle.std.proofs.Common.{◌≡◌, ◌≢◌, ◌≤◌, ◌<◌, ℕ, zero, suc, ◌+◌, Bool, true, false, nat_lt, List, [], ◌∷◌, ◌++◌, length}
+use Rattle.std.proofs.Common.{length-append, take, set, map, replicate, reverse, get_or, get_or-set_same, get_or-set_other}
+use Rattle.std.proofs.Common.{append_assoc, append-nil, refl, sym, ap, ◌∙◌, arith, subst, ⊎_elim, inl, inr, ◌⊎◌, Vec, if◌then◌else◌}
+use Rattle.std.proofs.Common.{◌==◌, true≢false}
 use Rattle.std.specs.Prelude.{slice_index, slice_index_or}
 use Rattle.std.specs.List.{concat, AllByRecursion}
 use Rattle.std.specs.declared.alloc.Global.{Global}
@@ -17,11 +20,13 @@ use Rattle.deal.proofs.Once.{same_or, here, elsewhere, times_one, once_within, a
 
 pub reverse_twice : {V : Type 0} (xs : List V) → reverse (reverse xs) ≡ xs
 reverse_twice [] = refl
-reverse_twice (x ∷ xs) = ap reverse (reverse-append (x ∷ []) xs) ∙ reverse-append (reverse xs) (x ∷ []) ∙ ap (λ l. x ∷ l) (reverse_twice xs)
+reverse_twice (x ∷ xs) =
+    ap reverse (reverse-append (x ∷ []) xs) ∙ reverse-append (reverse xs) (x ∷ []) ∙ ap (λ l. x ∷ l) (reverse_twice xs)
 
 lists_more : (done : List Sight) (lane : Sight) → concat (lists_of (done ++ lane ∷ [])) ≡ concat (lists_of done) ++ lane.answered
 lists_more [] lane = append-nil lane.answered
-lists_more (x ∷ xs) lane = ap (λ l. x.answered ++ l) (lists_more xs lane) ∙ sym (append_assoc x.answered (concat (lists_of xs)) lane.answered)
+lists_more (x ∷ xs) lane =
+    ap (λ l. x.answered ++ l) (lists_more xs lane) ∙ sym (append_assoc x.answered (concat (lists_of xs)) lane.answered)
 
 pub lists_last : (done : List Sight) (lane : Sight) → lists_of (done ++ lane ∷ []) ≡ lists_of done ++ lane.answered ∷ []
 lists_last [] lane = refl
@@ -51,7 +56,8 @@ length_last : {V : Type 0} (xs : List V) (x : V) → length (xs ++ x ∷ []) ≡
 length_last xs x = length-append xs (x ∷ [])
 
 -- one more lane is back
-pub back_more : (old : Mark) (done : List Sight) (lane : Sight) (m m' : Mark) → length lane.game.lengths ≡ old.all → HasBack old done m → Collects lane m m' → HasBack old (done ++ lane ∷ []) m'
+pub back_more : (old : Mark) (done : List Sight) (lane : Sight) (m m' : Mark) → length lane.game.lengths ≡ old.all
+    → HasBack old done m → Collects lane m m' → HasBack old (done ++ lane ∷ []) m'
 back_more old done lane m m' same h c =
     let all : m'.all ≡ old.all = c.0 ∙ h.0 in
     let lanes : m'.lanes ≡ old.lanes = c.1 ∙ h.1 in
@@ -67,7 +73,8 @@ back_more old done lane m m' same h c =
     )
 
 -- with all lanes back, of which one saw that every block was handed out, the lanes have every block
-pub all_back : (old : Mark) (lanes : List Sight) (m : Mark) → HasBack old lanes m → length lanes ≡ old.lanes → SomeHasSeenAll lanes → old.all ≤ length (concat (lists_of lanes))
+pub all_back : (old : Mark) (lanes : List Sight) (m : Mark) → HasBack old lanes m
+    → length lanes ≡ old.lanes → SomeHasSeenAll lanes → old.all ≤ length (concat (lists_of lanes))
 all_back old lanes m h full seen =
     let some_lane : 0 < length lanes = at_least lanes seen in
     omega (arith, h.7 seen, (h.6 some_lane).1 (omega (arith, h.2, full, h.1)), h.4, ap length h.3)
@@ -77,7 +84,8 @@ all_back old lanes m h full seen =
     at_least (l ∷ ls) _ = omega arith
 
 -- a number is marked
-pub marks_one : (xs : List ℕ) (marks : List Bool) (n : ℕ) → n < length marks → IsMarked xs marks → IsMarked (xs ++ n ∷ []) (set marks n true)
+pub marks_one : (xs : List ℕ) (marks : List Bool) (n : ℕ) → n < length marks
+    → IsMarked xs marks → IsMarked (xs ++ n ∷ []) (set marks n true)
 marks_one xs marks n short h x low = ⊎_elim at_n elsewhere_x (same_or x n)
   where
     low' : x < length marks
@@ -104,10 +112,13 @@ times_at (x ∷ xs) zero h = omega (arith, here x x refl)
 times_at (x ∷ xs) (suc i) h = omega (arith, times_at xs i (omega (arith, h)))
 
 -- one more of a list's numbers is marked
-pub marks_more : (list : List ℕ) (old marks : List Bool) (i : ℕ) → i < length list → slice_index list i < length marks → Marks (take i list) old marks → Marks (take (i + 1) list) old (set marks (slice_index list i) true)
+pub marks_more : (list : List ℕ) (old marks : List Bool) (i : ℕ) → i < length list → slice_index list i < length marks
+    → Marks (take i list) old marks → Marks (take (i + 1) list) old (set marks (slice_index list i) true)
 marks_more list old marks i short low h = (
   length-set marks (slice_index list i) true ∙ h.0,
-  λ xs m. subst (λ l. IsMarked l (set marks (slice_index list i) true)) (append_assoc xs (take i list) (slice_index list i ∷ []) ∙ ap (λ l. xs ++ l) (sym (take_more list i 0 short)))
+  λ xs m.
+      subst (λ l. IsMarked l (set marks (slice_index list i) true))
+      (append_assoc xs (take i list) (slice_index list i ∷ []) ∙ ap (λ l. xs ++ l) (sym (take_more list i 0 short)))
       (marks_one (xs ++ take i list) marks (slice_index list i) low (h.1 xs m)),
 )
 
@@ -116,7 +127,8 @@ length_unmarked zero = refl
 length_unmarked (suc n) = ap suc (length_unmarked n)
 
 -- the lists that were marked, and one more
-pub concat_more : (vs : List (Vec ℕ Global)) (i : ℕ) (d : Vec ℕ Global) → i < length vs → concat (items_of (take (i + 1) vs)) ≡ concat (items_of (take i vs)) ++ (get_or vs i d).items
+pub concat_more : (vs : List (Vec ℕ Global)) (i : ℕ) (d : Vec ℕ Global) → i < length vs
+    → concat (items_of (take (i + 1) vs)) ≡ concat (items_of (take i vs)) ++ (get_or vs i d).items
 concat_more vs i d short = ap (λ l. concat (items_of l)) (take_more vs i d short) ∙ joined (take i vs) (get_or vs i d)
   where
     joined : (us : List (Vec ℕ Global)) (v : Vec ℕ Global) → concat (items_of (us ++ v ∷ [])) ≡ concat (items_of us) ++ v.items
@@ -124,14 +136,22 @@ concat_more vs i d short = ap (λ l. concat (items_of l)) (take_more vs i d shor
     joined (u ∷ us) v = ap (λ l. u.items ++ l) (joined us v) ∙ sym (append_assoc u.items (concat (items_of us)) v.items)
 
 -- what is in one of the lists is in all of them
-pub times_within : (vs : List (Vec ℕ Global)) (i : ℕ) (d : Vec ℕ Global) (x : ℕ) → i < length vs → times x (get_or vs i d).items ≤ times x (concat (items_of vs))
+pub times_within : (vs : List (Vec ℕ Global)) (i : ℕ) (d : Vec ℕ Global) (x : ℕ)
+    → i < length vs → times x (get_or vs i d).items ≤ times x (concat (items_of vs))
 times_within [] i d x h = absurd (omega arith)
 times_within (v ∷ vs) zero d x h = omega (arith, total_append (one_at x) v.items (concat (items_of vs)))
-times_within (v ∷ vs) (suc i) d x h = omega (arith, total_append (one_at x) v.items (concat (items_of vs)), times_within vs i d x (omega (arith, h)))
+times_within (v ∷ vs) (suc i) d x h =
+    omega (arith, total_append (one_at x) v.items (concat (items_of vs)), times_within vs i d x (omega (arith, h)))
 
 unmarked_high : (x m : ℕ) (marks : List Bool) → m ≤ x → times x (unmarked m marks) ≡ 0
 unmarked_high x zero marks high = refl
-unmarked_high x (suc m) marks high = omega (arith, total_append (one_at x) (unmarked m marks) (if slice_index_or marks m false then [] else m ∷ []), unmarked_high x m marks (omega (arith, high)), last (slice_index_or marks m false))
+unmarked_high x (suc m) marks high =
+    omega (
+      arith,
+      total_append (one_at x) (unmarked m marks) (if slice_index_or marks m false then [] else m ∷ []),
+      unmarked_high x m marks (omega (arith, high)),
+      last (slice_index_or marks m false),
+    )
   where
     last : (b : Bool) → times x (if b then [] else m ∷ []) ≡ 0
     last true = refl
@@ -141,8 +161,18 @@ unmarked_at : (x m : ℕ) (marks : List Bool) → x < m → times x (unmarked m 
 unmarked_at x zero marks low = absurd (omega (arith, low))
 unmarked_at x (suc m) marks low =
     ⊎_elim
-    (λ (e : x ≡ m). subst (λ k. times k (unmarked m marks ++ (if slice_index_or marks m false then [] else m ∷ [])) ≡ (if slice_index_or marks k false then 0 else 1)) (sym e) here_m)
-    (λ (apart : x ≢ m). omega (arith, total_append (one_at x) (unmarked m marks) (if slice_index_or marks m false then [] else m ∷ []), unmarked_at x m marks (omega (arith, low, apart)), last apart (slice_index_or marks m false)))
+    (λ (e : x ≡ m).
+    subst (λ k.
+    times k (unmarked m marks ++ (if slice_index_or marks m false then [] else m ∷ []))
+    ≡ (if slice_index_or marks k false then 0 else 1))
+    (sym e) here_m)
+    (λ (apart : x ≢ m).
+    omega (
+      arith,
+      total_append (one_at x) (unmarked m marks) (if slice_index_or marks m false then [] else m ∷ []),
+      unmarked_at x m marks (omega (arith, low, apart)),
+      last apart (slice_index_or marks m false),
+    ))
     (same_or x m)
   where
     last : x ≢ m → (b : Bool) → times x (if b then [] else m ∷ []) ≡ 0
@@ -153,8 +183,15 @@ unmarked_at x (suc m) marks low =
     end true = refl
     end false = times_one m
 
-    here_m : times m (unmarked m marks ++ (if slice_index_or marks m false then [] else m ∷ [])) ≡ (if slice_index_or marks m false then 0 else 1)
-    here_m = omega (arith, total_append (one_at m) (unmarked m marks) (if slice_index_or marks m false then [] else m ∷ []), unmarked_high m m marks (omega arith), end (slice_index_or marks m false))
+    here_m : times m (unmarked m marks ++ (if slice_index_or marks m false then [] else m ∷ []))
+        ≡ (if slice_index_or marks m false then 0 else 1)
+    here_m =
+        omega (
+          arith,
+          total_append (one_at m) (unmarked m marks) (if slice_index_or marks m false then [] else m ∷ []),
+          unmarked_high m m marks (omega arith),
+          end (slice_index_or marks m false),
+        )
 
 abbrev zero_if : Bool → ℕ
 zero_if b = if b then 0 else 1
@@ -179,7 +216,8 @@ above_none true e = absurd (true≢false e)
 above_none false e = refl
 
 -- the lists, and the numbers without a mark, are all
-pub each_once : (n : ℕ) (xs : List ℕ) (marks : List Bool) → length marks ≡ n → IsAmong n xs → IsMarked xs marks → HasEachOnce n (xs ++ unmarked n marks)
+pub each_once : (n : ℕ) (xs : List ℕ) (marks : List Bool) → length marks ≡ n
+    → IsAmong n xs → IsMarked xs marks → HasEachOnce n (xs ++ unmarked n marks)
 each_once n xs marks full among h x = go (nat_lt x n) refl
   where
     both : times x (xs ++ unmarked n marks) ≡ times x xs + times x (unmarked n marks)
@@ -202,7 +240,8 @@ each_once n xs marks full among h x = go (nat_lt x n) refl
     go true e = let low : x < n = grind (arith, nat_tests, e) in low_case (times x xs) refl low ∙ sym (below_one (nat_lt x n) e)
     go false e =
         let far : n ≤ x = grind (arith, nat_tests, e) in
-        let none : times x (xs ++ unmarked n marks) ≡ 0 = omega (arith, both, none_there (times x xs) refl far, unmarked_high x n marks far) in
+        let none : times x (xs ++ unmarked n marks) ≡ 0 =
+        omega (arith, both, none_there (times x xs) refl far, unmarked_high x n marks far) in
         none ∙ sym (above_none (nat_lt x n) e)
 
 -- how often any other number is in a list
@@ -223,9 +262,18 @@ parted x (y ∷ ys) = omega (arith, parted x ys, not_here x y)
 -- as many numbers below n as n are all of them
 pub all_there : (n : ℕ) (xs : List ℕ) → IsAmong n xs → n ≤ length xs → (x : ℕ) → x < n → 0 < times x xs
 all_there n xs among many x low =
-    omega (arith, parted x xs, parted x (range 0 n), among (not_at x), once_within x 0 n (omega arith) (omega (arith, low)), length_range 0 n, many)
+    omega (
+      arith,
+      parted x xs,
+      parted x (range 0 n),
+      among (not_at x),
+      once_within x 0 n (omega arith) (omega (arith, low)),
+      length_range 0 n,
+      many,
+    )
 
-pub none_unmarked : (n : ℕ) (xs : List ℕ) (marks : List Bool) → length marks ≡ n → IsAmong n xs → IsMarked xs marks → n ≤ length xs → unmarked n marks ≡ []
+pub none_unmarked : (n : ℕ) (xs : List ℕ) (marks : List Bool) → length marks ≡ n
+    → IsAmong n xs → IsMarked xs marks → n ≤ length xs → unmarked n marks ≡ []
 none_unmarked n xs marks full among h many = go n (omega arith)
   where
     marked : (x : ℕ) → x < n → slice_index_or marks x false ≡ true
@@ -236,7 +284,9 @@ none_unmarked n xs marks full among h many = go n (omega arith)
 
     go : (m : ℕ) → m ≤ n → unmarked m marks ≡ []
     go zero low = refl
-    go (suc m) low = ap (λ (b : Bool). unmarked m marks ++ (if b then [] else m ∷ [])) (marked m (omega (arith, low))) ∙ append-nil (unmarked m marks) ∙ go m (omega (arith, low))
+    go (suc m) low =
+        ap (λ (b : Bool). unmarked m marks ++ (if b then [] else m ∷ [])) (marked m (omega (arith, low)))
+        ∙ append-nil (unmarked m marks) ∙ go m (omega (arith, low))
 
 pub take_whole : {V : Type 0} (xs : List V) (i : ℕ) → length xs ≤ i → take i xs ≡ xs
 take_whole [] zero h = refl
@@ -245,7 +295,8 @@ take_whole (x ∷ xs) zero h = absurd (omega (arith, h))
 take_whole (x ∷ xs) (suc i) h = ap (λ l. x ∷ l) (take_whole xs i (omega (arith, h)))
 
 -- all of a list's numbers are marked
-pub marks_all : (list : List ℕ) (old marks : List Bool) (i : ℕ) → length list ≤ i → Marks (take i list) old marks → Marks list old marks
+pub marks_all : (list : List ℕ) (old marks : List Bool) (i : ℕ)
+    → length list ≤ i → Marks (take i list) old marks → Marks list old marks
 marks_all list old marks i all h = (h.0, λ xs m. subst (λ l. IsMarked (xs ++ l) marks) (take_whole list i all) (h.1 xs m))
 
 -- no lane is left to come back

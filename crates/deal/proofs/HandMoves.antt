@@ -1,5 +1,6 @@
 -- The deques as they are dealt, and as the lanes get their ways to the others'.
-use Rattle.std.proofs.Common.{◌≡◌, ◌≢◌, ◌≤◌, ◌<◌, ◌%◌, ℕ, zero, suc, ◌+◌, ◌-◌, List, [], ◌∷◌, ◌++◌, length, set, refl, sym, ap, ◌∙◌, arith, subst, ⊎_elim, add-one, Bool, true, false, if◌then◌else◌, append-nil, ◌==◌}
+use Rattle.std.proofs.Common.{◌≡◌, ◌≢◌, ◌≤◌, ◌<◌, ◌%◌, ℕ, zero, suc, ◌+◌, ◌-◌, List, [], ◌∷◌, ◌++◌, length, set, refl, sym, ap, ◌∙◌}
+use Rattle.std.proofs.Common.{arith, subst, ⊎_elim, add-one, Bool, true, false, if◌then◌else◌, append-nil, ◌==◌}
 use Rattle.std.proofs.lemmas.Bool.Decides.{nat_tests}
 use mathlib.Core.Option.{some, some-ne-none}
 use lib.ListN.{get_elem?}
@@ -28,11 +29,14 @@ OwnOf = Worker Ticket Global Log Dealt
 -- a fact of each value by its place, after a change of one
 pub at_each_set : {V : Type 0} (P : ℕ → V → Type 0) (vs : List V) (i : ℕ) (w : V) → P i w → AtEach P vs → AtEach P (set vs i w)
 at_each_set {V} P vs i w mine all k v e =
-    ⊎_elim (λ (t : (k ≡ i) × (w ≡ v)). subst (λ j. P j v) (sym t.0) (subst (P i) t.1 mine)) (λ (t : (k ≢ i) × (get_elem? vs k ≡ some v)). all k v t.1) (at_set vs i k w v e)
+    ⊎_elim (λ (t : (k ≡ i) × (w ≡ v)). subst (λ j. P j v) (sym t.0) (subst (P i) t.1 mine))
+    (λ (t : (k ≢ i) × (get_elem? vs k ≡ some v)). all k v t.1) (at_set vs i k w v e)
 
-pub at_each_change : {V : Type 0} (P Q : ℕ → V → Type 0) (vs : List V) (i : ℕ) (w : V) → Q i w → ((k : ℕ) (v : V) → k ≢ i → P k v → Q k v) → AtEach P vs → AtEach Q (set vs i w)
+pub at_each_change : {V : Type 0} (P Q : ℕ → V → Type 0) (vs : List V) (i : ℕ) (w : V)
+    → Q i w → ((k : ℕ) (v : V) → k ≢ i → P k v → Q k v) → AtEach P vs → AtEach Q (set vs i w)
 at_each_change {V} P Q vs i w mine others all k v e =
-    ⊎_elim (λ (t : (k ≡ i) × (w ≡ v)). subst (λ j. Q j v) (sym t.0) (subst (Q i) t.1 mine)) (λ (t : (k ≢ i) × (get_elem? vs k ≡ some v)). others k v t.0 (all k v t.1)) (at_set vs i k w v e)
+    ⊎_elim (λ (t : (k ≡ i) × (w ≡ v)). subst (λ j. Q j v) (sym t.0) (subst (Q i) t.1 mine))
+    (λ (t : (k ≢ i) × (get_elem? vs k ≡ some v)). others k v t.0 (all k v t.1)) (at_set vs i k w v e)
 
 dealt_step : (workers k n : ℕ) → dealt_to workers k (n + 1) ≡ dealt_to workers k n ++ (if n % workers == k then n ∷ [] else [])
 dealt_step workers k n = ap (dealt_to workers k) (add-one n)
@@ -55,8 +59,11 @@ range_next i n short = ap (range i) (count short)
     count short = omega (arith, short)
 
 -- one more block is dealt
-pub deals_more : (z : TableId) (workers n : ℕ) (hands : List Hand) (hand new : Hand) → get_elem? hands (n % workers) ≡ some hand → AreDealt z workers n hands
-    → SameWorker hand.own new.own → worker_view new.own ≡ log 8192 ((worker_view hand.own).dealt ++ n ∷ []) (worker_view hand.own).got z → new.others.items ≡ hand.others.items
+pub deals_more : (z : TableId) (workers n : ℕ) (hands : List Hand) (hand new : Hand)
+    → get_elem? hands (n % workers) ≡ some hand → AreDealt z workers n hands
+    → SameWorker hand.own new.own
+    → worker_view new.own ≡ log 8192 ((worker_view hand.own).dealt ++ n ∷ []) (worker_view hand.own).got z
+    → new.others.items ≡ hand.others.items
     → AreDealt z workers (n + 1) (set hands (n % workers) new)
 deals_more z workers n hands hand new at h same is others =
     let mine = h (n % workers) hand at in
@@ -74,14 +81,26 @@ deals_more z workers n hands hand new at h same is others =
 -- when all are dealt, no pass is cut off yet
 pub dealt_hands : (z : TableId) (workers n : ℕ) (hands : List Hand) → AreDealt z workers n hands → AreHands z workers n 0 hands
 dealt_hands z workers n hands h k hand e =
-    let t = h k hand e in
-    (t.0, omega (arith, t.1), t.2, t.3, t.4, subst (AllByRecursion (HasTicketsOf z)) (sym t.5) tt, (λ f. ap (total (λ (v : Log). total f v.got)) t.5), λ _. (t.1, t.5))
+    let t = h k hand e in (
+      t.0,
+      omega (arith, t.1),
+      t.2,
+      t.3,
+      t.4,
+      subst (AllByRecursion (HasTicketsOf z)) (sym t.5) tt,
+      (λ f. ap (total (λ (v : Log). total f v.got)) t.5),
+      λ _. (t.1, t.5),
+    )
 
-pub hands_more : (z : TableId) (workers n cut cut' : ℕ) (hands : List Hand) → cut ≤ cut' → AreHands z workers n cut hands → AreHands z workers n cut' hands
-hands_more z workers n cut cut' hands more h k hand e = let t = h k hand e in (t.0, omega (arith, t.1, more), t.2, t.3, t.4, t.5, t.6, t.7)
+pub hands_more : (z : TableId) (workers n cut cut' : ℕ) (hands : List Hand)
+    → cut ≤ cut' → AreHands z workers n cut hands → AreHands z workers n cut' hands
+hands_more z workers n cut cut' hands more h k hand e =
+    let t = h k hand e in
+    (t.0, omega (arith, t.1, more), t.2, t.3, t.4, t.5, t.6, t.7)
 
 -- a pass is cut off
-pub cuts_more : (z : TableId) (workers n cut j : ℕ) (hands : List Hand) (hand new : Hand) (way : Log) → get_elem? hands j ≡ some hand → 1 < workers → cut < 8192 → AreHands z workers n cut hands
+pub cuts_more : (z : TableId) (workers n cut j : ℕ) (hands : List Hand) (hand new : Hand) (way : Log)
+    → get_elem? hands j ≡ some hand → 1 < workers → cut < 8192 → AreHands z workers n cut hands
     → SameWorker hand.own new.own → Reached (worker_view hand.own) (worker_view new.own) way → new.others.items ≡ hand.others.items
     → AreHands z workers n (cut + 1) (set hands j new) × HasTicketsOf z way × ((h : ℕ → ℕ) → total h way.got ≡ 0)
 cuts_more z workers n cut j hands hand new way at several few h same is others =
@@ -102,8 +121,10 @@ cuts_more z workers n cut j hands hand new way at several few h same is others =
     )
 
 -- a lane keeps the way that was cut off for it
-pub keeps_way : (z : TableId) (workers n cut j : ℕ) (hands : List Hand) (hand new : Hand) (way : Log) → get_elem? hands j ≡ some hand → 1 < workers → AreHands z workers n cut hands
-    → HasTicketsOf z way → ((h : ℕ → ℕ) → total h way.got ≡ 0) → new.own ≡ hand.own → new.others.items ≡ hand.others.items ++ way ∷ []
+pub keeps_way : (z : TableId) (workers n cut j : ℕ) (hands : List Hand) (hand new : Hand) (way : Log)
+    → get_elem? hands j ≡ some hand → 1 < workers → AreHands z workers n cut hands
+    → HasTicketsOf z way → ((h : ℕ → ℕ) → total h way.got ≡ 0)
+    → new.own ≡ hand.own → new.others.items ≡ hand.others.items ++ way ∷ []
     → AreHands z workers n cut (set hands j new)
 keeps_way z workers n cut j hands hand new way at several h tickets none own others =
     let mine = h j hand at in
@@ -114,7 +135,14 @@ keeps_way z workers n cut j hands hand new way at several h tickets none own oth
       ap (λ (w : OwnOf). (worker_view w).got) own ∙ mine.3,
       subst (λ (w : OwnOf). HasTicketsOf z (worker_view w)) (sym own) mine.4,
       subst (AllByRecursion (HasTicketsOf z)) (sym others) (each_last (HasTicketsOf z) hand.others.items way mine.5 tickets),
-      (λ f. omega (arith, ap (total (λ (v : Log). total f v.got)) others, total_append (λ (v : Log). total f v.got) hand.others.items (way ∷ []), mine.6 f, none f)),
+      (λ f.
+          omega (
+            arith,
+            ap (total (λ (v : Log). total f v.got)) others,
+            total_append (λ (v : Log). total f v.got) hand.others.items (way ∷ []),
+            mine.6 f,
+            none f,
+          )),
       λ lone. absurd (omega (arith, lone, several)),
     )
     h
@@ -130,12 +158,19 @@ gives_more z workers n cut j lane hands hand new hand' new' way at at' several f
     keeps_way z workers n (cut + 1) lane (set hands j new) hand' new' way at' several first.0 first.1 first.2 own more
 
 -- one more empty deque
-pub empty_more : (z : TableId) (workers : ℕ) (hands : List Hand) (new : Hand) → worker_flavor new.own ≡ 0 → worker_view new.own ≡ first_log → new.others.items ≡ []
+pub empty_more : (z : TableId) (workers : ℕ) (hands : List Hand) (new : Hand)
+    → worker_flavor new.own ≡ 0 → worker_view new.own ≡ first_log → new.others.items ≡ []
     → AreDealt z workers 0 hands → AreDealt z workers 0 (hands ++ new ∷ [])
 empty_more z workers hands new fifo is none h k v e =
     ⊎_elim (λ (old : get_elem? hands k ≡ some v). h k v old)
-    (λ (same : new ≡ v). subst (IsDealtHand z workers 0 k) same
-    (fifo, ap (λ (u : Log). u.parts) is, ap (λ (u : Log). u.dealt) is, ap (λ (u : Log). u.got) is, (λ some_dealt. absurd (omega (arith, some_dealt, ap (λ (u : Log). length u.dealt) is))), none))
+    (λ (same : new ≡ v). subst (IsDealtHand z workers 0 k) same (
+      fifo,
+      ap (λ (u : Log). u.parts) is,
+      ap (λ (u : Log). u.dealt) is,
+      ap (λ (u : Log). u.got) is,
+      (λ some_dealt. absurd (omega (arith, some_dealt, ap (λ (u : Log). length u.dealt) is))),
+      none,
+    ))
     (at_snoc hands new v k e)
 
 at_end : {V : Type 0} (xs : List V) (x : V) → get_elem? (xs ++ x ∷ []) (length xs) ≡ some x
@@ -148,8 +183,11 @@ at_front (x ∷ xs) ys zero v e = e
 at_front (x ∷ xs) ys (suc k) v e = at_front xs ys k v e
 
 -- the last hand, and those before it
-pub last_hand : (z : TableId) (workers n cut k : ℕ) (hands : List Hand) (hand : Hand) → k ≡ length hands → AreHands z workers n cut (hands ++ hand ∷ []) → IsHand z workers n cut k hand
-last_hand z workers n cut k hands hand is h = subst (λ j. IsHand z workers n cut j hand) (sym is) (h (length hands) hand (at_end hands hand))
+pub last_hand : (z : TableId) (workers n cut k : ℕ) (hands : List Hand) (hand : Hand)
+    → k ≡ length hands → AreHands z workers n cut (hands ++ hand ∷ []) → IsHand z workers n cut k hand
+last_hand z workers n cut k hands hand is h =
+    subst (λ j. IsHand z workers n cut j hand) (sym is) (h (length hands) hand (at_end hands hand))
 
-pub hands_before : (z : TableId) (workers n cut : ℕ) (hands : List Hand) (hand : Hand) → AreHands z workers n cut (hands ++ hand ∷ []) → AreHands z workers n cut hands
+pub hands_before : (z : TableId) (workers n cut : ℕ) (hands : List Hand) (hand : Hand)
+    → AreHands z workers n cut (hands ++ hand ∷ []) → AreHands z workers n cut hands
 hands_before z workers n cut hands hand h k v e = h k v (at_front hands (hand ∷ []) k v e)

@@ -1,5 +1,6 @@
 -- What a lane knows after it took a block, and where it finds none.
-use Rattle.std.proofs.Common.{◌≡◌, ◌<◌, ◌%◌, ◌^◌, ℕ, zero, suc, ◌+◌, List, [], ◌∷◌, ◌++◌, length, length-append, refl, sym, ap, ◌∙◌, arith, subst, Option, None, Some, Bool, true, ◌==◌, if◌then◌else◌}
+use Rattle.std.proofs.Common.{◌≡◌, ◌<◌, ◌%◌, ◌^◌, ℕ, zero, suc, ◌+◌, List, [], ◌∷◌, ◌++◌, length, length-append, refl, sym, ap, ◌∙◌}
+use Rattle.std.proofs.Common.{arith, subst, Option, None, Some, Bool, true, ◌==◌, if◌then◌else◌}
 use Rattle.std.proofs.lemmas.Bool.Decides.{nat_tests}
 use Rattle.std.proofs.lemmas.List.{length-set}
 use Rattle.std.specs.Prelude.{MatchOption}
@@ -35,12 +36,20 @@ stays z v t w d k = subst (HasTicketsOf z) (sym k.1) d
 got_more : (h : ℕ → ℕ) (v : Log) (t : Ticket) (w : Log) → Taking v (t ∷ []) w → total h w.got ≡ total h v.got + h t.number
 got_more h v t w k = omega (arith, ap (λ (u : Log). total h u.got) k.1, total_append h v.got (t.number ∷ []))
 
-pub took_own : (z : TableId) (own : Log) (others : List Log) (own' : Log) (t : Ticket) → MayTake z own others → Taking own (t ∷ []) own' → Took z own others own' others t
+pub took_own : (z : TableId) (own : Log) (others : List Log) (own' : Log) (t : Ticket)
+    → MayTake z own others → Taking own (t ∷ []) own' → Took z own others own' others t
 took_own z own others own' t may k =
-    let parts : own'.parts ≡ own.parts = ap (λ (u : Log). u.parts) k.1 in
-    (ticket_of z own t own' may.1 k, (λ h. omega (arith, got_more h own t own' k)), parts, ap (λ (u : Log). u.dealt) k.1, refl, (omega (arith, parts, may.0), stays z own t own' may.1 k, may.2))
+    let parts : own'.parts ≡ own.parts = ap (λ (u : Log). u.parts) k.1 in (
+      ticket_of z own t own' may.1 k,
+      (λ h. omega (arith, got_more h own t own' k)),
+      parts,
+      ap (λ (u : Log). u.dealt) k.1,
+      refl,
+      (omega (arith, parts, may.0), stays z own t own' may.1 k, may.2),
+    )
 
-pub took_other : (z : TableId) (own : Log) (others : List Log) (others' : List Log) (t : Ticket) → MayTake z own others → Stealing others t others' → Took z own others own others' t
+pub took_other : (z : TableId) (own : Log) (others : List Log) (others' : List Log) (t : Ticket)
+    → MayTake z own others → Stealing others t others' → Took z own others own others' t
 took_other z own others others' t may k =
     let here = each_at (HasTicketsOf z) others k.0 k.1 may.2 k.3 in
     subst (λ l. Took z own others own l t) (sym k.4) (
@@ -53,14 +62,17 @@ took_other z own others others' t may k =
     )
 
 -- what a lane takes, from its own deque or another
-pub took_none : (z : TableId) (own : Log) (others : List Log) (mid : Log) (others' : List Log) (r : Option Ticket) → MayTake z own others → (mid ≡ own) × IsAllTaken own
+pub took_none : (z : TableId) (own : Log) (others : List Log) (mid : Log) (others' : List Log) (r : Option Ticket)
+    → MayTake z own others → (mid ≡ own) × IsAllTaken own
     → MatchOption r (others' ≡ others) (λ t. Stealing others t others')
     → MatchOption r ((mid ≡ own) × (others' ≡ others) × IsAllTaken own) (Took z own others mid others')
 took_none z own others mid others' None may same k = (same.0, k, same.1)
-took_none z own others mid others' (Some t) may same k = subst (λ (m : Log). Took z own others m others' t) (sym same.0) (took_other z own others others' t may k)
+took_none z own others mid others' (Some t) may same k =
+    subst (λ (m : Log). Took z own others m others' t) (sym same.0) (took_other z own others others' t may k)
 
 -- a lane alone has taken every block where its deque is empty
-pub alone : (size : Size) (lengths : List ℕ) (share : Seat (Unit {0}) Mark) (own : Log) (others : List Log) (got : List ℕ) (z : TableId)
+pub alone : (size : Size) (lengths : List ℕ) (share : Seat (Unit {0}) Mark)
+    (own : Log) (others : List Log) (got : List ℕ) (z : TableId)
     → IsLane size lengths share own others got z → size.lanes ≡ 1 → IsAllTaken own → share.me.0.counted ≡ length lengths
 alone size lengths share own others got z h lone all =
     let only = h.10 lone in
@@ -69,13 +81,25 @@ alone size lengths share own others got z h lone all =
     let dealt : total f own.dealt ≡ total f (range 0 (length lengths)) = ap (total f) only.2 in
     let none : total (λ (v : Log). total f v.got) others ≡ 0 = ap (λ (l : List Log). total (λ (v : Log). total f v.got) l) only.1 in
     let sums : total f got ≡ total f own.got + total (λ (v : Log). total f v.got) others = h.9 f in
-    omega (arith, h.6, taken, dealt, none, sums, total_length got, total_length (range 0 (length lengths)), length_range 0 (length lengths))
+    omega (
+      arith,
+      h.6,
+      taken,
+      dealt,
+      none,
+      sums,
+      total_length got,
+      total_length (range 0 (length lengths)),
+      length_range 0 (length lengths),
+    )
 
 -- a lane that took a block, and counted it
-pub after_block : (size : Size) (lengths : List ℕ) (share : Seat (Unit {0}) Mark) (own : Log) (others : List Log) (got : List ℕ) (z : TableId)
+pub after_block : (size : Size) (lengths : List ℕ) (share : Seat (Unit {0}) Mark)
+    (own : Log) (others : List Log) (got : List ℕ) (z : TableId)
     (share' : Seat (Unit {0}) Mark) (own' : Log) (others' : List Log) (t : Ticket) (seen : ℕ)
     → IsLane size lengths share own others got z → Took z own others own' others' t → IsShareOf z share'
-    → share'.me.0 ≡ mark share.me.0.all share.me.0.lanes share.me.0.parts (share.me.0.counted + 1) seen (share.me.0.blocks ++ t.number ∷ [])
+    → share'.me.0
+    ≡ mark share.me.0.all share.me.0.lanes share.me.0.parts (share.me.0.counted + 1) seen (share.me.0.blocks ++ t.number ∷ [])
     → IsLane size lengths share' own' others' (got ++ t.number ∷ []) z
 after_block size lengths share own others got z share' own' others' t seen l took of is = (
   of,
@@ -96,9 +120,11 @@ after_block size lengths share own others got z share' own' others' t seen l too
     empty (x ∷ xs) e = absurd (omega (arith, e))
 
 -- the block that was taken is what the lane is answered
-pub answers_block : (r : Next) (old new : Sight) (n : ℕ) → IsTheBlock new.game.lengths n r → times n old.answered ≡ 0 → new.answered ≡ old.answered ++ n ∷ [] → MatchNext r old new
+pub answers_block : (r : Next) (old new : Sight) (n : ℕ) → IsTheBlock new.game.lengths n r
+    → times n old.answered ≡ 0 → new.answered ≡ old.answered ++ n ∷ [] → MatchNext r old new
 answers_block (Block i first len) old new n is fresh more =
-    subst (λ k. IsBlock new.game.lengths k first len × (times k old.answered ≡ 0) × (new.answered ≡ old.answered ++ k ∷ [])) (sym is.0) (is.1, fresh, more)
+    subst (λ k. IsBlock new.game.lengths k first len × (times k old.answered ≡ 0) × (new.answered ≡ old.answered ++ k ∷ []))
+    (sym is.0) (is.1, fresh, more)
 answers_block Again old new n is fresh more = absurd is
 answers_block Empty old new n is fresh more = absurd is
 
@@ -107,7 +133,8 @@ pub dealt_alone : (n : ℕ) → dealt_to 1 0 n ≡ range 0 n
 dealt_alone zero = refl
 dealt_alone (suc n) =
     let none : (n % 1 == 0) ≡ true = grind (arith, nat_tests) in
-    ap (λ (b : Bool). dealt_to 1 0 n ++ (if b then n ∷ [] else [])) none ∙ ap (λ l. l ++ n ∷ []) (dealt_alone n) ∙ sym (range_last 0 n n (omega arith))
+    ap (λ (b : Bool). dealt_to 1 0 n ++ (if b then n ∷ [] else [])) none
+    ∙ ap (λ l. l ++ n ∷ []) (dealt_alone n) ∙ sym (range_last 0 n n (omega arith))
   where
     range_last : (first m y : ℕ) → first + m ≡ y → range first (suc m) ≡ range first m ++ y ∷ []
     range_last first zero y e = ap (λ k. k ∷ []) (omega (arith, e))
@@ -115,7 +142,8 @@ dealt_alone (suc n) =
 
 -- a new lane
 pub new_lane : (size : Size) (lengths : List ℕ) (share dealer : Seat (Unit {0}) Mark) (hand : Hand) (got : List ℕ) (z : TableId)
-    → size.blocks ≡ length lengths → length lengths < 2 ^ 64 → got ≡ [] → IsDealer size z dealer.me.0.parts dealer → IsShareOf z share → share.me.0 ≡ lane_mark dealer.me.0
+    → size.blocks ≡ length lengths → length lengths < 2 ^ 64 → got ≡ []
+    → IsDealer size z dealer.me.0.parts dealer → IsShareOf z share → share.me.0 ≡ lane_mark dealer.me.0
     → IsSomeHand z size.lanes lengths hand → IsLane size lengths share (worker_view hand.own) hand.others.items got z
 new_lane size lengths share dealer hand got z blocks fits none d of is some_hand =
     let h = some_hand.2 in
@@ -131,6 +159,10 @@ new_lane size lengths share dealer hand got z blocks fits none d of is some_hand
       (omega (arith, h.1), h.4, h.5),
       (λ f. omega (arith, ap (total f) none, ap (total f) h.3, h.6 f)),
       (λ lone.
-          let first : some_hand.0 ≡ 0 = omega (arith, some_hand.1, lone) in
-          ((h.7 lone).0, (h.7 lone).1, h.2 ∙ ap (λ w. dealt_to w some_hand.0 (length lengths)) lone ∙ ap (λ k. dealt_to 1 k (length lengths)) first ∙ dealt_alone (length lengths))),
+          let first : some_hand.0 ≡ 0 = omega (arith, some_hand.1, lone) in (
+            (h.7 lone).0,
+            (h.7 lone).1,
+            h.2 ∙ ap (λ w. dealt_to w some_hand.0 (length lengths)) lone
+                ∙ ap (λ k. dealt_to 1 k (length lengths)) first ∙ dealt_alone (length lengths),
+          )),
     )

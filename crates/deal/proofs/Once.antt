@@ -1,5 +1,6 @@
 -- How often a number is in a list.
-use Rattle.std.proofs.Common.{◌≡◌, ◌≢◌, ◌≤◌, ◌<◌, ℕ, zero, suc, ◌+◌, List, [], ◌∷◌, ◌++◌, refl, ap, arith, Bool, true, false, nat_lt, ◌⊎◌, inl, inr, ⊎_elim}
+use Rattle.std.proofs.Common.{◌≡◌, ◌≢◌, ◌≤◌, ◌<◌, ℕ, zero, suc, ◌+◌, List, [], ◌∷◌, ◌++◌, refl, ap, arith, Bool, true, false}
+use Rattle.std.proofs.Common.{nat_lt, ◌⊎◌, inl, inr, ⊎_elim}
 use Rattle.std.proofs.lemmas.Bool.Decides.{nat_tests}
 use Rattle.deal.specs.Totals.{range, one_at, times}
 use Rattle.deal.specs.Marks.{IsAmong}
@@ -39,7 +40,8 @@ once_within x first zero low high = absurd (omega (arith, low, high))
 once_within x first (suc m) low high =
     ⊎_elim
     (λ (same : first ≡ x). omega (arith, here x first same, none_below x (first + 1) m (omega (arith, same))))
-    (λ (apart : first ≢ x). omega (arith, elsewhere x first apart, once_within x (first + 1) m (omega (arith, low, apart)) (omega (arith, high))))
+    (λ (apart : first ≢ x).
+    omega (arith, elsewhere x first apart, once_within x (first + 1) m (omega (arith, low, apart)) (omega (arith, high))))
     (same_or first x)
 
 -- what is among the numbers below n is below n, and is there once at most
@@ -47,15 +49,21 @@ pub among_once : (n : ℕ) (xs : List ℕ) → IsAmong n xs → (x : ℕ) → ti
 among_once n xs among x = go (nat_lt x n) refl
   where
     go : (b : Bool) → nat_lt x n ≡ b → times x xs ≤ 1
-    go true e = let low : x < n = grind (arith, nat_tests, e) in omega (arith, among (one_at x), once_within x 0 n (omega arith) (omega (arith, low)))
-    go false e = let far : n ≤ x = grind (arith, nat_tests, e) in omega (arith, among (one_at x), none_above x 0 n (omega (arith, far)))
+    go true e =
+        let low : x < n = grind (arith, nat_tests, e) in
+        omega (arith, among (one_at x), once_within x 0 n (omega arith) (omega (arith, low)))
+    go false e =
+        let far : n ≤ x = grind (arith, nat_tests, e) in
+        omega (arith, among (one_at x), none_above x 0 n (omega (arith, far)))
 
 pub among_below : (n : ℕ) (xs : List ℕ) → IsAmong n xs → (x : ℕ) → 0 < times x xs → x < n
 among_below n xs among x there = go (nat_lt x n) refl
   where
     go : (b : Bool) → nat_lt x n ≡ b → x < n
     go true e = grind (arith, nat_tests, e)
-    go false e = let far : n ≤ x = grind (arith, nat_tests, e) in absurd (omega (arith, there, among (one_at x), none_above x 0 n (omega (arith, far))))
+    go false e =
+        let far : n ≤ x = grind (arith, nat_tests, e) in
+        absurd (omega (arith, there, among (one_at x), none_above x 0 n (omega (arith, far))))
 
 -- the last of them is below n, and is nowhere before
 pub last_below : (n : ℕ) (xs : List ℕ) (x : ℕ) → IsAmong n (xs ++ x ∷ []) → x < n

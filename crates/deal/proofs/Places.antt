@@ -1,11 +1,13 @@
 -- Lists place by place.
-use Rattle.std.proofs.Common.{◌≡◌, ◌≢◌, ◌≤◌, ◌<◌, ◌*◌, ◌^◌, ℕ, zero, suc, ◌+◌, max, List, [], ◌∷◌, length, set, refl, sym, arith, slice_index, get_or-set_same, get_or-set_other}
+use Rattle.std.proofs.Common.{◌≡◌, ◌≢◌, ◌≤◌, ◌<◌, ◌*◌, ◌^◌, ℕ, zero, suc, ◌+◌, max, List, [], ◌∷◌, length, set, refl, sym, arith}
+use Rattle.std.proofs.Common.{slice_index, get_or-set_same, get_or-set_other}
 use mathlib.Core.Option.{some}
 use lib.ListN.{get_elem?}
 use Rattle.deal.specs.Totals.{total}
 use Rattle.deal.specs.Parts.{sums, greater}
 
-pub total_bound : {V : Type 0} (f g : V → ℕ) → (vs : List V) → ((j : ℕ) (v : V) → get_elem? vs j ≡ some v → f v ≤ g v * 2 ^ 40) → total f vs ≤ total g vs * 2 ^ 40
+pub total_bound : {V : Type 0} (f g : V → ℕ) → (vs : List V)
+    → ((j : ℕ) (v : V) → get_elem? vs j ≡ some v → f v ≤ g v * 2 ^ 40) → total f vs ≤ total g vs * 2 ^ 40
 total_bound f g [] h = omega arith
 total_bound f g (x ∷ xs) h = omega (arith, h 0 x refl, total_bound f g xs (λ j v e. h (suc j) v e))
 

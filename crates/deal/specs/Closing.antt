@@ -1,5 +1,6 @@
 -- Which blocks are in the lists of the lanes.
-use Rattle.std.specs.Prelude.{◌≡◌, ℕ, zero, suc, ◌<◌, Bool, false, List, [], ◌∷◌, ◌++◌, length, map, Vec, ◌≤◌, nat_lt, slice_index_or, if◌then◌else◌}
+use Rattle.std.specs.Prelude.{◌≡◌, ℕ, zero, suc, ◌<◌, Bool, false, List, [], ◌∷◌, ◌++◌, length, map, Vec, ◌≤◌, nat_lt}
+use Rattle.std.specs.Prelude.{slice_index_or, if◌then◌else◌}
 use Rattle.std.specs.declared.alloc.Global.{Global}
 use Rattle.std.specs.List.{concat, AllByRecursion}
 use Rattle.atomic_table.specs.Seated.{TableId}
@@ -27,7 +28,9 @@ items_of vs = map (λ (v : Vec ℕ Global). v.items) vs
 
 -- the lanes are of the deal whose seat this is
 abbrev pub AreBackTo : TableId → Mark → List Sight → Type 0
-AreBackTo z m lanes = AllByRecursion (λ (lane : Sight). (lane.game.table ≡ z) × (length lane.game.lengths ≡ m.all) × (lane.game.lanes ≡ m.lanes)) lanes
+AreBackTo z m lanes =
+    AllByRecursion
+    (λ (lane : Sight). (lane.game.table ≡ z) × (length lane.game.lengths ≡ m.all) × (lane.game.lanes ≡ m.lanes)) lanes
 
 -- a deal's seat when some lanes came back to it
 abbrev pub HasBack : Mark → List Sight → Mark → Type 0

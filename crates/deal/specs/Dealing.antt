@@ -25,7 +25,8 @@ IsDealtHand z workers n k hand =
 abbrev pub AreDealt : TableId → ℕ → ℕ → List Hand → Type 0
 AreDealt z workers n hands = AtEach (IsDealtHand z workers n) hands
 
--- lane k's deque when all n blocks are dealt and this many passes were cut off at most, and the ways to the others' that the lane has
+-- lane k's deque when all n blocks are dealt and this many passes were cut off at most,
+-- and the ways to the others' that the lane has
 abbrev pub IsHand : TableId → ℕ → ℕ → ℕ → ℕ → Hand → Type 0
 IsHand z workers n cut k hand =
     (worker_flavor hand.own ≡ 0) × (8192 ≤ (worker_view hand.own).parts + cut)

@@ -1,5 +1,6 @@
 -- How a number of points is cut into blocks.
-use Rattle.std.specs.Prelude.{◌≡◌, ◌≢◌, ℕ, zero, suc, ◌/◌, ◌%◌, ◌<◌, ◌^◌, List, [], ◌∷◌, ◌++◌, length, slice_index, sum, take, replicate}
+use Rattle.std.specs.Prelude.{◌≡◌, ◌≢◌, ℕ, zero, suc, ◌/◌, ◌%◌, ◌<◌, ◌^◌, List, [], ◌∷◌, ◌++◌, length, slice_index, sum, take}
+use Rattle.std.specs.Prelude.{replicate}
 use Rattle.deal.specs.declared.division.BadDivision.{BadDivision}
 use Rattle.deal.specs.declared.division.BadDivision.TheVariants.{ZeroLength, WrongSum}
 
@@ -17,7 +18,8 @@ IsBlock lengths i first len = (i < length lengths) × (first ≡ sum (take i len
 
 -- The first length of 0 is named; where there is none, the sum is wrong
 abbrev pub MatchBad : BadDivision → ℕ → List ℕ → Type 0
-MatchBad (ZeroLength i) total lengths = (i < length lengths) × (slice_index lengths i ≡ 0) × ((k : ℕ) → k < i → 0 < slice_index lengths k)
+MatchBad (ZeroLength i) total lengths =
+    (i < length lengths) × (slice_index lengths i ≡ 0) × ((k : ℕ) → k < i → 0 < slice_index lengths k)
 MatchBad WrongSum total lengths = ArePositive lengths × (sum lengths ≢ total)
 
 -- what is left over makes one block more
@@ -31,4 +33,5 @@ even_lengths total block = replicate (total / block) block ++ rest_block (total 
 
 -- the first point of each block
 abbrev pub AreStarts : List ℕ → List ℕ → Type 0
-AreStarts lengths starts = (length starts ≡ length lengths) × ((i : ℕ) → i < length lengths → slice_index starts i ≡ sum (take i lengths))
+AreStarts lengths starts =
+    (length starts ≡ length lengths) × ((i : ℕ) → i < length lengths → slice_index starts i ≡ sum (take i lengths))

@@ -11,7 +11,8 @@ use Rattle.deal.specs.declared.count.Size.{Size}
 use Rattle.deal.specs.declared.count.Ticket.{Ticket}
 
 abbrev pub mark : ℕ → ℕ → ℕ → ℕ → ℕ → List ℕ → Mark
-mark all lanes parts counted seen blocks = record { all = all; lanes = lanes; parts = parts; counted = counted; seen = seen; blocks = blocks }
+mark all lanes parts counted seen blocks =
+    record { all = all; lanes = lanes; parts = parts; counted = counted; seen = seen; blocks = blocks }
 
 abbrev pub no_mark : Mark
 no_mark = mark 0 0 0 0 0 []
@@ -21,7 +22,9 @@ abbrev pub first_mark : Size → Mark
 first_mark k = mark k.blocks k.lanes k.lanes 0 0 (range 0 k.blocks)
 
 abbrev pub both_marks : Mark → Mark → Mark
-both_marks v w = mark (max v.all w.all) (max v.lanes w.lanes) (v.parts + w.parts) (v.counted + w.counted) (max v.seen w.seen) (v.blocks ++ w.blocks)
+both_marks v w =
+    mark (max v.all w.all) (max v.lanes w.lanes) (v.parts + w.parts)
+    (v.counted + w.counted) (max v.seen w.seen) (v.blocks ++ w.blocks)
 
 -- the first block, and the others
 abbrev pub first_of : List ℕ → List ℕ
@@ -44,8 +47,8 @@ less_a_lane v = mark v.all v.lanes (v.parts - 1) v.counted v.seen v.blocks
 abbrev pub lane_mark : Mark → Mark
 lane_mark v = mark v.all v.lanes 1 0 0 []
 
--- A seat has counted no more than the blocks that it has, and seen no more than the count. One that represents a lane knows how many blocks
--- and lanes there are, and one that represents none has counted nothing
+-- A seat has counted no more than the blocks that it has, and seen no more than the count. One that represents a lane knows how
+-- many blocks and lanes there are, and one that represents none has counted nothing
 abbrev pub FitsCount : Size → ℕ → Mark → Type 0
 FitsCount k word v =
     (v.counted ≤ length v.blocks) × (v.seen ≤ word)

@@ -41,8 +41,8 @@ greater (x ∷ xs) (y ∷ ys) = max x y ∷ greater xs ys
 abbrev pub both_parts : Part → Part → Part
 both_parts v w = part (max v.seats w.seats) (v.parts + w.parts) (sums v.added w.added) (greater v.seen w.seen)
 
--- A seat adds up to 2 ^ 40 of each kind for each seat that it represents, and has seen no more than the words. One that represents a seat
--- knows how many there are
+-- A seat adds up to 2 ^ 40 of each kind for each seat that it represents, and has seen no more than the words. One that represents
+-- a seat knows how many there are
 abbrev pub FitsTally : ℕ → List ℕ → Part → Type 0
 FitsTally seats words v =
     (length v.added ≡ 7) × (length v.seen ≡ 7)
@@ -60,7 +60,9 @@ IsSummed seats s =
 -- the seat added to the word, and has seen it
 abbrev pub Adding : Step (Unit {0}) → Me (Unit {0}) Part → ℕ → Me (Unit {0}) Part → Type 0
 Adding s me n me' =
-    (me'.0 ≡ part me.0.seats me.0.parts (slice_set me.0.added s.word (slice_index me.0.added s.word + s.first)) (slice_set me.0.seen s.word (n + s.first)))
+    (me'.0
+    ≡ part me.0.seats me.0.parts (slice_set me.0.added s.word (slice_index me.0.added s.word + s.first))
+    (slice_set me.0.seen s.word (n + s.first)))
     × (me'.1 ≡ me.1) × (slice_index me.0.seen s.word ≤ n) × (length me.0.seen ≡ 7)
 
 -- The seat saw the word. Where it represents every seat, the word is what it added

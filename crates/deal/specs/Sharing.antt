@@ -1,7 +1,8 @@
 -- What lanes and deals represent, and what their calls promise, whatever other lanes do at the same time.
 --
--- A schedule is the order in which the atomic steps of all threads come: a push, a pop, a steal, and a load or an add of one word. No promise
--- names one. Each speaks of the values before and after a call of its own thread, and the steps of other threads may come between any two of its own.
+-- A schedule is the order in which the atomic steps of all threads come: a push, a pop, a steal, and a load or an add of one word.
+-- No promise names one. Each speaks of the values before and after a call of its own thread,
+-- and the steps of other threads may come between any two of its own.
 use Rattle.std.specs.Prelude.{◌≡◌, ℕ, zero, suc, ◌%◌, ◌<◌, ◌≤◌, List, [], ◌∷◌, ◌++◌, length, map, All, ◌==◌, ◌⊎◌, if◌then◌else◌}
 use Rattle.atomic_table.specs.Seated.{TableId}
 use Rattle.deal.specs.Totals.{times, range}
@@ -15,8 +16,8 @@ pub record Game : Type 0 where
   pub lanes : ℕ
   pub lengths : List ℕ
 
--- What a lane has seen: its deal; the blocks that were dealt to it, and those that it was answered, both in order; and the highest number
--- of blocks handed out that it saw
+-- What a lane has seen: its deal; the blocks that were dealt to it, and those that it was answered, both in order; and the highest
+-- number of blocks handed out that it saw
 pub record Sight : Type 0 where
   pub game : Game
   pub dealt : List ℕ

@@ -45,7 +45,9 @@ AtMost xs ys = (k : ℕ) → k < 7 → slice_index xs k ≤ slice_index ys k
 
 -- the seat saw these counts, which are at least what it had seen, and added nothing
 abbrev pub Reads : List ℕ → Tallied → Tallied → Type 0
-Reads counts old new = (new.sheet ≡ old.sheet) × (new.added ≡ old.added) × AtMost old.seen counts × ((k : ℕ) → k < 7 → slice_index new.seen k ≡ slice_index counts k)
+Reads counts old new =
+    (new.sheet ≡ old.sheet) × (new.added ≡ old.added) × AtMost old.seen counts
+    × ((k : ℕ) → k < 7 → slice_index new.seen k ≡ slice_index counts k)
 
 -- what all seats added of a kind
 abbrev pub added_in : ℕ → List Tallied → ℕ
@@ -65,7 +67,8 @@ AreEachOf tally seats = AllByRecursion (λ (seat : Tallied). seat.sheet ≡ tall
 
 -- the counts are what the seats added, and no seat saw more
 abbrev pub AreCounts : List ℕ → List Tallied → Type 0
-AreCounts counts seats = (length counts ≡ 7) × ((k : ℕ) → k < 7 → slice_index counts k ≡ added_in k seats) × NoneSawMore counts seats
+AreCounts counts seats =
+    (length counts ≡ 7) × ((k : ℕ) → k < 7 → slice_index counts k ≡ added_in k seats) × NoneSawMore counts seats
 
 -- the seat of a tally: it knows how many seats there are, represents none, and has added nothing
 abbrev pub IsRest : ℕ → Part → Type 0

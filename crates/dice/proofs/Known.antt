@@ -1,5 +1,6 @@
 -- Ops that an application of given objects, two event groups and four tasks of the file knows.
-use Rattle.std.proofs.Common.{◌≡◌, ◌&&◌, not, ◌≤◌, ◌<◌, ◌+◌, ℕ, Bool, ap, arith, length, length-append, refl, true, false, List, [], ◌∷◌, ◌++◌, Option, Some, sym, subst}
+use Rattle.std.proofs.Common.{◌≡◌, ◌&&◌, not, ◌≤◌, ◌<◌, ◌+◌, ℕ, Bool, ap, arith, length, length-append, refl, true, false, List, []}
+use Rattle.std.proofs.Common.{◌∷◌, ◌++◌, Option, Some, sym, subst}
 use Rattle.std.specs.Prelude.{Result, Ok, Err, IfOk, IsTrue, OnOk, OnErr, filter, is_ok, nat_eq, nat_lt, unwrap_or, if◌then◌else◌}
 use Rattle.std.specs.List.{AllByRecursion}
 use Rattle.std.specs.Option.{is_some}
@@ -27,12 +28,14 @@ known-ending objects blocks op k = by_test (ends_loop (edge_of op) && is_innermo
 
 -- a script to which an op was pushed, or not
 pub known-pushed : {A B : Type 0} (objects : List ObjectKind) (old new : List Op) (op : Op) (result : Result A B)
-    → OnOk result (new ≡ old ++ ending (open_behind old) op ∷ []) → OnErr result (new ≡ old) → AreKnown objects old → IsKnown objects op
+    → OnOk result (new ≡ old ++ ending (open_behind old) op ∷ [])
+    → OnErr result (new ≡ old) → AreKnown objects old → IsKnown objects op
     → AreKnown objects new
 known-pushed objects old new op (Ok x) ok err h k =
     let pushed : Op = ending (open_behind old) op in
     let is : IsKnown objects pushed = known-ending objects (open_behind old) op k in
-    subst (AreKnown objects) (sym ok) (λ app same two four. all-append (λ op. knows app op ≡ true) old pushed (h app same two four) (is app same two four))
+    subst (AreKnown objects) (sym ok)
+    (λ app same two four. all-append (λ op. knows app op ≡ true) old pushed (h app same two four) (is app same two four))
 known-pushed objects old new op (Err e) ok err h k = subst (AreKnown objects) (sym err) h
 
 pub few-pushed : {A B : Type 0} (old new : List Op) (op : Op) (result : Result A B)
@@ -74,7 +77,8 @@ known_ops app has_daemon objects same two four has (op ∷ ops) h =
 
 -- a handler of a short name and few ops that nest and are known
 pub known_handler : (has_daemon : Bool) (objects : List ObjectKind) (handler : Handler) → length handler.name ≤ most_name_bytes
-    → length handler.ops ≤ most_handler_ops → Nests [] (isr_edges_of handler.ops) → AllByRecursion (IsKnownIsrWith has_daemon objects) handler.ops
+    → length handler.ops ≤ most_handler_ops → Nests [] (isr_edges_of handler.ops)
+    → AllByRecursion (IsKnownIsrWith has_daemon objects) handler.ops
     → IsKnownHandler has_daemon objects handler
 known_handler has_daemon objects handler name few nests known app same two four has = record {
   name = name;
@@ -152,6 +156,7 @@ of_ok {T} (Ok y) P x e h = subst P (sym (ap (λ (o : Option T). unwrap_or o x) e
 of_ok {T} (Err y) P x e h = let f = ap (λ (o : Option T). is_some o) e in absurd (cc)
 
 -- what a list is after a call that may fail and did not
-pub if_ok : {T E X : Type 0} (r : Result T E) (new more old : X) (x : T) → Some x ≡ result_ok r → new ≡ (if is_ok r then more else old) → new ≡ more
+pub if_ok : {T E X : Type 0} (r : Result T E) (new more old : X) (x : T)
+    → Some x ≡ result_ok r → new ≡ (if is_ok r then more else old) → new ≡ more
 if_ok (Ok y) new more old x e h = h
 if_ok {T} (Err y) new more old x e h = let f = ap (λ (o : Option T). is_some o) e in absurd (cc)

@@ -1,5 +1,6 @@
 -- Handlers that are built op by op nest as a whole.
-use Rattle.std.proofs.Common.{◌≡◌, ◌≤◌, ◌⊎◌, inl, inr, true, List, [], ◌∷◌, ◌++◌, ◌+◌, length, refl, ap, sym, subst, ◌∙◌, arith, length-append}
+use Rattle.std.proofs.Common.{◌≡◌, ◌≤◌, ◌⊎◌, inl, inr, true, List, [], ◌∷◌, ◌++◌, ◌+◌, length, refl, ap, sym, subst, ◌∙◌, arith}
+use Rattle.std.proofs.Common.{length-append}
 use Rattle.std.specs.Prelude.{nat_lt, not}
 use Rattle.std.specs.List.{AllByRecursion}
 use Rattle.model.specs.declared.op.IsrOp.{IsrOp}
@@ -16,7 +17,8 @@ blocks_behind : (bs : List Block) (es : List Edge) (e : Edge) → blocks_after b
 blocks_behind bs [] e = refl
 blocks_behind bs (o ∷ es) e = blocks_behind (blocks_past o bs) es e
 
-nests_on : (bs : List Block) (es : List Edge) (e : Edge) → NestsSoFar bs es → may_stand e (blocks_after bs es) ≡ true → NestsSoFar bs (es ++ e ∷ [])
+nests_on : (bs : List Block) (es : List Edge) (e : Edge) → NestsSoFar bs es
+    → may_stand e (blocks_after bs es) ≡ true → NestsSoFar bs (es ++ e ∷ [])
 nests_on bs [] e nests may = (may, tt)
 nests_on bs (o ∷ es) e nests may = (nests.0, nests_on (blocks_past o bs) es e nests.1 may)
 
@@ -33,19 +35,23 @@ pub nest_on : (bs : List Block) (ops : List IsrOp) (op : IsrOp) → NestWith bs 
     → NestWith (blocks_past (edge_of_isr op) bs) (ops ++ op ∷ [])
 nest_on bs ops op h may =
     let edges = isr_edges-append ops op in
-    let stands : may_stand (edge_of_isr op) (blocks_after [] (isr_edges_of ops)) ≡ true = subst (λ b. may_stand (edge_of_isr op) b ≡ true) h.0 may in
+    let stands : may_stand (edge_of_isr op) (blocks_after [] (isr_edges_of ops)) ≡ true =
+    subst (λ b. may_stand (edge_of_isr op) b ≡ true) h.0 may in
     let behind : blocks_past (edge_of_isr op) bs ≡ blocks_after [] (isr_edges_of (ops ++ op ∷ [])) =
-    ap (blocks_past (edge_of_isr op)) h.0 ∙ sym (blocks_behind [] (isr_edges_of ops) (edge_of_isr op)) ∙ ap (blocks_after []) (sym edges) in
+    ap (blocks_past (edge_of_isr op)) h.0 ∙ sym (blocks_behind [] (isr_edges_of ops) (edge_of_isr op))
+    ∙ ap (blocks_after []) (sym edges) in
     (behind, subst (NestsSoFar []) (sym edges) (nests_on [] (isr_edges_of ops) (edge_of_isr op) h.1 stands))
 
 -- none is open
-pub nest_whole : (bs : List Block) (ops : List IsrOp) → NestWith bs ops → true ≡ not (nat_lt 0 (length bs)) → Nests [] (isr_edges_of ops)
+pub nest_whole : (bs : List Block) (ops : List IsrOp) → NestWith bs ops
+    → true ≡ not (nat_lt 0 (length bs)) → Nests [] (isr_edges_of ops)
 nest_whole bs ops h none = nests_whole [] (isr_edges_of ops) h.1 (sym h.0 ∙ nothing_open bs none)
 
 -- ---- ops of which something is true, and how many there are
 
 -- an op was appended, or left out
-pub all_pushed : (P : IsrOp → Type 0) (old new : List IsrOp) (op : IsrOp) → (new ≡ old ++ op ∷ []) ⊎ (new ≡ old) → AllByRecursion P old → P op
+pub all_pushed : (P : IsrOp → Type 0) (old new : List IsrOp) (op : IsrOp)
+    → (new ≡ old ++ op ∷ []) ⊎ (new ≡ old) → AllByRecursion P old → P op
     → AllByRecursion P new
 all_pushed P old new op (inl more) all one = subst (AllByRecursion P) (sym more) (all-append P old op all one)
 all_pushed P old new op (inr same) all one = subst (AllByRecursion P) (sym same) all

@@ -1,5 +1,6 @@
 -- The daemon behind four tasks, and its queue behind the objects of the file.
-use Rattle.std.proofs.Common.{◌≡◌, ◌≤◌, ◌-◌, Bool, true, false, List, [], ◌∷◌, ◌++◌, length, take, Option, Some, None, refl, ap, sym, subst, ◌∙◌, arith}
+use Rattle.std.proofs.Common.{◌≡◌, ◌≤◌, ◌-◌, Bool, true, false, List, [], ◌∷◌, ◌++◌, length, take, Option, Some, None, refl, ap}
+use Rattle.std.proofs.Common.{sym, subst, ◌∙◌, arith}
 use Rattle.std.specs.Prelude.{IsSomeAnd, IfSome, unwrap_or}
 use Rattle.std.specs.List.{AllByRecursion, slice_get}
 use Rattle.std.specs.Option.{is_some, option_map}
@@ -38,10 +39,13 @@ abbrev AllKnown : List ObjectKind → List Definition → Type 0
 AllKnown objects tasks = AllByRecursion (λ (d : Definition). AreKnown objects d.script) tasks
 
 daemon_behind : (objects : List ObjectKind) (tasks : List Definition) (daemon : Definition) → length tasks ≡ 4
-    → AllByRecursion IsDefinition tasks → AllKnown objects tasks → IsDaemonOf objects daemon → AreTasks true objects (tasks ++ daemon ∷ [])
+    → AllByRecursion IsDefinition tasks → AllKnown objects tasks
+    → IsDaemonOf objects daemon → AreTasks true objects (tasks ++ daemon ∷ [])
 daemon_behind objects tasks daemon four formed known is =
-    let same : take 4 (tasks ++ daemon ∷ []) ≡ tasks = subst (λ n. take n (tasks ++ daemon ∷ []) ≡ tasks) four (take-append_seam tasks (daemon ∷ [])) in
-    let last : slice_get (tasks ++ daemon ∷ []) 4 ≡ Some daemon = subst (λ n. slice_get (tasks ++ daemon ∷ []) n ≡ Some daemon) four (last_pushed tasks daemon) in
+    let same : take 4 (tasks ++ daemon ∷ []) ≡ tasks =
+    subst (λ n. take n (tasks ++ daemon ∷ []) ≡ tasks) four (take-append_seam tasks (daemon ∷ [])) in
+    let last : slice_get (tasks ++ daemon ∷ []) 4 ≡ Some daemon =
+    subst (λ n. slice_get (tasks ++ daemon ∷ []) n ≡ Some daemon) four (last_pushed tasks daemon) in
     record {
       four = ap length same ∙ four;
       formed = all-append IsDefinition tasks daemon formed is.formed;
@@ -49,11 +53,14 @@ daemon_behind objects tasks daemon four formed known is =
       behind = (omega (arith, length-append tasks (daemon ∷ [])), subst (λ o. IsSomeAnd o (IsDaemonOf objects)) (sym last) is);
     }
 
-pub daemon_pushed : (has_daemon : Bool) (objects : List ObjectKind) (tasks all : List Definition) (daemon : Definition) → has_daemon ≡ true
-    → all ≡ tasks ++ daemon ∷ [] → length tasks ≡ 4 → AllByRecursion IsDefinition tasks → AllKnown objects tasks → IsDaemonOf objects daemon
+pub daemon_pushed : (has_daemon : Bool) (objects : List ObjectKind) (tasks all : List Definition) (daemon : Definition)
+    → has_daemon ≡ true
+    → all ≡ tasks ++ daemon ∷ [] → length tasks ≡ 4 → AllByRecursion IsDefinition tasks
+    → AllKnown objects tasks → IsDaemonOf objects daemon
     → AreTasks has_daemon objects all
 daemon_pushed has_daemon objects tasks all daemon has e four formed known is =
-    let behind : AreTasks true objects all = subst (AreTasks true objects) (sym e) (daemon_behind objects tasks daemon four formed known is) in
+    let behind : AreTasks true objects all =
+    subst (AreTasks true objects) (sym e) (daemon_behind objects tasks daemon four formed known is) in
     subst (λ b. AreTasks b objects all) (sym has) behind
 
 pub no_daemon : (has_daemon : Bool) (objects : List ObjectKind) (tasks : List Definition) → has_daemon ≡ false → length tasks ≡ 4
@@ -87,7 +94,8 @@ is_queue : (o : Option ObjectKind) → IsSomeAnd o IsCommandQueue → unwrap_or 
 is_queue None h = absurd h
 is_queue (Some kind) h = h
 
-pub is_daemon : (app : Application) (has_daemon : Bool) → app.daemon ≡ daemon_number has_daemon → EndsWithQueue has_daemon app.objects
+pub is_daemon : (app : Application) (has_daemon : Bool)
+    → app.daemon ≡ daemon_number has_daemon → EndsWithQueue has_daemon app.objects
     → AreTasks has_daemon app.objects app.tasks → IfSome app.daemon (IsDaemon app)
 is_daemon app true is queue tasks =
     let daemon : IsDaemon app 4 = record {
@@ -107,5 +115,6 @@ four_of_file app has_daemon is tasks = subst (λ o. length (of_file o app.tasks)
 pub known_of_file : (app : Application) (has_daemon : Bool) → app.daemon ≡ daemon_number has_daemon → app.group_count ≡ 2
     → AreTasks has_daemon app.objects app.tasks → AllByRecursion (KnowsAll app) (of_file app.daemon app.tasks)
 known_of_file app has_daemon is two tasks =
-    let known : AllKnown app.objects (of_file app.daemon app.tasks) = subst (λ o. AllKnown app.objects (of_file o app.tasks)) (sym is) tasks.known in
+    let known : AllKnown app.objects (of_file app.daemon app.tasks) =
+    subst (λ o. AllKnown app.objects (of_file o app.tasks)) (sym is) tasks.known in
     known_all app two (four_of_file app has_daemon is tasks) (of_file app.daemon app.tasks) known

@@ -1,5 +1,6 @@
 -- What may be in an application as soon as it has these objects, two event groups, four tasks of the file, or three handlers.
-use Rattle.std.specs.Prelude.{ℕ, ◌≡◌, ◌≤◌, ◌<◌, ◌+◌, ◌-◌, Bool, true, false, List, [], ◌∷◌, Option, Some, None, is_some, IfSome, IsSomeAnd, length}
+use Rattle.std.specs.Prelude.{ℕ, ◌≡◌, ◌≤◌, ◌<◌, ◌+◌, ◌-◌, Bool, true, false, List, [], ◌∷◌, Option, Some, None, is_some, IfSome}
+use Rattle.std.specs.Prelude.{IsSomeAnd, length}
 use Rattle.std.specs.List.{AllByRecursion, slice_get}
 use Rattle.model.specs.declared.object.ObjectKind.{ObjectKind}
 use Rattle.model.specs.declared.op.Access.TheVariants.{Receive}

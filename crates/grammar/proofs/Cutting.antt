@@ -1,5 +1,6 @@
 -- A text's first word, and the others.
-use Rattle.std.proofs.Common.{◌≡◌, ◌⊎◌, ◌<◌, ℕ, Bool, true, false, List, [], ◌∷◌, take, drop, length, filter, refl, sym, ap, subst, suc, inl, inr, arith, ◌∙◌}
+use Rattle.std.proofs.Common.{◌≡◌, ◌⊎◌, ◌<◌, ℕ, Bool, true, false, List, [], ◌∷◌, take, drop, length, filter, refl, sym, ap, subst}
+use Rattle.std.proofs.Common.{suc, inl, inr, arith, ◌∙◌}
 use Rattle.std.specs.Prelude.{◌==◌, not}
 use Rattle.std.specs.List.{slice_split, onto_first, position_or_len}
 use Rattle.std.proofs.lemmas.List.Folds.{length-prefix_len}

@@ -5,7 +5,8 @@ use Rattle.std.specs.Option.{option_map, option_and_then, IfSome}
 use Rattle.std.specs.Str.{bytes_eq}
 use Rattle.model.specs.declared.answer.AnswerCondition.{AnswerCondition}
 use Rattle.model.proofs.Sorting.{by_test}
-use Rattle.grammar.specs.Grammar.{Word, Naming, NameSort, Form, Done, Number, NumberUnless, Choice, Asked, Name, number_of, number_unless, choice_of, take_condition, read, read_by}
+use Rattle.grammar.specs.Grammar.{Word, Naming, NameSort, Form, Done, Number, NumberUnless, Choice, Asked, Name, number_of}
+use Rattle.grammar.specs.Grammar.{number_unless, choice_of, take_condition, read, read_by}
 
 module _ {O : Type 0} (Holds : O → Type 0) (At : NameSort → ℕ → Type 0) where
   -- It makes only such ops, of entries that are there.

@@ -1,5 +1,6 @@
 -- What is read of an entry's words is what the grammar of points spells.
-use Rattle.std.proofs.Common.{◌≡◌, ◌≤◌, ◌<◌, ◌+◌, ◌++◌, ℕ, Bool, true, false, cond, leb, ltb, List, [], ◌∷◌, length, map, Option, Some, None, refl, ap, sym, subst, ◌∙◌, inl, inr, option_map, arith}
+use Rattle.std.proofs.Common.{◌≡◌, ◌≤◌, ◌<◌, ◌+◌, ◌++◌, ℕ, Bool, true, false, cond, leb, ltb, List, [], ◌∷◌, length, map, Option}
+use Rattle.std.proofs.Common.{Some, None, refl, ap, sym, subst, ◌∙◌, inl, inr, option_map, arith}
 use Rattle.std.specs.Prelude.{option_and_then, codes}
 use Rattle.std.specs.List.{AllByRecursion, position_from}
 use Rattle.std.specs.Option.{option_map_or}
@@ -15,7 +16,9 @@ use Rattle.model.specs.Scripts.{last_point}
 use Rattle.model.proofs.Sorting.{by_test}
 use Rattle.grammar.specs.Grammar.{Word, number_of}
 use Rattle.grammar.specs.Names.{is_name, index_of}
-use Rattle.grammar.specs.Points.{SpellsEntry, SpellsInjections, RawEntry, RawPair, RawOne, RawEvery, all_known, all_there, entry_from, entry_of, falls_from, if_named, if_point, if_step, injection_at, is_formed, known, may_be_point, name_of_every, raw_at, raw_of, raw_pair, raw_pairs}
+use Rattle.grammar.specs.Points.{SpellsEntry, SpellsInjections, RawEntry, RawPair, RawOne, RawEvery, all_known, all_there}
+use Rattle.grammar.specs.Points.{entry_from, entry_of, falls_from, if_named, if_point, if_step, injection_at, is_formed, known}
+use Rattle.grammar.specs.Points.{may_be_point, name_of_every, raw_at, raw_of, raw_pair, raw_pairs}
 use Rattle.grammar.proofs.Reading.{chosen}
 
 -- ---- two words
@@ -42,7 +45,8 @@ pair_sound w name p e = elim (chosen (is_name name) _ _ _ e) [
   | inr later ↦ let none = later.1 in cc
 ]
 
-pair_complete : (w name : Word) (step : ℕ) → number_of w ≡ Some step → step ≤ last_point → is_name name ≡ true → raw_pair w name ≡ Some (raw_at name step)
+pair_complete : (w name : Word) (step : ℕ) → number_of w ≡ Some step → step ≤ last_point
+    → is_name name ≡ true → raw_pair w name ≡ Some (raw_at name step)
 pair_complete w name step number few t =
     ap (λ b. cond b (option_map (raw_at name) (option_and_then if_step (number_of w))) None) t
     ∙ ap (λ o. option_map (raw_at name) (option_and_then if_step o)) number
@@ -78,13 +82,15 @@ AreKnown names [] [] = Unit {0}
 AreKnown names (p ∷ ps) (i ∷ is) = (i.step ≡ p.step) × (index_of p.handler names ≡ Some i.handler) × AreKnown names ps is
 AreKnown names ps is = ⊥
 
-one_known : (step : ℕ) (o : Option ℕ) (i : Injection) → option_map (injection_at step) o ≡ Some i → (i.step ≡ step) × (o ≡ Some i.handler)
+one_known : (step : ℕ) (o : Option ℕ) (i : Injection)
+    → option_map (injection_at step) o ≡ Some i → (i.step ≡ step) × (o ≡ Some i.handler)
 one_known step None i e = cc
 one_known step (Some handler) i e =
     let same : injection_at step handler ≡ i = cc in
     (sym (ap (λ (j : Injection). j.step) same), ap (λ (j : Injection). Some j.handler) same)
 
-pub known_sound : (names : List Word) (ps : List RawPair) (is : List Injection) → all_known names ps ≡ Some is → AreKnown names ps is
+pub known_sound : (names : List Word) (ps : List RawPair) (is : List Injection)
+    → all_known names ps ≡ Some is → AreKnown names ps is
 known_sound names [] [] e = tt
 known_sound names [] (i ∷ is) e = cc
 known_sound names (p ∷ ps) is e =
@@ -132,7 +138,8 @@ rises names last (p ∷ ps) (i ∷ is) h isnt =
     let from : From i.step is = subst (λ n. From n is) (sym same) later.0 in
     ((low, from_less last i.step low is from), (from, later.1))
 
-falls_not : (names : List Word) (last : ℕ) (ps : List RawPair) (is : List Injection) → AreKnown names ps is → From last is → AreInOrder is
+falls_not : (names : List Word) (last : ℕ) (ps : List RawPair) (is : List Injection)
+    → AreKnown names ps is → From last is → AreInOrder is
     → falls_from last ps ≡ false
 falls_not names last [] [] h from rising = refl
 falls_not names last [] (i ∷ is) h from rising = absurd h
@@ -147,7 +154,8 @@ from_nothing [] = tt
 from_nothing (i ∷ is) = (omega arith, from_nothing is)
 
 -- What may be a point is one, once its handlers are known, and a point may be one.
-pub is_point : (names : List Word) (ps : List RawPair) (is : List Injection) → AreKnown names ps is → may_be_point ps ≡ true → IsPoint is
+pub is_point : (names : List Word) (ps : List RawPair) (is : List Injection)
+    → AreKnown names ps is → may_be_point ps ≡ true → IsPoint is
 is_point names ps is h may =
     let parts = and_parts (ltb 0 (length ps)) _ may in
     let rest = and_parts (leb (length ps) most_of_point) _ parts.1 in
@@ -163,11 +171,13 @@ may_be names ps is h point =
     let many = as_many names ps is h in
     let low : 0 < length ps = omega (arith, point.some, many) in
     let high : length ps ≤ most_of_point = omega (arith, point.few, many) in
-    rw (lt-ltb 0 (length ps) low, le-leb (length ps) most_of_point high, falls_not names 0 ps is h (from_nothing is) point.in_order) refl
+    rw (lt-ltb 0 (length ps) low, le-leb (length ps) most_of_point high, falls_not names 0 ps is h (from_nothing is) point.in_order)
+    refl
 
 -- ---- injections and words
 
-spelled : (names ws : List Word) (ps : List RawPair) (is : List Injection) → ArePairs ws ps → AreKnown names ps is → SpellsInjections names is ws
+spelled : (names ws : List Word) (ps : List RawPair) (is : List Injection)
+    → ArePairs ws ps → AreKnown names ps is → SpellsInjections names is ws
 spelled names [] [] [] pairs h = tt
 spelled names [] [] (i ∷ is) pairs h = absurd h
 spelled names [] (p ∷ ps) is pairs h = absurd pairs
@@ -238,12 +248,14 @@ one_raw ws ps raw true may pairs e =
     subst (λ r. IsRaw r ws) same (pairs, may)
 one_raw ws ps raw false may pairs e = cc
 
-pairs_raw : (ws : List Word) (o : Option (List RawPair)) (raw : RawEntry) → raw_pairs ws ≡ o → option_and_then if_point o ≡ Some raw → IsRaw raw ws
+pairs_raw : (ws : List Word) (o : Option (List RawPair)) (raw : RawEntry)
+    → raw_pairs ws ≡ o → option_and_then if_point o ≡ Some raw → IsRaw raw ws
 pairs_raw ws None raw pairs e = cc
 pairs_raw ws (Some ps) raw pairs e = one_raw ws ps raw (may_be_point ps) refl pairs e
 
 two_raw : (w name : Word) (raw : RawEntry) (b : Bool) → bytes_eq w (codes "all") ≡ b
-    → option_map_or if_named (cond b (Some name) None) (option_and_then if_point (raw_pairs (w ∷ name ∷ []))) ≡ Some raw → IsRaw raw (w ∷ name ∷ [])
+    → option_map_or if_named (cond b (Some name) None) (option_and_then if_point (raw_pairs (w ∷ name ∷ []))) ≡ Some raw
+    → IsRaw raw (w ∷ name ∷ [])
 two_raw w name raw true all e = every_raw w name raw (is_name name) refl ((bytes_eq-Decides w (codes "all")).0 all) e
 two_raw w name raw false all e = pairs_raw (w ∷ name ∷ []) (raw_pairs (w ∷ name ∷ [])) raw refl e
 
@@ -261,17 +273,20 @@ formed_raw ws (RawEvery name) h = refl
 pub formed : (ws : List Word) (raw : RawEntry) → raw_of ws ≡ Some raw → is_formed raw ≡ true
 formed ws raw e = formed_raw ws raw (raw_sound ws raw e)
 
-one_spelled : (names ws : List Word) (ps : List RawPair) (is : List Injection) → IsRaw (RawOne ps) ws → AreKnown names ps is → SpellsEntry names (One is) ws
+one_spelled : (names ws : List Word) (ps : List RawPair) (is : List Injection)
+    → IsRaw (RawOne ps) ws → AreKnown names ps is → SpellsEntry names (One is) ws
 one_spelled names ws ps is raw h = (is_point names ps is h raw.1, spelled names ws ps is (pairs_sound ws ps raw.0) h)
 
 every_spelled : (names ws : List Word) (name : Word) (handler : ℕ) → IsRaw (RawEvery name) ws → index_of name names ≡ Some handler
     → SpellsEntry names (Every handler) ws
 every_spelled names [] name handler raw index = absurd raw
 every_spelled names (w ∷ []) name handler raw index = absurd raw
-every_spelled names (w ∷ word ∷ []) name handler raw index = (raw.0, raw.1, subst (λ n. index_of n names ≡ Some handler) (sym raw.2) index)
+every_spelled names (w ∷ word ∷ []) name handler raw index =
+    (raw.0, raw.1, subst (λ n. index_of n names ≡ Some handler) (sym raw.2) index)
 every_spelled names (w ∷ word ∷ v ∷ vs) name handler raw index = absurd raw
 
-from_raw : (names ws : List Word) (raw : RawEntry) (entry : PointEntry) → IsRaw raw ws → entry_from names raw ≡ Some entry → SpellsEntry names entry ws
+from_raw : (names ws : List Word) (raw : RawEntry) (entry : PointEntry)
+    → IsRaw raw ws → entry_from names raw ≡ Some entry → SpellsEntry names entry ws
 from_raw names ws (RawOne ps) entry raw e =
     let f = found One (all_known names ps) entry e in
     subst (λ x. SpellsEntry names x ws) f.2 (one_spelled names ws ps f.0 raw (known_sound names ps f.0 f.1))
@@ -287,11 +302,13 @@ read_sound names ws (Some raw) entry read e = from_raw names ws raw entry (raw_s
 pub sound : (names ws : List Word) (entry : PointEntry) → entry_of names ws ≡ Some entry → SpellsEntry names entry ws
 sound names ws entry e = read_sound names ws (raw_of ws) entry refl e
 
-one_complete : (names ws : List Word) (is : List Injection) → IsPoint is → SpellsInjections names is ws → entry_of names ws ≡ Some (One is)
+one_complete : (names ws : List Word) (is : List Injection) → IsPoint is
+    → SpellsInjections names is ws → entry_of names ws ≡ Some (One is)
 one_complete names ws is point h =
     let r = read names ws is h in
     let may = may_be names r.0 is r.2 point in
-    ap (λ o. option_and_then (entry_from names) (option_map_or if_named o (option_and_then if_point (raw_pairs ws)))) (pairs_have_no_all names ws is h)
+    ap (λ o. option_and_then (entry_from names) (option_map_or if_named o (option_and_then if_point (raw_pairs ws))))
+    (pairs_have_no_all names ws is h)
     ∙ ap (λ o. option_and_then (entry_from names) (option_and_then if_point o)) r.1
     ∙ ap (λ b. option_and_then (entry_from names) (cond b (Some (RawOne r.0)) None)) may
     ∙ ap (option_map One) (known_complete names r.0 is r.2)
@@ -301,7 +318,10 @@ complete names ws (One is) h = one_complete names ws is h.0 h.1
 complete names [] (Every handler) h = absurd h
 complete names (w ∷ []) (Every handler) h = absurd h
 complete names (w ∷ name ∷ []) (Every handler) h =
-    ap (λ b. option_and_then (entry_from names) (option_map_or if_named (cond b (Some name) None) (option_and_then if_point (raw_pairs (w ∷ name ∷ []))))) ((bytes_eq-Decides w (codes "all")).1 h.0)
+    ap (λ b.
+    option_and_then (entry_from names)
+    (option_map_or if_named (cond b (Some name) None) (option_and_then if_point (raw_pairs (w ∷ name ∷ [])))))
+    ((bytes_eq-Decides w (codes "all")).1 h.0)
     ∙ ap (λ b. option_and_then (entry_from names) (cond b (Some (RawEvery name)) None)) h.1
     ∙ ap (option_map Every) h.2
 complete names (w ∷ name ∷ v ∷ vs) (Every handler) h = absurd h
@@ -315,7 +335,8 @@ never names ws entry none h =
     cc
 
 -- a word's index among others, of which it is one
-index_from : (w : Word) (k : ℕ) (before after : List Word) → (index : ℕ) × (position_from (λ name. bytes_eq name w) k (before ++ w ∷ after) ≡ Some index)
+index_from : (w : Word) (k : ℕ) (before after : List Word)
+    → (index : ℕ) × (position_from (λ name. bytes_eq name w) k (before ++ w ∷ after) ≡ Some index)
 index_from w k [] after = (k, rw ((bytes_eq-Decides w w).1 refl) refl)
 index_from w k (b ∷ before) after = by_test (bytes_eq b w)
     (λ t. (k, rw t refl))
@@ -330,12 +351,14 @@ known_by_their_names before [] = ([], tt)
 known_by_their_names before (p ∷ ps) =
     let first = index_from p.handler 0 before (names_in ps) in
     let later = known_by_their_names (before ++ p.handler ∷ []) ps in
-    let same : (before ++ p.handler ∷ []) ++ names_in ps ≡ before ++ p.handler ∷ names_in ps = append_assoc before (p.handler ∷ []) (names_in ps) in (
+    let same : (before ++ p.handler ∷ []) ++ names_in ps ≡ before ++ p.handler ∷ names_in ps =
+    append_assoc before (p.handler ∷ []) (names_in ps) in (
       injection_at p.step first.0 ∷ later.0,
       (refl, first.1, subst (λ names. AreKnown names ps later.0) same later.1),
     )
 
-spelled_with : (ws : List Word) (raw : RawEntry) → IsRaw raw ws → (names : List Word) × (entry : PointEntry) × SpellsEntry names entry ws
+spelled_with : (ws : List Word) (raw : RawEntry) → IsRaw raw ws
+    → (names : List Word) × (entry : PointEntry) × SpellsEntry names entry ws
 spelled_with ws (RawOne ps) raw =
     let known = known_by_their_names [] ps in
     (names_in ps, One known.0, one_spelled (names_in ps) ws ps known.0 raw known.1)
@@ -343,7 +366,8 @@ spelled_with ws (RawEvery name) raw =
     let index = index_from name 0 [] [] in
     (name ∷ [], Every index.0, every_spelled (name ∷ []) ws name index.0 raw index.1)
 
-pub with_some_names : (ws : List Word) (raw : RawEntry) → raw_of ws ≡ Some raw → (names : List Word) × (entry : PointEntry) × SpellsEntry names entry ws
+pub with_some_names : (ws : List Word) (raw : RawEntry) → raw_of ws ≡ Some raw
+    → (names : List Word) × (entry : PointEntry) × SpellsEntry names entry ws
 with_some_names ws raw e = spelled_with ws raw (raw_sound ws raw e)
 
 -- ---- one injection after another
@@ -366,7 +390,8 @@ module _ {X : Type 0} where
   behind_some [] others = refl
   behind_some (x ∷ xs) others = ap (all_there (Some x)) (behind_some xs others)
 
-  pub one_more : (xs : List X) (x : X) (others : Option (List X)) → behind xs (all_there (Some x) others) ≡ behind (xs ++ x ∷ []) others
+  pub one_more : (xs : List X) (x : X) (others : Option (List X))
+      → behind xs (all_there (Some x) others) ≡ behind (xs ++ x ∷ []) others
   one_more [] x others = refl
   one_more (y ∷ xs) x others = ap (all_there (Some y)) (one_more xs x others)
 
@@ -375,7 +400,8 @@ too_long ps others many some =
     let long = length-append ps others in
     let above : most_of_point < length (ps ++ others) = omega (arith, long) in
     let low : 0 < length (ps ++ others) = omega arith in
-    let isnt : may_be_point (ps ++ others) ≡ false = rw (lt-ltb 0 (length (ps ++ others)) low, lt-leb (length (ps ++ others)) most_of_point above) refl in
+    let isnt : may_be_point (ps ++ others) ≡ false =
+    rw (lt-ltb 0 (length (ps ++ others)) low, lt-leb (length (ps ++ others)) most_of_point above) refl in
     ap (λ b. cond b (Some (RawOne (ps ++ others))) None) isnt
 
 more_read : (ps : List RawPair) (o : Option (List RawPair)) → 3 ≤ length ps → ((qs : List RawPair) → o ≡ Some qs → 1 ≤ length qs)
@@ -390,5 +416,6 @@ some_read (w ∷ name ∷ ws) some qs e =
     let t = there (raw_pair w name) (raw_pairs ws) qs e in
     subst (λ xs. 1 ≤ length xs) t.4 (omega arith)
 
-pub too_many : (ps : List RawPair) (ws : List Word) → 3 ≤ length ps → (ws ≡ [] → ⊥) → option_and_then if_point (behind ps (raw_pairs ws)) ≡ None
+pub too_many : (ps : List RawPair) (ws : List Word) → 3 ≤ length ps
+    → (ws ≡ [] → ⊥) → option_and_then if_point (behind ps (raw_pairs ws)) ≡ None
 too_many ps ws many some = more_read ps (raw_pairs ws) many (some_read ws some)

@@ -1,5 +1,6 @@
 -- What is read of an op's words is what the grammar spells.
-use Rattle.std.proofs.Common.{◌≡◌, ◌⊎◌, ℕ, Bool, true, false, cond, rules, List, [], ◌∷◌, Option, Some, None, refl, sym, ap, inl, inr, subst, ◌∙◌, option_map}
+use Rattle.std.proofs.Common.{◌≡◌, ◌⊎◌, ℕ, Bool, true, false, cond, rules, List, [], ◌∷◌, Option, Some, None, refl, sym, ap, inl}
+use Rattle.std.proofs.Common.{inr, subst, ◌∙◌, option_map}
 use Rattle.std.specs.Option.{option_map_or}
 use Rattle.std.specs.Prelude.{option_and_then, codes, not, ◌&&◌}
 use Rattle.std.specs.List.{AllByRecursion, list_all}
@@ -12,7 +13,9 @@ use Rattle.model.specs.declared.op.Op.{Op}
 use Rattle.model.specs.declared.op.IsrOp.{IsrOp}
 use Rattle.model.specs.Words.{word_of, word_of_isr}
 use Rattle.model.specs.Scripts.{is_in_range}
-use Rattle.grammar.specs.Grammar.{Word, Naming, Form, Done, Number, NumberUnless, Choice, Asked, Name, forms, isr_forms, number_of, number_unless, answer_of, choice_of, take_by, take_condition, WritesCondition, Writes, WritesBy, Spells, SpellsIsr, is_isr_in_range, read, read_by, op_of, isr_op_of}
+use Rattle.grammar.specs.Grammar.{Word, Naming, Form, Done, Number, NumberUnless, Choice, Asked, Name, forms, isr_forms, number_of}
+use Rattle.grammar.specs.Grammar.{number_unless, answer_of, choice_of, take_by, take_condition, WritesCondition, Writes, WritesBy}
+use Rattle.grammar.specs.Grammar.{Spells, SpellsIsr, is_isr_in_range, read, read_by, op_of, isr_op_of}
 
 -- which branch of a test it was
 pub chosen : {X : Type 0} (b : Bool) (x y z : X) → cond b x y ≡ z
@@ -161,7 +164,8 @@ module _ {O : Type 0} (word : O → Word) where
       let t = taken (named sort w) ws (λ r. read named (next r.0) r.1) op e in
       (t.0, t.1, read_sound named (next t.0) ws op t.2)
 
-  read_complete : (named : Naming) (form : Form O) (ws : List Word) (op : O) → Writes named form ws op → read named form ws ≡ Some op
+  read_complete : (named : Naming) (form : Form O) (ws : List Word) (op : O)
+      → Writes named form ws op → read named form ws ≡ Some op
   read_complete named (Done made) [] op h = ap Some h
   read_complete named (Done made) (w ∷ ws) op h = absurd h
   read_complete named (Number next) [] op h = absurd h
@@ -261,7 +265,8 @@ isr_forms_distinct = refl
 
 -- ---- the ranges
 
-ranged : {O : Type 0} (test : O → Bool) (o : Option O) (op : O) → option_and_then (λ made. cond (test made) (Some made) None) o ≡ Some op
+ranged : {O : Type 0} (test : O → Bool) (o : Option O) (op : O)
+    → option_and_then (λ made. cond (test made) (Some made) None) o ≡ Some op
     → (o ≡ Some op) × (test op ≡ true)
 ranged test None op e = cc
 ranged test (Some made) op e = elim (chosen (test made) _ _ _ e) [

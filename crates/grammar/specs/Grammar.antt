@@ -1,5 +1,6 @@
 -- The texts of ops: which words spell which op (profile).
-use Rattle.std.specs.Prelude.{◌≡◌, ◌⊎◌, ℕ, Bool, true, false, ◌&&◌, ◌==◌, nat_lt, nat_le, List, [], ◌∷◌, length, filter, codes, Option, Some, None, option_map, option_and_then, if◌then◌else◌}
+use Rattle.std.specs.Prelude.{◌≡◌, ◌⊎◌, ℕ, Bool, true, false, ◌&&◌, ◌==◌, nat_lt, nat_le, List, [], ◌∷◌, length, filter, codes}
+use Rattle.std.specs.Prelude.{Option, Some, None, option_map, option_and_then, if◌then◌else◌}
 use Rattle.std.specs.Char.{is_ascii_digit}
 use Rattle.std.specs.List.{list_all, slice_split}
 use Rattle.std.specs.Str.{bytes_eq}
@@ -9,7 +10,9 @@ use Rattle.model.specs.declared.answer.AnswerCondition.{AnswerCondition}
 use Rattle.model.specs.declared.answer.AnswerCondition.TheVariants.{Is, IsNot, Below, Above}
 use Rattle.model.specs.declared.call.Condition.{Condition}
 use Rattle.model.specs.declared.op.Op.{Op}
-use Rattle.model.specs.declared.op.Op.TheVariants.{Work, Delay, DelayUntil, Yield, Time, Mark, Expect, Repeat, End, If, Else, Break, Stamp, Since, Await, Do, GiveMutex, MessagesWaiting, SpacesAvailable, SetBits, ClearBits, GetBits, WaitBits, Suspend, Resume, SuspendAll, ResumeAll}
+use Rattle.model.specs.declared.op.Op.TheVariants.{Work, Delay, DelayUntil, Yield, Time, Mark, Expect, Repeat, End, If, Else, Break}
+use Rattle.model.specs.declared.op.Op.TheVariants.{Stamp, Since, Await, Do, GiveMutex, MessagesWaiting, SpacesAvailable, SetBits}
+use Rattle.model.specs.declared.op.Op.TheVariants.{ClearBits, GetBits, WaitBits, Suspend, Resume, SuspendAll, ResumeAll}
 use Rattle.model.specs.declared.op.IsrOp.{IsrOp}
 use Rattle.model.specs.declared.op.IsrOp.TheVariants as isr
 use Rattle.model.specs.Words.{word_of, word_of_isr}
@@ -208,7 +211,8 @@ Writes named (Number next) (w ∷ ws) op = (n : ℕ) × (number_of w ≡ Some n)
 Writes named (NumberUnless other next) (w ∷ ws) op = (n : Option ℕ) × (number_unless other w ≡ Some n) × Writes named (next n) ws op
 Writes named (Choice first second next) (w ∷ ws) op = (b : Bool) × (choice_of first second w ≡ Some b) × Writes named (next b) ws op
 Writes named (Asked next) ws op =
-    (condition : AnswerCondition) × (others : List Word) × WritesCondition condition ws others × Writes named (next condition) others op
+    (condition : AnswerCondition) × (others : List Word)
+    × WritesCondition condition ws others × Writes named (next condition) others op
 Writes named (Name sort next) (w ∷ ws) op = (entry : ℕ) × (named sort w ≡ Some entry) × Writes named (next entry) ws op
 Writes named _ _ op = ⊥
 

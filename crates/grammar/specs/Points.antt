@@ -1,5 +1,6 @@
 -- The texts of points: which words spell which entry (profile).
-use Rattle.std.specs.Prelude.{◌≡◌, ℕ, Bool, true, false, ◌≤◌, ◌&&◌, ◌||◌, not, nat_le, nat_lt, List, [], ◌∷◌, map, length, codes, Option, Some, None, option_map, option_and_then, if◌then◌else◌}
+use Rattle.std.specs.Prelude.{◌≡◌, ℕ, Bool, true, false, ◌≤◌, ◌&&◌, ◌||◌, not, nat_le, nat_lt, List, [], ◌∷◌, map, length, codes}
+use Rattle.std.specs.Prelude.{Option, Some, None, option_map, option_and_then, if◌then◌else◌}
 use Rattle.std.specs.Option.{option_map_or}
 use Rattle.std.specs.Str.{bytes_eq}
 use Rattle.model.specs.declared.plan.Injection.{Injection}
@@ -13,8 +14,8 @@ use Rattle.grammar.specs.declared.raw_point.RawPoint.TheVariants as raw
 use Rattle.grammar.specs.Names.{is_name, index_of}
 use Rattle.grammar.specs.Grammar.{Word, number_of}
 
--- Words spell these injections, two words each, where the handlers have these names: the number of a step up to the last one, and the
--- name of a handler.
+-- Words spell these injections, two words each, where the handlers have these names: the number of a step up to the last one, and
+-- the name of a handler.
 abbrev pub SpellsInjections : List Word → List Injection → List Word → Type 0
 SpellsInjections names [] [] = Unit {0}
 SpellsInjections names (i ∷ is) (w ∷ name ∷ ws) =

@@ -4,7 +4,9 @@ use Rattle.std.specs.List.{AllByRecursion}
 use Rattle.std.specs.Option.{is_some}
 use Rattle.model.specs.declared.call.CallProgress.{CallProgress}
 use Rattle.model.specs.declared.call.Phase.{Phase}
-use Rattle.model.specs.State.{State, Task, Object, Progress, Status, Ready, Awake, Waiting, Asleep, WaitingForBits, Suspended, Ended, no_task, task_at, status_at, progress_at, call_at, with_task, with_call, with_object, with_progress, go_on, take_ticket, for_each}
+use Rattle.model.specs.State.{State, Task, Object, Progress, Status, Ready, Awake, Waiting, Asleep, WaitingForBits, Suspended}
+use Rattle.model.specs.State.{Ended, no_task, task_at, status_at, progress_at, call_at, with_task, with_call, with_object}
+use Rattle.model.specs.State.{with_progress, go_on, take_ticket, for_each}
 use Rattle.model.specs.Switching.{make_ready, to_back, is_ready}
 use Rattle.model.specs.Mutexes.{set_priority}
 use Rattle.model.specs.Suspension.{can_resume, resume, resumed}
@@ -39,7 +41,8 @@ same_parts s t tasks bits = record {
 -- ---- a task changes
 
 -- and waits for the same as before
-pub same_task : (i : ℕ) (t : Task) (s : State) → bits_wait t.status ≡ bits_wait (status_at s i) → (is_some (bits_wait (status_at s i)) ≡ true → t.progress.call.wants ≡ (call_at s i).wants) → SameBitWaits s (with_task i t s)
+pub same_task : (i : ℕ) (t : Task) (s : State) → bits_wait t.status ≡ bits_wait (status_at s i)
+    → (is_some (bits_wait (status_at s i)) ≡ true → t.progress.call.wants ≡ (call_at s i).wants) → SameBitWaits s (with_task i t s)
 same_task i t s waits wants =
     let W : ℕ → Task → Type 0 = λ j u. bits_wait u.status ≡ bits_wait (status_at s j) in
     let C : ℕ → Task → Type 0 = λ j u. is_some (bits_wait (status_at s j)) ≡ true → u.progress.call.wants ≡ (call_at s j).wants in
@@ -50,21 +53,27 @@ same_task i t s waits wants =
     }
 
 -- one that doesn't wait for bits, before and after
-pub same_free : (i : ℕ) (t : Task) (s : State) → bits_wait t.status ≡ None → bits_wait (status_at s i) ≡ None → SameBitWaits s (with_task i t s)
+pub same_free : (i : ℕ) (t : Task) (s : State) → bits_wait t.status ≡ None
+    → bits_wait (status_at s i) ≡ None → SameBitWaits s (with_task i t s)
 same_free i t s now was = same_task i t s (now ∙ sym was) (λ some. absurd (let none = ap is_some was in cc))
 
-pub same_status : (i : ℕ) (u : Status) (s : State) → bits_wait u ≡ None → bits_wait (status_at s i) ≡ None → SameBitWaits s (with_task i (record (task_at s i) { status = u }) s)
+pub same_status : (i : ℕ) (u : Status) (s : State) → bits_wait u ≡ None → bits_wait (status_at s i) ≡ None
+    → SameBitWaits s (with_task i (record (task_at s i) { status = u }) s)
 same_status i u s now was = same_free i (record (task_at s i) { status = u }) s now was
 
-pub same_ticket : (i : ℕ) (f : ℕ → Status) (s : State) → bits_wait (f s.next_ticket) ≡ None → bits_wait (status_at s i) ≡ None → SameBitWaits s (take_ticket i f s)
-same_ticket i f s now was = let k = same_status i (f s.next_ticket) s now was in record { bits = k.bits; waits = k.waits; wants = k.wants }
+pub same_ticket : (i : ℕ) (f : ℕ → Status) (s : State) → bits_wait (f s.next_ticket) ≡ None
+    → bits_wait (status_at s i) ≡ None → SameBitWaits s (take_ticket i f s)
+same_ticket i f s now was =
+    let k = same_status i (f s.next_ticket) s now was in
+    record { bits = k.bits; waits = k.waits; wants = k.wants }
 
 -- its progress, where its call wants the same as before
 pub same_progress : (i : ℕ) (p : Progress) (s : State) → p.call.wants ≡ (call_at s i).wants → SameBitWaits s (with_progress i p s)
 same_progress i p s wants = same_task i (record (task_at s i) { progress = p }) s refl (λ some. wants)
 
 -- or where it doesn't wait for bits
-pub same_progress_free : (i : ℕ) (p : Progress) (s : State) → bits_wait (status_at s i) ≡ None → SameBitWaits s (with_progress i p s)
+pub same_progress_free : (i : ℕ) (p : Progress) (s : State)
+    → bits_wait (status_at s i) ≡ None → SameBitWaits s (with_progress i p s)
 same_progress_free i p s was = same_free i (record (task_at s i) { progress = p }) s was was
 
 pub same_call : (i : ℕ) (call : CallProgress) (s : State) → call.wants ≡ (call_at s i).wants → SameBitWaits s (with_call i call s)
@@ -78,23 +87,30 @@ same_go_on i phase s = same_call i (record (call_at s i) { phase = phase }) s re
 pub table-progress : (s : State) (i : ℕ) (p : Progress) → IsTable s → IsTable (with_progress i p s)
 table-progress s i p h = table-set s i (record (task_at s i) { progress = p }) h (ticket_at s.next_ticket i s.tasks h.tickets)
 
-pub stands_progressed : (v : EventGroups) (s : State) (i : ℕ) (p : Progress) → StandsFor v s → p.call.wants ≡ (call_at s i).wants → StandsFor v (with_progress i p s)
-stands_progressed v s i p h wants = stands_same v s (with_progress i p s) h (same_progress i p s wants) (table-progress s i p h.table)
+pub stands_progressed : (v : EventGroups) (s : State) (i : ℕ) (p : Progress) → StandsFor v s
+    → p.call.wants ≡ (call_at s i).wants → StandsFor v (with_progress i p s)
+stands_progressed v s i p h wants =
+    stands_same v s (with_progress i p s) h (same_progress i p s wants) (table-progress s i p h.table)
 
-pub stands_progressed_free : (v : EventGroups) (s : State) (i : ℕ) (p : Progress) → StandsFor v s → bits_wait (status_at s i) ≡ None → StandsFor v (with_progress i p s)
-stands_progressed_free v s i p h was = stands_same v s (with_progress i p s) h (same_progress_free i p s was) (table-progress s i p h.table)
+pub stands_progressed_free : (v : EventGroups) (s : State) (i : ℕ) (p : Progress)
+    → StandsFor v s → bits_wait (status_at s i) ≡ None → StandsFor v (with_progress i p s)
+stands_progressed_free v s i p h was =
+    stands_same v s (with_progress i p s) h (same_progress_free i p s was) (table-progress s i p h.table)
 
 -- ---- who runs
 
 pub same_ready : (i : ℕ) (s : State) → bits_wait (status_at s i) ≡ None → SameBitWaits s (make_ready i s)
 same_ready i s was = same_ticket i Ready s refl was
 
-pub same_all_ready : (is : List ℕ) (s : State) → AllByRecursion (λ i. bits_wait (status_at s i) ≡ None) is → SameBitWaits s (for_each make_ready is s)
+pub same_all_ready : (is : List ℕ) (s : State) → AllByRecursion (λ i. bits_wait (status_at s i) ≡ None) is
+    → SameBitWaits s (for_each make_ready is s)
 same_all_ready [] s h = same s
 same_all_ready (i ∷ is) s h =
     let k = same_ready i s h.0 in
-    same_both s (make_ready i s) (for_each make_ready is (make_ready i s)) k (same_all_ready is (make_ready i s) (still is h.1)) where
-      still : (js : List ℕ) → AllByRecursion (λ j. bits_wait (status_at s j) ≡ None) js → AllByRecursion (λ j. bits_wait (status_at (make_ready i s) j) ≡ None) js
+    same_both s (make_ready i s) (for_each make_ready is (make_ready i s))
+    k (same_all_ready is (make_ready i s) (still is h.1)) where
+      still : (js : List ℕ) → AllByRecursion (λ j. bits_wait (status_at s j) ≡ None) js
+          → AllByRecursion (λ j. bits_wait (status_at (make_ready i s) j) ≡ None) js
       still [] h' = tt
       still (j ∷ js) h' = ((same_ready i s h.0).waits j ∙ h'.0, still js h'.1)
 

@@ -3,7 +3,8 @@ use Rattle.std.proofs.Common.{◌≡◌, ◌==◌, ℕ, ◌<◌, true, Option, S
 use Rattle.std.specs.Prelude.{if◌then◌else◌}
 use Rattle.std.specs.List.{AllByRecursion, cons_option}
 use Rattle.std.specs.Option.{is_some, option_map}
-use Rattle.model.specs.State.{Status, Ready, Awake, Waiting, Asleep, WaitingForBits, Suspended, Ended, Task, ticket_if_ready, ticket_if_for_bits}
+use Rattle.model.specs.State.{Status, Ready, Awake, Waiting, Asleep, WaitingForBits, Suspended, Ended, Task, ticket_if_ready}
+use Rattle.model.specs.State.{ticket_if_for_bits}
 use Rattle.model.specs.Order.{Key, key}
 use Rattle.model.specs.Groups.{bits_key}
 use Rattle.model.specs.Invariant.{AllTicketsBelow, HasTicketBelow}
@@ -26,16 +27,19 @@ ticket_is group Suspended = refl
 ticket_is group Ended = refl
 
 pub key_same : (group : ℕ) (t u : Task) → bits_wait t.status ≡ bits_wait u.status → bits_key group t ≡ bits_key group u
-key_same group t u same = ap (option_map (key 0)) (ticket_is group t.status ∙ ap (ticket_there group) same ∙ sym (ticket_is group u.status))
+key_same group t u same =
+    ap (option_map (key 0)) (ticket_is group t.status ∙ ap (ticket_there group) same ∙ sym (ticket_is group u.status))
 
 pub key_none : (group : ℕ) (t : Task) → bits_wait t.status ≡ None → bits_key group t ≡ None
 key_none group t none = ap (option_map (key 0)) (ticket_is group t.status ∙ ap (ticket_there group) none)
 
 -- the key that a wait for bits of a group gives, and that it gives none elsewhere
-pub own_key : (group ticket : ℕ) (deadline : Option ℕ) → option_map (key 0) (ticket_if_for_bits group (WaitingForBits group ticket deadline)) ≡ Some (key 0 ticket)
+pub own_key : (group ticket : ℕ) (deadline : Option ℕ)
+    → option_map (key 0) (ticket_if_for_bits group (WaitingForBits group ticket deadline)) ≡ Some (key 0 ticket)
 own_key group ticket deadline = let t = eqb-refl group in rw t refl
 
-pub other_key : (group other ticket : ℕ) (deadline : Option ℕ) → (group ≡ other → ⊥) → option_map (key 0) (ticket_if_for_bits other (WaitingForBits group ticket deadline)) ≡ None
+pub other_key : (group other ticket : ℕ) (deadline : Option ℕ) → (group ≡ other → ⊥)
+    → option_map (key 0) (ticket_if_for_bits other (WaitingForBits group ticket deadline)) ≡ None
 other_key group other ticket deadline apart = let t = eqb-apart group other apart in rw t refl
 
 -- a group, and the key of a task that waits there
@@ -66,7 +70,8 @@ ready_free_of_bits Ended on = absurd cc
 
 -- tickets
 
-key_below : (n group : ℕ) (u : Status) → HasTicketBelow n u → AllByRecursion (λ (k : Key). k.ticket < n) (cons_option (option_map (key 0) (ticket_if_for_bits group u)) [])
+key_below : (n group : ℕ) (u : Status) → HasTicketBelow n u
+    → AllByRecursion (λ (k : Key). k.ticket < n) (cons_option (option_map (key 0) (ticket_if_for_bits group u)) [])
 key_below n group (Ready m) h = tt
 key_below n group (Awake w) h = tt
 key_below n group (Waiting w) h = tt

@@ -1,5 +1,6 @@
 -- A pass along a list, from which those are taken out whom bits meet.
-use Rattle.std.proofs.Common.{◌≡◌, ◌≢◌, ℕ, suc, ◌+◌, ◌<◌, ◌≤◌, inl, inr, true, false, not, Option, Some, None, List, [], ◌∷◌, ◌++◌, set, length, map, refl, ap, sym, ◌∙◌, subst, arith, append_assoc, append-nil, length-append}
+use Rattle.std.proofs.Common.{◌≡◌, ◌≢◌, ℕ, suc, ◌+◌, ◌<◌, ◌≤◌, inl, inr, true, false, not, Option, Some, None, List, [], ◌∷◌, ◌++◌}
+use Rattle.std.proofs.Common.{set, length, map, refl, ap, sym, ◌∙◌, subst, arith, append_assoc, append-nil, length-append}
 use Rattle.std.specs.Prelude.{◌==◌, if◌then◌else◌}
 use Rattle.std.specs.List.{filter, fold}
 use Rattle.std.proofs.lemmas.Bool.{cases_eq, eq-eqb, ne_eqb}
@@ -13,7 +14,8 @@ use Rattle.model.specs.State.{State, for_each}
 use Rattle.model.specs.Groups.{bits_left, is_met, wake_with_bits}
 use Rattle.model.proofs.Sorting.{by_test}
 use Rattle.lists.specs.Lists.{Apart, EachOnce, IsSound, entries_of, first_of, has_node, next_of, without}
-use Rattle.lists.proofs.Entries.{apart_from_test, distinct-left, distinct-right, has_node-append, has_node-same, has_or_not, no_first, none-some, without-apart, without-split}
+use Rattle.lists.proofs.Entries.{apart_from_test, distinct-left, distinct-right, has_node-append, has_node-same, has_or_not}
+use Rattle.lists.proofs.Entries.{no_first, none-some, without-apart, without-split}
 use Rattle.lists.proofs.Laws.{entries_of-set_other, entries_of-set_same, entries_of-without}
 use Rattle.groups.specs.EventGroups.{EventGroups, left_by, meets, met_of, unmet_of, wanted_by}
 use Rattle.task_lists.specs.Tasks.{tasks_in}
@@ -33,9 +35,12 @@ abbrev pub from : Option ℕ → List (ℕ × ℕ) → List (ℕ × ℕ)
 from None es = []
 from (Some n) es = from_node n es
 
-from_node-here : (n v : ℕ) (before rest : List (ℕ × ℕ)) → Apart (Some n) before → from_node n (before ++ (n, v) ∷ rest) ≡ (n, v) ∷ rest
+from_node-here : (n v : ℕ) (before rest : List (ℕ × ℕ)) → Apart (Some n) before
+    → from_node n (before ++ (n, v) ∷ rest) ≡ (n, v) ∷ rest
 from_node-here n v [] rest a = let t : (n == n) ≡ true = eq-eqb n n refl in rw t refl
-from_node-here n v (e ∷ es) rest a = let t : (e.0 == n) ≡ false = ne_eqb e.0 n (λ same. a.0 (ap Some (sym same))) in rw t (from_node-here n v es rest a.1)
+from_node-here n v (e ∷ es) rest a =
+    let t : (e.0 == n) ≡ false = ne_eqb e.0 n (λ same. a.0 (ap Some (sym same))) in
+    rw t (from_node-here n v es rest a.1)
 
 from-here : (before rest : List (ℕ × ℕ)) → EachOnce (before ++ rest) → from (first_of rest) (before ++ rest) ≡ rest
 from-here before [] once = refl
@@ -43,7 +48,9 @@ from-here before (x ∷ rest) once = from_node-here x.0 x.1 before rest (distinc
 
 next_here : (n v : ℕ) (before rest : List (ℕ × ℕ)) → Apart (Some n) before → next_of n (before ++ (n, v) ∷ rest) ≡ first_of rest
 next_here n v [] rest a = let t : (n == n) ≡ true = eq-eqb n n refl in rw t refl
-next_here n v (e ∷ es) rest a = let t : (e.0 == n) ≡ false = ne_eqb e.0 n (λ same. a.0 (ap Some (sym same))) in rw t (next_here n v es rest a.1)
+next_here n v (e ∷ es) rest a =
+    let t : (e.0 == n) ≡ false = ne_eqb e.0 n (λ same. a.0 (ap Some (sym same))) in
+    rw t (next_here n v es rest a.1)
 
 has_here : (n v : ℕ) (before rest : List (ℕ × ℕ)) → has_node n (before ++ (n, v) ∷ rest) ≡ true
 has_here n v before rest = elim (has_or_not n before) [
@@ -56,30 +63,42 @@ has_here n v before rest = elim (has_or_not n before) [
 
 -- ---- what is met, and what is left
 
-met-none : (wants : List Condition) (bits : ℕ) (e : ℕ × ℕ) → meets wants bits e ≡ false → (met_of wants bits (e ∷ []) ≡ []) × (unmet_of wants bits (e ∷ []) ≡ e ∷ [])
+met-none : (wants : List Condition) (bits : ℕ) (e : ℕ × ℕ) → meets wants bits e ≡ false
+    → (met_of wants bits (e ∷ []) ≡ []) × (unmet_of wants bits (e ∷ []) ≡ e ∷ [])
 met-none wants bits e t = (rw t refl, rw t refl)
 
-met-one : (wants : List Condition) (bits : ℕ) (e : ℕ × ℕ) → meets wants bits e ≡ true → (met_of wants bits (e ∷ []) ≡ e.0 ∷ []) × (unmet_of wants bits (e ∷ []) ≡ [])
+met-one : (wants : List Condition) (bits : ℕ) (e : ℕ × ℕ) → meets wants bits e ≡ true
+    → (met_of wants bits (e ∷ []) ≡ e.0 ∷ []) × (unmet_of wants bits (e ∷ []) ≡ [])
 met-one wants bits e t = (rw t refl, rw t refl)
 
-met-append : (wants : List Condition) (bits : ℕ) (es : List (ℕ × ℕ)) (e : ℕ × ℕ) → met_of wants bits (es ++ e ∷ []) ≡ met_of wants bits es ++ met_of wants bits (e ∷ [])
-met-append wants bits es e = ap tasks_in (filter-append (meets wants bits) es (e ∷ [])) ∙ map-append (λ (x : ℕ × ℕ). x.0) (filter (meets wants bits) es) (filter (meets wants bits) (e ∷ []))
+met-append : (wants : List Condition) (bits : ℕ) (es : List (ℕ × ℕ)) (e : ℕ × ℕ)
+    → met_of wants bits (es ++ e ∷ []) ≡ met_of wants bits es ++ met_of wants bits (e ∷ [])
+met-append wants bits es e =
+    ap tasks_in (filter-append (meets wants bits) es (e ∷ []))
+    ∙ map-append (λ (x : ℕ × ℕ). x.0) (filter (meets wants bits) es) (filter (meets wants bits) (e ∷ []))
 
-unmet-append : (wants : List Condition) (bits : ℕ) (es : List (ℕ × ℕ)) (e : ℕ × ℕ) → unmet_of wants bits (es ++ e ∷ []) ≡ unmet_of wants bits es ++ unmet_of wants bits (e ∷ [])
+unmet-append : (wants : List Condition) (bits : ℕ) (es : List (ℕ × ℕ)) (e : ℕ × ℕ)
+    → unmet_of wants bits (es ++ e ∷ []) ≡ unmet_of wants bits es ++ unmet_of wants bits (e ∷ [])
 unmet-append wants bits es e = filter-append (λ (x : ℕ × ℕ). not (meets wants bits x)) es (e ∷ [])
 
 few_met : (wants : List Condition) (bits : ℕ) (es : List (ℕ × ℕ)) → length (met_of wants bits es) ≤ length es
 few_met wants bits [] = omega arith
-few_met wants bits (e ∷ es) = let le = few_met wants bits es in by_test (meets wants bits e) (λ t. rw t (omega (arith, le))) (λ t. rw t (omega (arith, le)))
+few_met wants bits (e ∷ es) =
+    let le = few_met wants bits es in
+    by_test (meets wants bits e) (λ t. rw t (omega (arith, le))) (λ t. rw t (omega (arith, le)))
 
-left-append : (wants : List Condition) (bits : ℕ) (ts : List ℕ) (n : ℕ) → left_by wants bits (ts ++ n ∷ []) ≡ bits_left (left_by wants bits ts) (wanted_by wants n)
-left-append wants bits ts n = ap (fold bits_left bits) (map-append (wanted_by wants) ts (n ∷ [])) ∙ fold-append bits_left bits (map (wanted_by wants) ts) (wanted_by wants n ∷ [])
+left-append : (wants : List Condition) (bits : ℕ) (ts : List ℕ) (n : ℕ)
+    → left_by wants bits (ts ++ n ∷ []) ≡ bits_left (left_by wants bits ts) (wanted_by wants n)
+left-append wants bits ts n =
+    ap (fold bits_left bits) (map-append (wanted_by wants) ts (n ∷ []))
+    ∙ fold-append bits_left bits (map (wanted_by wants) ts) (wanted_by wants n ∷ [])
 
 -- ---- the pass
 
 -- Of the list as it was, some entries are passed: those whom the bits meet are taken out, and the others are still before
 -- the rest.
-pub record Passed (old new : List (List (ℕ × ℕ))) (list : ℕ) (wants : List Condition) (bits : ℕ) (at : Option ℕ) (tasks : List ℕ) (left : ℕ) : Type 0 where
+pub record Passed (old new : List (List (ℕ × ℕ))) (list : ℕ) (wants : List Condition)
+    (bits : ℕ) (at : Option ℕ) (tasks : List ℕ) (left : ℕ) : Type 0 where
   pub before : List (ℕ × ℕ)
   pub rest : List (ℕ × ℕ)
   pub whole : entries_of old list ≡ before ++ rest
@@ -90,7 +109,8 @@ pub record Passed (old new : List (List (ℕ × ℕ))) (list : ℕ) (wants : Lis
   pub met : tasks ≡ met_of wants bits before
   pub remains : left ≡ left_by wants bits tasks
   -- those met were woken, one after another
-  pub woken : (v : EventGroups) (s : State) → v.waiting ≡ old → StandsFor v s → StandsFor (record v { waiting = new }) (for_each (λ task. wake_with_bits task bits) tasks s)
+  pub woken : (v : EventGroups) (s : State) → v.waiting ≡ old → StandsFor v s
+      → StandsFor (record v { waiting = new }) (for_each (λ task. wake_with_bits task bits) tasks s)
 
 -- the entry where the pass is, and those behind it
 pub record Head (n : ℕ) (rest : List (ℕ × ℕ)) : Type 0 where
@@ -102,7 +122,8 @@ pub head_of : (n : ℕ) (rest : List (ℕ × ℕ)) → Some n ≡ first_of rest 
 head_of n [] e = absurd (none-some n (sym e))
 head_of n (x ∷ xs) e = record { value = x.1; later = xs; is = ap (λ (k : ℕ). (k, x.1) ∷ xs) (sym (same_Some n x.0 e)) }
 
-module _ (old new : List (List (ℕ × ℕ))) (list : ℕ) (wants : List Condition) (bits n : ℕ) (tasks : List ℕ) (left : ℕ) (h : Passed old new list wants bits (Some n) tasks left) (first : Head n h.rest) where
+module _ (old new : List (List (ℕ × ℕ))) (list : ℕ) (wants : List Condition) (bits n : ℕ) (tasks : List ℕ)
+    (left : ℕ) (h : Passed old new list wants bits (Some n) tasks left) (first : Head n h.rest) where
   now : entries_of new list ≡ unmet_of wants bits h.before ++ (n, first.value) ∷ first.later
   now = h.still ∙ ap (λ (es : List (ℕ × ℕ)). unmet_of wants bits h.before ++ es) first.is
 
@@ -123,19 +144,23 @@ module _ (old new : List (List (ℕ × ℕ))) (list : ℕ) (wants : List Conditi
   next_is = ap (next_of n) now ∙ next_here n first.value (unmet_of wants bits h.before) first.later apart
 
   whole' : entries_of old list ≡ (h.before ++ (n, first.value) ∷ []) ++ first.later
-  whole' = h.whole ∙ ap (λ (es : List (ℕ × ℕ)). h.before ++ es) first.is ∙ sym (append_assoc h.before ((n, first.value) ∷ []) first.later)
+  whole' =
+      h.whole ∙ ap (λ (es : List (ℕ × ℕ)). h.before ++ es) first.is
+      ∙ sym (append_assoc h.before ((n, first.value) ∷ []) first.later)
 
   pub room : IsSound 16 32 old → length tasks < 32
   room sound =
       let few : length (entries_of old list) ≤ 32 = sound.few list in
-      let all : length (entries_of old list) ≡ length (h.before ++ (n, first.value) ∷ []) + length first.later = ap length whole' ∙ length-append (h.before ++ (n, first.value) ∷ []) first.later in
+      let all : length (entries_of old list) ≡ length (h.before ++ (n, first.value) ∷ []) + length first.later =
+      ap length whole' ∙ length-append (h.before ++ (n, first.value) ∷ []) first.later in
       let one : length (h.before ++ (n, first.value) ∷ []) ≡ length h.before + 1 = length-append h.before ((n, first.value) ∷ []) in
       let met : length tasks ≡ length (met_of wants bits h.before) = ap length h.met in
       let le : length (met_of wants bits h.before) ≤ length h.before = few_met wants bits h.before in
       omega (arith, few, all, one, met, le)
 
   -- one whom the bits don't meet stays
-  pub passes_unmet : (at : Option ℕ) → at ≡ first_of first.later → meets wants bits (n, first.value) ≡ false → Passed old new list wants bits at tasks left
+  pub passes_unmet : (at : Option ℕ) → at ≡ first_of first.later
+      → meets wants bits (n, first.value) ≡ false → Passed old new list wants bits at tasks left
   passes_unmet at is unmet =
       let e : ℕ × ℕ = (n, first.value) in
       let m = met-none wants bits e unmet in
@@ -144,16 +169,23 @@ module _ (old new : List (List (ℕ × ℕ))) (list : ℕ) (wants : List Conditi
         rest = first.later;
         whole = whole';
         here = is;
-        still = now ∙ sym (append_assoc (unmet_of wants bits h.before) (e ∷ []) first.later) ∙ ap (λ (es : List (ℕ × ℕ)). es ++ first.later) (sym (unmet-append wants bits h.before e ∙ ap (λ (es : List (ℕ × ℕ)). unmet_of wants bits h.before ++ es) m.1));
+        still =
+            now ∙ sym (append_assoc (unmet_of wants bits h.before) (e ∷ []) first.later)
+            ∙ ap (λ (es : List (ℕ × ℕ)). es ++ first.later)
+            (sym (unmet-append wants bits h.before e ∙ ap (λ (es : List (ℕ × ℕ)). unmet_of wants bits h.before ++ es) m.1));
         others = h.others;
         sound = h.sound;
-        met = h.met ∙ sym (append-nil (met_of wants bits h.before)) ∙ sym (met-append wants bits h.before e ∙ ap (λ (ts : List ℕ). met_of wants bits h.before ++ ts) m.0);
+        met =
+            h.met ∙ sym (append-nil (met_of wants bits h.before))
+            ∙ sym (met-append wants bits h.before e ∙ ap (λ (ts : List ℕ). met_of wants bits h.before ++ ts) m.0);
         remains = h.remains;
         woken = h.woken;
       }
 
   out : entries_of (map (without n) new) list ≡ unmet_of wants bits h.before ++ first.later
-  out = entries_of-without n list new ∙ ap (without n) now ∙ without-split n first.value (unmet_of wants bits h.before) first.later apart apart_later
+  out =
+      entries_of-without n list new ∙ ap (without n) now
+      ∙ without-split n first.value (unmet_of wants bits h.before) first.later apart apart_later
 
   others_out : (k : ℕ) → k ≢ list → entries_of (map (without n) new) k ≡ entries_of new k
   others_out k ne = elim (has_or_not n (entries_of new k)) [
@@ -162,7 +194,9 @@ module _ (old new : List (List (ℕ × ℕ))) (list : ℕ) (wants : List Conditi
   ]
 
   -- one whom they meet is taken out
-  pub passes_met : (at : Option ℕ) → at ≡ first_of first.later → meets wants bits (n, first.value) ≡ true → IsSound 16 32 (map (without n) new) → Passed old (map (without n) new) list wants bits at (tasks ++ n ∷ []) (bits_left left (wanted_by wants n))
+  pub passes_met : (at : Option ℕ) → at ≡ first_of first.later → meets wants bits (n, first.value) ≡ true
+      → IsSound 16 32 (map (without n) new)
+      → Passed old (map (without n) new) list wants bits at (tasks ++ n ∷ []) (bits_left left (wanted_by wants n))
   passes_met at is met sound =
       let e : ℕ × ℕ = (n, first.value) in
       let m = met-one wants bits e met in
@@ -171,16 +205,23 @@ module _ (old new : List (List (ℕ × ℕ))) (list : ℕ) (wants : List Conditi
         rest = first.later;
         whole = whole';
         here = is;
-        still = out ∙ ap (λ (es : List (ℕ × ℕ)). es ++ first.later) (sym (unmet-append wants bits h.before e ∙ ap (λ (es : List (ℕ × ℕ)). unmet_of wants bits h.before ++ es) m.1 ∙ append-nil (unmet_of wants bits h.before)));
+        still =
+            out
+            ∙ ap (λ (es : List (ℕ × ℕ)). es ++ first.later) (sym (unmet-append wants bits h.before e
+            ∙ ap (λ (es : List (ℕ × ℕ)). unmet_of wants bits h.before ++ es) m.1 ∙ append-nil (unmet_of wants bits h.before)));
         others = λ k ne. others_out k ne ∙ h.others k ne;
         sound = sound;
-        met = ap (λ (ts : List ℕ). ts ++ n ∷ []) h.met ∙ sym (met-append wants bits h.before e ∙ ap (λ (ts : List ℕ). met_of wants bits h.before ++ ts) m.0);
+        met =
+            ap (λ (ts : List ℕ). ts ++ n ∷ []) h.met
+            ∙ sym (met-append wants bits h.before e ∙ ap (λ (ts : List ℕ). met_of wants bits h.before ++ ts) m.0);
         remains = ap (λ (b : ℕ). bits_left b (wanted_by wants n)) h.remains ∙ sym (left-append wants bits tasks n);
         woken = λ v s same stand.
             let before : State = for_each (λ task. wake_with_bits task bits) tasks s in
             let k : StandsFor (record v { waiting = new }) before = h.woken v s same stand in
             let within = (waiter (record v { waiting = new }) before k n list has).within in
-            subst (StandsFor (record v { waiting = map (without n) new })) (sym (each_more (λ task. wake_with_bits task bits) s tasks n)) (stands_woken (record v { waiting = new }) before n bits k within);
+            subst (StandsFor (record v { waiting = map (without n) new }))
+            (sym (each_more (λ task. wake_with_bits task bits) s tasks n))
+            (stands_woken (record v { waiting = new }) before n bits k within);
       }
 
   now_from : from (Some n) (entries_of new list) ≡ (n, first.value) ∷ first.later
@@ -191,10 +232,14 @@ module _ (old new : List (List (ℕ × ℕ))) (list : ℕ) (wants : List Conditi
 pub behind : (n : ℕ) (rest : List (ℕ × ℕ)) (f : Head n rest) → length f.later < length rest
 behind n rest f = let is : length rest ≡ suc (length f.later) = ap length f.is in omega (arith, is)
 
-pub shorter : (old new newer : List (List (ℕ × ℕ))) (list : ℕ) (wants : List Condition) (bits n : ℕ) (tasks : List ℕ) (left : ℕ) (h : Passed old new list wants bits (Some n) tasks left) (at : Option ℕ) (tasks' : List ℕ) (left' : ℕ) (k : Passed old newer list wants bits at tasks' left') → (m : length k.rest < length h.rest) → length (from at (entries_of newer list)) < length (from (Some n) (entries_of new list))
+pub shorter : (old new newer : List (List (ℕ × ℕ))) (list : ℕ) (wants : List Condition) (bits n : ℕ)
+    (tasks : List ℕ) (left : ℕ) (h : Passed old new list wants bits (Some n) tasks left) (at : Option ℕ)
+    (tasks' : List ℕ) (left' : ℕ) (k : Passed old newer list wants bits at tasks' left')
+    → (m : length k.rest < length h.rest) → length (from at (entries_of newer list)) < length (from (Some n) (entries_of new list))
 shorter old new newer list wants bits n tasks left h at tasks' left' k m =
     let f = head_of n h.rest h.here in
-    let was : length (from (Some n) (entries_of new list)) ≡ length h.rest = ap length (now_from old new list wants bits n tasks left h f ∙ sym f.is) in
+    let was : length (from (Some n) (entries_of new list)) ≡ length h.rest =
+    ap length (now_from old new list wants bits n tasks left h f ∙ sym f.is) in
     let is : length (from at (entries_of newer list)) ≡ length k.rest =
     ap (λ (o : Option ℕ). length (from o (entries_of newer list))) k.here
     ∙ ap (λ (es : List (ℕ × ℕ)). length (from (first_of k.rest) es)) k.still
@@ -203,7 +248,9 @@ shorter old new newer list wants bits n tasks left h at tasks' left' k m =
 
 -- ---- a turn
 
-module _ (old new : List (List (ℕ × ℕ))) (list : ℕ) (wants : List Condition) (bits n : ℕ) (tasks : List ℕ) (left : ℕ) (at : Option ℕ) (h : Passed old new list wants bits (Some n) tasks left) (next : (l : ℕ) → has_node n (entries_of new l) ≡ true → at ≡ next_of n (entries_of new l)) where
+module _ (old new : List (List (ℕ × ℕ))) (list : ℕ) (wants : List Condition) (bits n : ℕ)
+    (tasks : List ℕ) (left : ℕ) (at : Option ℕ) (h : Passed old new list wants bits (Some n) tasks left)
+    (next : (l : ℕ) → has_node n (entries_of new l) ≡ true → at ≡ next_of n (entries_of new l)) where
   first : Head n h.rest
   first = head_of n h.rest h.here
 
@@ -216,31 +263,45 @@ module _ (old new : List (List (ℕ × ℕ))) (list : ℕ) (wants : List Conditi
   pub turn_unmet : is_met bits (wanted_by wants n) ≡ false → Passed old new list wants bits at tasks left
   turn_unmet unmet = passes_unmet old new list wants bits n tasks left h first at goes_on unmet
 
-  pub turn_met : is_met bits (wanted_by wants n) ≡ true → IsSound 16 32 (map (without n) new) → Passed old (map (without n) new) list wants bits at (tasks ++ n ∷ []) (bits_left left (wanted_by wants n))
+  pub turn_met : is_met bits (wanted_by wants n) ≡ true → IsSound 16 32 (map (without n) new)
+      → Passed old (map (without n) new) list wants bits at (tasks ++ n ∷ []) (bits_left left (wanted_by wants n))
   turn_met met sound = passes_met old new list wants bits n tasks left h first at goes_on met sound
 
-  pub shorter_unmet : is_met bits (wanted_by wants n) ≡ false → length (from at (entries_of new list)) < length (from (Some n) (entries_of new list))
+  pub shorter_unmet : is_met bits (wanted_by wants n) ≡ false
+      → length (from at (entries_of new list)) < length (from (Some n) (entries_of new list))
   unfolding turn_unmet passes_unmet
   shorter_unmet unmet = shorter old new new list wants bits n tasks left h at tasks left (turn_unmet unmet) (behind n h.rest first)
 
-  pub shorter_met : is_met bits (wanted_by wants n) ≡ true → IsSound 16 32 (map (without n) new) → length (from at (entries_of (map (without n) new) list)) < length (from (Some n) (entries_of new list))
+  pub shorter_met : is_met bits (wanted_by wants n) ≡ true → IsSound 16 32 (map (without n) new)
+      → length (from at (entries_of (map (without n) new) list)) < length (from (Some n) (entries_of new list))
   unfolding turn_met passes_met
-  shorter_met met sound = shorter old new (map (without n) new) list wants bits n tasks left h at (tasks ++ n ∷ []) (bits_left left (wanted_by wants n)) (turn_met met sound) (behind n h.rest first)
+  shorter_met met sound =
+      shorter old new (map (without n) new) list wants bits n tasks left h at (tasks ++ n ∷ [])
+      (bits_left left (wanted_by wants n)) (turn_met met sound) (behind n h.rest first)
 
 -- at the end all are passed
-pub passed_all : (old new : List (List (ℕ × ℕ))) (list : ℕ) (wants : List Condition) (bits : ℕ) (tasks : List ℕ) (left : ℕ) → list < 16 → IsSound 16 32 old → Passed old new list wants bits None tasks left → (tasks ≡ met_of wants bits (entries_of old list)) × (new ≡ set old list (unmet_of wants bits (entries_of old list)))
+pub passed_all : (old new : List (List (ℕ × ℕ))) (list : ℕ) (wants : List Condition) (bits : ℕ) (tasks : List ℕ) (left : ℕ)
+    → list < 16 → IsSound 16 32 old → Passed old new list wants bits None tasks left
+    → (tasks ≡ met_of wants bits (entries_of old list)) × (new ≡ set old list (unmet_of wants bits (entries_of old list)))
 passed_all old new list wants bits tasks left known sound h =
     let none : h.rest ≡ [] = no_first h.rest h.here in
     let all : entries_of old list ≡ h.before = h.whole ∙ ap (λ (es : List (ℕ × ℕ)). h.before ++ es) none ∙ append-nil h.before in
-    let there : entries_of new list ≡ unmet_of wants bits (entries_of old list) = h.still ∙ ap (λ (es : List (ℕ × ℕ)). unmet_of wants bits h.before ++ es) none ∙ append-nil (unmet_of wants bits h.before) ∙ ap (unmet_of wants bits) (sym all) in (
+    let there : entries_of new list ≡ unmet_of wants bits (entries_of old list) =
+    h.still ∙ ap (λ (es : List (ℕ × ℕ)). unmet_of wants bits h.before ++ es) none
+    ∙ append-nil (unmet_of wants bits h.before) ∙ ap (unmet_of wants bits) (sym all) in (
       h.met ∙ ap (met_of wants bits) (sym all),
-      same_entries new (set old list (unmet_of wants bits (entries_of old list))) (h.sound.as_many ∙ sym (length-set old list (unmet_of wants bits (entries_of old list)) ∙ sound.as_many)) (λ k. elim (cases_eq k list) [
-        | inl same ↦
-            ap (entries_of new) same ∙ there
-            ∙ sym (entries_of-set_same old list (unmet_of wants bits (entries_of old list)) (let many = sound.as_many in omega (arith, many, known)))
-            ∙ ap (entries_of (set old list (unmet_of wants bits (entries_of old list)))) (sym same)
-        | inr ne ↦ h.others k ne ∙ sym (entries_of-set_other old list k (unmet_of wants bits (entries_of old list)) ne)
-      ]),
+      same_entries new (set old list (unmet_of wants bits (entries_of old list)))
+          (h.sound.as_many ∙ sym (length-set old list (unmet_of wants bits (entries_of old list)) ∙ sound.as_many))
+          (λ k. elim (cases_eq k list) [
+            | inl same ↦
+                ap (entries_of new) same ∙ there
+                ∙ sym (entries_of-set_same old list (unmet_of wants bits (entries_of old list))
+                (let many = sound.as_many in omega (arith, many, known)))
+                ∙ ap (entries_of (set old list (unmet_of wants bits (entries_of old list)))) (sym same)
+            | inr ne ↦ h.others k ne ∙ sym (entries_of-set_other old list k (unmet_of wants bits (entries_of old list)) ne)
+          ]),
     ) where
       same_entries : (ls ms : List (List (ℕ × ℕ))) → length ls ≡ length ms → ((l : ℕ) → entries_of ls l ≡ entries_of ms l) → ls ≡ ms
-      same_entries ls ms len eq = same_lists ls ms len (λ l d below. sym (get_or_default ls l [] d below) ∙ eq l ∙ get_or_default ms l [] d (omega (arith, len, below)))
+      same_entries ls ms len eq =
+          same_lists ls ms len
+          (λ l d below. sym (get_or_default ls l [] d below) ∙ eq l ∙ get_or_default ms l [] d (omega (arith, len, below)))

@@ -1,5 +1,6 @@
 -- What a change of a state is to the groups that represent it.
-use Rattle.std.proofs.Common.{◌≡◌, ℕ, ◌<◌, inl, inr, true, false, Option, Some, None, List, [], ◌∷◌, set, length, map, refl, ap, sym, ◌∙◌, subst, get_or}
+use Rattle.std.proofs.Common.{◌≡◌, ℕ, ◌<◌, inl, inr, true, false, Option, Some, None, List, [], ◌∷◌, set, length, map, refl, ap}
+use Rattle.std.proofs.Common.{sym, ◌∙◌, subst, get_or}
 use Rattle.std.specs.List.{AllByRecursion}
 use Rattle.std.specs.Option.{is_some}
 use Rattle.std.proofs.lemmas.Bool.{cases_eq}
@@ -20,13 +21,15 @@ use Rattle.task_lists.specs.Tasks.{tasks_in}
 use Rattle.groups.specs.StandsFor.{SameBitWaits, StandsFor, bits_wait}
 use Rattle.model.specs.Groups.{waiters_for_bits, bits_key}
 use Rattle.groups.proofs.Keys.{key_none, key_same, waits_at}
-use Rattle.groups.proofs.Waiters.{InList, among, but, has_node-among, has_task-among, in_list, list_alike, tasks_in-without, tasks_of-other}
+use Rattle.groups.proofs.Waiters.{InList, among, but, has_node-among, has_task-among, in_list, list_alike, tasks_in-without}
+use Rattle.groups.proofs.Waiters.{tasks_of-other}
 
 -- ---- who is in a list
 
 module _ (v : EventGroups) (s : State) (h : StandsFor v s) where
   pub listed : (i group : ℕ) → has_node i (waiting_in v group) ≡ has_task i (waiters_for_bits s group)
-  listed i group = has_node-among i (waiting_in v group) ∙ ap (among i) (h.tasks group) ∙ sym (has_task-among i (waiters_for_bits s group))
+  listed i group =
+      has_node-among i (waiting_in v group) ∙ ap (among i) (h.tasks group) ∙ sym (has_task-among i (waiters_for_bits s group))
 
   -- who is in a list is in the table, and has a key
   pub waiter : (i group : ℕ) → has_node i (waiting_in v group) ≡ true → InList (bits_key group) s.tasks i
@@ -44,7 +47,8 @@ module _ (v : EventGroups) (s : State) (h : StandsFor v s) where
   waiting_is i sound = by_test (is_some (bits_wait (status_at s i)))
       (λ some.
       let w = waits_at (status_at s i) some in
-      let has : has_node i (waiting_in v w.group) ≡ true = listed i w.group ∙ has_task-key (bits_key w.group) refl i w.key s.tasks w.is in
+      let has : has_node i (waiting_in v w.group) ≡ true =
+      listed i w.group ∙ has_task-key (bits_key w.group) refl i w.key s.tasks w.is in
       ap is_some (sound.one_place i w.group has) ∙ sym some)
       (λ t.
       let none : bits_wait (status_at s i) ≡ None = none_if (bits_wait (status_at s i)) t in
@@ -63,7 +67,8 @@ module _ (v : EventGroups) (s : State) (h : StandsFor v s) where
 -- ---- changes that the groups don't see
 
 -- who is in a list waits for bits
-waits_for_bits : (v : EventGroups) (s : State) (h : StandsFor v s) (i group : ℕ) → has_node i (waiting_in v group) ≡ true → is_some (bits_wait (status_at s i)) ≡ true
+waits_for_bits : (v : EventGroups) (s : State) (h : StandsFor v s) (i group : ℕ)
+    → has_node i (waiting_in v group) ≡ true → is_some (bits_wait (status_at s i)) ≡ true
 waits_for_bits v s h i group has = by_wait (bits_wait (status_at s i)) refl where
   by_wait : (o : Option _) → bits_wait (status_at s i) ≡ o → is_some o ≡ true
   by_wait None none = absurd (let away = absent v s h i group none in cc (has, away))
@@ -72,14 +77,18 @@ waits_for_bits v s h i group has = by_wait (bits_wait (status_at s i)) refl wher
 pub stands_same : (v : EventGroups) (s t : State) → StandsFor v s → SameBitWaits s t → IsTable t → StandsFor v t
 stands_same v s t h same table = record {
   bits = λ group. h.bits group ∙ sym (same.bits group);
-  tasks = λ group. h.tasks group ∙ ap tasks_of (list_alike (bits_key group) refl s.tasks t.tasks (λ i. sym (key_same group (task_at t i) (task_at s i) (same.waits i))));
+  tasks = λ group.
+      h.tasks group
+      ∙ ap tasks_of
+      (list_alike (bits_key group) refl s.tasks t.tasks (λ i. sym (key_same group (task_at t i) (task_at s i) (same.waits i))));
   conditions = λ group i has. same.wants i (waits_for_bits v s h i group has) ∙ h.conditions group i has;
   table = table;
 }
 
 -- ---- a task leaves its list
 
-pub stands_left : (v : EventGroups) (s t : State) (i : ℕ) (u : Task) → StandsFor v s → i < length s.tasks → t.tasks ≡ set s.tasks i u → t.group_bits ≡ s.group_bits → bits_wait u.status ≡ None → IsTable t
+pub stands_left : (v : EventGroups) (s t : State) (i : ℕ) (u : Task) → StandsFor v s → i < length s.tasks
+    → t.tasks ≡ set s.tasks i u → t.group_bits ≡ s.group_bits → bits_wait u.status ≡ None → IsTable t
     → StandsFor (record v { waiting = map (without i) v.waiting }) t
 stands_left v s t i u h l is bits none table = record {
   bits = λ group. h.bits group ∙ ap (λ (bs : ℕ → ℕ). bs group) (sym bits);
@@ -91,9 +100,14 @@ stands_left v s t i u h l is bits none table = record {
       ∙ ap tasks_of (sym (list-gone (bits_key group) i u s.tasks l (key_none group u none)))
       ∙ ap (λ (ts : List Task). tasks_of (waiters_for_bits (record s { tasks = ts }) group)) (sym is);
   conditions = λ group j has.
-      let left : has_node j (without i (waiting_in v group)) ≡ true = ap (has_node j) (sym (entries_of-without i group v.waiting)) ∙ has in
+      let left : has_node j (without i (waiting_in v group)) ≡ true =
+      ap (has_node j) (sym (entries_of-without i group v.waiting)) ∙ has in
       elim (cases_eq j i) [
-        | inl same ↦ absurd (let gone : has_node j (without i (waiting_in v group)) ≡ false = subst (λ (k : ℕ). has_node k (without i (waiting_in v group)) ≡ false) (sym same) (has_node-without_it i (waiting_in v group)) in cc (left, gone))
+        | inl same ↦
+            absurd (let gone : has_node j (without i (waiting_in v group)) ≡ false =
+            subst (λ (k : ℕ). has_node k (without i (waiting_in v group)) ≡ false)
+            (sym same) (has_node-without_it i (waiting_in v group)) in
+            cc (left, gone))
         | inr other ↦
             ap (λ (ts : List Task). (get_or ts j no_task).progress.call.wants) is
             ∙ ap (λ (w : Task). w.progress.call.wants) (get_or-set_other s.tasks i j u no_task other)
@@ -102,14 +116,21 @@ stands_left v s t i u h l is bits none table = record {
   table = table;
 }
 
-pub stands_readied : (v : EventGroups) (s : State) (i : ℕ) → StandsFor v s → i < length s.tasks → StandsFor (record v { waiting = map (without i) v.waiting }) (make_ready i s)
-stands_readied v s i h l = stands_left v s (make_ready i s) i (record (task_at s i) { status = Ready s.next_ticket }) h l refl refl refl (table-make_ready s i h.table)
+pub stands_readied : (v : EventGroups) (s : State) (i : ℕ) → StandsFor v s → i < length s.tasks
+    → StandsFor (record v { waiting = map (without i) v.waiting }) (make_ready i s)
+stands_readied v s i h l =
+    stands_left v s (make_ready i s) i (record (task_at s i) { status = Ready s.next_ticket })
+    h l refl refl refl (table-make_ready s i h.table)
 
-pub stands_suspended : (v : EventGroups) (s : State) (i : ℕ) → StandsFor v s → i < length s.tasks → StandsFor (record v { waiting = map (without i) v.waiting }) (with_status i Suspended s)
-stands_suspended v s i h l = let u : Task = record (task_at s i) { status = Suspended } in stands_left v s (with_status i Suspended s) i u h l refl refl refl (table-set s i u h.table tt)
+pub stands_suspended : (v : EventGroups) (s : State) (i : ℕ) → StandsFor v s → i < length s.tasks
+    → StandsFor (record v { waiting = map (without i) v.waiting }) (with_status i Suspended s)
+stands_suspended v s i h l =
+    let u : Task = record (task_at s i) { status = Suspended } in
+    stands_left v s (with_status i Suspended s) i u h l refl refl refl (table-set s i u h.table tt)
 
 -- where nobody waits for bits, nobody is in a list
-pub nobody_listed : (s : State) → ((task : ℕ) → bits_wait (status_at s task) ≡ None) → (group : ℕ) → tasks_of (waiters_for_bits s group) ≡ []
+pub nobody_listed : (s : State) → ((task : ℕ) → bits_wait (status_at s task) ≡ None)
+    → (group : ℕ) → tasks_of (waiters_for_bits s group) ≡ []
 nobody_listed s none group = nobody (waiters_for_bits s group) (list_has (bits_key group) s.tasks) where
   nobody : (es : List Entry) → AllByRecursion (HasKey (bits_key group) s.tasks) es → tasks_of es ≡ []
   nobody [] h = refl

@@ -23,7 +23,8 @@ bits_wait _ = None
 pub record StandsFor (v : EventGroups) (s : State) : Type 0 where
   pub bits : (group : ℕ) → bits_in v group ≡ bits_at s group
   pub tasks : (group : ℕ) → tasks_in (waiting_in v group) ≡ tasks_of (waiters_for_bits s group)
-  pub conditions : (group task : ℕ) → IsTrue (has_node task (waiting_in v group)) → (call_at s task).wants ≡ Some (wanted_by v.wants task)
+  pub conditions : (group task : ℕ) → IsTrue (has_node task (waiting_in v group))
+      → (call_at s task).wants ≡ Some (wanted_by v.wants task)
   pub table : IsTable s
 
 -- The groups have the same bits, and the same tasks wait for bits, in the same way and for the same.

@@ -1,10 +1,12 @@
 -- What the matches of the words say of the job.
-use Rattle.std.proofs.Common.{◌≡◌, ◌∙◌, ap, refl, sym, subst, codes, inl, inr, List, [], ◌∷◌, ℕ, Option, Some, None, Result, Ok, Err, option_map, IsNone}
+use Rattle.std.proofs.Common.{◌≡◌, ◌∙◌, ap, refl, sym, subst, codes, inl, inr, List, [], ◌∷◌, ℕ, Option, Some, None, Result, Ok}
+use Rattle.std.proofs.Common.{Err, option_map, IsNone}
 use Rattle.std.specs.Prelude.{Bool, true, false, MatchResult, if◌then◌else◌}
 use Rattle.std.specs.Str.{bytes_eq}
 use Rattle.std.specs.Result.{result_ok}
 use Rattle.std.specs.Str.Parse.{ParsesUnsigned}
-use Rattle.clap.specs.Words.{TriesOne, App, Row, is_simple, takes, fault_of, is_simple_and_free, Kinds, subcommand_of, subcommand_rows_of, HasKind, HasMatchesOf, IsAmong, kind_of}
+use Rattle.clap.specs.Words.{TriesOne, App, Row, is_simple, takes, fault_of, is_simple_and_free, Kinds, subcommand_of}
+use Rattle.clap.specs.Words.{subcommand_rows_of, HasKind, HasMatchesOf, IsAmong, kind_of}
 use Rattle.clap.specs.Kinds.{or_else}
 use Rattle.clap.specs.declared.error.Error.{Error}
 use Rattle.clap.specs.declared.error.kind.ErrorKind.{ErrorKind}
@@ -18,7 +20,8 @@ use Rattle.report.specs.Shards.{Shard}
 use Rattle.report.specs.declared.view.View.{View}
 use Rattle.jobs.specs.declared.acting.Job.{Job}
 use Rattle.jobs.specs.declared.acting.Job.TheVariants.{Campaign, Run}
-use Rattle.jobs.specs.Words.{IsJobOf, IsNoNumber, NamesNoOptions, faults_of, faults_without, number_in, number_of, rtosim_app, shard_in_rows, value_faults, view_in}
+use Rattle.jobs.specs.Words.{IsJobOf, IsNoNumber, NamesNoOptions, faults_of, faults_without, number_in, number_of, rtosim_app}
+use Rattle.jobs.specs.Words.{shard_in_rows, value_faults, view_in}
 
 pub taken_as : (a b : App) (words : List (List ℕ)) (P : Type 0) → a ≡ b → (takes a words ≡ true → P) → takes b words ≡ true → P
 taken_as a b words P same gives took = gives (rw same took)
@@ -28,7 +31,8 @@ unfolding rtosim_app clap_on_literals
 is_simple-rtosim = refl
 
 -- the words of a command that were found
-pub found_as : (a : App) (words : List (List ℕ)) (m : ArgMatches) → a ≡ rtosim_app → HasMatchesOf a words m → subcommand_rows_of m ≡ subcommand_of rtosim_app words
+pub found_as : (a : App) (words : List (List ℕ)) (m : ArgMatches) → a ≡ rtosim_app
+    → HasMatchesOf a words m → subcommand_rows_of m ≡ subcommand_of rtosim_app words
 found_as a words m same has = (has (ap is_simple same ∙ is_simple-rtosim)).1 ∙ ap (λ (x : App). subcommand_of x words) same
 
 pub job_as : (a : App) (words : List (List ℕ)) (m : ArgMatches) (job : Job) → a ≡ rtosim_app → HasMatchesOf a words m
@@ -62,21 +66,24 @@ no_fault (Some named) (Campaign file view shard options quiet) (inr is) =
 
 pub no_faults : (a : App) (words : List (List ℕ)) (job : Job) → a ≡ rtosim_app → IsJobOf (subcommand_of rtosim_app words) job
     → (is_simple_and_free a ≡ true → fault_of a words ≡ []) → faults_of words ≡ []
-no_faults a words job same is gives = rw (kinds_as a words (λ kinds. kinds ≡ []) same gives) (no_fault (subcommand_of rtosim_app words) job is)
+no_faults a words job same is gives =
+    rw (kinds_as a words (λ kinds. kinds ≡ []) same gives) (no_fault (subcommand_of rtosim_app words) job is)
 
 among_or : (k : ErrorKind) (kinds next : Kinds) → IsAmong k kinds → IsAmong k (or_else kinds next)
 among_or k [] next is = absurd is
 among_or k (x ∷ xs) next is = is
 
 -- words that the command doesn't take
-pub fails_as : (a : App) (words : List (List ℕ)) (e : Error) → a ≡ rtosim_app → (is_simple_and_free a ≡ true → HasKind (fault_of a words) e) → HasKind (faults_of words) e
+pub fails_as : (a : App) (words : List (List ℕ)) (e : Error) → a ≡ rtosim_app
+    → (is_simple_and_free a ≡ true → HasKind (fault_of a words) e) → HasKind (faults_of words) e
 fails_as a words e same gives = elim (kinds_as a words (λ (k : Kinds). HasKind k e) same gives) [
   | inl memory ↦ inl memory
   | inr among ↦ inr (among_or (kind_of e) (fault_of rtosim_app words) (value_faults (subcommand_of rtosim_app words)) among)
 ]
 
 -- words that it takes, and a value of which is refused
-pub value_as : (a : App) (words : List (List ℕ)) (m : ArgMatches) (e : Error) → a ≡ rtosim_app → HasMatchesOf a words m → (is_simple_and_free a ≡ true → fault_of a words ≡ [])
+pub value_as : (a : App) (words : List (List ℕ)) (m : ArgMatches) (e : Error) → a ≡ rtosim_app
+    → HasMatchesOf a words m → (is_simple_and_free a ≡ true → fault_of a words ≡ [])
     → HasKind (value_faults (subcommand_rows_of m)) e → HasKind (faults_of words) e
 value_as a words m e same has gives is =
     rw (kinds_as a words (λ kinds. kinds ≡ []) same gives)
@@ -86,11 +93,13 @@ pub memory_alone : (kinds : Kinds) (e : Error) → HasKind kinds e → kinds ≡
 memory_alone kinds e is none = elim (subst (λ (k : Kinds). HasKind k e) none is) [ inl memory ↦ memory | inr among ↦ absurd among ]
 
 -- a value that is none
-pub bad_list : (named : Option (List ℕ × List Row)) (name : List ℕ) (rows : List Row) → named ≡ Some (name, rows) → name ≡ codes "campaign" → view_in rows ≡ None
+pub bad_list : (named : Option (List ℕ × List Row)) (name : List ℕ) (rows : List Row)
+    → named ≡ Some (name, rows) → name ≡ codes "campaign" → view_in rows ≡ None
     → value_faults named ≡ ValueValidation ∷ []
 bad_list named name rows is at none = rw (is, at, none) refl
 
-pub bad_shard : (named : Option (List ℕ × List Row)) (name : List ℕ) (rows : List Row) → named ≡ Some (name, rows) → name ≡ codes "campaign" → shard_in_rows rows ≡ None
+pub bad_shard : (named : Option (List ℕ × List Row)) (name : List ℕ) (rows : List Row)
+    → named ≡ Some (name, rows) → name ≡ codes "campaign" → shard_in_rows rows ≡ None
     → value_faults named ≡ ValueValidation ∷ []
 bad_shard named name rows is at none = rw (is, at) (without_shard (view_in rows) (shard_in_rows rows) none)
   where
@@ -112,8 +121,10 @@ number_read gives (Some t) (Err e) parses none some = parses t (Err e) (some t r
 
 -- Numbers of which no options are made are out of range.
 pub out_of_range : (rows : List Row) (workers stride block : ℕ) (r : Result Options BadOption)
-    → number_in (codes "workers") rows ≡ Some workers → number_in (codes "stride") rows ≡ Some stride → number_in (codes "block") rows ≡ Some block
-    → MatchResult r (λ (options : Options). (bad_option workers stride block ≡ None) × (options ≡ record { workers = workers; stride = stride; block = block }))
+    → number_in (codes "workers") rows ≡ Some workers → number_in (codes "stride") rows ≡ Some stride
+    → number_in (codes "block") rows ≡ Some block
+    → MatchResult r (λ (options : Options).
+    (bad_option workers stride block ≡ None) × (options ≡ record { workers = workers; stride = stride; block = block }))
     (λ fault. bad_option workers stride block ≡ Some fault)
     → IsNone (result_ok r) → NamesNoOptions rows
 out_of_range rows workers stride block (Ok options) w s b made none = absurd (cc)

@@ -17,33 +17,41 @@ use Rattle.jobs.specs.declared.acting.JobFault.{JobFault}
 use Rattle.jobs.specs.declared.acting.JobFault.TheVariants.{Serve, TooLarge, Unpaired}
 use Rattle.jobs.specs.EndStates.{EndStateServed}
 use Rattle.jobs.proofs.EndStates.{end_state_file_fault}
-use Rattle.jobs.specs.Acting.{RunServed, CampaignServed, Served, Does, DoesOverFile, FailsToRead, LacksFile, OpensAndDoes, ReadsFor, injection_of, is_unpaired, most_bytes}
+use Rattle.jobs.specs.Acting.{RunServed, CampaignServed, Served, Does, DoesOverFile, FailsToRead, LacksFile, OpensAndDoes, ReadsFor}
+use Rattle.jobs.specs.Acting.{injection_of, is_unpaired, most_bytes}
 
 -- A file that could not be opened.
-pub lacks_file : (old : Option (List ℕ)) (wf : Bool) (f : ServeFault) → (f ≡ Memory) ⊎ (f ≡ Read) → wf ≡ false → LacksFile old old wf (Err (Serve f))
+pub lacks_file : (old : Option (List ℕ)) (wf : Bool) (f : ServeFault)
+    → (f ≡ Memory) ⊎ (f ≡ Read) → wf ≡ false → LacksFile old old wf (Err (Serve f))
 lacks_file old wf f due e = (elim due [ inl h ↦ inr (rw h refl) | inr h ↦ inl (rw h refl) ], Keeps-refl old, e)
 
 -- ---- an input of which less is known
 
-module _ (input other : Option (List ℕ)) (as_known : (bytes : List ℕ) → Known input bytes → Known other bytes) (rf : Bool) (old new : Option (List ℕ)) (wf : Bool) where
-  run_as_known : (at : Option At) (outcome : Result Bool ServeFault) → RunServed at input rf old new wf outcome → RunServed at other rf old new wf outcome
+module _ (input other : Option (List ℕ)) (as_known : (bytes : List ℕ) → Known input bytes → Known other bytes)
+    (rf : Bool) (old new : Option (List ℕ)) (wf : Bool) where
+  run_as_known : (at : Option At) (outcome : Result Bool ServeFault)
+      → RunServed at input rf old new wf outcome → RunServed at other rf old new wf outcome
   run_as_known at (Ok passes) h = (h.0, h.1, serves_as_known _ _ input other as_known rf old new wf (Ok h.0) h.2)
   run_as_known at (Err fault) h = serves_as_known _ _ input other as_known rf old new wf (Err fault) h
 
-  end_state_as_known : (at : Option At) (outcome : Result Bool ServeFault) → EndStateServed at input rf old new wf outcome → EndStateServed at other rf old new wf outcome
+  end_state_as_known : (at : Option At) (outcome : Result Bool ServeFault)
+      → EndStateServed at input rf old new wf outcome → EndStateServed at other rf old new wf outcome
   end_state_as_known at (Ok passes) h = (h.0, h.1, serves_as_known _ _ input other as_known rf old new wf (Ok h.0) h.2)
   end_state_as_known at (Err fault) h = serves_as_known _ _ input other as_known rf old new wf (Err fault) h
 
-  campaign_as_known : (view : View) (shard : Shard) (outcome : Result Bool ServeFault) → CampaignServed view shard input rf old new wf outcome → CampaignServed view shard other rf old new wf outcome
+  campaign_as_known : (view : View) (shard : Shard) (outcome : Result Bool ServeFault)
+      → CampaignServed view shard input rf old new wf outcome → CampaignServed view shard other rf old new wf outcome
   campaign_as_known view shard (Ok passes) h = (h.0, h.1, serves_as_known _ _ input other as_known rf old new wf (Ok h.0) h.2)
   campaign_as_known view shard (Err fault) h = serves_as_known _ _ input other as_known rf old new wf (Err fault) h
 
-  served_as_known : (job : Job) (outcome : Result Bool ServeFault) → Served job input rf old new wf outcome → Served job other rf old new wf outcome
+  served_as_known : (job : Job) (outcome : Result Bool ServeFault)
+      → Served job input rf old new wf outcome → Served job other rf old new wf outcome
   served_as_known (Run file at handler false) outcome h = run_as_known (injection_of (Run file at handler false)) outcome h
   served_as_known (Run file at handler true) outcome h = end_state_as_known (injection_of (Run file at handler true)) outcome h
   served_as_known (Campaign file view shard options quiet) outcome h = campaign_as_known view shard outcome h
 
-  does_as_known : (job : Job) (outcome : Result Bool JobFault) → Does job input rf old new wf outcome → Does job other rf old new wf outcome
+  does_as_known : (job : Job) (outcome : Result Bool JobFault)
+      → Does job input rf old new wf outcome → Does job other rf old new wf outcome
   does_as_known job (Ok passes) h = (h.0, served_as_known job (Ok passes) h.1)
   does_as_known job (Err (Serve fault)) h = (h.0, served_as_known job (Err fault) h.1)
   does_as_known job (Err TooLarge) h = absurd h
@@ -51,18 +59,23 @@ module _ (input other : Option (List ℕ)) (as_known : (bytes : List ℕ) → Kn
 
 -- ---- a file
 
-within_file : (file : Option (List ℕ)) (bytes : List ℕ) → Known file bytes → length bytes ≤ most_bytes → IfSome file (λ all. length all ≤ most_bytes)
+within_file : (file : Option (List ℕ)) (bytes : List ℕ) → Known file bytes
+    → length bytes ≤ most_bytes → IfSome file (λ all. length all ≤ most_bytes)
 within_file None bytes known few = tt
 within_file (Some all) bytes known few = rw (← known) few
 
 -- A job that is done over the bytes that were read of a file is done over the file.
-module _ (job : Job) (file : Option (List ℕ)) (bytes : List ℕ) (old new : Option (List ℕ)) (wf : Bool) (few : length bytes ≤ most_bytes) (reads : is_unpaired job ≡ false → Known file bytes) where
+module _ (job : Job) (file : Option (List ℕ)) (bytes : List ℕ) (old new : Option (List ℕ)) (wf : Bool)
+    (few : length bytes ≤ most_bytes) (reads : is_unpaired job ≡ false → Known file bytes) where
   does_whole : (outcome : Result Bool JobFault) → is_unpaired job ≡ false → Does job (Some bytes) false old new wf outcome
       → IfSome file (λ all. length all ≤ most_bytes) × Does job file false old new wf outcome
-  does_whole outcome paired h =
-      (within_file file bytes (reads paired) few, does_as_known (Some bytes) file (λ some same. rw same (reads paired)) false old new wf job outcome h)
+  does_whole outcome paired h = (
+    within_file file bytes (reads paired) few,
+    does_as_known (Some bytes) file (λ some same. rw same (reads paired)) false old new wf job outcome h,
+  )
 
-  over_file : (outcome : Result Bool JobFault) → Does job (Some bytes) false old new wf outcome → DoesOverFile job file false old new wf outcome
+  over_file : (outcome : Result Bool JobFault) → Does job (Some bytes) false old new wf outcome
+      → DoesOverFile job file false old new wf outcome
   over_file (Ok passes) h = does_whole (Ok passes) h.0 h
   over_file (Err TooLarge) h = absurd h
   over_file (Err Unpaired) h = h
@@ -74,33 +87,46 @@ module _ (job : Job) (file : Option (List ℕ)) (bytes : List ℕ) (old new : Op
   over_file (Err (Serve TooManyPoints)) h = does_whole (Err (Serve TooManyPoints)) h.0 h
   over_file (Err (Serve Write)) h = does_whole (Err (Serve Write)) h.0 h
 
-pub does_over_file : (job : Job) (file : Option (List ℕ)) (bytes : List ℕ) (rf : Bool) (old new : Option (List ℕ)) (wf : Bool) (outcome : Result Bool JobFault)
-    → ReadsFor job file rf bytes → length bytes ≤ most_bytes → Does job (Some bytes) false old new wf outcome → DoesOverFile job file rf old new wf outcome
-does_over_file job file bytes rf old new wf outcome reads few h = rw reads.0 (over_file job file bytes old new wf few reads.1 outcome h)
+pub does_over_file : (job : Job) (file : Option (List ℕ)) (bytes : List ℕ) (rf : Bool)
+    (old new : Option (List ℕ)) (wf : Bool) (outcome : Result Bool JobFault)
+    → ReadsFor job file rf bytes → length bytes ≤ most_bytes
+    → Does job (Some bytes) false old new wf outcome → DoesOverFile job file rf old new wf outcome
+does_over_file job file bytes rf old new wf outcome reads few h =
+    rw reads.0 (over_file job file bytes old new wf few reads.1 outcome h)
 
 -- So is one that is done over all bytes of a source.
-does_all : (job : Job) (input : Option (List ℕ)) (bytes : List ℕ) (old new : Option (List ℕ)) (wf : Bool) (outcome : Result Bool JobFault)
-    → (is_unpaired job ≡ false → Known input bytes) → Does job (Some bytes) false old new wf outcome → Does job input false old new wf outcome
-does_all job input bytes old new wf (Ok passes) reads h = does_as_known (Some bytes) input (λ some same. rw same (reads h.0)) false old new wf job (Ok passes) h
-does_all job input bytes old new wf (Err (Serve fault)) reads h = does_as_known (Some bytes) input (λ some same. rw same (reads h.0)) false old new wf job (Err (Serve fault)) h
+does_all : (job : Job) (input : Option (List ℕ)) (bytes : List ℕ)
+    (old new : Option (List ℕ)) (wf : Bool) (outcome : Result Bool JobFault)
+    → (is_unpaired job ≡ false → Known input bytes)
+    → Does job (Some bytes) false old new wf outcome → Does job input false old new wf outcome
+does_all job input bytes old new wf (Ok passes) reads h =
+    does_as_known (Some bytes) input (λ some same. rw same (reads h.0)) false old new wf job (Ok passes) h
+does_all job input bytes old new wf (Err (Serve fault)) reads h =
+    does_as_known (Some bytes) input (λ some same. rw same (reads h.0)) false old new wf job (Err (Serve fault)) h
 does_all job input bytes old new wf (Err TooLarge) reads h = absurd h
 does_all job input bytes old new wf (Err Unpaired) reads h = h
 
-pub does_over_all : (job : Job) (input : Option (List ℕ)) (bytes : List ℕ) (rf : Bool) (old new : Option (List ℕ)) (wf : Bool) (outcome : Result Bool JobFault)
+pub does_over_all : (job : Job) (input : Option (List ℕ)) (bytes : List ℕ) (rf : Bool)
+    (old new : Option (List ℕ)) (wf : Bool) (outcome : Result Bool JobFault)
     → ReadsFor job input rf bytes → Does job (Some bytes) false old new wf outcome → Does job input rf old new wf outcome
 does_over_all job input bytes rf old new wf outcome reads h = rw reads.0 (does_all job input bytes old new wf outcome reads.1 h)
 
 -- A fault of reading is one of what is asked for.
-served_fault : (job : Job) (file : Option (List ℕ)) (rf wf : Bool) (old : Option (List ℕ)) (e : ReadFault) → (e ≡ read.Memory → file ≢ Some [])
+served_fault : (job : Job) (file : Option (List ℕ)) (rf wf : Bool) (old : Option (List ℕ)) (e : ReadFault)
+    → (e ≡ read.Memory → file ≢ Some [])
     → rf ≡ is_read_fault {A = Bool} (Err (of_reading e)) → wf ≡ false → Served job file rf old old wf (Err (of_reading e))
 served_fault (Run name at handler false) file rf wf old read.Failed some failed working =
-    serves_file_fault (injection_of (Run name at handler false)) file rf wf old Read (reading_failed file read.Failed some) failed refl working
+    serves_file_fault (injection_of (Run name at handler false)) file rf wf
+    old Read (reading_failed file read.Failed some) failed refl working
 served_fault (Run name at handler false) file rf wf old read.Memory some failed working =
-    serves_file_fault (injection_of (Run name at handler false)) file rf wf old Memory (reading_failed file read.Memory some) failed refl working
+    serves_file_fault (injection_of (Run name at handler false)) file rf wf
+    old Memory (reading_failed file read.Memory some) failed refl working
 served_fault (Run name at handler true) file rf wf old read.Failed some failed working =
-    end_state_file_fault (injection_of (Run name at handler true)) file rf wf old Read (reading_failed file read.Failed some) failed refl working
+    end_state_file_fault (injection_of (Run name at handler true)) file rf wf
+    old Read (reading_failed file read.Failed some) failed refl working
 served_fault (Run name at handler true) file rf wf old read.Memory some failed working =
-    end_state_file_fault (injection_of (Run name at handler true)) file rf wf old Memory (reading_failed file read.Memory some) failed refl working
+    end_state_file_fault (injection_of (Run name at handler true)) file rf wf
+    old Memory (reading_failed file read.Memory some) failed refl working
 served_fault (Campaign name view shard options quiet) file rf wf old read.Failed some failed working =
     campaign_serves_file_fault view shard file rf wf old Read (reading_failed file read.Failed some) failed refl working
 served_fault (Campaign name view shard options quiet) file rf wf old read.Memory some failed working =
@@ -129,23 +155,30 @@ fails_over_file job file rf wf old (Serve TooManyPoints) h working = absurd h
 fails_over_file job file rf wf old (Serve Write) h working = absurd h
 
 -- A file that was opened, whose bytes nobody knows.
-no_more_known : (job : Job) (file : Option (List ℕ)) (rf : Bool) (old new : Option (List ℕ)) (wf : Bool) (outcome : Result Bool JobFault)
+no_more_known : (job : Job) (file : Option (List ℕ)) (rf : Bool)
+    (old new : Option (List ℕ)) (wf : Bool) (outcome : Result Bool JobFault)
     → Does job file rf old new wf outcome → Does job None rf old new wf outcome
 no_more_known job file rf old new wf outcome h = does_as_known file None (λ bytes known. tt) rf old new wf job outcome h
 
-over_unknown_file : (job : Job) (file : Option (List ℕ)) (rf : Bool) (old new : Option (List ℕ)) (wf : Bool) (outcome : Result Bool JobFault)
+over_unknown_file : (job : Job) (file : Option (List ℕ)) (rf : Bool)
+    (old new : Option (List ℕ)) (wf : Bool) (outcome : Result Bool JobFault)
     → DoesOverFile job file rf old new wf outcome → DoesOverFile job None rf old new wf outcome
 over_unknown_file job file rf old new wf (Ok passes) h = (tt, no_more_known job file rf old new wf (Ok passes) h.1)
 over_unknown_file job file rf old new wf (Err TooLarge) h = (h.0, tt, h.2, h.3, h.4)
 over_unknown_file job file rf old new wf (Err Unpaired) h = h
 over_unknown_file job file rf old new wf (Err (Serve Read)) h = no_more_known job file rf old new wf (Err (Serve Read)) h
 over_unknown_file job file rf old new wf (Err (Serve Memory)) h = no_more_known job file rf old new wf (Err (Serve Memory)) h
-over_unknown_file job file rf old new wf (Err (Serve NotToml)) h = (tt, no_more_known job file rf old new wf (Err (Serve NotToml)) h.1)
-over_unknown_file job file rf old new wf (Err (Serve (Load fault))) h = (tt, no_more_known job file rf old new wf (Err (Serve (Load fault))) h.1)
-over_unknown_file job file rf old new wf (Err (Serve UnknownHandler)) h = (tt, no_more_known job file rf old new wf (Err (Serve UnknownHandler)) h.1)
-over_unknown_file job file rf old new wf (Err (Serve TooManyPoints)) h = (tt, no_more_known job file rf old new wf (Err (Serve TooManyPoints)) h.1)
+over_unknown_file job file rf old new wf (Err (Serve NotToml)) h =
+    (tt, no_more_known job file rf old new wf (Err (Serve NotToml)) h.1)
+over_unknown_file job file rf old new wf (Err (Serve (Load fault))) h =
+    (tt, no_more_known job file rf old new wf (Err (Serve (Load fault))) h.1)
+over_unknown_file job file rf old new wf (Err (Serve UnknownHandler)) h =
+    (tt, no_more_known job file rf old new wf (Err (Serve UnknownHandler)) h.1)
+over_unknown_file job file rf old new wf (Err (Serve TooManyPoints)) h =
+    (tt, no_more_known job file rf old new wf (Err (Serve TooManyPoints)) h.1)
 over_unknown_file job file rf old new wf (Err (Serve Write)) h = (tt, no_more_known job file rf old new wf (Err (Serve Write)) h.1)
 
-pub opens : (job : Job) (file : Option (List ℕ)) (rf : Bool) (old new : Option (List ℕ)) (wf : Bool) (outcome : Result Bool JobFault)
+pub opens : (job : Job) (file : Option (List ℕ)) (rf : Bool)
+    (old new : Option (List ℕ)) (wf : Bool) (outcome : Result Bool JobFault)
     → DoesOverFile job file rf old new wf outcome → OpensAndDoes job old new wf outcome
 opens job file rf old new wf outcome done = inr (rf, over_unknown_file job file rf old new wf outcome done)

@@ -1,7 +1,9 @@
 -- Texts that are cut at a character, and numbers that digits spell.
-use Rattle.std.specs.Prelude.{MatchOption, Result, Ok, Err, IfSome, IsNone, IsSome, ◌↔◌, ◌^◌, ◌==◌, nat_le, nat_lt, slice_index, if◌then◌else◌}
+use Rattle.std.specs.Prelude.{MatchOption, Result, Ok, Err, IfSome, IsNone, IsSome, ◌↔◌, ◌^◌, ◌==◌, nat_le, nat_lt, slice_index}
+use Rattle.std.specs.Prelude.{if◌then◌else◌}
 use Rattle.std.specs.Result.{result_ok}
-use Rattle.std.proofs.Common.{◌≡◌, ◌<◌, ◌+◌, ◌&&◌, ℕ, Bool, true, false, eqb, List, [], ◌∷◌, length, Option, Some, None, refl, sym, subst, ap, ap₂, ◌∙◌, arith}
+use Rattle.std.proofs.Common.{◌≡◌, ◌<◌, ◌+◌, ◌&&◌, ℕ, Bool, true, false, eqb, List, [], ◌∷◌, length, Option, Some, None, refl, sym}
+use Rattle.std.proofs.Common.{subst, ap, ap₂, ◌∙◌, arith}
 use Rattle.std.specs.Borrow.{Bor}
 use Rattle.std.specs.Char.{digit_value}
 use Rattle.std.specs.List.{join_with_byte, list_all, onto_first, position_or_len, slice_split}
@@ -21,7 +23,8 @@ alone : (p : ℕ → Bool) (xs : List ℕ) → position_or_len p xs ≡ length x
 alone p [] e = refl
 alone p (x ∷ xs) e = by (p x) refl (alone p xs)
   where
-    by : (b : Bool) → p x ≡ b → (position_or_len p xs ≡ length xs → slice_split p xs ≡ xs ∷ []) → slice_split p (x ∷ xs) ≡ (x ∷ xs) ∷ []
+    by : (b : Bool) → p x ≡ b → (position_or_len p xs ≡ length xs → slice_split p xs ≡ xs ∷ [])
+        → slice_split p (x ∷ xs) ≡ (x ∷ xs) ∷ []
     by true passes rest = absurd (grind (arith, e, passes))
     by false fails rest =
         let left : position_or_len p xs ≡ length xs = grind (arith, e, fails) in
@@ -29,21 +32,25 @@ alone p (x ∷ xs) e = by (p x) refl (alone p xs)
 
 -- what `split_once` finds are the first part and the others
 pub cut_parts : (c : ℕ) (bs : List ℕ) (r : Option (Bor (List ℕ) × Bor (List ℕ))) → IsSplitOnceResult c bs r → c < 128
-    → MatchOption r (slice_split (λ b. eqb b c) bs ≡ bs ∷ []) (λ x. slice_split (λ b. eqb b c) bs ≡ x.0.now ∷ slice_split (λ b. eqb b c) x.1.now)
+    → MatchOption r (slice_split (λ b. eqb b c) bs ≡ bs ∷ [])
+    (λ x. slice_split (λ b. eqb b c) bs ≡ x.0.now ∷ slice_split (λ b. eqb b c) x.1.now)
 cut_parts c bs None is ascii = alone (λ b. eqb b c) bs (split_once_first c bs None is ascii)
 cut_parts c bs (Some x) is ascii =
     let found = split_once_first c bs (Some x) is ascii in
-    slice_split_first (λ b. eqb b c) bs 0 found.0 ∙ ap₂ (λ (first others : List ℕ). first ∷ slice_split (λ b. eqb b c) others) (sym found.1) (sym found.2)
+    slice_split_first (λ b. eqb b c) bs 0 found.0
+    ∙ ap₂ (λ (first others : List ℕ). first ∷ slice_split (λ b. eqb b c) others) (sym found.1) (sym found.2)
 
 -- a text that is one part is that part
 pub one_part : (c : ℕ) (bs part : List ℕ) → slice_split (λ b. eqb b c) bs ≡ part ∷ [] → bs ≡ part
 one_part c bs part is = sym (join_with_byte-slice_split c bs) ∙ ap (join_with_byte c) is
 
 -- there is a first part
-pub some_part : (c : ℕ) (bs : List ℕ) → (first : List ℕ) × (others : List (List ℕ)) × (slice_split (λ b. eqb b c) bs ≡ first ∷ others)
+pub some_part : (c : ℕ) (bs : List ℕ)
+    → (first : List ℕ) × (others : List (List ℕ)) × (slice_split (λ b. eqb b c) bs ≡ first ∷ others)
 some_part c bs = by (slice_split (λ b. eqb b c) bs) refl
   where
-    by : (parts : List (List ℕ)) → slice_split (λ b. eqb b c) bs ≡ parts → (first : List ℕ) × (others : List (List ℕ)) × (slice_split (λ b. eqb b c) bs ≡ first ∷ others)
+    by : (parts : List (List ℕ)) → slice_split (λ b. eqb b c) bs ≡ parts
+        → (first : List ℕ) × (others : List (List ℕ)) × (slice_split (λ b. eqb b c) bs ≡ first ∷ others)
     by [] is = absurd (let long = length-slice_split (λ b. eqb b c) bs in let none = ap length is in omega (arith, long, none))
     by (part ∷ parts) is = (part, parts, is)
 
@@ -74,7 +81,8 @@ numeral_spelled text is =
 abbrev nothing : Option ℕ
 nothing = None
 
-pub spelled_numeral : (text : List ℕ) (number : ℕ) → spelled text ≡ Some number → IsNumeral 10 text × (digits_value 10 text ≡ number)
+pub spelled_numeral : (text : List ℕ) (number : ℕ) → spelled text ≡ Some number
+    → IsNumeral 10 text × (digits_value 10 text ≡ number)
 spelled_numeral text number is = by (is_numeral text) refl
   where
     by : (b : Bool) → is_numeral text ≡ b → IsNumeral 10 text × (digits_value 10 text ≡ number)
@@ -125,10 +133,12 @@ no_more None (Some number) none_such = refl
 no_more (Some number) a none_such = absurd (none_such number refl)
 
 -- a number, and what is behind the first slash
-pub of_two : (number count : List ℕ) → shard_in (number ∷ slice_split (λ b. eqb b 47) count) ≡ shard_of (spelled number) (spelled count)
+pub of_two : (number count : List ℕ)
+    → shard_in (number ∷ slice_split (λ b. eqb b 47) count) ≡ shard_of (spelled number) (spelled count)
 of_two number count = by (slice_split (λ b. eqb b 47) count) refl
   where
-    by : (parts : List (List ℕ)) → slice_split (λ b. eqb b 47) count ≡ parts → shard_in (number ∷ parts) ≡ shard_of (spelled number) (spelled count)
+    by : (parts : List (List ℕ)) → slice_split (λ b. eqb b 47) count ≡ parts
+        → shard_in (number ∷ parts) ≡ shard_of (spelled number) (spelled count)
     by [] is = absurd (let long = length-slice_split (λ b. eqb b 47) count in let none = ap length is in omega (arith, long, none))
     by (part ∷ []) is = ap (λ (text : List ℕ). shard_of (spelled number) (spelled text)) (sym (one_part 47 count part is))
     by (part ∷ next ∷ others) is = sym (no_more (spelled count) (spelled number) (λ n spells. (
@@ -162,9 +172,11 @@ of_tests : (number count : ℕ) (b : Bool) → (is_within 1 count number && is_w
     → shard_of (Some number) (Some count) ≡ (if b then Some (record { number = number; count = count }) else None)
 of_tests number count b e = rw e refl
 
-pub new_shard : (number count : ℕ) (r : Option Shard) → (IsSome r ↔ IsShard number count) → IfSome r (λ shard. shard ≡ record { number = number; count = count })
+pub new_shard : (number count : ℕ) (r : Option Shard) → (IsSome r ↔ IsShard number count)
+    → IfSome r (λ shard. shard ≡ record { number = number; count = count })
     → r ≡ shard_of (Some number) (Some count)
-new_shard number count (Some shard) known value = ap Some value ∙ sym (of_tests number count true (tests_within number count (known.0 refl)))
+new_shard number count (Some shard) known value =
+    ap Some value ∙ sym (of_tests number count true (tests_within number count (known.0 refl)))
 new_shard number count None known value = by (is_within 1 count number && is_within 1 most_shards count) refl
   where
     by : (b : Bool) → (is_within 1 count number && is_within 1 most_shards count) ≡ b → None ≡ shard_of (Some number) (Some count)
@@ -198,5 +210,6 @@ no_count (Some number) (Some count) none_such = by (is_within 1 count number && 
 pub without_stroke : (text : List ℕ) → IsSplitOnceResult 47 text None → shard_named text ≡ None
 without_stroke text is = ap shard_in (cut_parts 47 text None is (omega arith))
 
-pub at_stroke : (text : List ℕ) (parts : Bor (List ℕ) × Bor (List ℕ)) → IsSplitOnceResult 47 text (Some parts) → shard_named text ≡ shard_of (spelled parts.0.now) (spelled parts.1.now)
+pub at_stroke : (text : List ℕ) (parts : Bor (List ℕ) × Bor (List ℕ)) → IsSplitOnceResult 47 text (Some parts)
+    → shard_named text ≡ shard_of (spelled parts.0.now) (spelled parts.1.now)
 at_stroke text parts is = ap shard_in (cut_parts 47 text (Some parts) is (omega arith)) ∙ of_two parts.0.now parts.1.now

@@ -1,5 +1,6 @@
 -- What doing a job comes to; the program's status and fault lines.
-use Rattle.std.specs.Prelude.{◌≡◌, ◌≢◌, ◌⊎◌, ◌==◌, ◌<◌, ◌≤◌, ◌*◌, ◌^◌, ℕ, length, IfSome, Bool, true, false, List, [], ◌∷◌, ◌++◌, codes, decimal, Option, Some, None, Result, Ok, Err}
+use Rattle.std.specs.Prelude.{◌≡◌, ◌≢◌, ◌⊎◌, ◌==◌, ◌<◌, ◌≤◌, ◌*◌, ◌^◌, ℕ, length, IfSome, Bool, true, false, List, [], ◌∷◌, ◌++◌}
+use Rattle.std.specs.Prelude.{codes, decimal, Option, Some, None, Result, Ok, Err}
 use Rattle.std.specs.Option.{option_map_or}
 use Rattle.std.specs.Io.KnownBytes.{Appends, Keeps}
 use Rattle.byte_io.specs.Bytes.{SentFront}
@@ -56,18 +57,21 @@ abbrev pub all_pass : Totals → Bool
 all_pass totals = totals.pass == totals.rows
 
 -- A run is served, and passes or not.
-abbrev pub RunServed : Option At → (input : Option (List ℕ)) → (read_failed : Bool) → (old new : Option (List ℕ)) → (write_failed : Bool)
+abbrev pub RunServed : Option At → (input : Option (List ℕ))
+    → (read_failed : Bool) → (old new : Option (List ℕ)) → (write_failed : Bool)
     → Result Bool ServeFault → Type 0
 RunServed at input read_failed old new write_failed (Ok passes) =
     (end : End) × (passes ≡ is_pass end) × ServesRun at input read_failed old new write_failed (Ok end)
 RunServed at input read_failed old new write_failed (Err fault) = ServesRun at input read_failed old new write_failed (Err fault)
 
 -- A part of a campaign is served as the view shows it, and all its rows pass or not.
-abbrev pub CampaignServed : View → Shard → (input : Option (List ℕ)) → (read_failed : Bool) → (old new : Option (List ℕ)) → (write_failed : Bool)
+abbrev pub CampaignServed : View → Shard → (input : Option (List ℕ))
+    → (read_failed : Bool) → (old new : Option (List ℕ)) → (write_failed : Bool)
     → Result Bool ServeFault → Type 0
 CampaignServed view shard input read_failed old new write_failed (Ok passes) =
     (totals : Totals) × (passes ≡ all_pass totals) × ServesCampaign view shard input read_failed old new write_failed (Ok totals)
-CampaignServed view shard input read_failed old new write_failed (Err fault) = ServesCampaign view shard input read_failed old new write_failed (Err fault)
+CampaignServed view shard input read_failed old new write_failed (Err fault) =
+    ServesCampaign view shard input read_failed old new write_failed (Err fault)
 
 -- What a job asks for is served, and passes or not.
 abbrev pub Served : Job → (input : Option (List ℕ)) → (read_failed : Bool) → (old new : Option (List ℕ)) → (write_failed : Bool)
@@ -79,8 +83,8 @@ Served (Run file at handler true) input read_failed old new write_failed outcome
 Served (Campaign file view shard options quiet) input read_failed old new write_failed outcome =
     CampaignServed view shard input read_failed old new write_failed outcome
 
--- What doing a job comes to, over an input: what it asks for is served; or its step and its handler don't go together, and nothing is
--- written.
+-- What doing a job comes to, over an input: what it asks for is served; or its step and its handler don't go together, and nothing
+-- is written.
 abbrev pub Does : Job → (input : Option (List ℕ)) → (read_failed : Bool) → (old new : Option (List ℕ)) → (write_failed : Bool)
     → Result Bool JobFault → Type 0
 Does job input read_failed old new write_failed (Ok passes) =
@@ -111,12 +115,14 @@ FailsToRead job file read_failed fault = ⊥
 
 -- What doing a job over a file comes to. The job is done over its bytes, of which there are 64 MiB at most where all were read. Or
 -- there are more, and nothing is written.
-abbrev pub DoesOverFile : Job → (file : Option (List ℕ)) → (read_failed : Bool) → (old new : Option (List ℕ)) → (write_failed : Bool)
+abbrev pub DoesOverFile : Job → (file : Option (List ℕ)) → (read_failed : Bool)
+    → (old new : Option (List ℕ)) → (write_failed : Bool)
     → Result Bool JobFault → Type 0
 DoesOverFile job file read_failed old new write_failed (Err TooLarge) =
     (is_unpaired job ≡ false) × IfSome file (λ bytes. most_bytes < length bytes) × (read_failed ≡ false) × Keeps old new
     × (write_failed ≡ false)
-DoesOverFile job file read_failed old new write_failed (Err Unpaired) = Does job file read_failed old new write_failed (Err Unpaired)
+DoesOverFile job file read_failed old new write_failed (Err Unpaired) =
+    Does job file read_failed old new write_failed (Err Unpaired)
 DoesOverFile job file read_failed old new write_failed (Err (Serve Read)) =
     Does job file read_failed old new write_failed (Err (Serve Read))
 DoesOverFile job file read_failed old new write_failed (Err (Serve Memory)) =

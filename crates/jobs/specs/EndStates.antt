@@ -41,8 +41,10 @@ ServesEndState at input read_failed old new write_failed outcome =
     Serves End (IsEndStateReportOf at) (HasFault at) input read_failed old new write_failed outcome
 
 -- The same, with the answer whether it passes.
-abbrev pub EndStateServed : Option At → (input : Option (List ℕ)) → (read_failed : Bool) → (old new : Option (List ℕ)) → (write_failed : Bool)
+abbrev pub EndStateServed : Option At → (input : Option (List ℕ))
+    → (read_failed : Bool) → (old new : Option (List ℕ)) → (write_failed : Bool)
     → Result Bool ServeFault → Type 0
 EndStateServed at input read_failed old new write_failed (Ok passes) =
     (end : End) × (passes ≡ is_pass end) × ServesEndState at input read_failed old new write_failed (Ok end)
-EndStateServed at input read_failed old new write_failed (Err fault) = ServesEndState at input read_failed old new write_failed (Err fault)
+EndStateServed at input read_failed old new write_failed (Err fault) =
+    ServesEndState at input read_failed old new write_failed (Err fault)

@@ -1,5 +1,6 @@
 -- What the words of a campaign say of its report: which rows of which part are written, and what of them.
-use Rattle.std.specs.Prelude.{ℕ, ◌==◌, ◌||◌, ◌&&◌, Bool, true, false, List, [], ◌∷◌, length, nat_lt, codes, Option, Some, None, option_map, if◌then◌else◌}
+use Rattle.std.specs.Prelude.{ℕ, ◌==◌, ◌||◌, ◌&&◌, Bool, true, false, List, [], ◌∷◌, length, nat_lt, codes, Option, Some, None}
+use Rattle.std.specs.Prelude.{option_map, if◌then◌else◌}
 use Rattle.std.specs.List.{list_all, slice_split}
 use Rattle.std.specs.Char.{digit_value}
 use Rattle.std.specs.Option.{option_and_then}
@@ -61,7 +62,8 @@ spelled text = if is_numeral text then Some (digits_value 10 text) else None
 
 -- the part of this number, of this many parts, if there is such a one
 abbrev pub shard_of : Option ℕ → Option ℕ → Option Shard
-shard_of (Some number) (Some count) = if is_within 1 count number && is_within 1 most_shards count then Some (record { number = number; count = count }) else None
+shard_of (Some number) (Some count) =
+    if is_within 1 count number && is_within 1 most_shards count then Some (record { number = number; count = count }) else None
 shard_of number count = None
 
 abbrev pub shard_in : List Text → Option Shard

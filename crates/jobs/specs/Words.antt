@@ -1,9 +1,11 @@
 -- The words that the program takes.
-use Rattle.std.specs.Prelude.{◌≡◌, ◌<◌, ◌≤◌, ◌^◌, ◌⊎◌, IfSome, Bool, true, false, ℕ, List, [], ◌∷◌, map, codes, pos, Option, Some, None, option_map, if◌then◌else◌}
+use Rattle.std.specs.Prelude.{◌≡◌, ◌<◌, ◌≤◌, ◌^◌, ◌⊎◌, IfSome, Bool, true, false, ℕ, List, [], ◌∷◌, map, codes, pos, Option, Some}
+use Rattle.std.specs.Prelude.{None, option_map, if◌then◌else◌}
 use Rattle.std.specs.Borrow.{Bor}
 use Rattle.std.specs.Str.{bytes_eq}
 use Rattle.std.specs.Str.Parse.{IsNumeral, digits_value, without_leading_plus}
-use Rattle.clap.specs.Words.{App, Kinds, Row, Rule, Text, fault_of, subcommand_of, new_app, new_rule, with_rule, with_subcommand, first_of, one_of, app_of, rule_of}
+use Rattle.clap.specs.Words.{App, Kinds, Row, Rule, Text, fault_of, subcommand_of, new_app, new_rule, with_rule, with_subcommand}
+use Rattle.clap.specs.Words.{first_of, one_of, app_of, rule_of}
 use Rattle.clap.specs.Kinds.{or_else}
 use Rattle.clap.specs.Simple.{on_top}
 use Rattle.clap.specs.declared.builder.ArgAction.TheVariants.{Set, SetTrue}
@@ -130,8 +132,8 @@ abbrev pub is_given : Option Text → Bool
 is_given None = false
 is_given (Some text) = bytes_eq text (codes "true")
 
--- The job is to run the file that the words of `run` name, with the step and the handler that they name. It writes the end state too, or
--- doesn't.
+-- The job is to run the file that the words of `run` name, with the step and the handler that they name. It writes the end state
+-- too, or doesn't.
 abbrev pub IsRunOf : List Row → Job → Type 0
 IsRunOf rows (Run file at handler state) =
     (first_of (codes "FILE") rows ≡ Some file.now)
@@ -159,7 +161,8 @@ ends_in (Some list) = ends_of list
 -- the view that the words of `campaign` name, if there is such a one
 abbrev pub view_in : List Row → Option View
 view_in rows =
-    option_map (λ ends. record { ends = ends; heads = is_given (first_of (codes "heads") rows) }) (ends_in (first_of (codes "only") rows))
+    option_map (λ ends. record { ends = ends; heads = is_given (first_of (codes "heads") rows) })
+    (ends_in (first_of (codes "only") rows))
 
 -- the shard that is named, if there is such a one; where none is, all rows in one
 abbrev pub shard_of_words : Option Text → Option Shard
@@ -169,12 +172,13 @@ shard_of_words (Some text) = shard_named text
 abbrev pub shard_in_rows : List Row → Option Shard
 shard_in_rows rows = shard_of_words (first_of (codes "shard") rows)
 
--- The job is the campaign of the file that the words of `campaign` name, with the view, the shard and the options that they name, quiet
--- or not.
+-- The job is the campaign of the file that the words of `campaign` name, with the view, the shard and the options that they name,
+-- quiet or not.
 abbrev pub IsCampaignOf : List Row → Job → Type 0
 IsCampaignOf rows (Run file at handler state) = ⊥
 IsCampaignOf rows (Campaign file view shard options quiet) =
-    (first_of (codes "FILE") rows ≡ Some file.now) × (view_in rows ≡ Some view) × (shard_in_rows rows ≡ Some shard) × AreOptionsOf rows options
+    (first_of (codes "FILE") rows ≡ Some file.now) × (view_in rows ≡ Some view)
+    × (shard_in_rows rows ≡ Some shard) × AreOptionsOf rows options
     × (is_given (first_of (codes "quiet") rows) ≡ quiet)
 
 -- The job is what the words name, by the command and its own words.
@@ -214,7 +218,8 @@ pub record AreOutOfRange (rows : List Row) : Type 0 where
 -- The words of `campaign` name no options: one of the numbers is none, or out of its range.
 abbrev pub NamesNoOptions : List Row → Type 0
 NamesNoOptions rows =
-    LacksNumber (codes "workers") rows ⊎ (LacksNumber (codes "stride") rows ⊎ (LacksNumber (codes "block") rows ⊎ AreOutOfRange rows))
+    LacksNumber (codes "workers") rows
+    ⊎ (LacksNumber (codes "stride") rows ⊎ (LacksNumber (codes "block") rows ⊎ AreOutOfRange rows))
 
 -- The words of `campaign` name no file, no view, no shard, or no options.
 abbrev pub NamesNoCampaign : List Row → Type 0
@@ -237,7 +242,8 @@ faults_without view shard = ValueValidation ∷ []
 -- of what kind the fault of words is that the command takes
 abbrev pub value_faults : Option (Text × List Row) → Kinds
 value_faults None = []
-value_faults (Some named) = if bytes_eq named.0 (codes "campaign") then faults_without (view_in named.1) (shard_in_rows named.1) else []
+value_faults (Some named) =
+    if bytes_eq named.0 (codes "campaign") then faults_without (view_in named.1) (shard_in_rows named.1) else []
 
 -- Of what kinds the fault of the words may be: one of those that the command doesn't take, otherwise that of a list of ends or of a
 -- shard. There is none where they name a job.

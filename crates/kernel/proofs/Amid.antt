@@ -1,8 +1,12 @@
 -- A step that only takes the running task to another op of its script.
 use denote.Enum.Bare.{sameb, same_true}
-use Rattle.std.proofs.Common.{◌≡◌, ◌≢◌, rules, ◌+◌, ℕ, Bool, true, false, not, eqb, leb, List, [], ◌∷◌, Option, Some, None, ◌≤◌, refl, ap, sym, subst, ◌∙◌, arith, append-nil}
+use Rattle.std.proofs.Common.{◌≡◌, ◌≢◌, rules, ◌+◌, ℕ, Bool, true, false, not, eqb, leb, List, [], ◌∷◌, Option, Some, None, ◌≤◌}
+use Rattle.std.proofs.Common.{refl, ap, sym, subst, ◌∙◌, arith, append-nil}
 use Rattle.model.specs.declared.op.Op.{Op}
-use Rattle.model.specs.declared.op.Op.TheVariants.{Work, Delay, DelayUntil, Yield, Time, Mark, Expect, Repeat, End as EndLoop, If, Else, EndIf, Break, Stamp, Since, Await, Do, GiveMutex, MessagesWaiting, SpacesAvailable, SetBits, ClearBits, GetBits, WaitBits, Suspend, Resume, SuspendAll, ResumeAll, NextCommand, Obey}
+use Rattle.model.specs.declared.op.Op.TheVariants.{Work, Delay, DelayUntil, Yield, Time, Mark, Expect, Repeat, End as EndLoop, If}
+use Rattle.model.specs.declared.op.Op.TheVariants.{Else, EndIf, Break, Stamp, Since, Await, Do, GiveMutex, MessagesWaiting}
+use Rattle.model.specs.declared.op.Op.TheVariants.{SpacesAvailable, SetBits, ClearBits, GetBits, WaitBits, Suspend, Resume}
+use Rattle.model.specs.declared.op.Op.TheVariants.{SuspendAll, ResumeAll, NextCommand, Obey}
 use Rattle.model.specs.declared.event.Event.{Event}
 use Rattle.model.specs.declared.loops.Loop.{Loop}
 use Rattle.model.specs.Answers.{holds}
@@ -72,7 +76,8 @@ no_suspension : (op : Op) → is_of_script op ≡ true → op ≢ SuspendAll
 no_suspension op t e = let f : is_of_script SuspendAll ≡ true = subst (λ (o : Op). is_of_script o ≡ true) e t in absurd (cc)
 
 -- What it asks of the kernel says that the task is Ready.
-can_of_script : (app : Application) (k : Machine) (task : ℕ) (op : Op) → is_of_script op ≡ true → CanOp app k task op → Can app k task op
+can_of_script : (app : Application) (k : Machine) (task : ℕ) (op : Op)
+    → is_of_script op ≡ true → CanOp app k task op → Can app k task op
 can_of_script app k task (Work n) t c = c
 can_of_script app k task (Delay n) t c = c
 can_of_script app k task (DelayUntil n) t c = c
@@ -112,14 +117,16 @@ EndsNoOther i old new = (j : ℕ) → i ≢ j → is_ended (status_at old j) ≡
 other-with_task : (s : State) (i : ℕ) (t : Task) → EndsNoOther i s (with_task i t s)
 other-with_task s i t j apart on =
     let P : ℕ → Task → Type 0 = λ k u. k ≡ j → is_ended u.status ≡ false in
-    let before : (k : ℕ) → k ≡ j → is_ended (status_at s k) ≡ false = λ k e. subst (λ (m : ℕ). is_ended (status_at s m) ≡ false) (sym e) on in
+    let before : (k : ℕ) → k ≡ j → is_ended (status_at s k) ≡ false = λ k e.
+    subst (λ (m : ℕ). is_ended (status_at s m) ≡ false) (sym e) on in
     each-set no_task P s.tasks i t (λ e. absurd (apart e)) before j refl
 
 other-go_to : (app : Application) (i n : ℕ) (p : Progress) (s : State) → EndsNoOther i s (go_to app i n p s)
 unfolding go_to
 other-go_to app i n p s = other-with_task s i (moved_to (op_count app i) n p (task_at s i))
 
-other-next_turn : (app : Application) (i : ℕ) (p : Progress) (l : Loop) (ls : List Loop) (left : Option ℕ) (s : State) → EndsNoOther i s (next_turn app i p l ls left s)
+other-next_turn : (app : Application) (i : ℕ) (p : Progress) (l : Loop) (ls : List Loop) (left : Option ℕ) (s : State)
+    → EndsNoOther i s (next_turn app i p l ls left s)
 other-next_turn app i p l ls None s j apart on = other-go_to app i l.start p s j apart on
 other-next_turn app i p l ls (Some left) s j apart on = by_test (leb left 1)
     (λ t. rw t (other-go_to app i (p.op_index + 1) (record p { loops = ls }) s j apart on))
@@ -181,9 +188,11 @@ pub all_before : (log : Logged) → log.told ≡ [] → all_of log ≡ log.befor
 all_before log e = told_after log log.before [] refl e ∙ append-nil log.before
 
 -- A deed that reports nothing, in a step that has reported nothing yet.
-pub silently : (k new : Machine) (old_log new_log : Logged) (deed : State → State) → DoesAny 65 k old_log new new_log deed → old_log.told ≡ [] → new_log ≡ old_log → (s : State) → AtAny k [] s → AtAny new [] (deed s)
+pub silently : (k new : Machine) (old_log new_log : Logged) (deed : State → State) → DoesAny 65 k old_log new new_log deed
+    → old_log.told ≡ [] → new_log ≡ old_log → (s : State) → AtAny k [] s → AtAny new [] (deed s)
 silently k new old_log new_log deed does begun silent s h =
-    subst (λ (es : List Event). AtAny new es (deed s)) (ap (λ (l : Logged). l.told) silent ∙ begun) (does.at s (subst (λ (es : List Event). AtAny k es s) (sym begun) h))
+    subst (λ (es : List Event). AtAny new es (deed s)) (ap (λ (l : Logged). l.told) silent ∙ begun)
+    (does.at s (subst (λ (es : List Event). AtAny k es s) (sym begun) h))
 
 -- Each `suspend_all` in force holds the scheduler.
 pub suspensions_hold : (k : Machine) (s : State) → Stands k s → k.suspensions ≤ k.sched.depth
@@ -192,7 +201,8 @@ suspensions_hold k s (Placing task list b) = let d = b.sched.depth in let n = b.
 
 -- ---- the step
 
-module _ (app : Application) (limits : Limits) (k new : Machine) (task : ℕ) (op : Op) (at : IsAt app k task op) (script : is_of_script op ≡ true) (can : CanOp app k task op) (placed : IsPlaced k new task)
+module _ (app : Application) (limits : Limits) (k new : Machine) (task : ℕ) (op : Op) (at : IsAt app k task op)
+    (script : is_of_script op ≡ true) (can : CanOp app k task op) (placed : IsPlaced k new task)
     (does : (s : State) → AtAny k [] s → AtAny new [] (act_current app limits s.current s)) where
   same_sched : new.sched ≡ k.sched
   same_sched = ap (λ (x : Machine). x.sched) placed.1
@@ -246,16 +256,20 @@ module _ (app : Application) (limits : Limits) (k new : Machine) (task : ℕ) (o
     done_is =
         let r : State = record s { log = [] } in
         ap (λ (c : Option ℕ). act_current app limits c r) (sym (current_is k s h) ∙ at.current)
-        ∙ ap (λ (o : Option Op). act_if app task o r) (ap (λ (p : Progress). op_at app task p.op_index) (sym (progress_is k s h task)) ∙ at.at)
+        ∙ ap (λ (o : Option Op). act_if app task o r)
+        (ap (λ (p : Progress). op_at app task p.op_index) (sym (progress_is k s h task)) ∙ at.at)
         ∙ acts_calm app task op r (sym (suspensions_are k s h) ∙ at.awake) (no_misuse op script r task) (no_suspension op script)
 
     ends_nobody : (j : ℕ) → is_ended (status_at s j) ≡ false → is_ended (status_at done j) ≡ false
     unfolding begun_now
     ends_nobody j on = by_test (eqb task j)
-        (λ t. subst (λ (i : ℕ). is_ended (status_at done i) ≡ false) (eqb-same task j t) (on_if_ready new done task at_done.stands still_ready))
+        (λ t.
+        subst (λ (i : ℕ). is_ended (status_at done i) ≡ false) (eqb-same task j t)
+        (on_if_ready new done task at_done.stands still_ready))
         (λ t.
         let apart : task ≢ j = (λ e. let u : eqb task j ≡ true = rw e (eqb-refl j) in absurd (cc)) in
-        subst (λ (x : State). is_ended (status_at x j) ≡ false) (sym done_is) (other-act app task op (record s { log = [] }) script j apart on))
+        subst (λ (x : State). is_ended (status_at x j) ≡ false) (sym done_is)
+        (other-act app task op (record s { log = [] }) script j apart on))
 
     pub on_amid : is_over app limits s ≡ false → is_over app limits (step app limits [] s) ≡ false
     unfolding done begun_now

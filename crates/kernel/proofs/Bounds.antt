@@ -1,5 +1,6 @@
 -- A kernel whose run goes on keeps within the numbers of the code.
-use Rattle.std.proofs.Common.{◌≡◌, ◌≢◌, ◌<◌, ◌≤◌, ◌+◌, ◌||◌, inl, inr, ltb-false, ℕ, Bool, true, false, cond, leb, List, length, Option, Some, None, refl, ap, sym, subst, ◌∙◌, arith, ltb}
+use Rattle.std.proofs.Common.{◌≡◌, ◌≢◌, ◌<◌, ◌≤◌, ◌+◌, ◌||◌, inl, inr, ltb-false, ℕ, Bool, true, false, cond, leb, List, length}
+use Rattle.std.proofs.Common.{Option, Some, None, refl, ap, sym, subst, ◌∙◌, arith, ltb}
 use Rattle.std.specs.Prelude.{if◌then◌else◌}
 use Rattle.std.proofs.lemmas.Bool.{ltb-true, lt-ltb}
 use Rattle.model.specs.Switching.{is_ready, is_held, is_scheduler_suspended}
@@ -15,14 +16,18 @@ use Rattle.model.specs.declared.call.Condition.{Condition}
 use Rattle.model.specs.declared.op.Access.{Access}
 use Rattle.model.specs.declared.op.Access.TheVariants.{Receive}
 use Rattle.model.specs.declared.op.Op.{Op}
-use Rattle.model.specs.declared.op.Op.TheVariants.{Work, Delay, DelayUntil, Yield, Time, Mark, Expect, Repeat, End as EndLoop, If, Else, EndIf, Break, Stamp, Since, Await, Do, GiveMutex, MessagesWaiting, SpacesAvailable, SetBits, ClearBits, GetBits, WaitBits, Suspend, Resume, SuspendAll, ResumeAll, NextCommand, Obey}
+use Rattle.model.specs.declared.op.Op.TheVariants.{Work, Delay, DelayUntil, Yield, Time, Mark, Expect, Repeat, End as EndLoop, If}
+use Rattle.model.specs.declared.op.Op.TheVariants.{Else, EndIf, Break, Stamp, Since, Await, Do, GiveMutex, MessagesWaiting}
+use Rattle.model.specs.declared.op.Op.TheVariants.{SpacesAvailable, SetBits, ClearBits, GetBits, WaitBits, Suspend, Resume}
+use Rattle.model.specs.declared.op.Op.TheVariants.{SuspendAll, ResumeAll, NextCommand, Obey}
 use Rattle.model.specs.Application.{Application, Limits, script_of, op_at}
 use Rattle.model.specs.declared.block.Block.{Block}
 use Rattle.model.specs.Blocks.{edge_of, loops_in, may_stand}
 use Rattle.model.specs.Scripts.{fits_object, is_in_range, is_wait, IsWellFormed}
 use Rattle.model.specs.State.{State, Progress, Wait, task_at, progress_at, call_at, status_at}
 use Rattle.model.specs.Run.{end_of, are_all_ended, is_stuck}
-use Rattle.model.specs.Invariant.{Hold, IsSound, IsState, IsUsedBy, IsRunning, IsPlacing, IsWaitOf, RunsIn, Course, InOne, OnObject, ToSetBits, course, IsPhaseOf, hold_of, holds, Suspension, wait_of}
+use Rattle.model.specs.Invariant.{Hold, IsSound, IsState, IsUsedBy, IsRunning, IsPlacing, IsWaitOf, RunsIn, Course, InOne, OnObject}
+use Rattle.model.specs.Invariant.{ToSetBits, course, IsPhaseOf, hold_of, holds, Suspension, wait_of}
 use Rattle.soundness.proofs.InScripts.{Known, script_formed, stands_at, known_at, range_at}
 use Rattle.soundness.proofs.Sound.{ready_reckoned}
 use Rattle.soundness.proofs.Frames.{keeps-before_step}
@@ -38,14 +43,19 @@ use Rattle.machine.specs.declared.machine.Machine.{Machine}
 use Rattle.machine.specs.StandsFor.{StandsFor, StandsBefore, Stands, decider, progress_in}
 use Rattle.machine.specs.StandsFor.Stands.{Placed, Placing}
 use Rattle.machine.specs.Can.{Runs, HasRoom, Agrees, IsAhead, IsInCall, StandsForSome}
-use Rattle.ops.specs.Can.{HasLoopRoom, HasObject, HasObjects, CanTick, Can, CanTry, IsShort, CanDecide, CanPlace, CanLeave, CanGoOn, CanSetBits, CanWaitBits, CanHold}
+use Rattle.ops.specs.Can.{HasLoopRoom, HasObject, HasObjects, CanTick, Can, CanTry, IsShort, CanDecide, CanPlace, CanLeave, CanGoOn}
+use Rattle.ops.specs.Can.{CanSetBits, CanWaitBits, CanHold}
 use Rattle.kernel.specs.Can.{CanOp, CanAct, CanIdle, CanStep}
 use Rattle.machine.proofs.Either.{elapsed_is, held_is, now_is, current_is, progress_is, suspensions_are}
 
 leb-less : (a b : ℕ) → leb a b ≡ false → b < a
 leb-less a b e = grind (arith, nat_tests)
 
-unended : (o : Option End) (a t p k : Bool) → option_or o (cond a (Some ending.Pass) (cond t (Some ending.Ticks) (cond p (Some ending.Steps) (cond k (Some ending.Stuck) None)))) ≡ None → (t ≡ false) × (p ≡ false) × (k ≡ false)
+unended : (o : Option End) (a t p k : Bool)
+    → option_or o
+    (cond a (Some ending.Pass) (cond t (Some ending.Ticks) (cond p (Some ending.Steps) (cond k (Some ending.Stuck) None))))
+    ≡ None
+    → (t ≡ false) × (p ≡ false) × (k ≡ false)
 unended (Some e) a t p k h = absurd (cc)
 unended None true t p k h = absurd (cc)
 unended None false true p k h = absurd (cc)
@@ -62,9 +72,11 @@ or_right false b e = e
 or_right true b e = absurd (cc)
 
 moves_by : (app : Application) (limits : Limits) (s : State) → end_of app limits s ≡ None → is_stuck app s ≡ false
-moves_by app limits s h = (unended s.stopped (are_all_ended app s) (leb limits.ticks s.elapsed) (leb limits.steps s.steps) (is_stuck app s) h).2
+moves_by app limits s h =
+    (unended s.stopped (are_all_ended app s) (leb limits.ticks s.elapsed) (leb limits.steps s.steps) (is_stuck app s) h).2
 
-pub below_limits : (app : Application) (limits : Limits) (s : State) → end_of app limits s ≡ None → (s.elapsed < limits.ticks) × (s.steps < limits.steps)
+pub below_limits : (app : Application) (limits : Limits) (s : State)
+    → end_of app limits s ≡ None → (s.elapsed < limits.ticks) × (s.steps < limits.steps)
 below_limits app limits s h =
     let u = unended s.stopped (are_all_ended app s) (leb limits.ticks s.elapsed) (leb limits.steps s.steps) (is_stuck app s) h in
     (leb-less limits.ticks s.elapsed u.0, leb-less limits.steps s.steps u.1)
@@ -105,7 +117,8 @@ loop_room Obey nesting h = tt
 abbrev IsBrief : Op → Type 0
 IsBrief op = course (Some op) ≡ InOne
 
-known_object : (app : Application) (task op_index : ℕ) (op : Op) → IsBrief op → Known app task op_index op → (k : Machine) → HasObjects app k → HasObject k op
+known_object : (app : Application) (task op_index : ℕ) (op : Op) → IsBrief op
+    → Known app task op_index op → (k : Machine) → HasObjects app k → HasObject k op
 known_object app i p (Work n) brief t k room = tt
 known_object app i p (Delay n) brief t k room = tt
 known_object app i p (DelayUntil n) brief t k room = tt
@@ -158,7 +171,8 @@ once_held n true depth e z t = omega (arith, e, z)
 once_held n false depth e z t = absurd (cc)
 
 -- the kernel represents a state of a run, early enough
-module _ (app : Application) (formed : IsWellFormed app) (k : Machine) (state : State) (reached : IsState app state) (stands : Stands k state) (early : state.elapsed < 281474976710656) (little : state.held_ticks < 1000000) where
+module _ (app : Application) (formed : IsWellFormed app) (k : Machine) (state : State) (reached : IsState app state)
+    (stands : Stands k state) (early : state.elapsed < 281474976710656) (little : state.held_ticks < 1000000) where
   time_low : k.clock.now < 4294967296 + 281474976710656
   time_low = let e = now_is k state stands in let l = early in let m = reached.sound.time.1 in let n = formed.start in omega arith
 
@@ -166,7 +180,8 @@ module _ (app : Application) (formed : IsWellFormed app) (k : Machine) (state : 
   rooms object access fit = by_stands stands where
     by_stands : Stands k state → HasRoom k object access
     by_stands (Placed h) = has_room app (hold_of state) k.queues None state object access reached.sound h.rest.queues fit
-    by_stands (Placing task list b) = has_room app (hold_of state) k.queues (Some (decider task list state)) state object access reached.sound b.queues fit
+    by_stands (Placing task list b) =
+        has_room app (hold_of state) k.queues (Some (decider task list state)) state object access reached.sound b.queues fit
 
   depth_in : k.sched.depth ≡ state.suspensions + (if state.call_hold then 1 else 0)
   depth_in = by_stands stands where
@@ -197,7 +212,18 @@ module _ (app : Application) (formed : IsWellFormed app) (k : Machine) (state : 
     held_once held = once_held state.suspensions state.call_hold k.sched.depth depth_in calm held
 
     can_tick : state.call_hold ≡ false → CanTick app k
-    can_tick free = record { advance = record { agrees = (state, placed free); free = no_lock free; age = let l = early in let f = elapsed_is k state stands in omega arith; awake = awake }; depth = not_held free; objects = rooms }
+    can_tick free =
+        record {
+          advance =
+              record {
+                agrees = (state, placed free);
+                free = no_lock free;
+                age = let l = early in let f = elapsed_is k state stands in omega arith;
+                awake = awake;
+              };
+          depth = not_held free;
+          objects = rooms;
+        }
 
   module _ (task : TaskId) (runs : k.sched.current ≡ Some task) where
     same : progress_in k.progress task ≡ progress_at state task
@@ -248,7 +274,9 @@ module _ (app : Application) (formed : IsWellFormed app) (k : Machine) (state : 
 
       nesting : HasLoopRoom op (length (progress_in k.progress task).loops)
       nesting =
-          let may = stands_at (length (progress_at state task).loops) (progress_at state task).op_index (script_of app task) op (reached.sound.progress task).nests at_op in
+          let may =
+          stands_at (length (progress_at state task).loops) (progress_at state task).op_index
+          (script_of app task) op (reached.sound.progress task).nests at_op in
           let H : Progress → Type 0 = λ p. HasLoopRoom op (length p.loops) in
           subst H (sym same) (subst (HasLoopRoom op) may.count (loop_room op may.blocks may.may))
 
@@ -276,7 +304,9 @@ module _ (app : Application) (formed : IsWellFormed app) (k : Machine) (state : 
       module _ (free : state.call_hold ≡ false) where
         previous : (progress_in k.progress task).previous_wake ≤ k.clock.now
         previous =
-            let lower = ready_reckoned state.time (progress_at state task).previous_wake (status_at state task) (reached.sound.progress task).reckoned (ready_here free) in
+            let lower =
+            ready_reckoned state.time (progress_at state task).previous_wake
+            (status_at state task) (reached.sound.progress task).reckoned (ready_here free) in
             let H : Progress → Type 0 = λ p. p.previous_wake ≤ k.clock.now in
             subst H (sym same) (rw (now_is k state stands) lower)
 
@@ -293,20 +323,34 @@ module _ (app : Application) (formed : IsWellFormed app) (k : Machine) (state : 
         }
 
         can_decide : k.suspensions ≡ 0 → CanDecide k task
-        can_decide awake = record { runs = runs_on free; agrees = (state, placed free); free = no_lock free; depth = not_held awake free }
+        can_decide awake =
+            record { runs = runs_on free; agrees = (state, placed free); free = no_lock free; depth = not_held awake free }
 
       brief_can : k.suspensions ≡ 0 → IsBrief op → Can app k task op
       brief_can awake brief = can (start_only app formed state task reached on op brief at_op) awake brief
 
       can_leave : k.suspensions ≡ 0 → (call_at state task).phase ≡ Leave → CanLeave k task
-      can_leave awake e = record { call = in_call Leave e (λ q. absurd (cc)); held = held_once awake (held_in Leave e refl); awake = awake }
+      can_leave awake e =
+          record { call = in_call Leave e (λ q. absurd (cc)); held = held_once awake (held_in Leave e refl); awake = awake }
 
     -- a call on an object that waits there, at most for this many ticks
-    module _ (object : ℕ) (access : Access) (ticks : Option ℕ) (op : Op) (is : op_at app task (progress_in k.progress task).op_index ≡ Some op) (way : course (Some op) ≡ OnObject object) (fit : fits_object app object access ≡ true) (range : is_wait ticks ≡ true) (awake : k.suspensions ≡ 0) where
+    module _ (object : ℕ) (access : Access) (ticks : Option ℕ) (op : Op)
+        (is : op_at app task (progress_in k.progress task).op_index ≡ Some op) (way : course (Some op) ≡ OnObject object)
+        (fit : fits_object app object access ≡ true) (range : is_wait ticks ≡ true) (awake : k.suspensions ≡ 0) where
       can_try : state.call_hold ≡ false → CanTry k task object access
-      can_try free = record { runs = runs_on op is free; agrees = (state, placed free); free = no_lock free; depth = not_held awake free; room = rooms object access fit }
+      can_try free =
+          record {
+            runs = runs_on op is free;
+            agrees = (state, placed free);
+            free = no_lock free;
+            depth = not_held awake free;
+            room = rooms object access fit;
+          }
 
-      in_state : (wait : Option Wait) (deadline : Option ℕ) → IfSome wait (λ w. IsWaitOf (op_at app task (progress_at state task).op_index) deadline w) → IsPlacing state.time (task_at state task) wait → IfSome deadline (λ d. d < state.time + 4294967296) → IsAhead state.time deadline
+      in_state : (wait : Option Wait) (deadline : Option ℕ)
+          → IfSome wait (λ w. IsWaitOf (op_at app task (progress_at state task).op_index) deadline w)
+          → IsPlacing state.time (task_at state task) wait
+          → IfSome deadline (λ d. d < state.time + 4294967296) → IsAhead state.time deadline
       in_state None deadline w p near = absurd p
       in_state (Some w) None of p near = tt
       in_state (Some w) (Some d) of p near =
@@ -316,7 +360,9 @@ module _ (app : Application) (formed : IsWellFormed app) (k : Machine) (state : 
       deadline_near : (call_at state task).phase ≡ Place → IsAhead k.clock.now (progress_in k.progress task).call.deadline
       deadline_near e =
           let D : Progress → Type 0 = λ p. IsAhead k.clock.now p.call.deadline in
-          subst D (sym same) (subst (λ (now : ℕ). IsAhead now (call_at state task).deadline) (sym (now_is k state stands)) (in_state (wait_of (status_at state task)) (call_at state task).deadline (reached.sound.calls task).wait (running.placing e) (reached.sound.calls task).near))
+          subst D (sym same) (subst (λ (now : ℕ). IsAhead now (call_at state task).deadline) (sym (now_is k state stands))
+          (in_state (wait_of (status_at state task)) (call_at state task).deadline
+          (reached.sound.calls task).wait (running.placing e) (reached.sound.calls task).near))
 
       -- where it is to be placed, it is this task
       before : (call_at state task).phase ≡ Place → CanPlace k task
@@ -341,7 +387,8 @@ module _ (app : Application) (formed : IsWellFormed app) (k : Machine) (state : 
       goes_on Leave e = can_leave op is awake e
 
     -- a set of bits, by an op of that course
-    sets : (op : Op) → op_at app task (progress_in k.progress task).op_index ≡ Some op → course (Some op) ≡ ToSetBits → k.suspensions ≡ 0 → (phase : Phase) → (call_at state task).phase ≡ phase → CanSetBits k task phase
+    sets : (op : Op) → op_at app task (progress_in k.progress task).op_index ≡ Some op → course (Some op) ≡ ToSetBits
+        → k.suspensions ≡ 0 → (phase : Phase) → (call_at state task).phase ≡ phase → CanSetBits k task phase
     sets op is goes awake Start e = can_decide op is (free_in Start e refl) awake
     sets op is goes awake Leave e =
         let can = can_leave op is awake e in
@@ -351,15 +398,25 @@ module _ (app : Application) (formed : IsWellFormed app) (k : Machine) (state : 
           runs_placed a ready = by_stands stands where
             by_stands : Stands k state → Runs k task
             by_stands (Placed h) = runs_ready op is h ready
-            by_stands (Placing other list b) = absurd (a.1.rest.placed other (ap (λ (p : Progress). p.call.phase) (b.progress other) ∙ b.phase))
+            by_stands (Placing other list b) =
+                absurd (a.1.rest.placed other (ap (λ (p : Progress). p.call.phase) (b.progress other) ∙ b.phase))
     sets op is goes awake Try e = absurd (subst (λ (c : Course). IsPhaseOf (hold_of state) c Try) goes (fits_phase op is Try e))
-    sets op is goes awake Decide e = absurd (subst (λ (c : Course). IsPhaseOf (hold_of state) c Decide) goes (fits_phase op is Decide e))
-    sets op is goes awake Place e = absurd (subst (λ (c : Course). IsPhaseOf (hold_of state) c Place) goes (fits_phase op is Place e))
-    sets op is goes awake Unlock e = absurd (subst (λ (c : Course). IsPhaseOf (hold_of state) c Unlock) goes (fits_phase op is Unlock e))
+    sets op is goes awake Decide e =
+        absurd (subst (λ (c : Course). IsPhaseOf (hold_of state) c Decide) goes (fits_phase op is Decide e))
+    sets op is goes awake Place e =
+        absurd (subst (λ (c : Course). IsPhaseOf (hold_of state) c Place) goes (fits_phase op is Place e))
+    sets op is goes awake Unlock e =
+        absurd (subst (λ (c : Course). IsPhaseOf (hold_of state) c Unlock) goes (fits_phase op is Unlock e))
 
     -- a wait for bits
-    waits : (group : ℕ) (condition : Condition) (ticks : Option ℕ) → op_at app task (progress_in k.progress task).op_index ≡ Some (WaitBits group condition ticks) → k.suspensions ≡ 0 → (phase : Phase) → (call_at state task).phase ≡ phase → CanWaitBits k task ticks phase
-    waits group c ticks is awake Start e = (can_decide (WaitBits group c ticks) is (free_in Start e refl) awake, short ticks (and_right _ (is_wait ticks) (in_range (WaitBits group c ticks) is)), let l = time_low in omega arith)
+    waits : (group : ℕ) (condition : Condition) (ticks : Option ℕ)
+        → op_at app task (progress_in k.progress task).op_index ≡ Some (WaitBits group condition ticks)
+        → k.suspensions ≡ 0 → (phase : Phase) → (call_at state task).phase ≡ phase → CanWaitBits k task ticks phase
+    waits group c ticks is awake Start e = (
+      can_decide (WaitBits group c ticks) is (free_in Start e refl) awake,
+      short ticks (and_right _ (is_wait ticks) (in_range (WaitBits group c ticks) is)),
+      let l = time_low in omega arith,
+    )
     waits group c ticks is awake Leave e = can_leave (WaitBits group c ticks) is awake e
     waits group c ticks is awake Try e = can_decide (WaitBits group c ticks) is (free_in Try e refl) awake
     waits group c ticks is awake Decide e = absurd (fits_phase (WaitBits group c ticks) is Decide e)
@@ -382,26 +439,39 @@ module _ (app : Application) (formed : IsWellFormed app) (k : Machine) (state : 
     can_op awake Break is = brief_can Break is awake refl
     can_op awake Stamp is = brief_can Stamp is awake refl
     can_op awake Since is = brief_can Since is awake refl
-    can_op awake (Await o a w) is = subst (λ (p : Progress). CanGoOn k task o a w p.call.phase) (sym same) (goes_on o a w (Await o a w) is refl (and_left (fits_object app o a) _ (known (Await o a w) is)) (in_range (Await o a w) is) awake (call_at state task).phase refl)
+    can_op awake (Await o a w) is =
+        subst (λ (p : Progress). CanGoOn k task o a w p.call.phase) (sym same)
+        (goes_on o a w (Await o a w) is refl (and_left (fits_object app o a) _ (known (Await o a w) is))
+        (in_range (Await o a w) is) awake (call_at state task).phase refl)
     can_op awake (Do o a) is = brief_can (Do o a) is awake refl
     can_op awake (GiveMutex o) is = brief_can (GiveMutex o) is awake refl
     can_op awake (MessagesWaiting o) is = brief_can (MessagesWaiting o) is awake refl
     can_op awake (SpacesAvailable o) is = brief_can (SpacesAvailable o) is awake refl
-    can_op awake (SetBits g m) is = subst (λ (p : Progress). CanSetBits k task p.call.phase) (sym same) (sets (SetBits g m) is refl awake (call_at state task).phase refl)
+    can_op awake (SetBits g m) is =
+        subst (λ (p : Progress). CanSetBits k task p.call.phase) (sym same)
+        (sets (SetBits g m) is refl awake (call_at state task).phase refl)
     can_op awake (ClearBits g m) is = brief_can (ClearBits g m) is awake refl
     can_op awake (GetBits g) is = brief_can (GetBits g) is awake refl
-    can_op awake (WaitBits g c w) is = subst (λ (p : Progress). CanWaitBits k task w p.call.phase) (sym same) (waits g c w is awake (call_at state task).phase refl)
+    can_op awake (WaitBits g c w) is =
+        subst (λ (p : Progress). CanWaitBits k task w p.call.phase)
+        (sym same) (waits g c w is awake (call_at state task).phase refl)
     can_op awake (Suspend j) is = brief_can (Suspend j) is awake refl
     can_op awake (Resume j) is = brief_can (Resume j) is awake refl
     can_op awake SuspendAll is = brief_can SuspendAll is awake refl
     can_op awake ResumeAll is = brief_can ResumeAll is awake refl
-    can_op awake (NextCommand o) is = subst (λ (p : Progress). CanGoOn k task o Receive None p.call.phase) (sym same) (goes_on o Receive None (NextCommand o) is refl (known (NextCommand o) is).2 refl awake (call_at state task).phase refl)
-    can_op awake Obey is = subst (λ (p : Progress). CanSetBits k task p.call.phase) (sym same) (sets Obey is refl awake (call_at state task).phase refl)
+    can_op awake (NextCommand o) is =
+        subst (λ (p : Progress). CanGoOn k task o Receive None p.call.phase) (sym same)
+        (goes_on o Receive None (NextCommand o) is refl (known (NextCommand o) is).2 refl awake (call_at state task).phase refl)
+    can_op awake Obey is =
+        subst (λ (p : Progress). CanSetBits k task p.call.phase) (sym same)
+        (sets Obey is refl awake (call_at state task).phase refl)
 
     -- a `suspend_all` is in force
-    can_hold : 0 < k.suspensions → state.suspensions < 1000000 → (op : Op) → op_at app task (progress_in k.progress task).op_index ≡ Some op → CanHold app k task op
+    can_hold : 0 < k.suspensions → state.suspensions < 1000000 → (op : Op)
+        → op_at app task (progress_in k.progress task).op_index ≡ Some op → CanHold app k task op
     can_hold some few op is =
-        let free : state.call_hold ≡ false = reached.apart (lt-ltb 0 state.suspensions (rw (sym (suspensions_are k state stands)) some)) in
+        let free : state.call_hold ≡ false =
+        reached.apart (lt-ltb 0 state.suspensions (rw (sym (suspensions_are k state stands)) some)) in
         let h = placed free in
         let elapsed = elapsed_is k state stands in
         record {
@@ -430,20 +500,28 @@ module _ (app : Application) (formed : IsWellFormed app) (k : Machine) (state : 
       let most = ltb-false 0 state.suspensions (or_right state.call_hold (is_scheduler_suspended state) (idle_held idle)) in
       suspensions_are k state stands ∙ (let none : state.suspensions ≡ 0 = omega arith in none)
 
-  can_idle : (limits : Limits) → state.elapsed < limits.ticks → (state.current ≡ None → is_stuck app state ≡ false) → k.sched.current ≡ None → CanIdle app limits k
+  can_idle : (limits : Limits) → state.elapsed < limits.ticks
+      → (state.current ≡ None → is_stuck app state ≡ false) → k.sched.current ≡ None → CanIdle app limits k
   can_idle limits below moves idle = record {
     tick = can_tick (idle_awake idle) (idle_free idle);
     early = let e = elapsed_is k state stands in omega arith;
     moves = (state, placed (idle_free idle), moves (sym (current_is k state stands) ∙ idle));
   }
 
-  pub can_act : (limits : Limits) → state.elapsed < limits.ticks → (state.current ≡ None → is_stuck app state ≡ false) → state.suspensions < 1000000 → CanAct app limits k
-  can_act limits below moves few = record { idle = can_idle limits below moves; op = λ task op runs is. ((λ awake. can_op task runs awake op is), (λ some. can_hold task runs some few op is)) }
+  pub can_act : (limits : Limits) → state.elapsed < limits.ticks
+      → (state.current ≡ None → is_stuck app state ≡ false) → state.suspensions < 1000000 → CanAct app limits k
+  can_act limits below moves few =
+      record {
+        idle = can_idle limits below moves;
+        op = λ task op runs is. ((λ awake. can_op task runs awake op is), (λ some. can_hold task runs some few op is));
+      }
 
 -- The running task is one of those that there are.
-pub runs_there : (app : Application) (k : Machine) (s : State) (hold : Hold) → Stands k s → IsSound app hold s → IfSome k.sched.current (λ task. task < length app.tasks)
+pub runs_there : (app : Application) (k : Machine) (s : State) (hold : Hold) → Stands k s
+    → IsSound app hold s → IfSome k.sched.current (λ task. task < length app.tasks)
 runs_there app k s hold h sound =
-    let within : IfSome s.current (λ task. task < length app.tasks) = subst (λ (n : ℕ). IfSome s.current (λ task. task < n)) sound.tasks sound.table.current in
+    let within : IfSome s.current (λ task. task < length app.tasks) =
+    subst (λ (n : ℕ). IfSome s.current (λ task. task < n)) sound.tasks sound.table.current in
     subst (λ (o : Option ℕ). IfSome o (λ task. task < length app.tasks)) (sym (current_is k s h)) within
 
 -- ---- before a step, and after the handlers that come before it
@@ -469,22 +547,32 @@ module _ (app : Application) (formed : IsWellFormed app) {limits : Limits} (k : 
       let k = keeps-before_step app handlers now in
       let b = below_limits app limits now c.goes_on in
       let age : (before_step app handlers now).elapsed ≡ now.elapsed = k.elapsed in
-      let count : (before_step app handlers now).suspensions ≡ now.suspensions = ap (λ (x : Suspension). x.suspensions) k.suspension in
+      let count : (before_step app handlers now).suspensions ≡ now.suspensions =
+      ap (λ (x : Suspension). x.suspensions) k.suspension in
       let held : (before_step app handlers now).held_ticks ≡ now.held_ticks = ap (λ (x : Suspension). x.held_ticks) k.suspension in
       let low : (before_step app handlers now).elapsed < 281474976710656 = (let l = early_now in omega arith) in
       let below : (before_step app handlers now).elapsed < limits.ticks = (let l = b.0 in omega arith) in
       let little : (before_step app handlers now).held_ticks < 1000000 = (let l = little_now in omega arith) in
-      let few : (before_step app handlers now).suspensions < 1000000 = (let n = c.suspended in let l = b.1 in let o = c.are.3 in omega arith) in
-      can_act app formed new (before_step app handlers now) (reached_before_step app formed handlers now c.sound) h low little limits below
+      let few : (before_step app handlers now).suspensions < 1000000 =
+      (let n = c.suspended in let l = b.1 in let o = c.are.3 in omega arith) in
+      can_act app formed new (before_step app handlers now)
+      (reached_before_step app formed handlers now c.sound) h low little limits below
       (λ idle. not_stuck_after app handlers now c.sound (moves_by app limits now c.goes_on) idle) few
 
   -- and the task that runs then is there
-  pub there_after : (handlers : List ℕ) (new : Machine) → Stands new (before_step app handlers now) → IfSome new.sched.current (λ task. task < length app.tasks)
-  there_after handlers new h = runs_there app new (before_step app handlers now) (hold_of (before_step app handlers now)) h (reached_before_step app formed handlers now c.sound).sound
+  pub there_after : (handlers : List ℕ) (new : Machine) → Stands new (before_step app handlers now)
+      → IfSome new.sched.current (λ task. task < length app.tasks)
+  there_after handlers new h =
+      runs_there app new (before_step app handlers now) (hold_of (before_step app handlers now))
+      h (reached_before_step app formed handlers now c.sound).sound
 
-  pub can_do : (task : TaskId) → k.sched.current ≡ Some task → k.suspensions ≡ 0 → (op : Op) → op_at app task (progress_in k.progress task).op_index ≡ Some op → CanOp app k task op
+  pub can_do : (task : TaskId) → k.sched.current ≡ Some task → k.suspensions ≡ 0 → (op : Op)
+      → op_at app task (progress_in k.progress task).op_index ≡ Some op → CanOp app k task op
   can_do task runs awake op at = can_op app formed k now c.sound c.stands early_now little_now task runs awake op at
 
-  pub held_in_call : (task : TaskId) → k.sched.current ≡ Some task → k.suspensions ≡ 0 → (phase : Phase) → (progress_in k.progress task).call.phase ≡ phase → holds phase ≡ true → k.sched.depth ≡ 1
+  pub held_in_call : (task : TaskId) → k.sched.current ≡ Some task → k.suspensions ≡ 0 → (phase : Phase)
+      → (progress_in k.progress task).call.phase ≡ phase → holds phase ≡ true → k.sched.depth ≡ 1
   held_in_call task runs awake phase e t =
-      held_once app formed k now c.sound c.stands early_now little_now awake (held_in app formed k now c.sound c.stands early_now little_now task runs phase (ap (λ (p : Progress). p.call.phase) (sym (progress_is k now c.stands task)) ∙ e) t)
+      held_once app formed k now c.sound c.stands early_now little_now awake
+      (held_in app formed k now c.sound c.stands early_now little_now task runs phase
+      (ap (λ (p : Progress). p.call.phase) (sym (progress_is k now c.stands task)) ∙ e) t)

@@ -1,8 +1,12 @@
 -- No op changes how many steps are done: only the step itself counts.
-use Rattle.std.proofs.Common.{◌≡◌, ◌+◌, ◌-◌, ◌||◌, ◌&&◌, ℕ, zero, suc, true, false, eqb, List, ◌++◌, Option, Some, None, refl, sym, ◌∙◌, length}
+use Rattle.std.proofs.Common.{◌≡◌, ◌+◌, ◌-◌, ◌||◌, ◌&&◌, ℕ, zero, suc, true, false, eqb, List, ◌++◌, Option, Some, None, refl, sym}
+use Rattle.std.proofs.Common.{◌∙◌, length}
 use Rattle.std.specs.Option.{option_eq}
 use Rattle.model.specs.declared.op.Op.{Op}
-use Rattle.model.specs.declared.op.Op.TheVariants.{Work, Delay, DelayUntil, Yield, Time, Mark, Expect, Repeat, End, If, Else, EndIf, Break, Stamp, Since, Await, Do, GiveMutex, MessagesWaiting, SpacesAvailable, SetBits, ClearBits, GetBits, WaitBits, Suspend, Resume, SuspendAll, ResumeAll, NextCommand, Obey}
+use Rattle.model.specs.declared.op.Op.TheVariants.{Work, Delay, DelayUntil, Yield, Time, Mark, Expect, Repeat, End, If, Else, EndIf}
+use Rattle.model.specs.declared.op.Op.TheVariants.{Break, Stamp, Since, Await, Do, GiveMutex, MessagesWaiting, SpacesAvailable}
+use Rattle.model.specs.declared.op.Op.TheVariants.{SetBits, ClearBits, GetBits, WaitBits, Suspend, Resume, SuspendAll, ResumeAll}
+use Rattle.model.specs.declared.op.Op.TheVariants.{NextCommand, Obey}
 use Rattle.model.specs.declared.op.Access.{Access}
 use Rattle.model.specs.declared.op.Access.TheVariants.{Receive}
 use Rattle.model.specs.declared.op.Command.{Command}
@@ -34,14 +38,21 @@ use Rattle.model.specs.declared.event.Event.{Event}
 use Rattle.machine.specs.declared.machine.Machine.{Machine}
 use Rattle.machine.specs.StandsFor.{Stands, AtAny}
 use Rattle.machine.proofs.Either.{steps_are}
-use Rattle.soundness.proofs.Frames.{keeps-choose, keeps-yield_now, keeps-preempt, keeps-slice, keeps-settle, keeps-unless_held, keeps-all_ready, keeps-wake_due, keeps-go_to, keeps-answer, keeps-use_up, keeps-delay, keeps-delay_until, keeps-open_loop, keeps-close_turn, keeps-branch, keeps-skip_branch, keeps-leave_loop, keeps-stamp, keeps-since, keeps-set_deadline, keeps-inherit, keeps-give_mutex, keeps-try, keeps-do_now, keeps-set, keeps-clear, keeps-answer_bits, keeps-call_suspend, keeps-call_resume, keeps-take_command, keeps-obeyed, keeps-clear_by_daemon, keeps-interrupt, keeps-before_step}
+use Rattle.soundness.proofs.Frames.{keeps-choose, keeps-yield_now, keeps-preempt, keeps-slice, keeps-settle, keeps-unless_held}
+use Rattle.soundness.proofs.Frames.{keeps-all_ready, keeps-wake_due, keeps-go_to, keeps-answer, keeps-use_up, keeps-delay}
+use Rattle.soundness.proofs.Frames.{keeps-delay_until, keeps-open_loop, keeps-close_turn, keeps-branch, keeps-skip_branch}
+use Rattle.soundness.proofs.Frames.{keeps-leave_loop, keeps-stamp, keeps-since, keeps-set_deadline, keeps-inherit, keeps-give_mutex}
+use Rattle.soundness.proofs.Frames.{keeps-try, keeps-do_now, keeps-set, keeps-clear, keeps-answer_bits, keeps-call_suspend}
+use Rattle.soundness.proofs.Frames.{keeps-call_resume, keeps-take_command, keeps-obeyed, keeps-clear_by_daemon, keeps-interrupt}
+use Rattle.soundness.proofs.Frames.{keeps-before_step}
 
 steps-unlock : (s : State) → (unlock s).steps ≡ s.steps
 unfolding unlock
 steps-unlock s = by_locked s.locked where
   by_locked : (o : Option ℕ) → (for_one unlock_object o s).steps ≡ s.steps
   by_locked None = refl
-  by_locked (Some o) = (keeps-all_ready (tasks_of (awakened s (ToReceive o)) ++ tasks_of (awakened s (ToSend o))) (record s { locked = None })).steps
+  by_locked (Some o) =
+      (keeps-all_ready (tasks_of (awakened s (ToReceive o)) ++ tasks_of (awakened s (ToSend o))) (record s { locked = None })).steps
 
 steps-decide : (i o : ℕ) (a : Access) (s : State) → (decide i o a s).steps ≡ s.steps
 unfolding decide wait_in
@@ -57,8 +68,11 @@ steps-leave_call i s =
     (λ t. rw t (keeps-choose free).steps)
     (λ t. rw t (keeps-preempt free).steps)
 
-steps-await : (app : Application) (i o : ℕ) (a : Access) (ticks : Option ℕ) (phase : Phase) (s : State) → (await app i o a ticks phase s).steps ≡ s.steps
-steps-await app i o a ticks Start s = let t : State = set_deadline i ticks s in (keeps-try app i o a t).steps ∙ (keeps-set_deadline i ticks s).steps
+steps-await : (app : Application) (i o : ℕ) (a : Access) (ticks : Option ℕ) (phase : Phase) (s : State)
+    → (await app i o a ticks phase s).steps ≡ s.steps
+steps-await app i o a ticks Start s =
+    let t : State = set_deadline i ticks s in
+    (keeps-try app i o a t).steps ∙ (keeps-set_deadline i ticks s).steps
 steps-await app i o a ticks Try s = (keeps-try app i o a s).steps
 steps-await app i o a ticks Decide s = steps-decide i o a s
 steps-await app i o a ticks Place s = refl
@@ -69,13 +83,15 @@ steps-begin_set : (i group mask : ℕ) (s : State) → (begin_set i group mask s
 unfolding begin_set
 steps-begin_set i group mask s = (keeps-set group mask (record s { call_hold = true })).steps
 
-steps-end_set : (app : Application) (i : ℕ) (s : State) → (preempt (answer app i (call_at s i).kept (end_hold i Start s))).steps ≡ s.steps
+steps-end_set : (app : Application) (i : ℕ) (s : State)
+    → (preempt (answer app i (call_at s i).kept (end_hold i Start s))).steps ≡ s.steps
 steps-end_set app i s =
     let free : State = end_hold i Start s in
     let told : State = answer app i (call_at s i).kept free in
     (keeps-preempt told).steps ∙ (keeps-answer app i (call_at s i).kept free).steps
 
-steps-set_bits : (app : Application) (i group mask : ℕ) (phase : Phase) (s : State) → (set_bits app i group mask phase s).steps ≡ s.steps
+steps-set_bits : (app : Application) (i group mask : ℕ) (phase : Phase) (s : State)
+    → (set_bits app i group mask phase s).steps ≡ s.steps
 steps-set_bits app i group mask Start s = steps-begin_set i group mask s
 steps-set_bits app i group mask Try s = steps-end_set app i s
 steps-set_bits app i group mask Decide s = steps-end_set app i s
@@ -83,13 +99,15 @@ steps-set_bits app i group mask Place s = steps-end_set app i s
 steps-set_bits app i group mask Unlock s = steps-end_set app i s
 steps-set_bits app i group mask Leave s = steps-end_set app i s
 
-steps-check : (app : Application) (i group : ℕ) (c : Condition) (ticks : Option ℕ) (s : State) → (check app i group c ticks s).steps ≡ s.steps
+steps-check : (app : Application) (i group : ℕ) (c : Condition) (ticks : Option ℕ) (s : State)
+    → (check app i group c ticks s).steps ≡ s.steps
 unfolding check begin_bits_wait wait_for_bits set_deadline
 steps-check app i group c ticks s = by_test (is_met (bits_at s group) c || option_eq eqb ticks (Some 0))
     (λ t. rw t (keeps-answer_bits app i group c s).steps)
     (λ t. rw t refl)
 
-steps-wait_bits : (app : Application) (i group : ℕ) (c : Condition) (ticks : Option ℕ) (phase : Phase) (s : State) → (wait_bits app i group c ticks phase s).steps ≡ s.steps
+steps-wait_bits : (app : Application) (i group : ℕ) (c : Condition) (ticks : Option ℕ) (phase : Phase) (s : State)
+    → (wait_bits app i group c ticks phase s).steps ≡ s.steps
 steps-wait_bits app i group c ticks Start s = steps-check app i group c ticks s
 steps-wait_bits app i group c ticks Leave s = (keeps-choose (end_hold i Try s)).steps
 steps-wait_bits app i group c ticks Try s = (lasts-final_bits app i group c (call_at s i).kept s).steps
@@ -148,7 +166,9 @@ steps-idle app limits s =
     let come : State = jump (ticks_ahead app limits s) s in
     let told : State = interrupt app come in
     either_way (λ t. t.steps ≡ s.steps) app.tickless (unless_held slice told) (tick_interrupt app s)
-    ((keeps-unless_held slice told keeps-slice).steps ∙ (keeps-interrupt app come).steps ∙ (keeps-wake_due (record s { time = s.time + ticks_ahead app limits s; elapsed = s.elapsed + ticks_ahead app limits s })).steps)
+    ((keeps-unless_held slice told keeps-slice).steps ∙ (keeps-interrupt app come).steps
+    ∙ (keeps-wake_due
+    (record s { time = s.time + ticks_ahead app limits s; elapsed = s.elapsed + ticks_ahead app limits s })).steps)
     (steps-tick app s)
 
 steps-applied : (s : State) → (apply_one s).steps ≡ s.steps
@@ -216,7 +236,8 @@ steps-judged i op_index s = by_test (is_scheduler_suspended s && is_ended (statu
     (λ t. rw t refl)
     (λ t. rw t refl)
 
-steps-act_unless : (app : Application) (i : ℕ) (kind : Option Misuse) (op : Op) (s : State) → (act_unless app i kind op s).steps ≡ s.steps
+steps-act_unless : (app : Application) (i : ℕ) (kind : Option Misuse) (op : Op) (s : State)
+    → (act_unless app i kind op s).steps ≡ s.steps
 steps-act_unless app i None op s = steps-judged i (progress_at s i).op_index (act app i op s) ∙ steps-act app i op s
 steps-act_unless app i (Some kind) op s = refl
 
@@ -230,13 +251,18 @@ steps-act_current app limits (Some i) s = steps-act_if app i (op_at app i (progr
 
 -- So what a step does, before it is counted, leaves their number.
 pub steps_acted : (app : Application) (limits : Limits) (handlers : List ℕ) (s : State)
-    → (unless_held settle (act_current app limits (before_step app handlers s).current (before_step app handlers s))).steps ≡ s.steps
+    → (unless_held settle (act_current app limits (before_step app handlers s).current (before_step app handlers s))).steps
+    ≡ s.steps
 steps_acted app limits handlers s =
     let begun : State = before_step app handlers s in
     let acted : State = act_current app limits begun.current begun in
-    (keeps-unless_held settle acted keeps-settle).steps ∙ steps-act_current app limits begun.current begun ∙ (keeps-before_step app handlers s).steps
+    (keeps-unless_held settle acted keeps-settle).steps
+    ∙ steps-act_current app limits begun.current begun ∙ (keeps-before_step app handlers s).steps
 
 -- The kernel has the number of before, then.
-pub steps_still : (app : Application) (limits : Limits) (handlers : List ℕ) (s : State) (k new : Machine) (log : List Event) → Stands k s
-    → AtAny new log (unless_held settle (act_current app limits (before_step app handlers s).current (before_step app handlers s))) → new.steps ≡ k.steps
-steps_still app limits handlers s k new log h a = steps_are new _ a.stands ∙ steps_acted app limits handlers s ∙ sym (steps_are k s h)
+pub steps_still : (app : Application) (limits : Limits) (handlers : List ℕ) (s : State) (k new : Machine) (log : List Event)
+    → Stands k s
+    → AtAny new log (unless_held settle (act_current app limits (before_step app handlers s).current (before_step app handlers s)))
+    → new.steps ≡ k.steps
+steps_still app limits handlers s k new log h a =
+    steps_are new _ a.stands ∙ steps_acted app limits handlers s ∙ sym (steps_are k s h)

@@ -1,5 +1,6 @@
 -- When a run ends.
-use Rattle.std.proofs.Common.{◌≡◌, ◌≢◌, ◌+◌, ◌<◌, ◌≤◌, ℕ, zero, suc, Bool, true, false, not, ◌&&◌, ◌||◌, eqb, leb, ltb, List, [], ◌∷◌, length, get_or, Option, Some, None, inl, inr, refl, ap, sym, subst, ◌∙◌, arith}
+use Rattle.std.proofs.Common.{◌≡◌, ◌≢◌, ◌+◌, ◌<◌, ◌≤◌, ℕ, zero, suc, Bool, true, false, not, ◌&&◌, ◌||◌, eqb, leb, ltb, List, []}
+use Rattle.std.proofs.Common.{◌∷◌, length, get_or, Option, Some, None, inl, inr, refl, ap, sym, subst, ◌∙◌, arith}
 use Rattle.std.proofs.lemmas.Bool.Decides.{nat_tests}
 use Rattle.std.specs.List.{list_all, list_any, filter, AllByRecursion}
 use Rattle.std.specs.Prelude.{IsTrue, ◌↔◌, if◌then◌else◌, nat_lt, not}
@@ -10,7 +11,8 @@ use Rattle.model.specs.declared.event.Event.{Event}
 use Rattle.model.specs.declared.event.End.{End}
 use Rattle.model.specs.declared.event.End.TheVariants.{Pass, Ticks, Steps, Stuck}
 use Rattle.model.specs.Application.{Application, Definition, Limits, is_any_awaited, is_endless, without_endless}
-use Rattle.model.specs.State.{State, Task, Progress, Status, Ready, Awake, Waiting, Asleep, WaitingForBits, Suspended, Ended, ticket_if_ready, wake_time_of, task_at, status_at, no_task, for_each}
+use Rattle.model.specs.State.{State, Task, Progress, Status, Ready, Awake, Waiting, Asleep, WaitingForBits, Suspended, Ended}
+use Rattle.model.specs.State.{ticket_if_ready, wake_time_of, task_at, status_at, no_task, for_each}
 use Rattle.model.specs.Order.{Key, Entry, key, keyed, list_by, in_order, tasks_of}
 use Rattle.model.specs.Switching.{is_held, is_ready, is_scheduler_suspended, ready_key, settle, unless_held}
 use Rattle.model.specs.declared.call.Phase.TheVariants.{Decide}
@@ -58,7 +60,8 @@ some : (n : ℕ) → eqb (suc n) 0 ≡ false
 some n = eqb-apart (suc n) 0 (λ e. omega arith)
 
 length-ready : (ts : List Task) → length (with_priorities (list_by ready_key ts)) ≡ length (keyed ready_key 0 ts)
-length-ready ts = length-map (list_by ready_key ts) (λ (e : Entry). (e.task, e.key.priority)) ∙ length-in_order (keyed ready_key 0 ts)
+length-ready ts =
+    length-map (list_by ready_key ts) (λ (e : Entry). (e.task, e.key.priority)) ∙ length-in_order (keyed ready_key 0 ts)
 
 none_first : (xs : List (ℕ × ℕ)) → not (is_some (first_of xs)) ≡ eqb (length xs) 0
 none_first [] = refl
@@ -68,12 +71,14 @@ pub empty : {X : Type 0} → (xs : List X) → eqb (length xs) 0 ≡ true → xs
 empty [] t = refl
 empty (x ∷ xs) t = let f : false ≡ true = sym (some (length xs)) ∙ t in absurd (cc)
 
-until_due : (deadline : Option ℕ) (ticket : ℕ) (k : Key) → (if is_some deadline then Some (key 0 ticket) else None) ≡ Some k → ((m : ℕ) → option_eq eqb deadline (Some m) ≡ true → ⊥) → ⊥
+until_due : (deadline : Option ℕ) (ticket : ℕ) (k : Key) → (if is_some deadline then Some (key 0 ticket) else None) ≡ Some k
+    → ((m : ℕ) → option_eq eqb deadline (Some m) ≡ true → ⊥) → ⊥
 until_due None ticket k e f = absurd (cc)
 until_due (Some w) ticket k e f = f w (eqb-refl w)
 
 -- One who sleeps is due at some time.
-when_due : (t : Task) (u : Status) (k : Key) → delayed_key (record t { status = u }) ≡ Some k → ((m : ℕ) → option_eq eqb (wake_time_of u) (Some m) ≡ true → ⊥) → ⊥
+when_due : (t : Task) (u : Status) (k : Key) → delayed_key (record t { status = u }) ≡ Some k
+    → ((m : ℕ) → option_eq eqb (wake_time_of u) (Some m) ≡ true → ⊥) → ⊥
 when_due t (Ready n) k e f = absurd (cc)
 when_due t (Awake w) k e f = until_due w.deadline w.ticket k e f
 when_due t (Waiting w) k e f = until_due w.deadline w.ticket k e f
@@ -82,9 +87,13 @@ when_due t (WaitingForBits g n d) k e f = until_due d n k e f
 when_due t Suspended k e f = absurd (cc)
 when_due t Ended k e f = absurd (cc)
 
-none_due : (ts : List Task) (es : List Entry) → AllByRecursion (HasKey delayed_key ts) es → ((m : ℕ) → tasks_of (filter (λ (e : Entry). option_eq eqb (wake_time_of (get_or ts e.task no_task).status) (Some m)) es) ≡ []) → es ≡ []
+none_due : (ts : List Task) (es : List Entry) → AllByRecursion (HasKey delayed_key ts) es
+    → ((m : ℕ) → tasks_of (filter (λ (e : Entry). option_eq eqb (wake_time_of (get_or ts e.task no_task).status) (Some m)) es) ≡ [])
+    → es ≡ []
 none_due ts [] h d = refl
-none_due ts (e ∷ es) h d = absurd (when_due (get_or ts e.task no_task) (get_or ts e.task no_task).status e.key h.0.key (λ m t. let f = rw t at (d m) in absurd (cc)))
+none_due ts (e ∷ es) h d =
+    absurd (when_due (get_or ts e.task no_task) (get_or ts e.task no_task).status
+    e.key h.0.key (λ m t. let f = rw t at (d m) in absurd (cc)))
 
 none_asleep : (xs : List (ℕ × ℕ)) → ((m : ℕ) → tasks_at m xs ≡ []) → xs ≡ []
 none_asleep [] d = refl
@@ -93,18 +102,23 @@ none_asleep (x ∷ xs) d = let f = rw (eqb-refl x.1) at (d x.1) in absurd (cc)
 -- The clock has no sleeper where the state has none.
 module _ (t : Timeline) (s : State) (h : clock.StandsFor t s) where
   none_delayed : t.delayed_list ≡ [] → list_by delayed_key s.tasks ≡ []
-  none_delayed none = none_due s.tasks (list_by delayed_key s.tasks) (list_has delayed_key s.tasks) (λ m. sym (h.delayed m) ∙ ap (tasks_at m) none)
+  none_delayed none =
+      none_due s.tasks (list_by delayed_key s.tasks) (list_has delayed_key s.tasks) (λ m. sym (h.delayed m) ∙ ap (tasks_at m) none)
 
   no_sleepers : list_by delayed_key s.tasks ≡ [] → t.delayed_list ≡ []
   no_sleepers none = none_asleep t.delayed_list (λ m. h.delayed m ∙ rw none refl)
 
   quiet : (q : Bool) → (IsTrue q ↔ (t.delayed_list ≡ [])) → q ≡ eqb (length (keyed delayed_key 0 s.tasks)) 0
   quiet q is =
-      let long : length (list_by delayed_key s.tasks) ≡ length (keyed delayed_key 0 s.tasks) = length-in_order (keyed delayed_key 0 s.tasks) in
+      let long : length (list_by delayed_key s.tasks) ≡ length (keyed delayed_key 0 s.tasks) =
+      length-in_order (keyed delayed_key 0 s.tasks) in
       by_test (eqb (length (keyed delayed_key 0 s.tasks)) 0)
       (λ u. is.1 (no_sleepers (empty (list_by delayed_key s.tasks) (rw long u))) ∙ sym u)
       (λ u. by_test q
-      (λ v. let none : list_by delayed_key s.tasks ≡ [] = none_delayed (is.0 v) in let w : eqb (length (list_by delayed_key s.tasks)) 0 ≡ false = rw long u in let x = rw none at w in absurd (cc))
+      (λ v. let none : list_by delayed_key s.tasks ≡ [] = none_delayed (is.0 v) in
+      let w : eqb (length (list_by delayed_key s.tasks)) 0 ≡ false = rw long u in
+      let x = rw none at w in
+      absurd (cc))
       (λ v. v ∙ sym u))
 
 and_false : (a b : Bool) → a && false && b ≡ false
@@ -117,29 +131,52 @@ and_not_true true false = refl
 and_not_true false b = refl
 
 -- Nobody is Ready, sleeps, waits or is suspended where everybody is Ended.
-over : (o : ℕ) (ts : List Task) → eqb (length (keyed ready_key o ts)) 0 && eqb (length (keyed delayed_key o ts)) 0 && not (list_any is_blocked ts) ≡ list_all (λ (t : Task). is_ended t.status) ts
+over : (o : ℕ) (ts : List Task)
+    → eqb (length (keyed ready_key o ts)) 0 && eqb (length (keyed delayed_key o ts)) 0 && not (list_any is_blocked ts)
+    ≡ list_all (λ (t : Task). is_ended t.status) ts
 over o [] = refl
 over o (t ∷ ts) = by_status t t.status (over (o + 1) ts) where
-  by_status : (t : Task) (u : Status) → eqb (length (keyed ready_key (o + 1) ts)) 0 && eqb (length (keyed delayed_key (o + 1) ts)) 0 && not (list_any is_blocked ts) ≡ list_all (λ (t : Task). is_ended t.status) ts
-      → eqb (length (keyed ready_key o (record t { status = u } ∷ ts))) 0 && eqb (length (keyed delayed_key o (record t { status = u } ∷ ts))) 0 && not (is_blocked (record t { status = u }) || list_any is_blocked ts) ≡ is_ended u && list_all (λ (v : Task). is_ended v.status) ts
+  by_status : (t : Task) (u : Status)
+      → eqb (length (keyed ready_key (o + 1) ts)) 0 && eqb (length (keyed delayed_key (o + 1) ts)) 0 && not (list_any is_blocked ts)
+      ≡ list_all (λ (t : Task). is_ended t.status) ts
+      → eqb (length (keyed ready_key o (record t { status = u } ∷ ts))) 0
+      && eqb (length (keyed delayed_key o (record t { status = u } ∷ ts))) 0
+      && not (is_blocked (record t { status = u }) || list_any is_blocked ts)
+      ≡ is_ended u && list_all (λ (v : Task). is_ended v.status) ts
   by_status t (Ready n) later = rw (some (length (keyed ready_key (o + 1) ts))) refl
-  by_status t (Awake x) later = and_not_true (eqb (length (keyed ready_key (o + 1) ts)) 0) (eqb (length (keyed delayed_key o (record t { status = Awake x } ∷ ts))) 0)
-  by_status t (Waiting x) later = and_not_true (eqb (length (keyed ready_key (o + 1) ts)) 0) (eqb (length (keyed delayed_key o (record t { status = Waiting x } ∷ ts))) 0)
-  by_status t (Asleep x n) later = rw (some (length (keyed delayed_key (o + 1) ts))) (and_false (eqb (length (keyed ready_key (o + 1) ts)) 0) (not (list_any is_blocked ts)))
-  by_status t (WaitingForBits g n d) later = and_not_true (eqb (length (keyed ready_key (o + 1) ts)) 0) (eqb (length (keyed delayed_key o (record t { status = WaitingForBits g n d } ∷ ts))) 0)
-  by_status t Suspended later = and_not_true (eqb (length (keyed ready_key (o + 1) ts)) 0) (eqb (length (keyed delayed_key o (record t { status = Suspended } ∷ ts))) 0)
+  by_status t (Awake x) later =
+      and_not_true (eqb (length (keyed ready_key (o + 1) ts)) 0)
+      (eqb (length (keyed delayed_key o (record t { status = Awake x } ∷ ts))) 0)
+  by_status t (Waiting x) later =
+      and_not_true (eqb (length (keyed ready_key (o + 1) ts)) 0)
+      (eqb (length (keyed delayed_key o (record t { status = Waiting x } ∷ ts))) 0)
+  by_status t (Asleep x n) later =
+      rw (some (length (keyed delayed_key (o + 1) ts)))
+      (and_false (eqb (length (keyed ready_key (o + 1) ts)) 0) (not (list_any is_blocked ts)))
+  by_status t (WaitingForBits g n d) later =
+      and_not_true (eqb (length (keyed ready_key (o + 1) ts)) 0)
+      (eqb (length (keyed delayed_key o (record t { status = WaitingForBits g n d } ∷ ts))) 0)
+  by_status t Suspended later =
+      and_not_true (eqb (length (keyed ready_key (o + 1) ts)) 0)
+      (eqb (length (keyed delayed_key o (record t { status = Suspended } ∷ ts))) 0)
   by_status t Ended later = later
 
-asleep : (o : ℕ) (ts : List Task) → eqb (length (keyed delayed_key o ts)) 0 ≡ not (list_any (λ (t : Task). is_some (wake_time_of t.status)) ts)
+asleep : (o : ℕ) (ts : List Task)
+    → eqb (length (keyed delayed_key o ts)) 0 ≡ not (list_any (λ (t : Task). is_some (wake_time_of t.status)) ts)
 asleep o [] = refl
 asleep o (t ∷ ts) = by_status t t.status (asleep (o + 1) ts) where
-  by_status : (t : Task) (u : Status) → eqb (length (keyed delayed_key (o + 1) ts)) 0 ≡ not (list_any (λ (t : Task). is_some (wake_time_of t.status)) ts)
-      → eqb (length (keyed delayed_key o (record t { status = u } ∷ ts))) 0 ≡ not (is_some (wake_time_of u) || list_any (λ (v : Task). is_some (wake_time_of v.status)) ts)
+  by_status : (t : Task) (u : Status)
+      → eqb (length (keyed delayed_key (o + 1) ts)) 0 ≡ not (list_any (λ (t : Task). is_some (wake_time_of t.status)) ts)
+      → eqb (length (keyed delayed_key o (record t { status = u } ∷ ts))) 0
+      ≡ not (is_some (wake_time_of u) || list_any (λ (v : Task). is_some (wake_time_of v.status)) ts)
   by_status t (Ready n) later = later
-  by_status t (Awake w) later = by_test (is_some w.deadline) (λ e. rw e (some (length (keyed delayed_key (o + 1) ts)))) (λ e. rw e later)
-  by_status t (Waiting w) later = by_test (is_some w.deadline) (λ e. rw e (some (length (keyed delayed_key (o + 1) ts)))) (λ e. rw e later)
+  by_status t (Awake w) later =
+      by_test (is_some w.deadline) (λ e. rw e (some (length (keyed delayed_key (o + 1) ts)))) (λ e. rw e later)
+  by_status t (Waiting w) later =
+      by_test (is_some w.deadline) (λ e. rw e (some (length (keyed delayed_key (o + 1) ts)))) (λ e. rw e later)
   by_status t (Asleep w n) later = some (length (keyed delayed_key (o + 1) ts))
-  by_status t (WaitingForBits g n d) later = by_test (is_some d) (λ e. rw e (some (length (keyed delayed_key (o + 1) ts)))) (λ e. rw e later)
+  by_status t (WaitingForBits g n d) later =
+      by_test (is_some d) (λ e. rw e (some (length (keyed delayed_key (o + 1) ts)))) (λ e. rw e later)
   by_status t Suspended later = later
   by_status t Ended later = later
 
@@ -159,20 +196,26 @@ module _ (k : Machine) (s : State) (h : StandsFor k s) where
   stuck_is : (app : Application) → is_none k.sched.current && is_quiet s && not (is_interrupt_to_come app s) ≡ is_stuck app s
   stuck_is app = rw (h.sched.current, asleep 0 s.tasks) refl
 
-  ended_if : (ready q w : Bool) → ready ≡ is_some (first_of (lined_up k.sched)) → (IsTrue q ↔ (k.clock.delayed_list ≡ [])) → w ≡ list_any is_blocked s.tasks → not ready && q && not w ≡ is_everybody_ended s
+  ended_if : (ready q w : Bool) → ready ≡ is_some (first_of (lined_up k.sched)) → (IsTrue q ↔ (k.clock.delayed_list ≡ []))
+      → w ≡ list_any is_blocked s.tasks → not ready && q && not w ≡ is_everybody_ended s
   ended_if ready q w r is waiting = rw (r, quiet k.clock s h.rest.clock q is, waiting) over_is
 
   not_over : is_some (first_of (lined_up k.sched)) ≡ true → false ≡ is_everybody_ended s
   not_over some = rw some at over_is
 
-  is_stuck_by : (idle q later : Bool) (app : Application) → idle ≡ is_none k.sched.current → (IsTrue q ↔ (k.clock.delayed_list ≡ [])) → later ≡ is_interrupt_to_come app s → idle && q && not later ≡ is_stuck app s
+  is_stuck_by : (idle q later : Bool) (app : Application) → idle ≡ is_none k.sched.current
+      → (IsTrue q ↔ (k.clock.delayed_list ≡ [])) → later ≡ is_interrupt_to_come app s → idle && q && not later ≡ is_stuck app s
   is_stuck_by idle q later app n is come = rw (n, quiet k.clock s h.rest.clock q is, come) (stuck_is app)
 
 -- A task is still to be placed, and so waits.
-standing_none : (list : WaitList) (o : ℕ) (ts : List Task) → list_all (λ (t : Task). is_ended t.status) ts ≡ true → keyed (λ (t : Task). option_and_then (wait_key list) (wait_of t.status)) o ts ≡ []
+standing_none : (list : WaitList) (o : ℕ) (ts : List Task) → list_all (λ (t : Task). is_ended t.status) ts ≡ true
+    → keyed (λ (t : Task). option_and_then (wait_key list) (wait_of t.status)) o ts ≡ []
 standing_none list o [] t = refl
 standing_none list o (u ∷ us) t = by_status u.status refl (standing_none list (o + 1) us) where
-  by_status : (v : Status) → u.status ≡ v → (list_all (λ (t : Task). is_ended t.status) us ≡ true → keyed (λ (t : Task). option_and_then (wait_key list) (wait_of t.status)) (o + 1) us ≡ []) → keyed (λ (t : Task). option_and_then (wait_key list) (wait_of t.status)) o (u ∷ us) ≡ []
+  by_status : (v : Status) → u.status ≡ v
+      → (list_all (λ (t : Task). is_ended t.status) us ≡ true
+      → keyed (λ (t : Task). option_and_then (wait_key list) (wait_of t.status)) (o + 1) us ≡ [])
+      → keyed (λ (t : Task). option_and_then (wait_key list) (wait_of t.status)) o (u ∷ us) ≡ []
   by_status (Ready n) e later = absurd (let f = rw e at t in cc)
   by_status (Awake w) e later = absurd (let f = rw e at t in cc)
   by_status (Waiting w) e later = absurd (let f = rw e at t in cc)
@@ -189,23 +232,28 @@ waits_before : (k : Machine) (s : State) (task : ℕ) (list : WaitList) → Stan
 waits_before k s task list b = by_test (is_everybody_ended s)
     (λ t.
     let none : standing s list ≡ [] = ap in_order (standing_none list 0 s.tasks t) in
-    let joined : joined_by (Some (decider task list s)) list (waiting_in k.queues.waiting list) ≡ [] = b.queues.waiters.lists list ∙ ap with_priorities none in
+    let joined : joined_by (Some (decider task list s)) list (waiting_in k.queues.waiting list) ≡ [] =
+    b.queues.waiters.lists list ∙ ap with_priorities none in
     let own : same_list list list ≡ true = same_list-refl list in
     absurd (put_in_some (task, (task_at s task).priority) (waiting_in k.queues.waiting list) (rw own at joined)))
     (λ t. sym t)
 
-ready_before : (k : Machine) (s : State) (task : ℕ) (list : WaitList) → StandsBefore task list k s → is_some (first_of (lined_up k.sched)) ≡ true
+ready_before : (k : Machine) (s : State) (task : ℕ) (list : WaitList)
+    → StandsBefore task list k s → is_some (first_of (lined_up k.sched)) ≡ true
 ready_before k s task list b = by_entries (lined_up k.sched) (ready_if_listed task k.sched b.sched.still) where
   by_entries : (es : List (ℕ × ℕ)) → has_node task es ≡ true → is_some (first_of es) ≡ true
   by_entries [] t = absurd (cc)
   by_entries (e ∷ es) t = refl
 
-runs_before : (app : Application) (k : Machine) (s : State) (task : ℕ) (list : WaitList) → StandsBefore task list k s → false ≡ is_stuck app s
+runs_before : (app : Application) (k : Machine) (s : State) (task : ℕ) (list : WaitList)
+    → StandsBefore task list k s → false ≡ is_stuck app s
 runs_before app k s task list b = rw b.current refl
 
 -- Whether or not a task is still to be placed.
-module _ (k : Machine) (s : State) (ready q : Bool) (r : ready ≡ is_some (first_of (lined_up k.sched))) (is : IsTrue q ↔ (k.clock.delayed_list ≡ [])) where
-  pub over_by : Stands k s → ready ≡ false → q ≡ true → (w : Bool) → (StandsFor k s → w ≡ list_any is_blocked s.tasks) → not w ≡ is_everybody_ended s
+module _ (k : Machine) (s : State) (ready q : Bool) (r : ready ≡ is_some (first_of (lined_up k.sched)))
+    (is : IsTrue q ↔ (k.clock.delayed_list ≡ [])) where
+  pub over_by : Stands k s → ready ≡ false → q ≡ true → (w : Bool)
+      → (StandsFor k s → w ≡ list_any is_blocked s.tasks) → not w ≡ is_everybody_ended s
   over_by (Placed h) none still w waiting = let e = ended_if k s h ready q w r is (waiting h) in rw (none, still) at e
   over_by (Placing task list b) none still w waiting = let some : ready ≡ true = r ∙ ready_before k s task list b in absurd (cc)
 
@@ -213,18 +261,21 @@ module _ (k : Machine) (s : State) (ready q : Bool) (r : ready ≡ is_some (firs
   on_by (Placed h) on = let e = ended_if k s h ready q (list_any is_blocked s.tasks) r is refl in sym (rw on at e)
   on_by (Placing task list b) on = sym (waits_before k s task list b)
 
-pub not_over_by : (k : Machine) (s : State) (ready : Bool) → ready ≡ is_some (first_of (lined_up k.sched)) → Stands k s → ready ≡ true → is_everybody_ended s ≡ false
+pub not_over_by : (k : Machine) (s : State) (ready : Bool) → ready ≡ is_some (first_of (lined_up k.sched))
+    → Stands k s → ready ≡ true → is_everybody_ended s ≡ false
 not_over_by k s ready r (Placed h) some = sym (not_over k s h (sym r ∙ some))
 not_over_by k s ready r (Placing task list b) some = sym (waits_before k s task list b)
 
 -- Where somebody isn't Ended, not all are.
-pub some_on : (ts : List Task) → list_all (λ (t : Task). is_ended t.status) ts ≡ false → (i : ℕ) × (is_ended (get_or ts i no_task).status ≡ false)
+pub some_on : (ts : List Task) → list_all (λ (t : Task). is_ended t.status) ts ≡ false
+    → (i : ℕ) × (is_ended (get_or ts i no_task).status ≡ false)
 some_on [] e = absurd (cc)
 some_on (t ∷ ts) e = by_test (is_ended t.status)
     (λ u. let later = some_on ts (rw u at e) in (suc later.0, later.1))
     (λ u. (0, u))
 
-pub not_all_ended : (ts : List Task) (i : ℕ) → is_ended (get_or ts i no_task).status ≡ false → list_all (λ (t : Task). is_ended t.status) ts ≡ false
+pub not_all_ended : (ts : List Task) (i : ℕ) → is_ended (get_or ts i no_task).status ≡ false
+    → list_all (λ (t : Task). is_ended t.status) ts ≡ false
 not_all_ended [] i e = absurd (cc)
 not_all_ended (t ∷ ts) zero e = rw e refl
 not_all_ended (t ∷ ts) (suc i) e = by_test (is_ended t.status)
@@ -250,70 +301,109 @@ and_of_true true b e t = e
 and_of_true false b e t = absurd (cc)
 
 -- where none is endless, all are meant
-pub all_meant : {X : Type 0} (ds : List Definition) (xs : List X) → list_any (λ (d : Definition). d.endless) ds ≡ false → without_endless ds xs ≡ xs
+pub all_meant : {X : Type 0} (ds : List Definition) (xs : List X)
+    → list_any (λ (d : Definition). d.endless) ds ≡ false → without_endless ds xs ≡ xs
 all_meant [] xs e = refl
 all_meant (d ∷ ds) [] e = refl
 all_meant (d ∷ ds) (x ∷ xs) e = by_first d.endless e (λ f. all_meant ds xs f) where
-  by_first : (b : Bool) → b || list_any (λ (d : Definition). d.endless) ds ≡ false → (list_any (λ (d : Definition). d.endless) ds ≡ false → without_endless ds xs ≡ xs) → (if b then without_endless ds xs else x ∷ without_endless ds xs) ≡ x ∷ xs
+  by_first : (b : Bool) → b || list_any (λ (d : Definition). d.endless) ds ≡ false
+      → (list_any (λ (d : Definition). d.endless) ds ≡ false → without_endless ds xs ≡ xs)
+      → (if b then without_endless ds xs else x ∷ without_endless ds xs) ≡ x ∷ xs
   by_first true f later = absurd (cc)
   by_first false f later = ap (λ ys. x ∷ ys) (later f)
 
-pub some_left : (ds : List Definition) (ts : List Task) → list_all (λ (t : Task). is_ended t.status) (without_endless ds ts) ≡ false → (i : ℕ) × (unwrap_or (option_map (λ (d : Definition). d.endless) (slice_get ds i)) false ≡ false) × (is_ended (get_or ts i no_task).status ≡ false)
+pub some_left : (ds : List Definition) (ts : List Task) → list_all (λ (t : Task). is_ended t.status) (without_endless ds ts) ≡ false
+    → (i : ℕ) × (unwrap_or (option_map (λ (d : Definition). d.endless) (slice_get ds i)) false ≡ false)
+    × (is_ended (get_or ts i no_task).status ≡ false)
 some_left [] ts e = let one = some_on ts e in (one.0, refl, one.1)
 some_left (d ∷ ds) [] e = absurd (cc)
 some_left (d ∷ ds) (t ∷ ts) e = by_test d.endless
     (λ u.
-    let later = some_left ds ts (sym (ap (λ (xs : List Task). list_all (λ (t : Task). is_ended t.status) xs) (when_true d.endless (without_endless ds ts) (t ∷ without_endless ds ts) u)) ∙ e) in
+    let later =
+    some_left ds ts (sym (ap (λ (xs : List Task). list_all (λ (t : Task). is_ended t.status) xs)
+    (when_true d.endless (without_endless ds ts) (t ∷ without_endless ds ts) u))
+    ∙ e) in
     (suc later.0, later.1, later.2))
     (λ u.
-    let here : is_ended t.status && list_all (λ (t : Task). is_ended t.status) (without_endless ds ts) ≡ false = sym (ap (λ (xs : List Task). list_all (λ (t : Task). is_ended t.status) xs) (when_false d.endless (without_endless ds ts) (t ∷ without_endless ds ts) u)) ∙ e in
+    let here : is_ended t.status && list_all (λ (t : Task). is_ended t.status) (without_endless ds ts) ≡ false =
+    sym (ap (λ (xs : List Task). list_all (λ (t : Task). is_ended t.status) xs)
+    (when_false d.endless (without_endless ds ts) (t ∷ without_endless ds ts) u))
+    ∙ e in
     by_test (is_ended t.status)
     (λ v. let later = some_left ds ts (and_of_true (is_ended t.status) _ here v) in (suc later.0, later.1, later.2))
     (λ v. (0, u, v)))
 
-pub not_all_but : (ds : List Definition) (ts : List Task) (i : ℕ) → unwrap_or (option_map (λ (d : Definition). d.endless) (slice_get ds i)) false ≡ false → is_ended (get_or ts i no_task).status ≡ false → list_all (λ (t : Task). is_ended t.status) (without_endless ds ts) ≡ false
+pub not_all_but : (ds : List Definition) (ts : List Task) (i : ℕ)
+    → unwrap_or (option_map (λ (d : Definition). d.endless) (slice_get ds i)) false ≡ false
+    → is_ended (get_or ts i no_task).status ≡ false → list_all (λ (t : Task). is_ended t.status) (without_endless ds ts) ≡ false
 not_all_but [] ts i e on = not_all_ended ts i on
 not_all_but (d ∷ ds) [] i e on = absurd (cc)
-not_all_but (d ∷ ds) (t ∷ ts) zero e on = ap (λ (xs : List Task). list_all (λ (t : Task). is_ended t.status) xs) (when_false d.endless (without_endless ds ts) (t ∷ without_endless ds ts) e) ∙ rw on refl
+not_all_but (d ∷ ds) (t ∷ ts) zero e on =
+    ap (λ (xs : List Task). list_all (λ (t : Task). is_ended t.status) xs)
+    (when_false d.endless (without_endless ds ts) (t ∷ without_endless ds ts) e)
+    ∙ rw on refl
 not_all_but (d ∷ ds) (t ∷ ts) (suc i) e on =
     let later = not_all_but ds ts i e on in
     by_test d.endless
-    (λ u. ap (λ (xs : List Task). list_all (λ (t : Task). is_ended t.status) xs) (when_true d.endless (without_endless ds ts) (t ∷ without_endless ds ts) u) ∙ later)
-    (λ u. ap (λ (xs : List Task). list_all (λ (t : Task). is_ended t.status) xs) (when_false d.endless (without_endless ds ts) (t ∷ without_endless ds ts) u) ∙ and_right_false (is_ended t.status) _ later)
+    (λ u.
+    ap (λ (xs : List Task). list_all (λ (t : Task). is_ended t.status) xs)
+    (when_true d.endless (without_endless ds ts) (t ∷ without_endless ds ts) u)
+    ∙ later)
+    (λ u.
+    ap (λ (xs : List Task). list_all (λ (t : Task). is_ended t.status) xs)
+    (when_false d.endless (without_endless ds ts) (t ∷ without_endless ds ts) u)
+    ∙ and_right_false (is_ended t.status) _ later)
 
-each_ended : (ts : List Task) → ((i : ℕ) → i < length ts → is_ended (get_or ts i no_task).status ≡ true) → list_all (λ (t : Task). is_ended t.status) ts ≡ true
+each_ended : (ts : List Task) → ((i : ℕ) → i < length ts → is_ended (get_or ts i no_task).status ≡ true)
+    → list_all (λ (t : Task). is_ended t.status) ts ≡ true
 each_ended [] h = refl
-each_ended (t ∷ ts) h = let first : is_ended t.status ≡ true = h 0 (omega arith) in rw first (each_ended ts (λ i l. h (suc i) (omega arith)))
+each_ended (t ∷ ts) h =
+    let first : is_ended t.status ≡ true = h 0 (omega arith) in
+    rw first (each_ended ts (λ i l. h (suc i) (omega arith)))
 
 pub or_false_left : (a b : Bool) → a || b ≡ true → a ≡ false → b ≡ true
 or_false_left true b e f = absurd (cc)
 or_false_left false b e f = e
 
-pub all_but : (ds : List Definition) (ts : List Task) → ((i : ℕ) → i < length ts → (unwrap_or (option_map (λ (d : Definition). d.endless) (slice_get ds i)) false || is_ended (get_or ts i no_task).status) ≡ true) → list_all (λ (t : Task). is_ended t.status) (without_endless ds ts) ≡ true
+pub all_but : (ds : List Definition) (ts : List Task)
+    → ((i : ℕ) → i < length ts
+    → (unwrap_or (option_map (λ (d : Definition). d.endless) (slice_get ds i)) false || is_ended (get_or ts i no_task).status)
+    ≡ true)
+    → list_all (λ (t : Task). is_ended t.status) (without_endless ds ts) ≡ true
 all_but [] ts h = each_ended ts (λ i l. h i l)
 all_but (d ∷ ds) [] h = refl
 all_but (d ∷ ds) (t ∷ ts) h =
     let later = all_but ds ts (λ i l. h (suc i) (omega arith)) in
     by_test d.endless
-    (λ u. ap (λ (xs : List Task). list_all (λ (t : Task). is_ended t.status) xs) (when_true d.endless (without_endless ds ts) (t ∷ without_endless ds ts) u) ∙ later)
+    (λ u.
+    ap (λ (xs : List Task). list_all (λ (t : Task). is_ended t.status) xs)
+    (when_true d.endless (without_endless ds ts) (t ∷ without_endless ds ts) u)
+    ∙ later)
     (λ u.
     let first : is_ended t.status ≡ true = or_false_left d.endless (is_ended t.status) (h 0 (omega arith)) u in
-    ap (λ (xs : List Task). list_all (λ (t : Task). is_ended t.status) xs) (when_false d.endless (without_endless ds ts) (t ∷ without_endless ds ts) u) ∙ rw (first, later) refl)
+    ap (λ (xs : List Task). list_all (λ (t : Task). is_ended t.status) xs)
+    (when_false d.endless (without_endless ds ts) (t ∷ without_endless ds ts) u)
+    ∙ rw (first, later) refl)
 
 -- of which there is one, if there is a task at all
-pub all_awaited : (ds : List Definition) → 1 ≤ length ds → list_any (λ (d : Definition). d.endless) ds ≡ false → list_any (λ (d : Definition). not d.endless) ds ≡ true
+pub all_awaited : (ds : List Definition) → 1 ≤ length ds → list_any (λ (d : Definition). d.endless) ds ≡ false
+    → list_any (λ (d : Definition). not d.endless) ds ≡ true
 all_awaited [] l e = absurd (omega arith)
 all_awaited (d ∷ ds) l e = by_first d.endless e where
-  by_first : (b : Bool) → b || list_any (λ (d : Definition). d.endless) ds ≡ false → not b || list_any (λ (d : Definition). not d.endless) ds ≡ true
+  by_first : (b : Bool) → b || list_any (λ (d : Definition). d.endless) ds ≡ false
+      → not b || list_any (λ (d : Definition). not d.endless) ds ≡ true
   by_first true f = absurd (cc)
   by_first false f = refl
 
 -- No run has passed while one of them is left.
-pub not_passed : (app : Application) (s : State) → list_all (λ (t : Task). is_ended t.status) (without_endless app.tasks s.tasks) ≡ false → are_all_ended app s ≡ false
-not_passed app s e = and_right_false (is_any_awaited app) (list_all (λ (t : Task). is_ended t.status) (without_endless app.tasks s.tasks)) e
+pub not_passed : (app : Application) (s : State)
+    → list_all (λ (t : Task). is_ended t.status) (without_endless app.tasks s.tasks) ≡ false → are_all_ended app s ≡ false
+not_passed app s e =
+    and_right_false (is_any_awaited app) (list_all (λ (t : Task). is_ended t.status) (without_endless app.tasks s.tasks)) e
 
 -- and each is meant
-pub none_endless : (ds : List Definition) (i : ℕ) → list_any (λ (d : Definition). d.endless) ds ≡ false → unwrap_or (option_map (λ (d : Definition). d.endless) (slice_get ds i)) false ≡ false
+pub none_endless : (ds : List Definition) (i : ℕ) → list_any (λ (d : Definition). d.endless) ds ≡ false
+    → unwrap_or (option_map (λ (d : Definition). d.endless) (slice_get ds i)) false ≡ false
 none_endless [] i e = refl
 none_endless (d ∷ ds) zero e = first_of_two d.endless (list_any (λ (d : Definition). d.endless) ds) e where
   first_of_two : (a b : Bool) → a || b ≡ false → a ≡ false
@@ -337,11 +427,16 @@ few_tasks k s (Placing task list b) = b.sched.table.few
 
 -- So it is in a state that a run comes to, where a task that isn't endless runs and nothing holds the scheduler, since that task is
 -- Ready.
-pub on_unheld : (app : Application) (s : State) (task : ℕ) → is_endless app task ≡ false → IsState app s → s.current ≡ Some task → is_held s ≡ false → are_all_ended app s ≡ false
+pub on_unheld : (app : Application) (s : State) (task : ℕ) → is_endless app task ≡ false
+    → IsState app s → s.current ≡ Some task → is_held s ≡ false → are_all_ended app s ≡ false
 on_unheld app s task awaited is runs free =
     let running : IsRunning app s task = subst (RunsIn app s) runs is.runs in
     let none = neither s.call_hold (is_scheduler_suspended s) free in
-    let ready : is_ready s task ≡ true = elim (running.ready none.0) [ inl r ↦ r | inr x ↦ let t : is_scheduler_suspended s ≡ true = x.0 in let f = none.1 in absurd (cc) ] in
+    let ready : is_ready s task ≡ true =
+    elim (running.ready none.0) [
+      | inl r ↦ r
+      | inr x ↦ let t : is_scheduler_suspended s ≡ true = x.0 in let f = none.1 in absurd (cc)
+    ] in
     not_passed app s (not_all_but app.tasks s.tasks task awaited (ready_on (status_at s task) ready)) where
       neither : (a b : Bool) → a || b ≡ false → (a ≡ false) × (b ≡ false)
       neither true b e = absurd (cc)
@@ -367,15 +462,19 @@ and_true_not true b f = refl
 and_true_not false b f = sym (f refl)
 
 -- Where a task runs and nothing holds the scheduler, all but the endless ones are Ended only if it is endless.
-pub alone_unheld : (app : Application) (k : Machine) (s : State) (task : ℕ) → Stands k s → IsState app s → k.sched.current ≡ Some task → k.sched.depth ≡ 0 → is_endless app task && are_all_ended app s ≡ are_all_ended app s
+pub alone_unheld : (app : Application) (k : Machine) (s : State) (task : ℕ) → Stands k s → IsState app s
+    → k.sched.current ≡ Some task → k.sched.depth ≡ 0 → is_endless app task && are_all_ended app s ≡ are_all_ended app s
 alone_unheld app k s task (Placing other list b) is runs free = absurd (placed_free k s other list b free)
 alone_unheld app k s task (Placed h) is runs free =
     let held : is_held s ≡ false = held_by_depth s ∙ ap (λ (n : ℕ). nat_lt 0 n) (sym h.sched.depth ∙ free) in
     and_true_not (is_endless app task) (are_all_ended app s) (λ e. on_unheld app s task e is (sym h.sched.current ∙ runs) held)
 
-pub stuck_by : (app : Application) (k : Machine) (s : State) (idle q later : Bool) → Stands k s → idle ≡ is_none k.sched.current → (IsTrue q ↔ (k.clock.delayed_list ≡ [])) → later ≡ is_interrupt_to_come app s → idle && q && not later ≡ is_stuck app s
+pub stuck_by : (app : Application) (k : Machine) (s : State) (idle q later : Bool) → Stands k s → idle ≡ is_none k.sched.current
+    → (IsTrue q ↔ (k.clock.delayed_list ≡ [])) → later ≡ is_interrupt_to_come app s → idle && q && not later ≡ is_stuck app s
 stuck_by app k s idle q later (Placed h) n is come = is_stuck_by k s h idle q later app n is come
-stuck_by app k s idle q later (Placing task list b) n is come = let e : idle ≡ false = n ∙ ap is_none (b.sched.current ∙ b.current) in rw e (runs_before app k s task list b)
+stuck_by app k s idle q later (Placing task list b) n is come =
+    let e : idle ≡ false = n ∙ ap is_none (b.sched.current ∙ b.current) in
+    rw e (runs_before app k s task list b)
 
 -- Where a task runs, the run isn't stuck.
 pub runs_on : (app : Application) (s : State) (task : ℕ) → s.current ≡ Some task → is_stuck app s ≡ false
@@ -393,15 +492,23 @@ each_of false false true d e = absurd (cc)
 each_of false false false true e = absurd (cc)
 each_of false false false false e = (refl, refl, refl, refl)
 
--- Nor is it over before the task's call decides, unless it has been stopped, or an endless task is left alone: a call holds nothing then.
-pub not_over_undecided : (app : Application) (limits : Limits) (k : Machine) (s : State) (task : ℕ) → Stands k s → IsState app s → k.sched.current ≡ Some task → (progress_in k.progress task).call.phase ≡ Decide → k.suspensions ≡ 0 → is_some k.stopped ≡ false → is_endless app task && are_all_ended app s ≡ false → is_at_tick_limit app limits s ≡ false → is_over app limits s ≡ false
+-- Nor is it over before the task's call decides, unless it has been stopped,
+-- or an endless task is left alone: a call holds nothing then.
+pub not_over_undecided : (app : Application) (limits : Limits) (k : Machine) (s : State) (task : ℕ) → Stands k s
+    → IsState app s → k.sched.current ≡ Some task → (progress_in k.progress task).call.phase ≡ Decide
+    → k.suspensions ≡ 0 → is_some k.stopped ≡ false → is_endless app task && are_all_ended app s ≡ false
+    → is_at_tick_limit app limits s ≡ false → is_over app limits s ≡ false
 not_over_undecided app limits k s task h is runs decides none on more early =
     let current : s.current ≡ Some task = sym (current_is k s h) ∙ runs in
     let running : IsRunning app s task = subst (RunsIn app s) current is.runs in
-    let no_call : s.call_hold ≡ false = sym running.holding ∙ ap (λ (p : Progress). holds p.call.phase) (sym (progress_is k s h task)) ∙ ap holds decides in
+    let no_call : s.call_hold ≡ false =
+    sym running.holding ∙ ap (λ (p : Progress). holds p.call.phase) (sym (progress_is k s h task)) ∙ ap holds decides in
     let awake : s.suspensions ≡ 0 = sym (suspensions_are k s h) ∙ none in
     let free : is_held s ≡ false = rw (no_call, awake) refl in
-    none_of (is_some s.stopped) (are_all_ended app s) (is_at_tick_limit app limits s) (is_stuck app s) (ap (λ (o : Option End). is_some o) (sym (stopped_is k s h)) ∙ on) (sym (and_true_not (is_endless app task) (are_all_ended app s) (λ e. on_unheld app s task e is current free)) ∙ more) early (runs_on app s task current)
+    none_of (is_some s.stopped) (are_all_ended app s) (is_at_tick_limit app limits s) (is_stuck app s)
+    (ap (λ (o : Option End). is_some o) (sym (stopped_is k s h)) ∙ on)
+    (sym (and_true_not (is_endless app task) (are_all_ended app s) (λ e. on_unheld app s task e is current free)) ∙ more)
+    early (runs_on app s task current)
 
 pub idle_by : (o : Option ℕ) → is_some o ≡ false → true ≡ is_none o
 idle_by None e = refl
@@ -433,7 +540,11 @@ module _ (app : Application) (limits : Limits) (s : State) (none : s.stopped ≡
 
 -- Whether it is over whatever its limits.
 
-over_not : (stopped : Option End) (may all ticks steps stuck : Bool) → option_or stopped (if all then Some Pass else if ticks then Some Ticks else if steps then Some Steps else if stuck then Some Stuck else None) ≡ None → is_some stopped || all || (may && ticks) || stuck ≡ false
+over_not : (stopped : Option End) (may all ticks steps stuck : Bool)
+    → option_or stopped
+    (if all then Some Pass else if ticks then Some Ticks else if steps then Some Steps else if stuck then Some Stuck else None)
+    ≡ None
+    → is_some stopped || all || (may && ticks) || stuck ≡ false
 over_not (Some end) may all ticks steps stuck e = absurd (cc)
 over_not None may true ticks steps stuck e = absurd (cc)
 over_not None may false true steps stuck e = absurd (cc)
@@ -444,7 +555,8 @@ over_not None false false false false false e = refl
 
 module _ (app : Application) (limits : Limits) (s : State) where
   -- where neither limit is reached, the run goes on if it isn't over
-  pub goes_if_not_over : is_over app limits s ≡ false → s.elapsed < limits.ticks → s.steps < limits.steps → end_of app limits s ≡ None
+  pub goes_if_not_over : is_over app limits s ≡ false → s.elapsed < limits.ticks
+      → s.steps < limits.steps → end_of app limits s ≡ None
   goes_if_not_over on early few =
       let each = each_of (is_some s.stopped) (are_all_ended app s) (is_at_tick_limit app limits s) (is_stuck app s) on in
       sym (ends_not app limits s (not_stopped s.stopped each.0) each.1 early few each.3)
@@ -460,21 +572,28 @@ module _ (app : Application) (limits : Limits) (s : State) where
 
   -- and it doesn't go on if it is
   pub not_over_if_going : end_of app limits s ≡ None → is_over app limits s ≡ false
-  not_over_if_going on = over_not s.stopped app.tickless (are_all_ended app s) (leb limits.ticks s.elapsed) (leb limits.steps s.steps) (is_stuck app s) on
+  not_over_if_going on =
+      over_not s.stopped app.tickless (are_all_ended app s)
+      (leb limits.ticks s.elapsed) (leb limits.steps s.steps) (is_stuck app s) on
 
 -- A step begins with no event reported, and ends with one step more.
 
 pub begun : (k : Machine) (log : List Event) (s : State) → Stands k s → log ≡ [] → AtAny k log (record s { log = [] })
 begun k log s h e = record { stands = renewed k s h [] s.steps k.steps (steps_are k s h); log = e }
 
-pub handled_before : (app : Application) (handlers : List ℕ) (s : State) (k : Machine) (log : List Event) → AtAny k log (for_each (inject app) handlers (record s { log = [] })) → AtAny k log (before_step app handlers s)
+pub handled_before : (app : Application) (handlers : List ℕ) (s : State) (k : Machine) (log : List Event)
+    → AtAny k log (for_each (inject app) handlers (record s { log = [] })) → AtAny k log (before_step app handlers s)
 unfolding before_step
 handled_before app handlers s k log h = h
 
-pub stepped : (app : Application) (limits : Limits) (handlers : List ℕ) (s : State) (k : Machine) (log : List Event) (n : ℕ) → n ≡ s.steps → AtAny k log (unless_held settle (act_current app limits (before_step app handlers s).current (before_step app handlers s))) → Stands (record k { steps = n + 1 }) (step app limits handlers s)
+pub stepped : (app : Application) (limits : Limits) (handlers : List ℕ) (s : State) (k : Machine) (log : List Event) (n : ℕ)
+    → n ≡ s.steps
+    → AtAny k log (unless_held settle (act_current app limits (before_step app handlers s).current (before_step app handlers s)))
+    → Stands (record k { steps = n + 1 }) (step app limits handlers s)
 unfolding step
 stepped app limits handlers s k log n e a =
-    let new : State = unless_held settle (act_current app limits (before_step app handlers s).current (before_step app handlers s)) in
+    let new : State =
+    unless_held settle (act_current app limits (before_step app handlers s).current (before_step app handlers s)) in
     renewed k new a.stands new.log (s.steps + 1) (n + 1) (ap (λ m. m + 1) e)
 
 -- ---- who is blocked
@@ -488,12 +607,18 @@ or_both false false x y = refl
 -- Some task passes one of two tests where some passes the first, or some the second.
 any_either : (p q : Task → Bool) (ts : List Task) → list_any (λ t. p t || q t) ts ≡ (list_any p ts || list_any q ts)
 any_either p q [] = refl
-any_either p q (t ∷ ts) = ap (λ (b : Bool). (p t || q t) || b) (any_either p q ts) ∙ or_both (p t) (q t) (list_any p ts) (list_any q ts)
+any_either p q (t ∷ ts) =
+    ap (λ (b : Bool). (p t || q t) || b) (any_either p q ts) ∙ or_both (p t) (q t) (list_any p ts) (list_any q ts)
 
-pub any_blocked : (ts : List Task) → list_any (λ (t : Task). is_some (wait_of t.status)) ts || list_any (λ (t : Task). is_some (bits_wait t.status)) ts || list_any (λ (t : Task). can_resume t.status) ts ≡ list_any is_blocked ts
+pub any_blocked : (ts : List Task)
+    → list_any (λ (t : Task). is_some (wait_of t.status)) ts
+    || list_any (λ (t : Task). is_some (bits_wait t.status)) ts || list_any (λ (t : Task). can_resume t.status) ts
+    ≡ list_any is_blocked ts
 any_blocked ts =
-    ap (λ (b : Bool). b || list_any (λ (t : Task). can_resume t.status) ts) (sym (any_either (λ (t : Task). is_some (wait_of t.status)) (λ (t : Task). is_some (bits_wait t.status)) ts))
-    ∙ sym (any_either (λ (t : Task). is_some (wait_of t.status) || is_some (bits_wait t.status)) (λ (t : Task). can_resume t.status) ts)
+    ap (λ (b : Bool). b || list_any (λ (t : Task). can_resume t.status) ts)
+    (sym (any_either (λ (t : Task). is_some (wait_of t.status)) (λ (t : Task). is_some (bits_wait t.status)) ts))
+    ∙ sym (any_either (λ (t : Task). is_some (wait_of t.status) || is_some (bits_wait t.status))
+    (λ (t : Task). can_resume t.status) ts)
 
 -- there is one
 pub some_of : (o : Option ℕ) → is_some o ≡ true → (task : ℕ) × (o ≡ Some task)

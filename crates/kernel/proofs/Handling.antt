@@ -1,6 +1,7 @@
 -- Handlers: what their ops, and one handler after another, make of a state.
 use Rattle.std.proofs.lemmas.Bool.{leb-true}
-use Rattle.std.proofs.Common.{◌≡◌, ◌<◌, ◌≤◌, ◌+◌, ◌&&◌, leb, ℕ, zero, suc, List, [], ◌∷◌, ◌++◌, length, map, get_or, take, drop, false, true, Option, None, ap, refl, sym, subst, ◌-◌, ◌∙◌, arith, Some}
+use Rattle.std.proofs.Common.{◌≡◌, ◌<◌, ◌≤◌, ◌+◌, ◌&&◌, leb, ℕ, zero, suc, List, [], ◌∷◌, ◌++◌, length, map, get_or, take, drop}
+use Rattle.std.proofs.Common.{false, true, Option, None, ap, refl, sym, subst, ◌-◌, ◌∙◌, arith, Some}
 use Rattle.std.specs.List.{AllByRecursion}
 use Rattle.std.proofs.lemmas.List.{drop_all, drop_more, length-drop, take_all, take_more}
 use Rattle.model.specs.declared.event.What.{What}
@@ -42,26 +43,35 @@ use Rattle.model.specs.Ops.{answer, fail, one_if}
 
 -- ---- an op
 
-pub did_op : (P : State → Type 0) (app : Application) (s : State) (handler op_index : ℕ) (op : IsrOp) (o : ℕ) (a : Access) (given : Option ℕ) (what : What) → op ≡ Do o a → what ≡ isr_told handler op_index given → given ≡ answer_to s o a
+pub did_op : (P : State → Type 0) (app : Application) (s : State) (handler op_index : ℕ)
+    (op : IsrOp) (o : ℕ) (a : Access) (given : Option ℕ) (what : What)
+    → op ≡ Do o a → what ≡ isr_told handler op_index given → given ≡ answer_to s o a
     → P (write what (attempt None o a s)) → P (isr app handler op_index op s)
 did_op P app s handler op_index op o a given what is told answer h =
     let one : what ≡ isr_told handler op_index (answer_to s o a) = told ∙ ap (isr_told handler op_index) answer in
     rw is (subst (λ (w : What). P (write w (attempt None o a s))) one h)
 
-pub did_command : (P : State → Type 0) (app : Application) (s : State) (handler op_index : ℕ) (op : IsrOp) (c : command.Command) (o item : ℕ) (given : Option ℕ) (what : What) → op ≡ Command c → o ≡ commands_of app → item ≡ item_of c → what ≡ isr_told handler op_index given → given ≡ answer_to s o (Send item)
+pub did_command : (P : State → Type 0) (app : Application) (s : State) (handler op_index : ℕ)
+    (op : IsrOp) (c : command.Command) (o item : ℕ) (given : Option ℕ) (what : What)
+    → op ≡ Command c → o ≡ commands_of app → item ≡ item_of c → what ≡ isr_told handler op_index given
+    → given ≡ answer_to s o (Send item)
     → P (write what (attempt None o (Send item) s)) → P (isr app handler op_index op s)
 did_command P app s handler op_index op c o item given what is last same told answer h =
     let one : what ≡ isr_told handler op_index (answer_to s o (Send item)) = told ∙ ap (isr_told handler op_index) answer in
     let Q : ℕ → ℕ → Type 0 = λ x n. P (write (isr_told handler op_index (answer_to s x (Send n))) (attempt None x (Send n) s)) in
-    rw is (subst (λ (x : ℕ). Q x (item_of c)) last (subst (λ (n : ℕ). Q o n) same (subst (λ (w : What). P (write w (attempt None o (Send item) s))) one h)))
+    rw is (subst (λ (x : ℕ). Q x (item_of c)) last
+    (subst (λ (n : ℕ). Q o n) same (subst (λ (w : What). P (write w (attempt None o (Send item) s))) one h)))
 
-pub did_mark : (P : State → Type 0) (app : Application) (s : State) (handler op_index : ℕ) (op : IsrOp) (n : ℕ) → op ≡ Mark n → P (write (IsrMark handler n) s) → P (isr app handler op_index op s)
+pub did_mark : (P : State → Type 0) (app : Application) (s : State) (handler op_index : ℕ) (op : IsrOp) (n : ℕ)
+    → op ≡ Mark n → P (write (IsrMark handler n) s) → P (isr app handler op_index op s)
 did_mark P app s handler op_index op n is h = rw is h
 
 -- its object has room for what it puts in
-pub op_fits : (app : Application) (formed : IsWellFormed app) (k : Machine) (handler i : ℕ) (op : IsrOp) → HasObjects app k → i < length (ops_of app handler) → op ≡ get_or (ops_of app handler) i op → HasIsrObject app k op
+pub op_fits : (app : Application) (formed : IsWellFormed app) (k : Machine) (handler i : ℕ) (op : IsrOp)
+    → HasObjects app k → i < length (ops_of app handler) → op ≡ get_or (ops_of app handler) i op → HasIsrObject app k op
 op_fits app formed k handler i op room l e = by_op op (at (ops_of app handler) i (isr_known app formed handler) l e) where
-  at : (ops : List IsrOp) (i : ℕ) → AllByRecursion (λ (x : IsrOp). knows_isr app x ≡ true) ops → i < length ops → op ≡ get_or ops i op → knows_isr app op ≡ true
+  at : (ops : List IsrOp) (i : ℕ) → AllByRecursion (λ (x : IsrOp). knows_isr app x ≡ true) ops
+      → i < length ops → op ≡ get_or ops i op → knows_isr app op ≡ true
   at [] i known l e = absurd (omega arith)
   at (x ∷ xs) zero known l e = rw e known.0
   at (x ∷ xs) (suc i) known l e = at xs i known.1 (omega arith) e
@@ -70,7 +80,9 @@ op_fits app formed k handler i op room l e = by_op op (at (ops_of app handler) i
   by_op (Do o a) known = room o a (and_left (fits_object app o a) _ known)
   by_op (Command c) known =
       let some : is_some app.daemon ≡ true = and_left (is_some app.daemon) (has_group app c.group && is_mask c.mask) known in
-      let mask : is_mask c.mask ≡ true = and_right (has_group app c.group) (is_mask c.mask) (and_right (is_some app.daemon) (has_group app c.group && is_mask c.mask) known) in
+      let mask : is_mask c.mask ≡ true =
+      and_right (has_group app c.group) (is_mask c.mask)
+      (and_right (is_some app.daemon) (has_group app c.group && is_mask c.mask) known) in
       let most : leb c.mask 16777215 ≡ true = and_right (leb 1 c.mask) (leb c.mask 16777215) mask in
       let low = leb-true c.mask 16777215 most in
       (room (commands_of app) (Send (item_of c)) (commands_fit app formed (item_of c) some), omega arith)
@@ -85,7 +97,8 @@ op_fits app formed k handler i op room l e = by_op op (at (ops_of app handler) i
 -- and there are few
 pub handler_short : (app : Application) → IsWellFormed app → (handler : ℕ) → length (ops_of app handler) ≤ 16
 handler_short app formed handler = by_index app.handlers handler formed.handlers where
-  by_index : (hs : List Handler) (i : ℕ) → AllByRecursion (IsHandler app) hs → length (unwrap_or (option_map (λ (h : Handler). h.ops) (slice_get hs i)) []) ≤ 16
+  by_index : (hs : List Handler) (i : ℕ) → AllByRecursion (IsHandler app) hs
+      → length (unwrap_or (option_map (λ (h : Handler). h.ops) (slice_get hs i)) []) ≤ 16
   by_index [] i all = omega arith
   by_index (h ∷ hs) zero all = all.0.few
   by_index (h ∷ hs) (suc i) all = by_index hs i all.1
@@ -96,23 +109,33 @@ handler_short app formed handler = by_index app.handlers handler formed.handlers
 pub behind_is : (ops : List IsrOp) (i : ℕ) → i < length ops → take (length ops - (i + 1)) (drop (i + 1) ops) ≡ drop (i + 1) ops
 behind_is ops i l = take_all (length ops - (i + 1)) (drop (i + 1) ops) (let e = length-drop (i + 1) ops in omega (arith, e))
 
-pub behind_short : (ops : List IsrOp) (i : ℕ) → i < length ops → length ops ≤ 16 → length (take (length ops - (i + 1)) (drop (i + 1) ops)) ≤ 16
+pub behind_short : (ops : List IsrOp) (i : ℕ) → i < length ops → length ops ≤ 16
+    → length (take (length ops - (i + 1)) (drop (i + 1) ops)) ≤ 16
 behind_short ops i l few = rw (behind_is ops i l) (let e = length-drop (i + 1) ops in omega (arith, e))
 
--- A handler whose ops before this index are done goes on so: it jumps over this many ops, this is its last answer, and this the state.
+-- A handler whose ops before this index are done goes on so:
+-- it jumps over this many ops, this is its last answer, and this the state.
 abbrev pub GoesOnSo : Application → (handler : ℕ) → List IsrOp → State → (op_index over : ℕ) → (last : Option ℕ) → State → Type 0
-GoesOnSo app handler ops s op_index over last t = isr_each app handler 0 0 None ops s ≡ isr_each app handler op_index over last (drop op_index ops) t
+GoesOnSo app handler ops s op_index over last t =
+    isr_each app handler 0 0 None ops s ≡ isr_each app handler op_index over last (drop op_index ops) t
 
-module _ (app : Application) (handler : ℕ) (ops : List IsrOp) (i : ℕ) (op : IsrOp) (l : i < length ops) (is : op ≡ get_or ops i op) (last : Option ℕ) (s t : State) where
-  ahead : (over : ℕ) → GoesOnSo app handler ops s i over last t → isr_each app handler 0 0 None ops s ≡ isr_each app handler i over last (op ∷ drop (i + 1) ops) t
-  ahead over h = h ∙ ap (λ (xs : List IsrOp). isr_each app handler i over last xs t) (drop_more ops i op l ∙ ap (λ (x : IsrOp). x ∷ drop (i + 1) ops) (sym is))
+module _ (app : Application) (handler : ℕ) (ops : List IsrOp) (i : ℕ) (op : IsrOp)
+    (l : i < length ops) (is : op ≡ get_or ops i op) (last : Option ℕ) (s t : State) where
+  ahead : (over : ℕ) → GoesOnSo app handler ops s i over last t
+      → isr_each app handler 0 0 None ops s ≡ isr_each app handler i over last (op ∷ drop (i + 1) ops) t
+  ahead over h =
+      h
+      ∙ ap (λ (xs : List IsrOp). isr_each app handler i over last xs t)
+      (drop_more ops i op l ∙ ap (λ (x : IsrOp). x ∷ drop (i + 1) ops) (sym is))
 
   -- the op is jumped over
-  jumped_over : (over left : ℕ) → over ≡ suc left → GoesOnSo app handler ops s i over last t → GoesOnSo app handler ops s (i + 1) left last t
+  jumped_over : (over left : ℕ) → over ≡ suc left → GoesOnSo app handler ops s i over last t
+      → GoesOnSo app handler ops s (i + 1) left last t
   jumped_over over left e h = ahead over h ∙ rw e refl
 
   -- it is a check that fails
-  check_failed : true ≡ is_failed op last → GoesOnSo app handler ops s i 0 last t → isr_each app handler 0 0 None ops s ≡ fail (HandlerCheck handler i) t
+  check_failed : true ≡ is_failed op last → GoesOnSo app handler ops s i 0 last t
+      → isr_each app handler 0 0 None ops s ≡ fail (HandlerCheck handler i) t
   check_failed f h = ahead 0 h ∙ rw (sym f) refl
 
   -- it is done
@@ -121,22 +144,28 @@ module _ (app : Application) (handler : ℕ) (ops : List IsrOp) (i : ℕ) (op : 
   op_done f h = ahead 0 h ∙ rw (sym f) refl
 
 -- The kernel represents such states, and at most this many events are reported.
-pub record IsAmid (app : Application) (handler : ℕ) (ops : List IsrOp) (old : Machine) (old_log : Logged) (op_index over : ℕ) (last : Option ℕ) (new : Machine) (new_log : Logged) : Type 0 where
-  pub at : (s : State) → At old old_log.told s → (t : State) × At new new_log.told t × GoesOnSo app handler ops s op_index over last t
-  pub any : (s : State) → AtAny old old_log.told s → (t : State) × AtAny new new_log.told t × GoesOnSo app handler ops s op_index over last t
+pub record IsAmid (app : Application) (handler : ℕ) (ops : List IsrOp) (old : Machine) (old_log : Logged)
+    (op_index over : ℕ) (last : Option ℕ) (new : Machine) (new_log : Logged) : Type 0 where
+  pub at : (s : State) → At old old_log.told s
+      → (t : State) × At new new_log.told t × GoesOnSo app handler ops s op_index over last t
+  pub any : (s : State) → AtAny old old_log.told s
+      → (t : State) × AtAny new new_log.told t × GoesOnSo app handler ops s op_index over last t
   pub few : old_log.room ≤ new_log.room + op_index
   pub before : new_log.before ≡ old_log.before
   pub leaves : Leaves old new
 
 module _ (app : Application) (handler : ℕ) (ops : List IsrOp) (old : Machine) (old_log : Logged) where
   pub amid_begins : IsAmid app handler ops old old_log 0 0 None old old_log
-  amid_begins = record { at = λ s h. (s, h, refl); any = λ s h. (s, h, refl); few = omega arith; before = refl; leaves = leaves_same old }
+  amid_begins =
+      record { at = λ s h. (s, h, refl); any = λ s h. (s, h, refl); few = omega arith; before = refl; leaves = leaves_same old }
 
-  module _ (i over : ℕ) (last : Option ℕ) (mid : Machine) (mid_log : Logged) (so : IsAmid app handler ops old old_log i over last mid mid_log) where
+  module _ (i over : ℕ) (last : Option ℕ) (mid : Machine) (mid_log : Logged)
+      (so : IsAmid app handler ops old old_log i over last mid mid_log) where
     pub amid_stands : StandsForSome old → StandsForSome mid
     amid_stands h =
         let s : State = record (h.0) { log = old_log.told } in
-        let after = so.any s (record { stands = renewed old h.0 h.1 old_log.told (h.0).steps old.steps (steps_are old h.0 h.1); log = refl }) in
+        let after =
+        so.any s (record { stands = renewed old h.0 h.1 old_log.told (h.0).steps old.steps (steps_are old h.0 h.1); log = refl }) in
         (after.0, (after.1).stands)
 
     -- all ops are done
@@ -147,7 +176,10 @@ module _ (app : Application) (handler : ℕ) (ops : List IsrOp) (old : Machine) 
       pub amid_handled : Does 16 old old_log mid mid_log (handle app handler)
       unfolding handle
       amid_handled = record {
-        at = λ s h. let a = so.at s h in subst (λ (x : State). At mid mid_log.told x) (sym (all_done l s a.0 a.2) ∙ ap (λ (xs : List IsrOp). isr_each app handler 0 0 None xs s) all) a.1;
+        at = λ s h.
+            let a = so.at s h in
+            subst (λ (x : State). At mid mid_log.told x)
+            (sym (all_done l s a.0 a.2) ∙ ap (λ (xs : List IsrOp). isr_each app handler 0 0 None xs s) all) a.1;
         few = let f = so.few in omega arith;
         before = so.before;
       }
@@ -155,7 +187,10 @@ module _ (app : Application) (handler : ℕ) (ops : List IsrOp) (old : Machine) 
       pub amid_handled_any : DoesAny 16 old old_log mid mid_log (handle app handler)
       unfolding handle
       amid_handled_any = record {
-        at = λ s h. let a = so.any s h in subst (λ (x : State). AtAny mid mid_log.told x) (sym (all_done l s a.0 a.2) ∙ ap (λ (xs : List IsrOp). isr_each app handler 0 0 None xs s) all) a.1;
+        at = λ s h.
+            let a = so.any s h in
+            subst (λ (x : State). AtAny mid mid_log.told x)
+            (sym (all_done l s a.0 a.2) ∙ ap (λ (xs : List IsrOp). isr_each app handler 0 0 None xs s) all) a.1;
         few = let f = so.few in omega arith;
         before = so.before;
       }
@@ -178,43 +213,58 @@ module _ (app : Application) (handler : ℕ) (ops : List IsrOp) (old : Machine) 
         here s t h = rw none at h
 
         -- it is done
-        pub amid_did : false ≡ is_failed op last → (new : Machine) (new_log : Logged) (given : Option ℕ) → Does 1 mid mid_log new new_log (isr app handler i op) → DoesAny 1 mid mid_log new new_log (isr app handler i op)
-            → Leaves mid new → ((s : State) → Stands mid s → given ≡ isr_answer app s op last) → IsAmid app handler ops old old_log (i + 1) (isr_jump op last (drop (i + 1) ops)) given new new_log
+        pub amid_did : false ≡ is_failed op last → (new : Machine) (new_log : Logged) (given : Option ℕ)
+            → Does 1 mid mid_log new new_log (isr app handler i op) → DoesAny 1 mid mid_log new new_log (isr app handler i op)
+            → Leaves mid new → ((s : State) → Stands mid s → given ≡ isr_answer app s op last)
+            → IsAmid app handler ops old old_log (i + 1) (isr_jump op last (drop (i + 1) ops)) given new new_log
         amid_did f new new_log given does any leaves answer = record {
-          at = λ s h. let a = so.at s h in (isr app handler i op a.0, does.at a.0 a.1, with_answer s a.0 (Placed (a.1).stands) (here s a.0 a.2));
-          any = λ s h. let a = so.any s h in (isr app handler i op a.0, any.at a.0 a.1, with_answer s a.0 (a.1).stands (here s a.0 a.2));
+          at = λ s h.
+              let a = so.at s h in
+              (isr app handler i op a.0, does.at a.0 a.1, with_answer s a.0 (Placed (a.1).stands) (here s a.0 a.2));
+          any = λ s h.
+              let a = so.any s h in (isr app handler i op a.0, any.at a.0 a.1, with_answer s a.0 (a.1).stands (here s a.0 a.2));
           few = let a = so.few in let b = does.few in omega arith;
           before = does.before ∙ so.before;
           leaves = leaves_both old mid new so.leaves leaves;
         } where
-          with_answer : (s t : State) → Stands mid t → GoesOnSo app handler ops s i 0 last t → GoesOnSo app handler ops s (i + 1) (isr_jump op last (drop (i + 1) ops)) given (isr app handler i op t)
+          with_answer : (s t : State) → Stands mid t → GoesOnSo app handler ops s i 0 last t
+              → GoesOnSo app handler ops s (i + 1) (isr_jump op last (drop (i + 1) ops)) given (isr app handler i op t)
           with_answer s t stands h =
-              subst (λ (x : Option ℕ). GoesOnSo app handler ops s (i + 1) (isr_jump op last (drop (i + 1) ops)) x (isr app handler i op t)) (sym (answer t stands)) (op_done app handler ops i op l is last s t f h)
+              subst (λ (x : Option ℕ).
+              GoesOnSo app handler ops s (i + 1) (isr_jump op last (drop (i + 1) ops)) x (isr app handler i op t))
+              (sym (answer t stands)) (op_done app handler ops i op l is last s t f h)
 
         -- it is a check that fails
         module _ (f : true ≡ is_failed op last) (all : ops ≡ ops_of app handler) (few : i ≤ 16) (new : Machine) where
-          ends : (s t : State) → GoesOnSo app handler ops s i over last t → fail (HandlerCheck handler i) t ≡ isr_each app handler 0 0 None (ops_of app handler) s
-          ends s t h = sym (check_failed app handler ops i op l is last s t f (here s t h)) ∙ ap (λ (xs : List IsrOp). isr_each app handler 0 0 None xs s) all
+          ends : (s t : State) → GoesOnSo app handler ops s i over last t
+              → fail (HandlerCheck handler i) t ≡ isr_each app handler 0 0 None (ops_of app handler) s
+          ends s t h =
+              sym (check_failed app handler ops i op l is last s t f (here s t h))
+              ∙ ap (λ (xs : List IsrOp). isr_each app handler 0 0 None xs s) all
 
           pub amid_failed : Moves mid new (fail (HandlerCheck handler i)) → Does 16 old old_log new mid_log (handle app handler)
           unfolding handle
           amid_failed moves = record {
-            at = λ s h. let a = so.at s h in subst (λ (x : State). At new mid_log.told x) (ends s a.0 a.2) (moves mid_log.told a.0 a.1);
+            at = λ s h.
+                let a = so.at s h in subst (λ (x : State). At new mid_log.told x) (ends s a.0 a.2) (moves mid_log.told a.0 a.1);
             few = let a = so.few in omega arith;
             before = so.before;
           }
 
-          pub amid_failed_any : MovesAny mid new (fail (HandlerCheck handler i)) → DoesAny 16 old old_log new mid_log (handle app handler)
+          pub amid_failed_any : MovesAny mid new (fail (HandlerCheck handler i))
+              → DoesAny 16 old old_log new mid_log (handle app handler)
           unfolding handle
           amid_failed_any moves = record {
-            at = λ s h. let a = so.any s h in subst (λ (x : State). AtAny new mid_log.told x) (ends s a.0 a.2) (moves mid_log.told a.0 a.1);
+            at = λ s h.
+                let a = so.any s h in subst (λ (x : State). AtAny new mid_log.told x) (ends s a.0 a.2) (moves mid_log.told a.0 a.1);
             few = let a = so.few in omega arith;
             before = so.before;
           }
 
 -- ---- one after another
 
-pub one_more : {A : Type 0} (deed : A → State → State) (P : State → Type 0) (xs : List A) (s : State) (i : ℕ) (x : A) → i < length xs → x ≡ get_or xs i x → P (deed x (for_each deed (take i xs) s)) → P (for_each deed (take (i + 1) xs) s)
+pub one_more : {A : Type 0} (deed : A → State → State) (P : State → Type 0) (xs : List A) (s : State) (i : ℕ) (x : A)
+    → i < length xs → x ≡ get_or xs i x → P (deed x (for_each deed (take i xs) s)) → P (for_each deed (take (i + 1) xs) s)
 one_more {A} deed P xs s i x l e h =
     let more : take (i + 1) xs ≡ take i xs ++ x ∷ [] = take_more xs i x l ∙ ap (λ (y : A). take i xs ++ y ∷ []) (sym e) in
     rw (more, each-end deed s (take i xs) x) h
@@ -228,7 +278,10 @@ module _ (app : Application) (handler : ℕ) (s : State) (mid : Machine) where
   abbrev t : State
   t = handle app handler s
 
-  pub injected_free : (new : Machine) (log new_log : List Event) → (Stands mid (handle app handler s) → is_held (handle app handler s) ≡ false) → AtAny mid log (handle app handler s) → (At mid log (handle app handler s) → At new new_log (preempt (handle app handler s))) → AtAny new new_log (inject app handler s)
+  pub injected_free : (new : Machine) (log new_log : List Event)
+      → (Stands mid (handle app handler s) → is_held (handle app handler s) ≡ false) → AtAny mid log (handle app handler s)
+      → (At mid log (handle app handler s) → At new new_log (preempt (handle app handler s)))
+      → AtAny new new_log (inject app handler s)
   unfolding inject
   injected_free new log new_log free h goes =
       let off : is_held t ≡ false = free h.stands in
@@ -236,12 +289,14 @@ module _ (app : Application) (handler : ℕ) (s : State) (mid : Machine) where
       (λ p. subst (AtAny new new_log) (sym (when_free preempt t off)) (any new new_log (preempt t) (goes p)))
       (λ task list b. let on : is_held t ≡ true = held_by_call t b.held in absurd (cc))
 
-  pub injected_held : (log : List Event) → (Stands mid (handle app handler s) → is_held (handle app handler s) ≡ true) → AtAny mid log (handle app handler s) → AtAny mid log (inject app handler s)
+  pub injected_held : (log : List Event) → (Stands mid (handle app handler s) → is_held (handle app handler s) ≡ true)
+      → AtAny mid log (handle app handler s) → AtAny mid log (inject app handler s)
   unfolding inject
   injected_held log held h = let on : is_held t ≡ true = held h.stands in subst (AtAny mid log) (sym (when_held preempt t on)) h
 
 -- an element of what a function makes of each
-pub mapped_at : {A B : Type 0} (f : A → B) (xs : List A) (i : ℕ) (x : A) → i < length xs → x ≡ get_or xs i x → f x ≡ get_or (map f xs) i (f x)
+pub mapped_at : {A B : Type 0} (f : A → B) (xs : List A) (i : ℕ) (x : A)
+    → i < length xs → x ≡ get_or xs i x → f x ≡ get_or (map f xs) i (f x)
 mapped_at f [] i x l e = absurd (omega arith)
 mapped_at f (y ∷ ys) zero x l e = ap f e
 mapped_at f (y ∷ ys) (suc i) x l e = mapped_at f ys i x (omega arith) e
@@ -249,7 +304,15 @@ mapped_at f (y ∷ ys) (suc i) x l e = mapped_at f ys i x (omega arith) e
 -- ---- the guess at the next base interrupt is no part of what the kernel represents
 
 pub guessed : (k : Machine) (n : ℕ) (log : List Event) (s : State) → At k log s → At (record k { next_interrupt = n }) log s
-guessed k n log s h = record { stands = record { sched = h.stands.sched; rest = rest_again h.stands.rest h.stands.rest.clock h.stands.rest.queues h.stands.rest.groups }; log = h.log }
+guessed k n log s h =
+    record {
+      stands =
+          record {
+            sched = h.stands.sched;
+            rest = rest_again h.stands.rest h.stands.rest.clock h.stands.rest.queues h.stands.rest.groups;
+          };
+      log = h.log;
+    }
 
 -- ---- the bits of a group
 
@@ -260,12 +323,18 @@ groups_stand k s (Placing task list b) = b.groups
 
 -- ---- in a handler
 
-pub told_bits : (P : State → Type 0) (app : Application) (s : State) (handler op_index : ℕ) (op : IsrOp) (group bits : ℕ) (what : What) → op ≡ GetBits group → what ≡ isr_told handler op_index (Some bits) → bits ≡ bits_at s group → P (write what s) → P (isr app handler op_index op s)
+pub told_bits : (P : State → Type 0) (app : Application) (s : State)
+    (handler op_index : ℕ) (op : IsrOp) (group bits : ℕ) (what : What)
+    → op ≡ GetBits group → what ≡ isr_told handler op_index (Some bits) → bits ≡ bits_at s group → P (write what s)
+    → P (isr app handler op_index op s)
 told_bits P app s handler op_index op group bits what is told same h =
-    let one : what ≡ isr_told handler op_index (Some (bits_at s group)) = told ∙ ap (λ (n : ℕ). isr_told handler op_index (Some n)) same in
+    let one : what ≡ isr_told handler op_index (Some (bits_at s group)) =
+    told ∙ ap (λ (n : ℕ). isr_told handler op_index (Some n)) same in
     rw is (subst (λ (w : What). P (write w s)) one h)
 
-pub told_resume : (P : State → Type 0) (app : Application) (s : State) (handler op_index : ℕ) (op : IsrOp) (i n : ℕ) (what : What) → op ≡ Resume i → what ≡ isr_told handler op_index (Some n) → Some n ≡ one_if (can_resume (status_at s i)) → P (write what (resume i s)) → P (isr app handler op_index op s)
+pub told_resume : (P : State → Type 0) (app : Application) (s : State) (handler op_index : ℕ) (op : IsrOp) (i n : ℕ) (what : What)
+    → op ≡ Resume i → what ≡ isr_told handler op_index (Some n) → Some n ≡ one_if (can_resume (status_at s i))
+    → P (write what (resume i s)) → P (isr app handler op_index op s)
 told_resume P app s handler op_index op i n what is told same h =
     let one : what ≡ isr_told handler op_index (one_if (can_resume (status_at s i))) = told ∙ ap (isr_told handler op_index) same in
     rw is (subst (λ (w : What). P (write w (resume i s))) one h)

@@ -1,6 +1,7 @@
 -- While a `suspend_all` is in force: what a tick that is held, the end of a script and a misuse make of the states that the kernel
 -- represents.
-use Rattle.std.proofs.Common.{◌≡◌, ◌≢◌, ◌<◌, ◌≤◌, ◌+◌, ℕ, zero, suc, true, false, List, Option, Some, None, refl, sym, subst, ◌∙◌, arith}
+use Rattle.std.proofs.Common.{◌≡◌, ◌≢◌, ◌<◌, ◌≤◌, ◌+◌, ℕ, zero, suc, true, false, List, Option, Some, None, refl, sym, subst, ◌∙◌}
+use Rattle.std.proofs.Common.{arith}
 use Rattle.std.proofs.lemmas.Bool.{lt-ltb, le-ltb}
 use Rattle.model.specs.declared.event.Event.{Event}
 use Rattle.model.specs.declared.answer.AnswerCondition.{AnswerCondition}
@@ -8,7 +9,10 @@ use Rattle.model.specs.declared.event.End.TheVariants as ending
 use Rattle.model.specs.declared.event.Misuse.{Misuse}
 use Rattle.model.specs.declared.event.Misuse.TheVariants.{WhileSuspended, NotSuspended, EndedSuspended}
 use Rattle.model.specs.declared.op.Op.{Op}
-use Rattle.model.specs.declared.op.Op.TheVariants.{Work, Delay, DelayUntil, Yield, Time, Mark, Expect, Repeat, End as EndLoop, If, Else, EndIf, Break, Stamp, Since, Await, Do, GiveMutex, MessagesWaiting, SpacesAvailable, SetBits, ClearBits, GetBits, WaitBits, Suspend, Resume, SuspendAll, ResumeAll, NextCommand, Obey}
+use Rattle.model.specs.declared.op.Op.TheVariants.{Work, Delay, DelayUntil, Yield, Time, Mark, Expect, Repeat, End as EndLoop, If}
+use Rattle.model.specs.declared.op.Op.TheVariants.{Else, EndIf, Break, Stamp, Since, Await, Do, GiveMutex, MessagesWaiting}
+use Rattle.model.specs.declared.op.Op.TheVariants.{SpacesAvailable, SetBits, ClearBits, GetBits, WaitBits, Suspend, Resume}
+use Rattle.model.specs.declared.op.Op.TheVariants.{SuspendAll, ResumeAll, NextCommand, Obey}
 use Rattle.model.specs.Application.{Application}
 use Rattle.model.specs.State.{State, status_at, progress_at}
 use Rattle.model.specs.Switching.{is_held, is_scheduler_suspended, slice}
@@ -31,7 +35,8 @@ use Rattle.ops.proofs.Held.{with_ticks}
 
 module _ (k : Machine) (log : List Event) (s : State) (h : At k log s) where
   -- a tick is held
-  pub tick_held : (t : Timeline) → 0 < k.suspensions → clock.StandsFor t (increment_tick s) → At (record k { clock = t }) log (increment_tick s)
+  pub tick_held : (t : Timeline) → 0 < k.suspensions → clock.StandsFor t (increment_tick s)
+      → At (record k { clock = t }) log (increment_tick s)
   unfolding increment_tick
   tick_held t some on =
       let n = h.stands.rest.suspensions in
@@ -41,7 +46,8 @@ module _ (k : Machine) (log : List Event) (s : State) (h : At k log s) where
 -- ---- who came to its end
 
 module _ (k : Machine) (log : List Event) (s : State) (h : At k log s) (i op_index : ℕ) where
-  pub judged : 0 < k.suspensions → is_ended (status_at s i) ≡ true → At (record k { stopped = Some (ending.Misuse i op_index EndedSuspended) }) log (judge i op_index s)
+  pub judged : 0 < k.suspensions → is_ended (status_at s i) ≡ true
+      → At (record k { stopped = Some (ending.Misuse i op_index EndedSuspended) }) log (judge i op_index s)
   unfolding judge
   judged some t =
       let n = h.stands.rest.suspensions in
@@ -65,14 +71,17 @@ module _ (k : Machine) (log : List Event) (s : State) (h : At k log s) (i op_ind
 pub held_by : (v : Schedule) (s : State) → sched.StandsFor v s → 0 < v.depth → is_held s ≡ true
 held_by v s h some = on_sched.held_by_depth s ∙ lt-ltb 0 (depth_of s) (let e = h.depth in omega arith)
 
-pub interrupted_held : (app : Application) (new : Machine) (log : List Event) (s : State) → is_held (interrupt app (increment_tick s)) ≡ true → At new log (interrupt app (increment_tick s)) → At new log (tick_interrupt app s)
+pub interrupted_held : (app : Application) (new : Machine) (log : List Event) (s : State)
+    → is_held (interrupt app (increment_tick s)) ≡ true
+    → At new log (interrupt app (increment_tick s)) → At new log (tick_interrupt app s)
 unfolding tick_interrupt
 interrupted_held app new log s held h = subst (At new log) (sym (when_held slice (interrupt app (increment_tick s)) held)) h
 
 -- ---- an op while a `suspend_all` is in force
 
 -- one that may switch is a misuse
-pub switches : (s : State) (i : ℕ) (op : Op) → is_scheduler_suspended s ≡ true → may_switch op ≡ true → misuse s i op ≡ Some WhileSuspended
+pub switches : (s : State) (i : ℕ) (op : Op) → is_scheduler_suspended s ≡ true
+    → may_switch op ≡ true → misuse s i op ≡ Some WhileSuspended
 switches s i op is t = rw (is, t) refl
 
 -- and no other
@@ -109,37 +118,98 @@ goes_on s i (NextCommand o) is t = absurd (cc)
 goes_on s i Obey is t = absurd (cc)
 
 -- every other op may switch
-pub no_other : {X : Type 0} (op : Op) → may_switch op ≡ false → ((n : ℕ) → op ≢ Work n) → (op ≢ Time) → ((n : ℕ) → op ≢ Mark n) → ((c : AnswerCondition) → op ≢ Expect c) → ((n : Option ℕ) → op ≢ Repeat n) → (op ≢ EndLoop) → ((c : AnswerCondition) → op ≢ If c) → (op ≢ Else) → (op ≢ EndIf) → (op ≢ Break) → (op ≢ Stamp) → (op ≢ Since) → ((o : ℕ) → op ≢ MessagesWaiting o) → ((o : ℕ) → op ≢ SpacesAvailable o) → ((group mask : ℕ) → op ≢ ClearBits group mask) → ((group : ℕ) → op ≢ GetBits group) → (op ≢ SuspendAll) → (op ≢ ResumeAll) → X
-no_other (Work n) t work time mark expect repeat end_ if_ else_ end_if break_ stamp_ since_ messages spaces clear get suspend_ resume_ = absurd (work n refl)
-no_other (Delay n) t work time mark expect repeat end_ if_ else_ end_if break_ stamp_ since_ messages spaces clear get suspend_ resume_ = absurd (cc)
-no_other (DelayUntil n) t work time mark expect repeat end_ if_ else_ end_if break_ stamp_ since_ messages spaces clear get suspend_ resume_ = absurd (cc)
-no_other Yield t work time mark expect repeat end_ if_ else_ end_if break_ stamp_ since_ messages spaces clear get suspend_ resume_ = absurd (cc)
-no_other Time t work time mark expect repeat end_ if_ else_ end_if break_ stamp_ since_ messages spaces clear get suspend_ resume_ = absurd (time refl)
-no_other (Mark n) t work time mark expect repeat end_ if_ else_ end_if break_ stamp_ since_ messages spaces clear get suspend_ resume_ = absurd (mark n refl)
-no_other (Expect a) t work time mark expect repeat end_ if_ else_ end_if break_ stamp_ since_ messages spaces clear get suspend_ resume_ = absurd (expect a refl)
-no_other (Repeat n) t work time mark expect repeat end_ if_ else_ end_if break_ stamp_ since_ messages spaces clear get suspend_ resume_ = absurd (repeat n refl)
-no_other EndLoop t work time mark expect repeat end_ if_ else_ end_if break_ stamp_ since_ messages spaces clear get suspend_ resume_ = absurd (end_ refl)
-no_other (If c) t work time mark expect repeat end_ if_ else_ end_if break_ stamp_ since_ messages spaces clear get suspend_ resume_ = absurd (if_ c refl)
-no_other Else t work time mark expect repeat end_ if_ else_ end_if break_ stamp_ since_ messages spaces clear get suspend_ resume_ = absurd (else_ refl)
-no_other EndIf t work time mark expect repeat end_ if_ else_ end_if break_ stamp_ since_ messages spaces clear get suspend_ resume_ = absurd (end_if refl)
-no_other Break t work time mark expect repeat end_ if_ else_ end_if break_ stamp_ since_ messages spaces clear get suspend_ resume_ = absurd (break_ refl)
-no_other Stamp t work time mark expect repeat end_ if_ else_ end_if break_ stamp_ since_ messages spaces clear get suspend_ resume_ = absurd (stamp_ refl)
-no_other Since t work time mark expect repeat end_ if_ else_ end_if break_ stamp_ since_ messages spaces clear get suspend_ resume_ = absurd (since_ refl)
-no_other (Await o a w) t work time mark expect repeat end_ if_ else_ end_if break_ stamp_ since_ messages spaces clear get suspend_ resume_ = absurd (cc)
-no_other (Do o a) t work time mark expect repeat end_ if_ else_ end_if break_ stamp_ since_ messages spaces clear get suspend_ resume_ = absurd (cc)
-no_other (GiveMutex o) t work time mark expect repeat end_ if_ else_ end_if break_ stamp_ since_ messages spaces clear get suspend_ resume_ = absurd (cc)
-no_other (MessagesWaiting o) t work time mark expect repeat end_ if_ else_ end_if break_ stamp_ since_ messages spaces clear get suspend_ resume_ = absurd (messages o refl)
-no_other (SpacesAvailable o) t work time mark expect repeat end_ if_ else_ end_if break_ stamp_ since_ messages spaces clear get suspend_ resume_ = absurd (spaces o refl)
-no_other (SetBits g m) t work time mark expect repeat end_ if_ else_ end_if break_ stamp_ since_ messages spaces clear get suspend_ resume_ = absurd (cc)
-no_other (ClearBits g m) t work time mark expect repeat end_ if_ else_ end_if break_ stamp_ since_ messages spaces clear get suspend_ resume_ = absurd (clear g m refl)
-no_other (GetBits g) t work time mark expect repeat end_ if_ else_ end_if break_ stamp_ since_ messages spaces clear get suspend_ resume_ = absurd (get g refl)
-no_other (WaitBits g c w) t work time mark expect repeat end_ if_ else_ end_if break_ stamp_ since_ messages spaces clear get suspend_ resume_ = absurd (cc)
-no_other (Suspend j) t work time mark expect repeat end_ if_ else_ end_if break_ stamp_ since_ messages spaces clear get suspend_ resume_ = absurd (cc)
-no_other (Resume j) t work time mark expect repeat end_ if_ else_ end_if break_ stamp_ since_ messages spaces clear get suspend_ resume_ = absurd (cc)
-no_other SuspendAll t work time mark expect repeat end_ if_ else_ end_if break_ stamp_ since_ messages spaces clear get suspend_ resume_ = absurd (suspend_ refl)
-no_other ResumeAll t work time mark expect repeat end_ if_ else_ end_if break_ stamp_ since_ messages spaces clear get suspend_ resume_ = absurd (resume_ refl)
-no_other (NextCommand o) t work time mark expect repeat end_ if_ else_ end_if break_ stamp_ since_ messages spaces clear get suspend_ resume_ = absurd (cc)
-no_other Obey t work time mark expect repeat end_ if_ else_ end_if break_ stamp_ since_ messages spaces clear get suspend_ resume_ = absurd (cc)
+pub no_other : {X : Type 0} (op : Op) → may_switch op ≡ false → ((n : ℕ) → op ≢ Work n) → (op ≢ Time)
+    → ((n : ℕ) → op ≢ Mark n) → ((c : AnswerCondition) → op ≢ Expect c) → ((n : Option ℕ) → op ≢ Repeat n) → (op ≢ EndLoop)
+    → ((c : AnswerCondition) → op ≢ If c) → (op ≢ Else) → (op ≢ EndIf) → (op ≢ Break) → (op ≢ Stamp) → (op ≢ Since)
+    → ((o : ℕ) → op ≢ MessagesWaiting o) → ((o : ℕ) → op ≢ SpacesAvailable o) → ((group mask : ℕ) → op ≢ ClearBits group mask)
+    → ((group : ℕ) → op ≢ GetBits group) → (op ≢ SuspendAll) → (op ≢ ResumeAll) → X
+no_other (Work n) t work time mark expect repeat end_ if_ else_ end_if
+    break_ stamp_ since_ messages spaces clear get suspend_ resume_ =
+    absurd (work n refl)
+no_other (Delay n) t work time mark expect repeat end_ if_ else_ end_if
+    break_ stamp_ since_ messages spaces clear get suspend_ resume_ =
+    absurd (cc)
+no_other (DelayUntil n) t work time mark expect repeat end_ if_ else_ end_if
+    break_ stamp_ since_ messages spaces clear get suspend_ resume_ =
+    absurd (cc)
+no_other Yield t work time mark expect repeat end_ if_ else_ end_if
+    break_ stamp_ since_ messages spaces clear get suspend_ resume_ =
+    absurd (cc)
+no_other Time t work time mark expect repeat end_ if_ else_ end_if break_ stamp_ since_ messages spaces clear get suspend_ resume_ =
+    absurd (time refl)
+no_other (Mark n) t work time mark expect repeat end_ if_ else_ end_if
+    break_ stamp_ since_ messages spaces clear get suspend_ resume_ =
+    absurd (mark n refl)
+no_other (Expect a) t work time mark expect repeat end_ if_ else_ end_if
+    break_ stamp_ since_ messages spaces clear get suspend_ resume_ =
+    absurd (expect a refl)
+no_other (Repeat n) t work time mark expect repeat end_ if_ else_ end_if
+    break_ stamp_ since_ messages spaces clear get suspend_ resume_ =
+    absurd (repeat n refl)
+no_other EndLoop t work time mark expect repeat end_ if_ else_ end_if
+    break_ stamp_ since_ messages spaces clear get suspend_ resume_ =
+    absurd (end_ refl)
+no_other (If c) t work time mark expect repeat end_ if_ else_ end_if
+    break_ stamp_ since_ messages spaces clear get suspend_ resume_ =
+    absurd (if_ c refl)
+no_other Else t work time mark expect repeat end_ if_ else_ end_if break_ stamp_ since_ messages spaces clear get suspend_ resume_ =
+    absurd (else_ refl)
+no_other EndIf t work time mark expect repeat end_ if_ else_ end_if
+    break_ stamp_ since_ messages spaces clear get suspend_ resume_ =
+    absurd (end_if refl)
+no_other Break t work time mark expect repeat end_ if_ else_ end_if
+    break_ stamp_ since_ messages spaces clear get suspend_ resume_ =
+    absurd (break_ refl)
+no_other Stamp t work time mark expect repeat end_ if_ else_ end_if
+    break_ stamp_ since_ messages spaces clear get suspend_ resume_ =
+    absurd (stamp_ refl)
+no_other Since t work time mark expect repeat end_ if_ else_ end_if
+    break_ stamp_ since_ messages spaces clear get suspend_ resume_ =
+    absurd (since_ refl)
+no_other (Await o a w) t work time mark expect repeat end_ if_ else_ end_if
+    break_ stamp_ since_ messages spaces clear get suspend_ resume_ =
+    absurd (cc)
+no_other (Do o a) t work time mark expect repeat end_ if_ else_ end_if
+    break_ stamp_ since_ messages spaces clear get suspend_ resume_ =
+    absurd (cc)
+no_other (GiveMutex o) t work time mark expect repeat end_ if_ else_ end_if
+    break_ stamp_ since_ messages spaces clear get suspend_ resume_ =
+    absurd (cc)
+no_other (MessagesWaiting o) t work time mark expect repeat end_ if_ else_
+    end_if break_ stamp_ since_ messages spaces clear get suspend_ resume_ =
+    absurd (messages o refl)
+no_other (SpacesAvailable o) t work time mark expect repeat end_ if_ else_
+    end_if break_ stamp_ since_ messages spaces clear get suspend_ resume_ =
+    absurd (spaces o refl)
+no_other (SetBits g m) t work time mark expect repeat end_ if_ else_ end_if
+    break_ stamp_ since_ messages spaces clear get suspend_ resume_ =
+    absurd (cc)
+no_other (ClearBits g m) t work time mark expect repeat end_ if_ else_
+    end_if break_ stamp_ since_ messages spaces clear get suspend_ resume_ =
+    absurd (clear g m refl)
+no_other (GetBits g) t work time mark expect repeat end_ if_ else_ end_if
+    break_ stamp_ since_ messages spaces clear get suspend_ resume_ =
+    absurd (get g refl)
+no_other (WaitBits g c w) t work time mark expect repeat end_ if_ else_
+    end_if break_ stamp_ since_ messages spaces clear get suspend_ resume_ =
+    absurd (cc)
+no_other (Suspend j) t work time mark expect repeat end_ if_ else_ end_if
+    break_ stamp_ since_ messages spaces clear get suspend_ resume_ =
+    absurd (cc)
+no_other (Resume j) t work time mark expect repeat end_ if_ else_ end_if
+    break_ stamp_ since_ messages spaces clear get suspend_ resume_ =
+    absurd (cc)
+no_other SuspendAll t work time mark expect repeat end_ if_ else_ end_if
+    break_ stamp_ since_ messages spaces clear get suspend_ resume_ =
+    absurd (suspend_ refl)
+no_other ResumeAll t work time mark expect repeat end_ if_ else_ end_if
+    break_ stamp_ since_ messages spaces clear get suspend_ resume_ =
+    absurd (resume_ refl)
+no_other (NextCommand o) t work time mark expect repeat end_ if_ else_
+    end_if break_ stamp_ since_ messages spaces clear get suspend_ resume_ =
+    absurd (cc)
+no_other Obey t work time mark expect repeat end_ if_ else_ end_if break_ stamp_ since_ messages spaces clear get suspend_ resume_ =
+    absurd (cc)
 
 -- `suspend_all` is none in any case
 pub no_misuse : (s : State) (i : ℕ) → misuse s i SuspendAll ≡ None
@@ -153,18 +223,22 @@ pub suspended_by : (k : Machine) (log : List Event) (s : State) → At k log s �
 suspended_by k log s h some = let n = h.stands.rest.suspensions in lt-ltb 0 s.suspensions (omega arith)
 
 module _ (app : Application) (new : Machine) (log : List Event) (s : State) (i : ℕ) (op : Op) where
-  pub misused_at : (kind : Misuse) → misuse s i op ≡ Some kind → At new log (misused i (progress_at s i).op_index kind s) → At new log (act_unless app i (misuse s i op) op s)
+  pub misused_at : (kind : Misuse) → misuse s i op ≡ Some kind
+      → At new log (misused i (progress_at s i).op_index kind s) → At new log (act_unless app i (misuse s i op) op s)
   misused_at kind e h = rw e h
 
-  pub acted_at : misuse s i op ≡ None → At new log (judge i (progress_at s i).op_index (act app i op s)) → At new log (act_unless app i (misuse s i op) op s)
+  pub acted_at : misuse s i op ≡ None → At new log (judge i (progress_at s i).op_index (act app i op s))
+      → At new log (act_unless app i (misuse s i op) op s)
   acted_at e h = rw e h
 
 -- ---- fewer events than may be reported
 
-pub does_up : (count more : ℕ) (old new : Machine) (old_log new_log : Logged) (deed : State → State) → count ≤ more → Does count old old_log new new_log deed → Does more old old_log new new_log deed
+pub does_up : (count more : ℕ) (old new : Machine) (old_log new_log : Logged) (deed : State → State)
+    → count ≤ more → Does count old old_log new new_log deed → Does more old old_log new new_log deed
 does_up count more old new old_log new_log deed l d = record { at = d.at; few = let f = d.few in omega arith; before = d.before }
 
-pub moves_up : (count : ℕ) (old new : Machine) (log : Logged) (deed : State → State) → Moves old new deed → Does count old log new log deed
+pub moves_up : (count : ℕ) (old new : Machine) (log : Logged) (deed : State → State)
+    → Moves old new deed → Does count old log new log deed
 moves_up count old new log deed d = record { at = λ s h. d log.told s h; few = omega arith; before = refl }
 
 -- None is in force where that follows if one is.

@@ -1,6 +1,7 @@
 -- Steps of a call that waits, from where it decides to where it lets go of the scheduler.
 use denote.Enum.Bare.{sameb, same_true}
-use Rattle.std.proofs.Common.{◌≡◌, ◌≢◌, ◌<◌, ◌+◌, ℕ, Bool, true, false, not, rules, List, [], Option, None, refl, ap, sym, subst, ◌∙◌, arith}
+use Rattle.std.proofs.Common.{◌≡◌, ◌≢◌, ◌<◌, ◌+◌, ℕ, Bool, true, false, not, rules, List, [], Option, None, refl, ap, sym, subst}
+use Rattle.std.proofs.Common.{◌∙◌, arith}
 use Rattle.std.specs.Prelude.{nat_lt}
 use Rattle.std.proofs.lemmas.Bool.{lt-ltb}
 use Rattle.model.specs.declared.op.Access.{Access}
@@ -77,9 +78,11 @@ still_held k log s some h = either k log s h
     (λ a. any k log (unless_held settle s) (settled_held k log s (held_by k.sched s a.stands.sched some) a))
     (λ task list b. settled_before k log s h task list b)
 
-module _ (app : Application) (limits : Limits) (k : Machine) (task object : ℕ) (access : Access) (phase : Phase) (c : IsInPhase app k task object access phase) where
+module _ (app : Application) (limits : Limits) (k : Machine) (task object : ℕ)
+    (access : Access) (phase : Phase) (c : IsInPhase app k task object access phase) where
   -- it is in its next phase then
-  pub still_in_call : (new : Machine) → Remains k new task → (next : Phase) → (progress_in new.progress task).call.phase ≡ next → IsInPhase app new task object access next
+  pub still_in_call : (new : Machine) → Remains k new task → (next : Phase)
+      → (progress_in new.progress task).call.phase ≡ next → IsInPhase app new task object access next
   still_in_call new r next e = record {
     current = r.current ∙ c.current;
     ticks = c.ticks;
@@ -98,15 +101,19 @@ module _ (app : Application) (limits : Limits) (k : Machine) (task object : ℕ)
     by_form (Receives e a t) =
         subst (CanGoOn k task object access c.ticks) c.reached
         (subst (λ (n : Option ℕ). CanGoOn k task object access n (progress_in k.progress task).call.phase) (sym t)
-        (subst (λ (x : Access). CanGoOn k task object x None (progress_in k.progress task).call.phase) (sym a) (subst (CanOp app k task) e can)))
+        (subst (λ (x : Access). CanGoOn k task object x None (progress_in k.progress task).call.phase)
+        (sym a) (subst (CanOp app k task) e can)))
 
   -- and what it does in its phase is what the step does,
-  pub acts_in_phase : IsPast phase → (new : Machine) (old_log new_log : Logged) → DoesAny 2 k old_log new new_log (await app task object access c.ticks phase) → DoesAny 65 k old_log new new_log (λ s. act_current app limits s.current s)
+  pub acts_in_phase : IsPast phase → (new : Machine) (old_log new_log : Logged)
+      → DoesAny 2 k old_log new new_log (await app task object access c.ticks phase)
+      → DoesAny 65 k old_log new new_log (λ s. act_current app limits s.current s)
   acts_in_phase past new old_log new_log does = acts app limits k task c.current c.op c.at new old_log new_log (by_form c.on) where
     not_before : (other : Phase) → (IsPast other → ⊥) → (progress_in k.progress task).call.phase ≡ other → ⊥
     not_before other off e = off (subst IsPast (sym c.reached ∙ e) past)
 
-    by_form : IsCallOn c.op object access c.ticks → DoesAny 65 k old_log new new_log (λ s. act_unless app task (misuse s task c.op) c.op s)
+    by_form : IsCallOn c.op object access c.ticks
+        → DoesAny 65 k old_log new new_log (λ s. act_unless app task (misuse s task c.op) c.op s)
     by_form (Awaits e) =
         any_by_form app k new old_log new_log task c.op (Await object access c.ticks) e c.awake (λ s. refl) refl 2 two_within
         (in_phase app k new old_log new_log task object access c.ticks phase c.reached does)
@@ -117,11 +124,13 @@ module _ (app : Application) (limits : Limits) (k : Machine) (task object : ℕ)
         (subst (λ (n : Option ℕ). DoesAny 2 k old_log new new_log (await app task object Receive n phase)) t
         (subst (λ (x : Access). DoesAny 2 k old_log new new_log (await app task object x c.ticks phase)) a does))))
 
-  module _ (past : IsPast phase) (new : Machine) (does : (log : List Event) (s : State) → AtAny k log s → AtAny new log (await app task object access c.ticks phase s)) where
+  module _ (past : IsPast phase) (new : Machine)
+      (does : (log : List Event) (s : State) → AtAny k log s → AtAny new log (await app task object access c.ticks phase s)) where
     acts_there : (log : List Event) (s : State) → AtAny k log s → AtAny new log (act_current app limits s.current s)
     acts_there log s h =
         let told : Logged = record { before = []; told = log; room = 65 } in
-        let one : DoesAny 2 k told new told (await app task object access c.ticks phase) = record { at = does log; few = omega arith; before = refl } in
+        let one : DoesAny 2 k told new told (await app task object access c.ticks phase) =
+        record { at = does log; few = omega arith; before = refl } in
         (acts_in_phase past new told told one).at s h
 
     -- as it reports nothing, and switches nothing.
@@ -140,7 +149,8 @@ module _ (app : Application) (limits : Limits) (k : Machine) (task object : ℕ)
       told_nothing = sym there.log
 
       -- Nor does it end the run.
-      pub not_over_after : IsSilent phase → new.sched.current ≡ k.sched.current → is_over app limits s ≡ false → is_over app limits (step app limits [] s) ≡ false
+      pub not_over_after : IsSilent phase → new.sched.current ≡ k.sched.current
+          → is_over app limits s ≡ false → is_over app limits (step app limits [] s) ≡ false
       not_over_after silent same =
           let now : Progress = progress_at s task in
           let is : progress_in k.progress task ≡ now = progress_is k s h task in
@@ -152,6 +162,10 @@ module _ (app : Application) (limits : Limits) (k : Machine) (task object : ℕ)
           (sym (current_is (record new { steps = new.steps + 1 }) (step app limits [] s) stepped_held) ∙ same ∙ c.current)
 
 -- So it is where the call lets go of the scheduler.
-pub leaves : (app : Application) (limits : Limits) (k new : Machine) (task : ℕ) → IsLeaving app k task → CanLeave k task → (old_log new_log : Logged) → Does 1 k old_log new new_log (leave_call task) → DoesAny 65 k old_log new new_log (λ s. act_current app limits s.current s)
+pub leaves : (app : Application) (limits : Limits) (k new : Machine) (task : ℕ) → IsLeaving app k task
+    → CanLeave k task → (old_log new_log : Logged) → Does 1 k old_log new new_log (leave_call task)
+    → DoesAny 65 k old_log new new_log (λ s. act_current app limits s.current s)
 leaves app limits k new task l can old_log new_log does =
-    acts_in_phase app limits k task l.0 l.1 Leave l.2 tt new old_log new_log (does_more 1 2 k new old_log new_log (leave_call task) (omega arith) (does_any 1 k new old_log new_log (leave_call task) can.call.agrees does))
+    acts_in_phase app limits k task l.0 l.1 Leave l.2 tt new old_log new_log
+    (does_more 1 2 k new old_log new_log (leave_call task) (omega arith)
+    (does_any 1 k new old_log new_log (leave_call task) can.call.agrees does))

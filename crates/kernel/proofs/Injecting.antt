@@ -29,7 +29,9 @@ module _ (app : Application) (limits : Limits) (point : List Injection) (formed 
   }
 
   -- the events of the row: the base run's before the first injection, and those from there on
-  pub row_events : (n : ℕ) → first_step point ≤ n → events_after app limits [] (first_step point) ++ events_from app limits point (first_step point) n ≡ events_after app limits point n
+  pub row_events : (n : ℕ) → first_step point ≤ n
+      → events_after app limits [] (first_step point) ++ events_from app limits point (first_step point) n
+      ≡ events_after app limits point n
   row_events n l =
       ap (λ (events : List Event). events ++ events_from app limits point (first_step point) n)
       (sym (same_events app limits point (first_step point) (none_before point formed.in_order) (first_step point) (omega arith)))
@@ -38,19 +40,28 @@ module _ (app : Application) (limits : Limits) (point : List Injection) (formed 
   -- Where the base run goes on at the first injection, the row doesn't end there. Where it has an end, or has come to a later step,
   -- it is behind that injection.
   pub past_it : end_of app limits (state_after app limits [] (first_step point)) ≡ None → (n : ℕ) → first_step point ≤ n
-      → (end : Option End) → end ≡ end_of app limits (state_after app limits point n) → (until : ℕ) → (end ≡ None → n ≡ until) → first_step point < until → first_step point < n
+      → (end : Option End) → end ≡ end_of app limits (state_after app limits point n) → (until : ℕ)
+      → (end ≡ None → n ≡ until) → first_step point < until → first_step point < n
   past_it on n l end is until there beyond = by_test (eqb n (first_step point))
       (λ t.
       let same : n ≡ first_step point = eqb-same n (first_step point) t in
-      let none : end ≡ None = is ∙ ap (λ (m : ℕ). end_of app limits (state_after app limits point m)) same ∙ ap (λ (s : State). end_of app limits s) (state_there (first_step point) (omega arith)) ∙ on in
+      let none : end ≡ None =
+      is ∙ ap (λ (m : ℕ). end_of app limits (state_after app limits point m)) same
+      ∙ ap (λ (s : State). end_of app limits s) (state_there (first_step point) (omega arith)) ∙ on in
       let at = there none in
       absurd (omega arith))
-      (λ t. let apart : n ≢ first_step point = (λ e. let u : eqb n (first_step point) ≡ true = rw e (eqb-refl (first_step point)) in absurd (cc)) in omega arith)
+      (λ t.
+      let apart : n ≢ first_step point =
+      (λ e. let u : eqb n (first_step point) ≡ true = rw e (eqb-refl (first_step point)) in absurd (cc)) in
+      omega arith)
 
   -- where the row came to its end
-  pub row_that_ended : (k : Machine) → IsUnderWay app point limits k → first_step point < k.steps → (own : List Event) → own ≡ events_from app limits point (first_step point) k.steps
-      → (end : End) → Some end ≡ end_of app limits (state_after app limits point k.steps) → (ticks : ℕ) → ((s : State) → Stands k s → ticks ≡ s.elapsed)
-      → IsRun app point limits (record { events = events_after app limits [] (first_step point) ++ own; steps = k.steps; ticks = ticks; end = end })
+  pub row_that_ended : (k : Machine) → IsUnderWay app point limits k → first_step point < k.steps
+      → (own : List Event) → own ≡ events_from app limits point (first_step point) k.steps
+      → (end : End) → Some end ≡ end_of app limits (state_after app limits point k.steps)
+      → (ticks : ℕ) → ((s : State) → Stands k s → ticks ≡ s.elapsed)
+      → IsRun app point limits
+      (record { events = events_after app limits [] (first_step point) ++ own; steps = k.steps; ticks = ticks; end = end })
   row_that_ended k way past own e end ended ticks t = record {
     goes_on = way.goes_on;
     ends = sym ended;
@@ -59,16 +70,24 @@ module _ (app : Application) (limits : Limits) (point : List Injection) (formed 
   }
 
   -- where it goes on behind its last injection, and the rest from the kernel to which it came is known
-  pub row_with_rest : (k : Machine) → IsUnderWay app point limits k → first_step point < k.steps → last_step point < k.steps → (own : List Event)
+  pub row_with_rest : (k : Machine) → IsUnderWay app point limits k
+      → first_step point < k.steps → last_step point < k.steps → (own : List Event)
       → own ≡ events_from app limits point (first_step point) k.steps
-      → (rest : Run) → IsRest app limits k rest → IsRun app point limits (record { events = events_after app limits [] (first_step point) ++ (own ++ rest.events); steps = rest.steps; ticks = rest.ticks; end = rest.end })
+      → (rest : Run) → IsRest app limits k rest
+      → IsRun app point limits (record {
+        events = events_after app limits [] (first_step point) ++ (own ++ rest.events);
+        steps = rest.steps;
+        ticks = rest.ticks;
+        end = rest.end;
+      })
   row_with_rest k way past beyond own e rest is =
       let run = is.of_each point way (λ n from. none_past point formed.in_order n (omega arith)) in
       record {
         goes_on = run.goes_on;
         ends = run.ends;
         trace = sym (append_assoc (events_after app limits [] (first_step point)) own rest.events)
-            ∙ ap (λ (es : List Event). es ++ rest.events) (ap (λ (es : List Event). events_after app limits [] (first_step point) ++ es) e ∙ row_events k.steps (omega arith))
+            ∙ ap (λ (es : List Event). es ++ rest.events)
+            (ap (λ (es : List Event). events_after app limits [] (first_step point) ++ es) e ∙ row_events k.steps (omega arith))
             ∙ run.trace;
         elapsed = run.elapsed;
       }

@@ -21,13 +21,21 @@ module _ (app : Application) (limits : Limits) where
   -- ---- one kernel leads to another
 
   -- The runs are past their injections there too.
-  pub past_on : (old new : Machine) (own : List Event) → LeadsTo app limits old new own → (plan : List Injection) → IsPast app limits old plan → IsPast app limits new plan
-  past_on old new own leads plan is = record { way = leads.way plan is; past = λ n from. let on = leads.on in is.past n (omega arith) }
+  pub past_on : (old new : Machine) (own : List Event) → LeadsTo app limits old new own
+      → (plan : List Injection) → IsPast app limits old plan → IsPast app limits new plan
+  past_on old new own leads plan is =
+      record { way = leads.way plan is; past = λ n from. let on = leads.on in is.past n (omega arith) }
 
   pub leads_here : (k : Machine) → LeadsTo app limits k k []
-  leads_here k = record { on = omega arith; way = λ plan is. is.way; events = λ plan is. sym (append-nil (events_after app limits plan k.steps)) }
+  leads_here k =
+      record {
+        on = omega arith;
+        way = λ plan is. is.way;
+        events = λ plan is. sym (append-nil (events_after app limits plan k.steps));
+      }
 
-  pub leads_then : (first middle last : Machine) (own more : List Event) → LeadsTo app limits first middle own → LeadsTo app limits middle last more → LeadsTo app limits first last (own ++ more)
+  pub leads_then : (first middle last : Machine) (own more : List Event) → LeadsTo app limits first middle own
+      → LeadsTo app limits middle last more → LeadsTo app limits first last (own ++ more)
   leads_then first middle last own more one other = record {
     on = (let on = one.on in let further = other.on in omega arith);
     way = λ plan is. other.way plan (past_on first middle own one plan is);
@@ -42,7 +50,8 @@ module _ (app : Application) (limits : Limits) where
   pub led_here : (k : Machine) (kept : List Event) → IsLed app limits k k kept kept
   led_here k kept = record { own = []; kept = sym (append-nil kept); leads = leads_here k }
 
-  pub led_then : (first middle last : Machine) (before between after : List Event) → IsLed app limits first middle before between → IsLed app limits middle last between after → IsLed app limits first last before after
+  pub led_then : (first middle last : Machine) (before between after : List Event) → IsLed app limits first middle before between
+      → IsLed app limits middle last between after → IsLed app limits first last before after
   led_then first middle last before between after one other = record {
     own = one.own ++ other.own;
     kept = other.kept ∙ ap (λ (es : List Event). es ++ other.own) one.kept ∙ append_assoc before one.own other.own;
@@ -51,7 +60,8 @@ module _ (app : Application) (limits : Limits) where
 
   -- The kernel went on, up to a step before which no limit is reached.
   module _ (until : ℕ) (old new : Machine) (before after : List Event)
-      (ticks : app.tickless ≡ false → old.steps < until → old.clock.age + old.clock.held + until ≤ limits.ticks + old.steps) (steps : old.steps < until → until ≤ limits.steps)
+      (ticks : app.tickless ≡ false → old.steps < until → old.clock.age + old.clock.held + until ≤ limits.ticks + old.steps)
+      (steps : old.steps < until → until ≤ limits.steps)
       (goes : GoesOn app limits until old new before after) where
     free_past : (plan : List Injection) → IsPast app limits old plan → IsFree app limits until old plan
     free_past plan is = free_of_limits app limits until old plan is.way (λ n from below. is.past n from) ticks steps
@@ -68,26 +78,32 @@ module _ (app : Application) (limits : Limits) where
             way = λ other its. goes.to.way other (free_past other its);
             events = λ other its.
                 let same : own ≡ events_from app limits other old.steps new.steps =
-                append_cancel_left before own (events_from app limits other old.steps new.steps) (sym kept ∙ goes.events other (free_past other its)) in
-                sym (ap (λ (es : List Event). events_after app limits other old.steps ++ es) same ∙ goes_on_with app limits other old.steps new.steps goes.to.on);
+                append_cancel_left before own (events_from app limits other old.steps new.steps)
+                (sym kept ∙ goes.events other (free_past other its)) in
+                sym (ap (λ (es : List Event). events_after app limits other old.steps ++ es) same
+                ∙ goes_on_with app limits other old.steps new.steps goes.to.on);
           };
         }
 
   -- ---- what is ahead
 
   -- What is ahead of the new kernel is ahead of the old one, behind the events on the way.
-  pub rest_before : (old new : Machine) (own : List Event) (rest : Run) → LeadsTo app limits old new own → IsRest app limits new rest
+  pub rest_before : (old new : Machine) (own : List Event) (rest : Run)
+      → LeadsTo app limits old new own → IsRest app limits new rest
       → IsRest app limits old (record { events = own ++ rest.events; steps = rest.steps; ticks = rest.ticks; end = rest.end })
   rest_before old new own rest leads is = record {
     of_each = λ plan way past.
         let here : IsPast app limits old plan = record { way = way; past = past } in
         let there = past_on old new own leads plan here in
         let run = is.of_each plan there.way there.past in
-        rw (sym (ap (λ (es : List Event). es ++ rest.events) (leads.events plan here) ∙ append_assoc (events_after app limits plan old.steps) own rest.events)) run;
+        rw (sym (ap (λ (es : List Event). es ++ rest.events) (leads.events plan here)
+        ∙ append_assoc (events_after app limits plan old.steps) own rest.events))
+        run;
   }
 
   -- Nothing is ahead of a kernel at which each run is over.
-  pub end_here : (k : Machine) (ticks : ℕ) → ticks ≡ k.clock.age + k.clock.held → (end : End) → ((s : State) → Stands k s → Some end ≡ end_of app limits s)
+  pub end_here : (k : Machine) (ticks : ℕ) → ticks ≡ k.clock.age + k.clock.held
+      → (end : End) → ((s : State) → Stands k s → Some end ≡ end_of app limits s)
       → IsEnd app limits k (record { steps = k.steps; ticks = ticks; end = end })
   end_here k ticks t end ended = record {
     here = refl;

@@ -4,7 +4,10 @@ use Rattle.std.specs.Option.{unwrap_or}
 use Rattle.model.specs.declared.op.Command.{Command}
 use Rattle.model.specs.Daemon.{command_of, end_set_by_daemon}
 use Rattle.model.specs.declared.op.Op.{Op}
-use Rattle.model.specs.declared.op.Op.TheVariants.{Work, Delay, DelayUntil, Yield, Time, Mark, Expect, Repeat, End, If, Else, EndIf, Break, Stamp, Since, Await, Do, GiveMutex, MessagesWaiting, SpacesAvailable, SetBits, ClearBits, GetBits, WaitBits, Suspend, Resume, SuspendAll, ResumeAll, NextCommand, Obey}
+use Rattle.model.specs.declared.op.Op.TheVariants.{Work, Delay, DelayUntil, Yield, Time, Mark, Expect, Repeat, End, If, Else, EndIf}
+use Rattle.model.specs.declared.op.Op.TheVariants.{Break, Stamp, Since, Await, Do, GiveMutex, MessagesWaiting, SpacesAvailable}
+use Rattle.model.specs.declared.op.Op.TheVariants.{SetBits, ClearBits, GetBits, WaitBits, Suspend, Resume, SuspendAll, ResumeAll}
+use Rattle.model.specs.declared.op.Op.TheVariants.{NextCommand, Obey}
 use Rattle.model.specs.declared.call.Condition.{Condition}
 use Rattle.model.specs.declared.call.Phase.TheVariants.{Start, Leave, Try}
 use Rattle.model.specs.Application.{Application, Limits}
@@ -31,34 +34,45 @@ module _ (app : Application) (k : Machine) (task : ℕ) (op : Op) (l : IsLetting
     pub can_end_set : Runs k task × CanLeave k task
     can_end_set = subst (CanSetBits k task) l.reached (subst (CanOp app k task) is can)
 
-    pub ends_set : (limits : Limits) (new : Machine) (old_log new_log : Logged) → Does 2 k old_log new new_log (λ s. preempt (answer app task (call_at s task).kept (end_hold task Start s))) → DoesAny 65 k old_log new new_log (λ s. act_current app limits s.current s)
+    pub ends_set : (limits : Limits) (new : Machine) (old_log new_log : Logged)
+        → Does 2 k old_log new new_log (λ s. preempt (answer app task (call_at s task).kept (end_hold task Start s)))
+        → DoesAny 65 k old_log new new_log (λ s. act_current app limits s.current s)
     ends_set limits new old_log new_log does =
         acts app limits k task l.current op l.at new old_log new_log
         (any_by_form app k new old_log new_log task op (SetBits group mask) is l.awake (λ s. refl) refl 2 two_within
-        (set_in_phase app k new old_log new_log task group mask Leave l.reached (does_any 2 k new old_log new_log _ can_end_set.1.call.agrees does)))
+        (set_in_phase app k new old_log new_log task group mask Leave l.reached
+        (does_any 2 k new old_log new_log _ can_end_set.1.call.agrees does)))
 
   module _ (group : ℕ) (condition : Condition) (ticks : Option ℕ) (is : op ≡ WaitBits group condition ticks) where
     pub can_leave_wait : CanLeave k task
     can_leave_wait = subst (CanWaitBits k task ticks) l.reached (subst (CanOp app k task) is can)
 
-    pub leaves_wait : (limits : Limits) (new : Machine) (old_log new_log : Logged) → Does 1 k old_log new new_log (λ s. choose (end_hold task Try s)) → DoesAny 65 k old_log new new_log (λ s. act_current app limits s.current s)
+    pub leaves_wait : (limits : Limits) (new : Machine) (old_log new_log : Logged)
+        → Does 1 k old_log new new_log (λ s. choose (end_hold task Try s))
+        → DoesAny 65 k old_log new new_log (λ s. act_current app limits s.current s)
     leaves_wait limits new old_log new_log does =
         acts app limits k task l.current op l.at new old_log new_log
         (any_by_form app k new old_log new_log task op (WaitBits group condition ticks) is l.awake (λ s. refl) refl 2 two_within
-        (wait_in_phase app k new old_log new_log task group condition ticks Leave l.reached (does_more 1 2 k new old_log new_log _ (omega arith) (does_any 1 k new old_log new_log _ can_leave_wait.call.agrees does))))
+        (wait_in_phase app k new old_log new_log task group condition ticks Leave l.reached
+        (does_more 1 2 k new old_log new_log _ (omega arith) (does_any 1 k new old_log new_log _ can_leave_wait.call.agrees does))))
 
   module _ (is : op ≡ Obey) where
     pub can_end_command : Runs k task × CanLeave k task
     can_end_command = subst (CanSetBits k task) l.reached (subst (CanOp app k task) is can)
 
-    pub ends_command : (limits : Limits) (new : Machine) (old_log new_log : Logged) (c : Command) → c ≡ command_of (unwrap_or (progress_in k.progress task).answer 0) → Does 2 k old_log new new_log (end_set_by_daemon app task c.group) → DoesAny 65 k old_log new new_log (λ s. act_current app limits s.current s)
+    pub ends_command : (limits : Limits) (new : Machine) (old_log new_log : Logged) (c : Command)
+        → c ≡ command_of (unwrap_or (progress_in k.progress task).answer 0)
+        → Does 2 k old_log new new_log (end_set_by_daemon app task c.group)
+        → DoesAny 65 k old_log new new_log (λ s. act_current app limits s.current s)
     ends_command limits new old_log new_log c same does =
         acts app limits k task l.current op l.at new old_log new_log
         (any_by_form app k new old_log new_log task op Obey is l.awake (λ s. refl) refl 2 two_within
-        (obey_in_phase app k new old_log new_log task c Leave l.reached same (does_any 2 k new old_log new_log _ can_end_command.1.call.agrees does)))
+        (obey_in_phase app k new old_log new_log task c Leave l.reached same
+        (does_any 2 k new old_log new_log _ can_end_command.1.call.agrees does)))
 
 -- No other op is for bits.
-pub no_other : (op : Op) → is_for_bits op ≡ true → ((group mask : ℕ) → op ≢ SetBits group mask) → ((group : ℕ) (condition : Condition) (ticks : Option ℕ) → op ≢ WaitBits group condition ticks) → (op ≢ Obey) → ⊥
+pub no_other : (op : Op) → is_for_bits op ≡ true → ((group mask : ℕ) → op ≢ SetBits group mask)
+    → ((group : ℕ) (condition : Condition) (ticks : Option ℕ) → op ≢ WaitBits group condition ticks) → (op ≢ Obey) → ⊥
 no_other (Work n) e sets waits obeys = absurd (cc)
 no_other (Delay n) e sets waits obeys = absurd (cc)
 no_other (DelayUntil n) e sets waits obeys = absurd (cc)

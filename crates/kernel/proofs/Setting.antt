@@ -26,7 +26,8 @@ module _ (app : Application) (k : Machine) (task : ℕ) (command : Command) (t :
   pub can_begin : CanOp app k task Obey → CanDecide k task
   can_begin can = subst (CanSetBits k task) t.reached can
 
-  pub begins : (limits : Limits) (new : Machine) (log : Logged) → CanDecide k task → Moves k new (begin_set task command.group command.mask) → DoesAny 65 k log new log (λ s. act_current app limits s.current s)
+  pub begins : (limits : Limits) (new : Machine) (log : Logged) → CanDecide k task
+      → Moves k new (begin_set task command.group command.mask) → DoesAny 65 k log new log (λ s. act_current app limits s.current s)
   begins limits new log can moves =
       acts app limits k task t.current Obey t.at new log log
       (any_by_form app k new log log task Obey Obey refl t.awake (λ s. refl) refl 2 two_within
@@ -34,7 +35,9 @@ module _ (app : Application) (k : Machine) (task : ℕ) (command : Command) (t :
       (obey_set app k new log log task command t.sets (moves_any 2 k new log _ can.agrees moves))))
 
   -- Nor does it end the run, if a task runs then.
-  pub not_over_begun : (limits : Limits) (new : Machine) (s : State) → Stands k s → Stands new (step app limits [] s) → is_over app limits s ≡ false → (running : ℕ) → new.sched.current ≡ Some running → is_over app limits (step app limits [] s) ≡ false
+  pub not_over_begun : (limits : Limits) (new : Machine) (s : State) → Stands k s
+      → Stands new (step app limits [] s) → is_over app limits s ≡ false → (running : ℕ)
+      → new.sched.current ≡ Some running → is_over app limits (step app limits [] s) ≡ false
   not_over_begun limits new s h after going running still =
       let is : progress_in k.progress task ≡ progress_at s task = progress_is k s h task in
       let same : command ≡ command_at s task = t.received ∙ ap (λ (p : Progress). command_of (unwrap_or p.answer 0)) is in

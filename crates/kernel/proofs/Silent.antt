@@ -1,5 +1,6 @@
 -- A phase of a call in which it reports nothing ends neither a task nor the run.
-use Rattle.std.proofs.Common.{◌≡◌, ◌≢◌, ◌||◌, ◌&&◌, leb, ℕ, true, false, eqb, ltb, List, [], ◌∷◌, ◌++◌, Option, Some, None, refl, ap, sym, subst, ◌∙◌}
+use Rattle.std.proofs.Common.{◌≡◌, ◌≢◌, ◌||◌, ◌&&◌, leb, ℕ, true, false, eqb, ltb, List, [], ◌∷◌, ◌++◌, Option, Some, None, refl}
+use Rattle.std.proofs.Common.{ap, sym, subst, ◌∙◌}
 use Rattle.std.specs.Option.{is_some}
 use Rattle.model.specs.declared.event.End.{End}
 use Rattle.model.specs.declared.op.Access.{Access}
@@ -12,9 +13,11 @@ use Rattle.model.specs.declared.call.Phase.{Phase}
 use Rattle.model.specs.declared.call.Phase.TheVariants.{Start, Try, Decide, Place, Unlock, Leave}
 use Rattle.model.specs.declared.call.WaitList.TheVariants.{ToReceive, ToSend}
 use Rattle.model.specs.Application.{Application, Limits, is_any_awaited, op_at}
-use Rattle.model.specs.State.{State, Task, Waiting, task_at, status_at, progress_at, call_at, object_at, bits_at, with_task, with_call, for_one, for_each, no_task}
+use Rattle.model.specs.State.{State, Task, Waiting, task_at, status_at, progress_at, call_at, object_at, bits_at, with_task}
+use Rattle.model.specs.State.{with_call, for_one, for_each, no_task}
 use Rattle.model.specs.Order.{tasks_of}
-use Rattle.model.specs.Switching.{is_ready, is_same, is_off, choice, make_ready, to_back, dispatch, choose, settle, is_held, unless_held}
+use Rattle.model.specs.Switching.{is_ready, is_same, is_off, choice, make_ready, to_back, dispatch, choose, settle, is_held}
+use Rattle.model.specs.Switching.{unless_held}
 use Rattle.model.specs.Waiting.{awakened, is_expired, wait_in, unlock_object, unlock}
 use Rattle.model.specs.Objects.{list_for, possible}
 use Rattle.model.specs.Mutexes.{set_priority, lend, inherits, inherit_from, inherit}
@@ -39,10 +42,12 @@ use Rattle.kernel.proofs.Ending.{each_of, none_of, not_all_but, not_passed, runs
 abbrev EndsNobody : State → State → Type 0
 EndsNobody old new = (i : ℕ) → is_ended (status_at old i) ≡ false → is_ended (status_at new i) ≡ false
 
-on-with_task : (s : State) (i : ℕ) (t : Task) → (is_ended (status_at s i) ≡ false → is_ended t.status ≡ false) → EndsNobody s (with_task i t s)
+on-with_task : (s : State) (i : ℕ) (t : Task)
+    → (is_ended (status_at s i) ≡ false → is_ended t.status ≡ false) → EndsNobody s (with_task i t s)
 on-with_task s i t own j on =
     let P : ℕ → Task → Type 0 = λ k u. k ≡ j → is_ended u.status ≡ false in
-    let before : (k : ℕ) → k ≡ j → is_ended (status_at s k) ≡ false = λ k e. subst (λ (m : ℕ). is_ended (status_at s m) ≡ false) (sym e) on in
+    let before : (k : ℕ) → k ≡ j → is_ended (status_at s k) ≡ false = λ k e.
+    subst (λ (m : ℕ). is_ended (status_at s m) ≡ false) (sym e) on in
     each-set no_task P s.tasks i t (λ e. own (before i e)) before j refl
 
 on-with_call : (s : State) (i : ℕ) (call : CallProgress) → EndsNobody s (with_call i call s)
@@ -65,7 +70,8 @@ on-set_priority : (s : State) (i priority : ℕ) → EndsNobody s (set_priority 
 unfolding set_priority
 on-set_priority s i priority j on = by_test (eqb (task_at s i).priority priority)
     (λ t. rw t on)
-    (λ t. let u : Task = record (task_at s i) { priority = priority } in rw t (on-to_back (with_task i u s) i j (on-with_task s i u (λ o. o) j on)))
+    (λ t. let u : Task = record (task_at s i) { priority = priority } in
+    rw t (on-to_back (with_task i u s) i j (on-with_task s i u (λ o. o) j on)))
 
 on-lend : (s : State) (priority holder : ℕ) → EndsNobody s (lend priority holder s)
 on-lend s priority holder j on = by_test (ltb (task_at s holder).priority priority)
@@ -87,7 +93,8 @@ on-wait_in : (s : State) (i o : ℕ) (a : Access) → EndsNobody s (wait_in i (l
 unfolding wait_in
 on-wait_in s i o a j on =
     let t : State = with_call i (record (call_at s i) { waits = true }) s in
-    on-with_task t i (record (task_at t i) { status = Waiting _ }) (λ o. refl) j (on-with_call s i (record (call_at s i) { waits = true }) j on)
+    on-with_task t i (record (task_at t i) { status = Waiting _ }) (λ o. refl)
+    j (on-with_call s i (record (call_at s i) { waits = true }) j on)
 
 on-decide : (s : State) (i o : ℕ) (a : Access) → EndsNobody s (decide i o a s)
 unfolding decide
@@ -95,21 +102,25 @@ on-decide s i o a j on = by_test (possible s o a || is_expired s i)
     (λ t. rw t (on-with_call s i (record (call_at s i) { phase = Unlock }) j on))
     (λ t.
     let waits : State = wait_in i (list_for o a) (inherit i o s) in
-    rw t (on-with_call waits i (record (call_at waits i) { phase = Place }) j (on-wait_in (inherit i o s) i o a j (on-inherit s i o j on))))
+    rw t (on-with_call waits i (record (call_at waits i) { phase = Place })
+    j (on-wait_in (inherit i o s) i o a j (on-inherit s i o j on))))
 
 on-unlock : (s : State) → EndsNobody s (unlock s)
 unfolding unlock
 on-unlock s j on = by_locked s.locked where
   by_locked : (o : Option ℕ) → is_ended (status_at (for_one unlock_object o s) j) ≡ false
   by_locked None = on
-  by_locked (Some o) = on-all_ready (tasks_of (awakened s (ToReceive o)) ++ tasks_of (awakened s (ToSend o))) (record s { locked = None }) j on
+  by_locked (Some o) =
+      on-all_ready (tasks_of (awakened s (ToReceive o)) ++ tasks_of (awakened s (ToSend o))) (record s { locked = None }) j on
 
-on-await : (app : Application) (i o : ℕ) (a : Access) (ticks : Option ℕ) (phase : Phase) (s : State) → IsSilent phase → EndsNobody s (await app i o a ticks phase s)
+on-await : (app : Application) (i o : ℕ) (a : Access) (ticks : Option ℕ) (phase : Phase) (s : State)
+    → IsSilent phase → EndsNobody s (await app i o a ticks phase s)
 on-await app i o a ticks Start s silent = absurd silent
 on-await app i o a ticks Try s silent = absurd silent
 on-await app i o a ticks Decide s silent = on-decide s i o a
 on-await app i o a ticks Place s silent = on-with_call s i (record (call_at s i) { phase = Unlock })
-on-await app i o a ticks Unlock s silent = λ j on. on-with_call (unlock s) i (record (call_at (unlock s) i) { phase = Leave }) j (on-unlock s j on)
+on-await app i o a ticks Unlock s silent = λ j on.
+    on-with_call (unlock s) i (record (call_at (unlock s) i) { phase = Leave }) j (on-unlock s j on)
 on-await app i o a ticks Leave s silent = absurd silent
 
 stopped-decide : (s : State) (i o : ℕ) (a : Access) → (decide i o a s).stopped ≡ s.stopped
@@ -121,9 +132,11 @@ unfolding unlock
 stopped-unlock s = by_locked s.locked where
   by_locked : (o : Option ℕ) → (for_one unlock_object o s).stopped ≡ s.stopped
   by_locked None = refl
-  by_locked (Some o) = stopped-all_ready (tasks_of (awakened s (ToReceive o)) ++ tasks_of (awakened s (ToSend o))) (record s { locked = None })
+  by_locked (Some o) =
+      stopped-all_ready (tasks_of (awakened s (ToReceive o)) ++ tasks_of (awakened s (ToSend o))) (record s { locked = None })
 
-stopped-await : (app : Application) (i o : ℕ) (a : Access) (ticks : Option ℕ) (phase : Phase) (s : State) → IsSilent phase → (await app i o a ticks phase s).stopped ≡ s.stopped
+stopped-await : (app : Application) (i o : ℕ) (a : Access) (ticks : Option ℕ) (phase : Phase) (s : State)
+    → IsSilent phase → (await app i o a ticks phase s).stopped ≡ s.stopped
 stopped-await app i o a ticks Start s silent = absurd silent
 stopped-await app i o a ticks Try s silent = absurd silent
 stopped-await app i o a ticks Decide s silent = stopped-decide s i o a
@@ -148,7 +161,9 @@ on-unless_held s j on = by_test (is_held s) (λ t. rw t on) (λ t. rw t (on-sett
 
 on-wake_met : (bits : ℕ) (js : List ℕ) (s : State) → EndsNobody s (for_each (λ task. wake_with_bits task bits) js s)
 on-wake_met bits [] s j on = on
-on-wake_met bits (i ∷ js) s j on = on-wake_met bits js (wake_with_bits i bits s) j (on-make_ready (keep_answer i bits s) i j (on-with_call s i (record (call_at s i) { kept = Some bits }) j on))
+on-wake_met bits (i ∷ js) s j on =
+    on-wake_met bits js (wake_with_bits i bits s) j
+    (on-make_ready (keep_answer i bits s) i j (on-with_call s i (record (call_at s i) { kept = Some bits }) j on))
 
 on-set : (s : State) (group mask : ℕ) → EndsNobody s (set group mask s)
 unfolding set
@@ -159,7 +174,8 @@ unfolding begin_set
 on-begin_set s i group mask j on =
     let t : State = set group mask (record s { call_hold = true }) in
     let u : State = keep_answer i (bits_at t group) t in
-    on-with_call u i (record (call_at u i) { phase = Leave }) j (on-with_call t i (record (call_at t i) { kept = Some (bits_at t group) }) j (on-set (record s { call_hold = true }) group mask j on))
+    on-with_call u i (record (call_at u i) { phase = Leave }) j (on-with_call t i
+    (record (call_at t i) { kept = Some (bits_at t group) }) j (on-set (record s { call_hold = true }) group mask j on))
 
 stopped-begin_set : (s : State) (i group mask : ℕ) → (begin_set i group mask s).stopped ≡ s.stopped
 unfolding begin_set
@@ -167,10 +183,13 @@ stopped-begin_set s i group mask = stopped-set (record s { call_hold = true }) g
 
 -- ---- the step
 
--- Where what is done in a step ends nobody and stops nothing, and lets no tick pass, a run that isn't over before it isn't over after it.
-module _ (app : Application) (limits : Limits) (task : ℕ) (s done : State) (does : act_current app limits s.current (record s { log = [] }) ≡ done)
+-- Where what is done in a step ends nobody and stops nothing, and lets no tick pass,
+-- a run that isn't over before it isn't over after it.
+module _ (app : Application) (limits : Limits) (task : ℕ) (s done : State)
+    (does : act_current app limits s.current (record s { log = [] }) ≡ done)
     (ends_nobody : EndsNobody s done) (stops_not : done.stopped ≡ s.stopped) (lasts_not : done.elapsed ≡ s.elapsed) where
-  pub not_over_by : (step app limits [] s).current ≡ Some task → is_over app limits s ≡ false → is_over app limits (step app limits [] s) ≡ false
+  pub not_over_by : (step app limits [] s).current ≡ Some task
+      → is_over app limits s ≡ false → is_over app limits (step app limits [] s) ≡ false
   unfolding step before_step
   not_over_by still going =
       let begun : State = record s { log = [] } in
@@ -179,11 +198,13 @@ module _ (app : Application) (limits : Limits) (task : ℕ) (s done : State) (do
       let stopped : ended.stopped ≡ s.stopped = stopped-settled acted ∙ ap (λ (x : State). x.stopped) does ∙ stops_not in
       let each = each_of (is_some s.stopped) (are_all_ended app s) (is_at_tick_limit app limits s) (is_stuck app s) going in
       let lasts : acted.elapsed ≡ s.elapsed = ap (λ (x : State). x.elapsed) does ∙ lasts_not in
-      let early : is_at_tick_limit app limits ended ≡ false = ap (λ (n : ℕ). app.tickless && leb limits.ticks n) ((keeps-unless_held settle acted keeps-settle).elapsed ∙ lasts) ∙ each.2 in
+      let early : is_at_tick_limit app limits ended ≡ false =
+      ap (λ (n : ℕ). app.tickless && leb limits.ticks n) ((keeps-unless_held settle acted keeps-settle).elapsed ∙ lasts) ∙ each.2 in
       let goes : are_all_ended app ended ≡ false = by_test (is_any_awaited app)
       (λ t.
       let one = some_left app.tasks s.tasks (rw t at each.1) in
-      let on : is_ended (status_at acted one.0) ≡ false = subst (λ (x : State). is_ended (status_at x one.0) ≡ false) (sym does) (ends_nobody one.0 one.2) in
+      let on : is_ended (status_at acted one.0) ≡ false =
+      subst (λ (x : State). is_ended (status_at x one.0) ≡ false) (sym does) (ends_nobody one.0 one.2) in
       not_passed app ended (not_all_but app.tasks ended.tasks one.0 one.1 (on-unless_held acted one.0 on)))
       (λ t. rw t refl) in
       none_of (is_some ended.stopped) (are_all_ended app ended) (is_at_tick_limit app limits ended) (is_stuck app ended)
@@ -193,7 +214,8 @@ module _ (app : Application) (limits : Limits) (task : ℕ) (s done : State) (do
       (runs_on app ended task still)
 
 -- What the op of a call that waits does in such a phase is what the call does.
-module _ (app : Application) (task object : ℕ) (access : Access) (ticks : Option ℕ) (phase : Phase) (silent : IsSilent phase) (s : State) (reached : (call_at s task).phase ≡ phase) where
+module _ (app : Application) (task object : ℕ) (access : Access) (ticks : Option ℕ) (phase : Phase)
+    (silent : IsSilent phase) (s : State) (reached : (call_at s task).phase ≡ phase) where
   not_begun : (other : Phase) → (IsSilent other → ⊥) → phase ≡ other → ⊥
   not_begun other loud e = loud (subst IsSilent e silent)
 
@@ -210,8 +232,10 @@ module _ (app : Application) (task object : ℕ) (access : Access) (ticks : Opti
   call_allowed op (Awaits e) = (ap (own_misuse s task) e, λ x. let y = sym e ∙ x in absurd (cc))
   call_allowed op (Receives e a t) = (ap (own_misuse s task) e, λ x. let y = sym e ∙ x in absurd (cc))
 
-module _ (app : Application) (limits : Limits) (task object : ℕ) (access : Access) (ticks : Option ℕ) (phase : Phase) (silent : IsSilent phase) (op : Op) (on : IsCallOn op object access ticks) where
-  acts_silently : (s : State) → s.current ≡ Some task → op_at app task (progress_at s task).op_index ≡ Some op → (call_at s task).phase ≡ phase → s.suspensions ≡ 0
+module _ (app : Application) (limits : Limits) (task object : ℕ) (access : Access) (ticks : Option ℕ)
+    (phase : Phase) (silent : IsSilent phase) (op : Op) (on : IsCallOn op object access ticks) where
+  acts_silently : (s : State) → s.current ≡ Some task → op_at app task (progress_at s task).op_index ≡ Some op
+      → (call_at s task).phase ≡ phase → s.suspensions ≡ 0
       → act_current app limits s.current s ≡ await app task object access ticks phase s
   acts_silently s runs is reached none =
       let allowed = call_allowed app task object access ticks phase silent s reached op on in
@@ -221,16 +245,21 @@ module _ (app : Application) (limits : Limits) (task object : ℕ) (access : Acc
       ∙ call_acts app task object access ticks phase silent s reached op on
 
   -- a run that isn't over before such a step isn't over after it
-  pub not_over_silently : (s : State) → s.current ≡ Some task → op_at app task (progress_at s task).op_index ≡ Some op → (call_at s task).phase ≡ phase → s.suspensions ≡ 0
-      → (step app limits [] s).current ≡ Some task → is_over app limits s ≡ false → is_over app limits (step app limits [] s) ≡ false
+  pub not_over_silently : (s : State) → s.current ≡ Some task
+      → op_at app task (progress_at s task).op_index ≡ Some op → (call_at s task).phase ≡ phase → s.suspensions ≡ 0
+      → (step app limits [] s).current ≡ Some task → is_over app limits s ≡ false
+      → is_over app limits (step app limits [] s) ≡ false
   not_over_silently s runs is reached none still going =
       let begun : State = record s { log = [] } in
       not_over_by app limits task s (await app task object access ticks phase begun) (acts_silently begun runs is reached none)
-      (on-await app task object access ticks phase begun silent) (stopped-await app task object access ticks phase begun silent) (lasts-await app task object access ticks phase begun).elapsed
+      (on-await app task object access ticks phase begun silent) (stopped-await app task object access ticks phase begun silent)
+      (lasts-await app task object access ticks phase begun).elapsed
       still going
 
 -- So it is where the daemon begins to set the bits of a command.
-module _ (app : Application) (limits : Limits) (task : ℕ) (s : State) (runs : s.current ≡ Some task) (is : op_at app task (progress_at s task).op_index ≡ Some Obey) (reached : (call_at s task).phase ≡ Start) (none : s.suspensions ≡ 0) (sets : (command_at s task).clear ≡ false) where
+module _ (app : Application) (limits : Limits) (task : ℕ) (s : State) (runs : s.current ≡ Some task)
+    (is : op_at app task (progress_at s task).op_index ≡ Some Obey) (reached : (call_at s task).phase ≡ Start)
+    (none : s.suspensions ≡ 0) (sets : (command_at s task).clear ≡ false) where
   begun : State
   begun = record s { log = [] }
 
@@ -244,11 +273,15 @@ module _ (app : Application) (limits : Limits) (task : ℕ) (s : State) (runs : 
       ∙ ap (λ o. act_if app task o begun) is
       ∙ acts_calm app task Obey begun none refl (λ e. absurd (cc))
       ∙ ap (λ p. obey app task command p begun) reached
-      ∙ ap (λ (b : Bool). if b then clear_by_daemon app task command.group command.mask begun else begin_set task command.group command.mask begun) sets
+      ∙ ap (λ (b : Bool).
+      if b then clear_by_daemon app task command.group command.mask begun else begin_set task command.group command.mask begun)
+      sets
 
-  pub not_over_setting : (running : ℕ) → (step app limits [] s).current ≡ Some running → is_over app limits s ≡ false → is_over app limits (step app limits [] s) ≡ false
+  pub not_over_setting : (running : ℕ) → (step app limits [] s).current ≡ Some running
+      → is_over app limits s ≡ false → is_over app limits (step app limits [] s) ≡ false
   unfolding begun command
   not_over_setting running still going =
       not_over_by app limits running s (begin_set task command.group command.mask begun) begins_set
-      (on-begin_set begun task command.group command.mask) (stopped-begin_set begun task command.group command.mask) (lasts-begin_set task command.group command.mask begun).elapsed
+      (on-begin_set begun task command.group command.mask) (stopped-begin_set begun task command.group command.mask)
+      (lasts-begin_set task command.group command.mask begun).elapsed
       still going

@@ -1,5 +1,7 @@
 -- Steps in which nothing happens but that a tick passes.
-use Rattle.std.proofs.Common.{◌≡◌, ◌≢◌, ◌<◌, ◌≤◌, ◌+◌, ◌^◌, ◌%◌, ℕ, zero, suc, Bool, true, false, not, ◌&&◌, ◌||◌, eqb, leb, ltb, List, [], ◌∷◌, length, map, get_or, Option, Some, None, refl, ap, sym, subst, ◌∙◌, arith, get_or-set_same}
+use Rattle.std.proofs.Common.{◌≡◌, ◌≢◌, ◌<◌, ◌≤◌, ◌+◌, ◌^◌, ◌%◌, ℕ, zero, suc, Bool, true, false, not, ◌&&◌, ◌||◌, eqb, leb, ltb}
+use Rattle.std.proofs.Common.{List, [], ◌∷◌, length, map, get_or, Option, Some, None, refl, ap, sym, subst, ◌∙◌, arith}
+use Rattle.std.proofs.Common.{get_or-set_same}
 use Rattle.std.specs.Prelude.{◌==◌, if◌then◌else◌}
 use Rattle.std.specs.List.{filter, list_all, list_any}
 use Rattle.std.specs.Option.{is_none, is_some}
@@ -58,7 +60,10 @@ none_suspended k s z h = zero_left s.suspensions (if s.call_hold then 1 else 0) 
 -- ---- no base interrupt comes
 
 -- Among numbers in order, none is this one, which comes after those up to an index and before all others.
-pub none_between : {X : Type 0} (n : X → ℕ) (xs : List X) (index e last t : ℕ) → ((k : ℕ) (d : X) → 0 ≤ k → k < index → leb (n (get_or xs k d)) e ≡ true) → ((k : ℕ) (d : X) → index ≤ k → k < length xs → last < n (get_or xs k d)) → e < t → t ≤ last → filter (λ x. eqb (n x) t) xs ≡ []
+pub none_between : {X : Type 0} (n : X → ℕ) (xs : List X) (index e last t : ℕ)
+    → ((k : ℕ) (d : X) → 0 ≤ k → k < index → leb (n (get_or xs k d)) e ≡ true)
+    → ((k : ℕ) (d : X) → index ≤ k → k < length xs → last < n (get_or xs k d))
+    → e < t → t ≤ last → filter (λ x. eqb (n x) t) xs ≡ []
 none_between n xs index e last t before after more less =
     filter-taken (λ x. eqb (n x) t) xs 0 (λ k d l m. absurd (omega arith))
     (λ k d l m. by_test (ltb k index)
@@ -72,16 +77,21 @@ none_between n xs index e last t before after more less =
     ne_eqb (n (get_or xs k d)) t (λ same. absurd (omega arith))))
 
 -- One is this one.
-pub some_at : {X : Type 0} (n : X → ℕ) (xs : List X) (k t : ℕ) (d : X) → k < length xs → n (get_or xs k d) ≡ t → filter (λ x. eqb (n x) t) xs ≢ []
+pub some_at : {X : Type 0} (n : X → ℕ) (xs : List X) (k t : ℕ) (d : X)
+    → k < length xs → n (get_or xs k d) ≡ t → filter (λ x. eqb (n x) t) xs ≢ []
 some_at n [] k t d l e none = absurd (omega arith)
-some_at n (x ∷ xs) zero t d l e none = let w : x ∷ filter (λ x. eqb (n x) t) xs ≡ [] = (rw (eq-eqb (n x) t e) at none) in absurd (cc)
+some_at n (x ∷ xs) zero t d l e none =
+    let w : x ∷ filter (λ x. eqb (n x) t) xs ≡ [] = (rw (eq-eqb (n x) t e) at none) in
+    absurd (cc)
 some_at n (x ∷ xs) (suc k) t d l e none = by_test (eqb (n x) t)
     (λ b. let w : x ∷ filter (λ x. eqb (n x) t) xs ≡ [] = (rw b at none) in absurd (cc))
     (λ b. some_at n xs k t d (omega arith) e (rw b at none))
 
 -- The first of them after a number e.
-module _ {X : Type 0} (n : X → ℕ) (xs : List X) (index e : ℕ) (x : X) (l : index < length xs) (is : x ≡ get_or xs index x) (rises : IsNonDecreasingBy n xs)
-    (before : (k : ℕ) (d : X) → 0 ≤ k → k < index → leb (n (get_or xs k d)) e ≡ true) (after : (k : ℕ) (d : X) → index ≤ k → k < length xs → leb (n (get_or xs k d)) e ≡ false) where
+module _ {X : Type 0} (n : X → ℕ) (xs : List X) (index e : ℕ) (x : X)
+    (l : index < length xs) (is : x ≡ get_or xs index x) (rises : IsNonDecreasingBy n xs)
+    (before : (k : ℕ) (d : X) → 0 ≤ k → k < index → leb (n (get_or xs k d)) e ≡ true)
+    (after : (k : ℕ) (d : X) → index ≤ k → k < length xs → leb (n (get_or xs k d)) e ≡ false) where
   pub next_is_later : e < n x
   next_is_later =
       let high : leb (n (get_or xs index x)) e ≡ false = after index x (omega arith) l in
@@ -122,13 +132,16 @@ uninterrupted app s none = rw none refl
 
 -- ---- a tick
 
-module _ (app : Application) (k : Machine) (z : k.sched.depth ≡ 0) (calm : k.sched.pending ≡ []) (steady : is_steady k.sched ≡ true) (none : interrupts_at app (k.clock.age + k.clock.held + 1) ≡ []) (clock : Timeline) (a : Advances k.clock clock []) where
+module _ (app : Application) (k : Machine) (z : k.sched.depth ≡ 0) (calm : k.sched.pending ≡ []) (steady : is_steady k.sched ≡ true)
+    (none : interrupts_at app (k.clock.age + k.clock.held + 1) ≡ []) (clock : Timeline) (a : Advances k.clock clock []) where
   module _ (log : List Event) (s : State) (h : At k log s) where
     free : s.suspensions ≡ 0
     free = none_suspended k s z h.stands
 
     come : At (record k { clock = clock }) log (increment_tick s)
-    come = woken k log s h [] k.sched k.queues clock k.groups (due_next k.clock clock s [] a h.stands.rest.clock) (sched-jumped k log s h 1) (queues-jumped k log s h 1) (groups-jumped k log s h 1)
+    come =
+        woken k log s h [] k.sched k.queues clock k.groups (due_next k.clock clock s [] a h.stands.rest.clock)
+        (sched-jumped k log s h 1) (queues-jumped k log s h 1) (groups-jumped k log s h 1)
         (stands_advanced k.clock clock s [] a h.stands.rest.clock (rw free refl)) free
 
     elapsed_next : (increment_tick s).elapsed ≡ k.clock.age + k.clock.held + 1
@@ -154,24 +167,32 @@ unfolding before_step
 before_none app s = refl
 
 -- a `work` goes on
-works_on : (app : Application) (limits : Limits) (s : State) (task n : ℕ) → s.suspensions ≡ 0 → s.current ≡ Some task → op_at app task (progress_at s task).op_index ≡ Some (Work n) → act_current app limits s.current s ≡ tick_interrupt app (use_up app task n s)
+works_on : (app : Application) (limits : Limits) (s : State) (task n : ℕ) → s.suspensions ≡ 0
+    → s.current ≡ Some task → op_at app task (progress_at s task).op_index ≡ Some (Work n)
+    → act_current app limits s.current s ≡ tick_interrupt app (use_up app task n s)
 works_on app limits s task n free runs is =
     ap (λ (c : Option ℕ). act_current app limits c s) runs
     ∙ ap (λ (o : Option Op). act_if app task o s) is
     ∙ acts_calm app task (Work n) s free refl (λ e. cc)
 
-module _ (app : Application) (limits : Limits) (count : ℕ) (k : Machine) (q : IsQuiet app limits (suc count) k) (clock : Timeline) (a : Advances k.clock clock []) where
+module _ (app : Application) (limits : Limits) (count : ℕ) (k : Machine)
+    (q : IsQuiet app limits (suc count) k) (clock : Timeline) (a : Advances k.clock clock []) where
   -- what the step comes to, except for its number
   abbrev after : Machine
   after = record k { clock = clock; progress = used_by k.sched.current k.progress }
 
-  acted : (r : State) → At k [] r → (o : Option ℕ) → k.sched.current ≡ o → WorksOn app (suc count) k o → At (record k { clock = clock; progress = used_by o k.progress }) [] (unless_held settle (act_current app limits r.current r))
+  acted : (r : State) → At k [] r → (o : Option ℕ) → k.sched.current ≡ o → WorksOn app (suc count) k o
+      → At (record k { clock = clock; progress = used_by o k.progress })
+      [] (unless_held settle (act_current app limits r.current r))
   acted r h None e w =
       let idle : r.current ≡ None = sym h.stands.sched.current ∙ e in
       let t : State = tick_interrupt app r in
-      let at : At (record k { clock = clock }) [] t = tick_passed app k q.depth q.pending q.steady (q.interrupts (k.clock.age + k.clock.held + 1) (omega arith) (omega arith)) clock a [] r h in
+      let at : At (record k { clock = clock }) [] t =
+      tick_passed app k q.depth q.pending q.steady
+      (q.interrupts (k.clock.age + k.clock.held + 1) (omega arith) (omega arith)) clock a [] r h in
       let still : t.current ≡ None = sym at.stands.sched.current ∙ e in
-      let end : At (record k { clock = clock }) [] (unless_held settle t) = settled_either (record k { clock = clock }) [] t at (settled_idle (record k { clock = clock }) [] t at still) in
+      let end : At (record k { clock = clock }) [] (unless_held settle t) =
+      settled_either (record k { clock = clock }) [] t at (settled_idle (record k { clock = clock }) [] t at still) in
       subst (λ (c : Option ℕ). At (record k { clock = clock }) [] (unless_held settle (act_current app limits c r))) (sym idle)
       (subst (λ (x : State). At (record k { clock = clock }) [] (unless_held settle x)) (sym (idle_ticks app limits r w.1)) end)
   acted r h (Some task) e w =
@@ -182,23 +203,32 @@ module _ (app : Application) (limits : Limits) (count : ℕ) (k : Machine) (q : 
       let same : p ≡ progress_at r task = h.stands.rest.progress task in
       let on : At mid [] (use_up app task n r) = used_more app k mid [] r h task e p refl n (λ f. absurd (omega arith)) refl in
       let t : State = tick_interrupt app (use_up app task n r) in
-      let at : At (record mid { clock = clock }) [] t = tick_passed app mid q.depth q.pending q.steady (q.interrupts (k.clock.age + k.clock.held + 1) (omega arith) (omega arith)) clock a [] (use_up app task n r) on in
+      let at : At (record mid { clock = clock }) [] t =
+      tick_passed app mid q.depth q.pending q.steady
+      (q.interrupts (k.clock.age + k.clock.held + 1) (omega arith) (omega arith)) clock a [] (use_up app task n r) on in
       let still : t.current ≡ Some task = sym at.stands.sched.current ∙ e in
       let ready : is_ready t task ≡ true = sym (on_sched.ready_same k.sched t task at.stands.sched) ∙ w.0 in
-      let end : At (record mid { clock = clock }) [] (unless_held settle t) = settled_either (record mid { clock = clock }) [] t at (settled_on (record mid { clock = clock }) [] t at task still ready) in
-      let op : op_at app task (progress_at r task).op_index ≡ Some (Work n) = subst (λ (x : Progress). op_at app task x.op_index ≡ Some (Work n)) same w.3 in
-      let is : act_current app limits r.current r ≡ t = works_on app limits r task n (none_suspended k r q.depth h.stands) (sym h.stands.sched.current ∙ e) op in
+      let end : At (record mid { clock = clock }) [] (unless_held settle t) =
+      settled_either (record mid { clock = clock }) [] t at (settled_on (record mid { clock = clock }) [] t at task still ready) in
+      let op : op_at app task (progress_at r task).op_index ≡ Some (Work n) =
+      subst (λ (x : Progress). op_at app task x.op_index ≡ Some (Work n)) same w.3 in
+      let is : act_current app limits r.current r ≡ t =
+      works_on app limits r task n (none_suspended k r q.depth h.stands) (sym h.stands.sched.current ∙ e) op in
       subst (λ (x : State). At (record mid { clock = clock }) [] (unless_held settle x)) (sym is) end
 
-  came : (s : State) → Stands k s → At after [] (unless_held settle (act_current app limits (before_step app [] s).current (before_step app [] s)))
+  came : (s : State) → Stands k s
+      → At after [] (unless_held settle (act_current app limits (before_step app [] s).current (before_step app [] s)))
   came s h =
       let r : State = record s { log = [] } in
       let b : AtAny k [] r = begun k [] s h refl in
-      let end : At after [] (unless_held settle (act_current app limits r.current r)) = acted r (record { stands = placed_by k r q.depth b.stands; log = b.log }) k.sched.current refl q.works in
+      let end : At after [] (unless_held settle (act_current app limits r.current r)) =
+      acted r (record { stands = placed_by k r q.depth b.stands; log = b.log }) k.sched.current refl q.works in
       subst (λ (x : State). At after [] (unless_held settle (act_current app limits x.current x))) (sym (before_none app s)) end
 
   passed : (s : State) → Stands k s → Stands (record after { steps = k.steps + 1 }) (step app limits [] s)
-  passed s h = stepped app limits [] s after [] k.steps (steps_are k s h) (any after [] (unless_held settle (act_current app limits (before_step app [] s).current (before_step app [] s))) (came s h))
+  passed s h =
+      stepped app limits [] s after [] k.steps (steps_are k s h) (any after []
+      (unless_held settle (act_current app limits (before_step app [] s).current (before_step app [] s))) (came s h))
 
   -- it reports nothing
   pub silent : (s : State) → Stands k s → [] ≡ (step app limits [] s).log
@@ -210,7 +240,8 @@ module _ (app : Application) (limits : Limits) (count : ℕ) (k : Machine) (q : 
   asleep_on : Each (λ e. clock.now + count < e.1) clock.delayed_list
   asleep_on =
       let now = a.now in
-      subst (Each (λ e. clock.now + count < e.1)) a.delayed (Each-imp (λ e. k.clock.now + suc count < e.1) (λ e. clock.now + count < e.1) k.clock.delayed_list (λ e l. omega (arith, l)) q.asleep)
+      subst (Each (λ e. clock.now + count < e.1)) a.delayed (Each-imp (λ e. k.clock.now + suc count < e.1)
+      (λ e. clock.now + count < e.1) k.clock.delayed_list (λ e l. omega (arith, l)) q.asleep)
 
   turn_on : clock.now % 2 ^ 32 + count < 2 ^ 32
   turn_on = let now = a.now in let t = q.turn in rw now (omega arith)
@@ -221,7 +252,8 @@ module _ (app : Application) (limits : Limits) (count : ℕ) (k : Machine) (q : 
       let held = a.held in
       q.interrupts tick (omega arith) (omega arith)
 
-  still_works : (s : State) → StandsFor k s → (o : Option ℕ) → k.sched.current ≡ o → WorksOn app (suc count) k o → WorksOn app count (record k { clock = clock; progress = used_by o k.progress; steps = k.steps + 1 }) o
+  still_works : (s : State) → StandsFor k s → (o : Option ℕ) → k.sched.current ≡ o → WorksOn app (suc count) k o
+      → WorksOn app count (record k { clock = clock; progress = used_by o k.progress; steps = k.steps + 1 }) o
   still_works s h None e w = ((λ none. w.0 (a.delayed ∙ none)), w.1)
   still_works s h (Some task) e w =
       let p : Progress = progress_in k.progress task in
@@ -229,7 +261,8 @@ module _ (app : Application) (limits : Limits) (count : ℕ) (k : Machine) (q : 
       let few = h.sched.table.few in
       let full = h.rest.full in
       let known : task < length k.progress = omega arith in
-      let is : progress_in (used_by (Some task) k.progress) task ≡ record p { used = p.used + 1 } = get_or-set_same k.progress task (record p { used = p.used + 1 }) no_progress known in
+      let is : progress_in (used_by (Some task) k.progress) task ≡ record p { used = p.used + 1 } =
+      get_or-set_same k.progress task (record p { used = p.used + 1 }) no_progress known in
       let fits = w.1 in
       let less = w.4 in
       rw is (w.0, omega arith, w.2, w.3, omega arith)
@@ -251,13 +284,17 @@ module _ (app : Application) (limits : Limits) (count : ℕ) (k : Machine) (q : 
         ticks = omega arith;
         steps = omega arith;
         works = still_works s (placed_by k s q.depth h) k.sched.current refl q.works;
-        left = λ some awaited. let one = q.left some awaited in (one.0, one.1, subst (λ (es : List (ℕ × ℕ)). is_ready_in k.sched one.0 || has_node one.0 es ≡ true) a.delayed one.2);
+        left = λ some awaited.
+            let one = q.left some awaited in
+            (one.0, one.1, subst (λ (es : List (ℕ × ℕ)). is_ready_in k.sched one.0 || has_node one.0 es ≡ true) a.delayed one.2);
       }
 
-module _ (app : Application) (limits : Limits) (count : ℕ) (k new : Machine) (q : IsQuiet app limits (suc count) k) (p : Passes k new) where
+module _ (app : Application) (limits : Limits) (count : ℕ) (k new : Machine)
+    (q : IsQuiet app limits (suc count) k) (p : Passes k new) where
   -- A step that only lets a tick pass is the definition's.
   pub stands_passed : (s : State) → Stands k s → Stands new (step app limits [] s)
-  stands_passed s h = subst (λ (x : Machine). Stands x (step app limits [] s)) (sym p.same) (passed app limits count k q new.clock p.clock s h)
+  stands_passed s h =
+      subst (λ (x : Machine). Stands x (step app limits [] s)) (sym p.same) (passed app limits count k q new.clock p.clock s h)
 
   pub quiet_stays : (s : State) → Stands k s → IsQuiet app limits count new
   quiet_stays s h = subst (IsQuiet app limits count) (sym p.same) (stays app limits count k q new.clock p.clock s h)
@@ -275,7 +312,8 @@ and_none : (a : Bool) → not a && false ≡ false
 and_none true = refl
 and_none false = refl
 
-module _ (app : Application) (limits : Limits) (count : ℕ) (k : Machine) (q : IsQuiet app limits (suc count) k) (s : State) (h : Stands k s) where
+module _ (app : Application) (limits : Limits) (count : ℕ) (k : Machine)
+    (q : IsQuiet app limits (suc count) k) (s : State) (h : Stands k s) where
   abbrev ready : Bool
   ready = is_some (first_of (lined_up k.sched))
 
@@ -288,10 +326,14 @@ module _ (app : Application) (limits : Limits) (count : ℕ) (k : Machine) (q : 
       (λ t. by_test (is_any_awaited app)
       (λ u. any_left app k s (placed_by k s q.depth h) (q.left t u))
       (λ u. rw u refl))
-      (λ t. not_passed app s (ap (λ (ts : List Task). list_all (λ (u : Task). is_ended u.status) ts) (all_meant app.tasks s.tasks t) ∙ somebody_left o w))
+      (λ t.
+      not_passed app s (ap (λ (ts : List Task). list_all (λ (u : Task). is_ended u.status) ts) (all_meant app.tasks s.tasks t)
+      ∙ somebody_left o w))
 
   not_stuck : (o : Option ℕ) → k.sched.current ≡ o → WorksOn app (suc count) k o → is_stuck app s ≡ false
-  not_stuck None e w = sym (stuck_by app k s true false (is_interrupt_to_come app s) h (ap is_none (sym e)) ((λ t. absurd (cc)), (λ none. absurd (w.0 none))) refl)
+  not_stuck None e w =
+      sym (stuck_by app k s true false (is_interrupt_to_come app s) h
+      (ap is_none (sym e)) ((λ t. absurd (cc)), (λ none. absurd (w.0 none))) refl)
   not_stuck (Some task) e w = rw (sym (current_is k s h) ∙ e) refl
 
   pub quiet_on : end_of app limits s ≡ None
@@ -300,22 +342,29 @@ module _ (app : Application) (limits : Limits) (count : ℕ) (k : Machine) (q : 
       let steps = steps_are k s h in
       let ticks = q.ticks in
       let few = q.steps in
-      sym (ends_not app limits s (sym (stopped_is k s h) ∙ q.stopped) (not_ended k.sched.current q.works) (omega arith) (omega arith) (not_stuck k.sched.current refl q.works))
+      sym (ends_not app limits s (sym (stopped_is k s h) ∙ q.stopped) (not_ended k.sched.current q.works)
+      (omega arith) (omega arith) (not_stuck k.sched.current refl q.works))
 
 -- ---- what the step asks
 
 module _ (app : Application) (limits : Limits) (count : ℕ) (k : Machine) (q : IsQuiet app limits (suc count) k) where
   pub asleep_once : Each (λ e. k.clock.now + 1 < e.1) k.clock.delayed_list
-  asleep_once = Each-imp (λ e. k.clock.now + suc count < e.1) (λ e. k.clock.now + 1 < e.1) k.clock.delayed_list (λ e l. omega (arith, l)) q.asleep
+  asleep_once =
+      Each-imp (λ e. k.clock.now + suc count < e.1) (λ e. k.clock.now + 1 < e.1)
+      k.clock.delayed_list (λ e l. omega (arith, l)) q.asleep
 
   pub turn_once : k.clock.now % 2 ^ 32 + 1 < 2 ^ 32
   turn_once = let t = q.turn in omega arith
 
   pub used_once : (task : ℕ) → k.sched.current ≡ Some task → (progress_in k.progress task).used + 1 < 2 ^ 32
-  used_once task e = let w : WorksOn app (suc count) k (Some task) = subst (WorksOn app (suc count) k) e q.works in let fits = w.1 in omega arith
+  used_once task e =
+      let w : WorksOn app (suc count) k (Some task) = subst (WorksOn app (suc count) k) e q.works in
+      let fits = w.1 in
+      omega arith
 
 -- this many steps are quiet, and so are fewer
-pub quiet_fewer : (app : Application) (limits : Limits) (count few : ℕ) (k : Machine) → few ≤ count → IsQuiet app limits count k → IsQuiet app limits few k
+pub quiet_fewer : (app : Application) (limits : Limits) (count few : ℕ) (k : Machine)
+    → few ≤ count → IsQuiet app limits count k → IsQuiet app limits few k
 quiet_fewer app limits count few k le q =
     let ticks = q.ticks in
     let steps = q.steps in
@@ -325,7 +374,9 @@ quiet_fewer app limits count few k le q =
       depth = q.depth;
       pending = q.pending;
       steady = q.steady;
-      asleep = Each-imp (λ e. k.clock.now + count < e.1) (λ e. k.clock.now + few < e.1) k.clock.delayed_list (λ e l. omega (arith, l)) q.asleep;
+      asleep =
+          Each-imp (λ e. k.clock.now + count < e.1) (λ e. k.clock.now + few < e.1)
+          k.clock.delayed_list (λ e l. omega (arith, l)) q.asleep;
       turn = omega arith;
       interrupts = λ tick from upto. q.interrupts tick from (omega arith);
       ticks = omega arith;

@@ -2,7 +2,8 @@
 use Rattle.std.proofs.Common.{◌≡◌, ℕ, eqb, ltb, List, [], ◌∷◌, Option, Some, None, refl}
 use Rattle.model.specs.declared.call.CallProgress.{CallProgress}
 use Rattle.model.specs.State.{State, Task, task_at, call_at, object_at, with_task, with_call, for_one, for_each}
-use Rattle.model.specs.Switching.{is_ready, is_same, is_off, choice, make_ready, to_back, dispatch, choose, settle, is_held, unless_held}
+use Rattle.model.specs.Switching.{is_ready, is_same, is_off, choice, make_ready, to_back, dispatch, choose, settle, is_held}
+use Rattle.model.specs.Switching.{unless_held}
 use Rattle.model.specs.Mutexes.{set_priority, lend, inherits, inherit_from, inherit}
 use Rattle.model.specs.Groups.{wake_with_bits, bits_set, met_by, set}
 use Rattle.model.proofs.Sorting.{by_test}

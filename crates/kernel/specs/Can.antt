@@ -22,7 +22,8 @@ CanOp app k task (NextCommand queue) = CanGoOn k task queue Receive None (progre
 CanOp app k task Obey = CanSetBits k task (progress_in k.progress task).call.phase
 CanOp app k task op = Can app k task op
 
--- Idle can let ticks pass: the limit is still to come, and the run isn't stuck, so something is to happen in less than 2^32 of them.
+-- Idle can let ticks pass: the limit is still to come, and the run isn't stuck,
+-- so something is to happen in less than 2^32 of them.
 pub record CanIdle (app : Application) (limits : Limits) (k : Machine) : Type 0 where
   pub tick : CanTick app k
   pub early : k.clock.age + k.clock.held < limits.ticks
@@ -31,7 +32,8 @@ pub record CanIdle (app : Application) (limits : Limits) (k : Machine) : Type 0 
 -- The running task can do its op, and idle can let ticks pass.
 pub record CanAct (app : Application) (limits : Limits) (k : Machine) : Type 0 where
   pub idle : k.sched.current ≡ None → CanIdle app limits k
-  pub op : (task : TaskId) (op : Op) → k.sched.current ≡ Some task → op_at app task (progress_in k.progress task).op_index ≡ Some op → (k.suspensions ≡ 0 → CanOp app k task op) × (0 < k.suspensions → CanHold app k task op)
+  pub op : (task : TaskId) (op : Op) → k.sched.current ≡ Some task → op_at app task (progress_in k.progress task).op_index ≡ Some op
+      → (k.suspensions ≡ 0 → CanOp app k task op) × (0 < k.suspensions → CanHold app k task op)
 
 -- The kernel represents a sound state, whichever handlers have led to it, which isn't at an end under these limits.
 pub record CanStep (app : Application) (limits : Limits) (k : Machine) : Type 0 where

@@ -14,8 +14,8 @@ use Rattle.machine.specs.declared.machine.Machine.{Machine}
 use Rattle.machine.specs.StandsFor.{StandsFor, progress_in}
 use Rattle.outcome.specs.EndStates.{end_state_of}
 
--- The kernel represents a state of the application, in which each task is in its lists, and what is reported of it is what is reported of
--- this one.
+-- The kernel represents a state of the application, in which each task is in its lists, and what is reported of it is what is
+-- reported of this one.
 pub record Settles (app : Application) (k : Machine) (s : State) : Type 0 where
   pub state : State
   pub stands : StandsFor k state

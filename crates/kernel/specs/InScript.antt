@@ -25,4 +25,5 @@ pub record IsAt (app : Application) (k : Machine) (task : ℕ) (op : Op) : Type 
 
 -- No task is, while no `suspend_all` is in force.
 abbrev pub IsAtNone : Application → Machine → Type 0
-IsAtNone app k = (task : ℕ) → k.sched.current ≡ Some task → k.suspensions ≡ 0 → op_at app task (progress_in k.progress task).op_index ≡ None
+IsAtNone app k =
+    (task : ℕ) → k.sched.current ≡ Some task → k.suspensions ≡ 0 → op_at app task (progress_in k.progress task).op_index ≡ None

@@ -18,7 +18,8 @@ pub record IsPast (app : Application) (limits : Limits) (k : Machine) (plan : Li
 pub record LeadsTo (app : Application) (limits : Limits) (old new : Machine) (own : List Event) : Type 0 where
   pub on : old.steps ≤ new.steps
   pub way : (plan : List Injection) → IsPast app limits old plan → IsUnderWay app plan limits new
-  pub events : (plan : List Injection) → IsPast app limits old plan → events_after app limits plan new.steps ≡ events_after app limits plan old.steps ++ own
+  pub events : (plan : List Injection) → IsPast app limits old plan
+      → events_after app limits plan new.steps ≡ events_after app limits plan old.steps ++ own
 
 -- The old kernel leads to the new one so, and the events on the way came behind the others that were kept.
 pub record IsLed (app : Application) (limits : Limits) (old new : Machine) (before after : List Event) : Type 0 where

@@ -8,8 +8,8 @@ use Rattle.model.specs.Run.{are_all_ended, is_stuck}
 abbrev pub is_at_tick_limit : Application → Limits → State → Bool
 is_at_tick_limit app limits s = app.tickless && nat_le limits.ticks s.elapsed
 
--- An `expect` failed or a misuse came, every task but the endless ones has come to the end of its script, the run is at such a limit, or
--- it is stuck.
+-- An `expect` failed or a misuse came, every task but the endless ones has come to the end of its script, the run is at such a
+-- limit, or it is stuck.
 abbrev pub is_over : Application → Limits → State → Bool
 is_over app limits s =
     is_some s.stopped || are_all_ended app s || is_at_tick_limit app limits s || is_stuck app s

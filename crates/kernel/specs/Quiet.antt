@@ -17,7 +17,8 @@ abbrev pub WorksOn : Application → ℕ → Machine → Option ℕ → Type 0
 WorksOn app count k None = (k.clock.delayed_list ≢ []) × (app.tickless ≡ false)
 WorksOn app count k (Some task) =
     (is_ready k.sched task ≡ true) × ((progress_in k.progress task).used + count < 2 ^ 32)
-    × (ticks : ℕ) × (op_at app task (progress_in k.progress task).op_index ≡ Some (Work ticks)) × ((progress_in k.progress task).used + count < ticks)
+    × (ticks : ℕ) × (op_at app task (progress_in k.progress task).op_index ≡ Some (Work ticks))
+    × ((progress_in k.progress task).used + count < ticks)
 
 -- This many steps only let a tick pass, each before the end under these limits: nobody's sleep ends, the tick that is shown
 -- doesn't become 0, no base interrupt comes, and nothing switches.
@@ -28,7 +29,8 @@ pub record IsQuiet (app : Application) (limits : Limits) (count : ℕ) (k : Mach
   pub steady : is_steady k.sched ≡ true
   pub asleep : Each (λ e. k.clock.now + count < e.1) k.clock.delayed_list
   pub turn : k.clock.now % 2 ^ 32 + count < 2 ^ 32
-  pub interrupts : (tick : ℕ) → k.clock.age + k.clock.held < tick → tick ≤ k.clock.age + k.clock.held + count → interrupts_at app tick ≡ []
+  pub interrupts : (tick : ℕ) → k.clock.age + k.clock.held < tick
+      → tick ≤ k.clock.age + k.clock.held + count → interrupts_at app tick ≡ []
   pub ticks : k.clock.age + k.clock.held + count ≤ limits.ticks
   pub steps : k.steps + count ≤ limits.steps
   pub works : WorksOn app count k k.sched.current

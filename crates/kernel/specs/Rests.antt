@@ -10,4 +10,9 @@ use Rattle.machine.specs.Can.{IsUnderWay}
 -- the run has this end, after this many steps and ticks in all.
 pub record IsRest (app : Application) (limits : Limits) (k : Machine) (rest : Run) : Type 0 where
   pub of_each : (plan : List Injection) → IsUnderWay app plan limits k → ((n : ℕ) → k.steps ≤ n → injected plan n ≡ [])
-      → IsRun app plan limits (record { events = events_after app limits plan k.steps ++ rest.events; steps = rest.steps; ticks = rest.ticks; end = rest.end })
+      → IsRun app plan limits (record {
+        events = events_after app limits plan k.steps ++ rest.events;
+        steps = rest.steps;
+        ticks = rest.ticks;
+        end = rest.end;
+      })

@@ -1,5 +1,6 @@
 -- Which tasks a run that passes has waited for.
-use Rattle.std.proofs.Common.{◌≡◌, ◌+◌, ◌&&◌, inl, inr, not, ℕ, zero, suc, Bool, true, false, List, [], ◌∷◌, length, get_or, set, Option, Some, None, refl, ap, sym, subst, ◌∙◌, arith}
+use Rattle.std.proofs.Common.{◌≡◌, ◌+◌, ◌&&◌, inl, inr, not, ℕ, zero, suc, Bool, true, false, List, [], ◌∷◌, length, get_or, set}
+use Rattle.std.proofs.Common.{Option, Some, None, refl, ap, sym, subst, ◌∙◌, arith}
 use Rattle.std.specs.Prelude.{if◌then◌else◌}
 use Rattle.std.specs.List.{AllByRecursion, list_all, list_any, slice_get}
 use Rattle.std.specs.Option.{IfSome, option_map, option_or, unwrap_or}
@@ -24,12 +25,17 @@ use Rattle.laws.proofs.Sleeping.{NoneBetween}
 abbrev IsNoPass : State → Type 0
 IsNoPass s = s.stopped ≡ Some Pass → ⊥
 
-no_pass-framed : (s t : State) → t.tasks ≡ s.tasks → t.next_ticket ≡ s.next_ticket → t.time ≡ s.time → Stops s.stopped t.stopped → IsNoPass s → IsNoPass t
+no_pass-framed : (s t : State) → t.tasks ≡ s.tasks → t.next_ticket ≡ s.next_ticket
+    → t.time ≡ s.time → Stops s.stopped t.stopped → IsNoPass s → IsNoPass t
 no_pass-framed s t e n m stops h = elim stops [
   | inl same ↦ (λ passes. h (sym same ∙ passes))
   | inr fails ↦ elim fails [
-    | inl check ↦ (λ passes. let contrary : is_failed_check (Some Pass) ≡ true = subst (λ o. is_failed_check o ≡ true) passes check.1 in absurd (cc))
-    | inr misused ↦ (λ passes. let contrary : is_by_misuse (Some Pass) ≡ true = subst (λ o. is_by_misuse o ≡ true) passes misused in absurd (cc))
+    | inl check ↦
+        (λ passes. let contrary : is_failed_check (Some Pass) ≡ true = subst (λ o. is_failed_check o ≡ true) passes check.1 in
+        absurd (cc))
+    | inr misused ↦
+        (λ passes. let contrary : is_by_misuse (Some Pass) ≡ true = subst (λ o. is_by_misuse o ≡ true) passes misused in
+        absurd (cc))
   ]
 ]
 
@@ -39,16 +45,22 @@ stopped-all_ready (i ∷ is) s = stopped-all_ready is (make_ready i s)
 
 no_pass-passed : (n : ℕ) (s : State) → NoneBetween n s → IsNoPass s → IsNoPass (wake_due (record s { time = s.time + n }))
 unfolding wake_due
-no_pass-passed n s none h = let t : State = record s { time = s.time + n } in λ passes. h (sym (stopped-all_ready (tasks_of (due t)) t) ∙ passes)
+no_pass-passed n s none h =
+    let t : State = record s { time = s.time + n } in
+    λ passes. h (sym (stopped-all_ready (tasks_of (due t)) t) ∙ passes)
 
 no_pass : (app : Application) (limits : Limits) (plan : List Injection) (n : ℕ) → IsNoPass (state_after app limits plan n)
 unfolding nobody_ready
-no_pass app limits plan n = kept_after IsNoPass no_pass-framed (λ s i t u base h. h) (λ s i status is later h. h) no_pass-passed app (λ passes. absurd (cc)) limits plan n
+no_pass app limits plan n =
+    kept_after IsNoPass no_pass-framed (λ s i t u base h. h) (λ s i status is later h. h)
+    no_pass-passed app (λ passes. absurd (cc)) limits plan n
 
 -- ---- the end of a run
 
 passes_alone : (stopped : Option End) (ended ticks steps stuck : Bool) → (stopped ≡ Some Pass → ⊥)
-    → option_or stopped (if ended then Some Pass else if ticks then Some Ticks else if steps then Some Steps else if stuck then Some Stuck else None) ≡ Some Pass
+    → option_or stopped (if ended then Some Pass else if ticks then Some Ticks
+    else if steps then Some Steps else if stuck then Some Stuck else None)
+    ≡ Some Pass
     → ended ≡ true
 passes_alone (Some e) ended ticks steps stuck never is = absurd (never is)
 passes_alone None true ticks steps stuck never is = refl
@@ -70,7 +82,8 @@ whatever : {X : Type 0} (o : Option X) (P : Type 0) → P → IfSome o (λ x. P)
 whatever None P p = tt
 whatever (Some x) P p = p
 
-ended_at : (ds : List Definition) (ts : List Task) (i : ℕ) → list_all (λ (t : Task). is_ended t.status) (without_endless ds ts) ≡ true
+ended_at : (ds : List Definition) (ts : List Task) (i : ℕ)
+    → list_all (λ (t : Task). is_ended t.status) (without_endless ds ts) ≡ true
     → IfSome (slice_get ds i) (λ d. d.endless ≡ false → is_ended (get_or ts i no_task).status ≡ true)
 ended_at [] ts i all = tt
 ended_at (d ∷ ds) [] zero all = λ e. refl
@@ -83,13 +96,16 @@ ended_at (d ∷ ds) (t ∷ ts) (suc i) all = by_test d.endless
     (λ e. ended_at ds ts i (rw e at all))
     (λ e. ended_at ds ts i (and_right (is_ended t.status) _ (rw e at all)))
 
-pub awaited_ended : (app : Application) (plan : List Injection) (limits : Limits) (run : Run) → IsRun app plan limits run → run.end ≡ Pass → (task : ℕ)
-    → IfSome (definition_of app task) (λ d. d.endless ≡ false → is_ended (status_at (state_after app limits plan run.steps) task) ≡ true)
+pub awaited_ended : (app : Application) (plan : List Injection) (limits : Limits) (run : Run)
+    → IsRun app plan limits run → run.end ≡ Pass → (task : ℕ)
+    → IfSome (definition_of app task)
+    (λ d. d.endless ≡ false → is_ended (status_at (state_after app limits plan run.steps) task) ≡ true)
 awaited_ended app plan limits run is passes task =
     let s : State = state_after app limits plan run.steps in
     ended_at app.tasks s.tasks task (and_right (is_any_awaited app) _ (all_ended app plan limits run is passes))
 
-none_awaited : (ds : List Definition) → AllByRecursion (λ (d : Definition). d.endless ≡ true) ds → list_any (λ (d : Definition). not d.endless) ds ≡ false
+none_awaited : (ds : List Definition) → AllByRecursion (λ (d : Definition). d.endless ≡ true) ds
+    → list_any (λ (d : Definition). not d.endless) ds ≡ false
 none_awaited [] h = refl
 none_awaited (d ∷ ds) h = rw h.0 (none_awaited ds h.1)
 
@@ -103,7 +119,8 @@ alone_never app plan limits run is endless passes =
 
 -- ---- what is not
 
-spared-set : (ds : List Definition) (ts : List Task) (i : ℕ) (t : Task) → unwrap_or (option_map (λ (d : Definition). d.endless) (slice_get ds i)) false ≡ true
+spared-set : (ds : List Definition) (ts : List Task) (i : ℕ) (t : Task)
+    → unwrap_or (option_map (λ (d : Definition). d.endless) (slice_get ds i)) false ≡ true
     → without_endless ds (set ts i t) ≡ without_endless ds ts
 spared-set [] ts i t e = absurd (cc)
 spared-set (d ∷ ds) [] i t e = refl
@@ -112,8 +129,11 @@ spared-set (d ∷ ds) (x ∷ xs) (suc i) t e = by_test d.endless
     (λ q. rw q (spared-set ds xs i t e))
     (λ q. rw q (ap (λ ys. x ∷ ys) (spared-set ds xs i t e)))
 
-pub spared : (app : Application) (s : State) (task : ℕ) (now : Task) → is_endless app task ≡ true → are_all_ended app (with_task task now s) ≡ are_all_ended app s
-spared app s task now e = ap (λ (ts : List Task). is_any_awaited app && list_all (λ (t : Task). is_ended t.status) ts) (spared-set app.tasks s.tasks task now e)
+pub spared : (app : Application) (s : State) (task : ℕ) (now : Task) → is_endless app task ≡ true
+    → are_all_ended app (with_task task now s) ≡ are_all_ended app s
+spared app s task now e =
+    ap (λ (ts : List Task). is_any_awaited app && list_all (λ (t : Task). is_ended t.status) ts)
+    (spared-set app.tasks s.tasks task now e)
 
 all_from_each : (ds : List Definition) (ts : List Task) → length ts ≡ length ds
     → ((i : ℕ) → IfSome (slice_get ds i) (λ d. d.endless ≡ false → is_ended (get_or ts i no_task).status ≡ true))

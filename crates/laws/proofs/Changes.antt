@@ -1,5 +1,7 @@
 -- What every deed keeps of who sleeps and who has which ticket, and so every step.
-use Rattle.std.proofs.Common.{drop, get_or-set_same, ◌-◌, ◌&&◌, length, ltb-false, min, ◌≡◌, ◌≢◌, ◌<◌, ◌≤◌, ◌+◌, ◌||◌, ℕ, zero, suc, true, false, eqb, leb, ltb, leb-false, inl, inr, ◌⊎◌, List, [], ◌∷◌, map, get_or, set, Option, Some, None, refl, ap, ap₂, sym, subst, ◌∙◌, arith}
+use Rattle.std.proofs.Common.{drop, get_or-set_same, ◌-◌, ◌&&◌, length, ltb-false, min, ◌≡◌, ◌≢◌, ◌<◌, ◌≤◌, ◌+◌, ◌||◌, ℕ, zero, suc}
+use Rattle.std.proofs.Common.{true, false, eqb, leb, ltb, leb-false, inl, inr, ◌⊎◌, List, [], ◌∷◌, map, get_or, set, Option, Some}
+use Rattle.std.proofs.Common.{None, refl, ap, ap₂, sym, subst, ◌∙◌, arith}
 use Rattle.std.specs.List.{AllByRecursion, filter}
 use Rattle.std.specs.Prelude.{Bool, ◌++◌, if◌then◌else◌}
 use Rattle.std.specs.Option.{IfSome, option_eq, option_map, option_or, unwrap_or, is_some}
@@ -7,7 +9,10 @@ use Rattle.std.proofs.lemmas.Bool.{ltb-true}
 use Rattle.std.proofs.lemmas.List.{get_or_past}
 use Rattle.std.proofs.Math.ListN.{length-set}
 use Rattle.model.specs.declared.op.Op.{Op}
-use Rattle.model.specs.declared.op.Op.TheVariants.{Work, Delay, DelayUntil, Yield, Time, Mark, Expect, Repeat, End, If, Else, EndIf, Break, Stamp, Since, Await, Do, GiveMutex, MessagesWaiting, SpacesAvailable, SetBits, ClearBits, GetBits, WaitBits, Suspend, Resume, SuspendAll, ResumeAll, NextCommand, Obey}
+use Rattle.model.specs.declared.op.Op.TheVariants.{Work, Delay, DelayUntil, Yield, Time, Mark, Expect, Repeat, End, If, Else, EndIf}
+use Rattle.model.specs.declared.op.Op.TheVariants.{Break, Stamp, Since, Await, Do, GiveMutex, MessagesWaiting, SpacesAvailable}
+use Rattle.model.specs.declared.op.Op.TheVariants.{SetBits, ClearBits, GetBits, WaitBits, Suspend, Resume, SuspendAll, ResumeAll}
+use Rattle.model.specs.declared.op.Op.TheVariants.{NextCommand, Obey}
 use Rattle.model.specs.declared.op.Access.{Access}
 use Rattle.model.specs.declared.op.Access.TheVariants.{Send, Receive}
 use Rattle.model.specs.declared.op.Command.{Command}
@@ -26,24 +31,37 @@ use Rattle.model.specs.declared.answer.AnswerCondition.{AnswerCondition}
 use Rattle.model.specs.Answers.{holds}
 use Rattle.model.specs.Blocks.{jump_from}
 use Rattle.model.specs.Application.{Application, Limits, Definition, commands_of, op_at, op_count, ops_of, interrupts_at, script_of}
-use Rattle.model.specs.State.{State, Task, Progress, Status, Ready, Awake, Waiting, Asleep, WaitingForBits, Suspended, Ended, ticket_of, wake_time_of, no_call, task_at, progress_at, status_at, call_at, object_at, bits_at, with_task, with_call, with_object, with_bits, take_ticket, for_one, for_each, no_task, printed}
+use Rattle.model.specs.State.{State, Task, Progress, Status, Ready, Awake, Waiting, Asleep, WaitingForBits, Suspended, Ended}
+use Rattle.model.specs.State.{ticket_of, wake_time_of, no_call, task_at, progress_at, status_at, call_at, object_at, bits_at}
+use Rattle.model.specs.State.{with_task, with_call, with_object, with_bits, take_ticket, for_one, for_each, no_task, printed}
 use Rattle.model.specs.Order.{Entry, Key, key, entry, keyed, tasks_of, task_of, first}
-use Rattle.model.specs.Switching.{make_ready, to_back, dispatch, choose, choice, is_same, is_ready, yield_now, is_outranked, is_sharing, preempt, slice, settle, is_off, unless_held, write, is_held, is_scheduler_suspended}
-use Rattle.model.specs.Waiting.{waiters, awakened, awake_status, is_locked, wake_one, wake_best, wait_in, set_deadline, is_expired, end_hold, unlock_object, unlock}
+use Rattle.model.specs.Switching.{make_ready, to_back, dispatch, choose, choice, is_same, is_ready, yield_now, is_outranked}
+use Rattle.model.specs.Switching.{is_sharing, preempt, slice, settle, is_off, unless_held, write, is_held, is_scheduler_suspended}
+use Rattle.model.specs.Waiting.{waiters, awakened, awake_status, is_locked, wake_one, wake_best, wait_in, set_deadline, is_expired}
+use Rattle.model.specs.Waiting.{end_hold, unlock_object, unlock}
 use Rattle.model.specs.Objects.{possible, answer_to, object_after, list_woken, list_for, fulfil, attempt}
-use Rattle.model.specs.Mutexes.{set_priority, mutexes_held, lend, inherit_from, inherit, fall_back, after_timeout, disinherit, give_mutex}
+use Rattle.model.specs.Mutexes.{set_priority, mutexes_held, lend, inherit_from, inherit, fall_back, after_timeout, disinherit}
+use Rattle.model.specs.Mutexes.{give_mutex}
 use Rattle.model.specs.Calls.{try, lock, decide, leave_call, await, do_now}
-use Rattle.model.specs.Time.{delayed_key, delayed_list, is_due, due, wake_due, advance, increment_tick, jump, apply_one, apply_held, sleep, set_previous_wake}
+use Rattle.model.specs.Time.{delayed_key, delayed_list, is_due, due, wake_due, advance, increment_tick, jump, apply_one, apply_held}
+use Rattle.model.specs.Time.{sleep, set_previous_wake}
 use Rattle.model.specs.declared.plan.Injection.{Injection}
 use Rattle.model.specs.declared.op.IsrOp.{IsrOp}
 use Rattle.model.specs.declared.op.IsrOp.TheVariants as isr_op
-use Rattle.model.specs.Handlers.{isr_told, isr, isr_answer, isr_jump, is_failed, isr_each, handle, inject, interrupt, tick_interrupt, idle, ticks_ahead}
-use Rattle.model.specs.Ops.{one_if, go_to, called, answer, use_up, delay, delay_until, expect, open_loop, next_turn, turn, close_turn, branch, skip_branch, leave_loop, stamp, since, fail}
+use Rattle.model.specs.Handlers.{isr_told, isr, isr_answer, isr_jump, is_failed, isr_each, handle, inject, interrupt}
+use Rattle.model.specs.Handlers.{tick_interrupt, idle, ticks_ahead}
+use Rattle.model.specs.Ops.{one_if, go_to, called, answer, use_up, delay, delay_until, expect, open_loop, next_turn, turn}
+use Rattle.model.specs.Ops.{close_turn, branch, skip_branch, leave_loop, stamp, since, fail}
 use Rattle.model.specs.declared.call.Condition.{Condition}
-use Rattle.model.specs.Groups.{is_met, met_by, keep_answer, want, wake_with_bits, bits_set, bits_after_set, set as set_in_group, begin_set, set_bits, clear, answer_bits, wait_for_bits, begin_bits_wait, check, final_bits, wait_bits}
-use Rattle.model.specs.Suspension.{can_suspend, can_resume, suspend, resumed, resume, call_suspend, call_resume, suspend_all, resume_scheduler, resume_all}
-use Rattle.model.specs.Daemon.{item_of, received, take_command, next_command, obeyed, clear_by_daemon, end_set_by_daemon, obey, command_at}
-use Rattle.model.specs.Step.{is_ended, judge, act, misuse, act_unless, act_if, act_current, before_step, step, nobody_ready, ready_at_reset, reset, task_at_reset, with_ops}
+use Rattle.model.specs.Groups.{is_met, met_by, keep_answer, want, wake_with_bits, bits_set, bits_after_set, set as set_in_group}
+use Rattle.model.specs.Groups.{begin_set, set_bits, clear, answer_bits, wait_for_bits, begin_bits_wait, check, final_bits}
+use Rattle.model.specs.Groups.{wait_bits}
+use Rattle.model.specs.Suspension.{can_suspend, can_resume, suspend, resumed, resume, call_suspend, call_resume, suspend_all}
+use Rattle.model.specs.Suspension.{resume_scheduler, resume_all}
+use Rattle.model.specs.Daemon.{item_of, received, take_command, next_command, obeyed, clear_by_daemon, end_set_by_daemon, obey}
+use Rattle.model.specs.Daemon.{command_at}
+use Rattle.model.specs.Step.{is_ended, judge, act, misuse, act_unless, act_if, act_current, before_step, step, nobody_ready}
+use Rattle.model.specs.Step.{ready_at_reset, reset, task_at_reset, with_ops}
 use Rattle.model.specs.Run.{injected, state_after}
 use Rattle.model.proofs.Sorting.{by_test}
 use Rattle.model.proofs.Lists.{eqb-refl, eqb-same}
@@ -59,7 +77,8 @@ use Rattle.laws.proofs.Choice.{at_index, All-from_in_order}
 
 -- a task whose status has this ticket, and wakes by itself then, or it has none, and doesn't
 abbrev pub Stays : Status → Status → Type 0
-Stays old new = ((ticket_of new ≡ ticket_of old) × (wake_time_of new ≡ wake_time_of old)) ⊎ ((ticket_of new ≡ None) × (wake_time_of new ≡ None))
+Stays old new =
+    ((ticket_of new ≡ ticket_of old) × (wake_time_of new ≡ wake_time_of old)) ⊎ ((ticket_of new ≡ None) × (wake_time_of new ≡ None))
 
 same_awake : (u : Status) → (ticket_of (awake_status u) ≡ ticket_of u) × (wake_time_of (awake_status u) ≡ wake_time_of u)
 same_awake (Ready n) = (refl, refl)
@@ -70,7 +89,8 @@ same_awake (WaitingForBits g n d) = (refl, refl)
 same_awake Suspended = (refl, refl)
 same_awake Ended = (refl, refl)
 
-still_to_come : (deadline : Option ℕ) (now : ℕ) → unwrap_or (option_map (λ d. leb d now) deadline) false ≡ false → IfSome deadline (λ d. now < d)
+still_to_come : (deadline : Option ℕ) (now : ℕ)
+    → unwrap_or (option_map (λ d. leb d now) deadline) false ≡ false → IfSome deadline (λ d. now < d)
 still_to_come None now t = tt
 still_to_come (Some d) now t = leb-false d now t
 
@@ -85,28 +105,35 @@ or_false_right false b t = t
 or_false_right true b t = absurd (cc)
 
 -- a wait for some ticks ends later
-ticks_later : (ticks : Option ℕ) (now : ℕ) → option_eq eqb ticks (Some 0) ≡ false → IfSome (option_map (λ n. now + n) ticks) (λ w. now < w)
+ticks_later : (ticks : Option ℕ) (now : ℕ) → option_eq eqb ticks (Some 0) ≡ false
+    → IfSome (option_map (λ n. now + n) ticks) (λ w. now < w)
 ticks_later None now t = tt
 ticks_later (Some zero) now t = absurd (cc)
 ticks_later (Some (suc n)) now t = omega arith
 
 -- so does one that begins for bits
-begun_later : (i : ℕ) (c : Condition) (ticks : Option ℕ) (s : State) → option_eq eqb ticks (Some 0) ≡ false → IfSome (call_at (want i c (set_deadline i ticks s)) i).deadline (λ w. s.time < w)
+begun_later : (i : ℕ) (c : Condition) (ticks : Option ℕ) (s : State) → option_eq eqb ticks (Some 0) ≡ false
+    → IfSome (call_at (want i c (set_deadline i ticks s)) i).deadline (λ w. s.time < w)
 unfolding set_deadline
 begun_later i c ticks s some =
-    let t1 : Task = record (task_at s i) { progress = record (progress_at s i) { call = record (call_at s i) { deadline = option_map (λ n. s.time + n) ticks } } } in
+    let t1 : Task =
+    record (task_at s i)
+    { progress = record (progress_at s i) { call = record (call_at s i) { deadline = option_map (λ n. s.time + n) ticks } } } in
     let s1 : State = with_task i t1 s in
-    let t2 : Task = record (task_at s1 i) { progress = record (progress_at s1 i) { call = record (call_at s1 i) { wants = Some c } } } in
+    let t2 : Task =
+    record (task_at s1 i) { progress = record (progress_at s1 i) { call = record (call_at s1 i) { wants = Some c } } } in
     let D : Task → Type 0 = λ t. IfSome t.progress.call.deadline (λ w. s.time < w) in
     by_test (ltb i (length s.tasks))
     (λ l.
     let within = ltb-true i (length s.tasks) l in
     let at1 : get_or (set s.tasks i t1) i no_task ≡ t1 = get_or-set_same s.tasks i t1 no_task within in
-    let at2 : get_or (set (set s.tasks i t1) i t2) i no_task ≡ t2 = get_or-set_same (set s.tasks i t1) i t2 no_task (rw length-set within) in
+    let at2 : get_or (set (set s.tasks i t1) i t2) i no_task ≡ t2 =
+    get_or-set_same (set s.tasks i t1) i t2 no_task (rw length-set within) in
     subst D (sym at2) (subst D (sym at1) (ticks_later ticks s.time some)))
     (λ l.
     let past = ltb-false i (length s.tasks) l in
-    let none : get_or (set (set s.tasks i t1) i t2) i no_task ≡ no_task = get_or_past (set (set s.tasks i t1) i t2) i no_task (rw (length-set, length-set) past) in
+    let none : get_or (set (set s.tasks i t1) i t2) i no_task ≡ no_task =
+    get_or_past (set (set s.tasks i t1) i t2) i no_task (rw (length-set, length-set) past) in
     subst D (sym none) tt)
 
 -- ---- a run that is stopped
@@ -122,7 +149,8 @@ abbrev pub Stops : Option Ending → Option Ending → Type 0
 Stops old new = (new ≡ old) ⊎ (((old ≡ None) × (is_failed_check new ≡ true)) ⊎ (is_by_misuse new ≡ true))
 
 -- A check that fails stops it, unless it is stopped already.
-stops-fail : (stopped : Option Ending) (check : Ending) → is_failed_check (Some check) ≡ true → Stops stopped (option_or stopped (Some check))
+stops-fail : (stopped : Option Ending) (check : Ending)
+    → is_failed_check (Some check) ≡ true → Stops stopped (option_or stopped (Some check))
 stops-fail None check is = inr (inl (refl, is))
 stops-fail (Some end) check is = inl refl
 
@@ -138,11 +166,14 @@ module _ (P : State → Type 0)
     -- which tasks may stamp
     (stamps : ℕ → Bool)
     -- neither the clock's count of ticks, nor who runs, nor the steps and events matter; a run may be stopped
-    (framed : (s t : State) → t.tasks ≡ s.tasks → t.next_ticket ≡ s.next_ticket → t.time ≡ s.time → Stops s.stopped t.stopped → P s → P t)
+    (framed : (s t : State) → t.tasks ≡ s.tasks → t.next_ticket ≡ s.next_ticket
+    → t.time ≡ s.time → Stops s.stopped t.stopped → P s → P t)
     -- a task goes on, or is Suspended or Ended
-    (moved : (s : State) (i : ℕ) (t : Task) → Stays (status_at s i) t.status → Remains (stamps i) (task_at s i) t → P s → P (with_task i t s))
+    (moved : (s : State) (i : ℕ) (t : Task) → Stays (status_at s i) t.status
+    → Remains (stamps i) (task_at s i) t → P s → P (with_task i t s))
     -- a task takes a ticket, and wakes by itself later, if it does
-    (taken : (s : State) (i : ℕ) (status : ℕ → Status) → ticket_of (status s.next_ticket) ≡ Some s.next_ticket → IfSome (wake_time_of (status s.next_ticket)) (λ w. s.time < w) → P s → P (take_ticket i status s))
+    (taken : (s : State) (i : ℕ) (status : ℕ → Status) → ticket_of (status s.next_ticket) ≡ Some s.next_ticket
+    → IfSome (wake_time_of (status s.next_ticket)) (λ w. s.time < w) → P s → P (take_ticket i status s))
     -- ticks pass, one or several, before the last of which nobody wakes, and all who are due are Ready
     (passed : (n : ℕ) (s : State) → NoneBetween n s → P s → P (wake_due (record s { time = s.time + n }))) where
   made_ready : (s : State) (i : ℕ) → P s → P (make_ready i s)
@@ -158,7 +189,9 @@ module _ (P : State → Type 0)
 
   kept-choose : (s : State) → P s → P (choose s)
   unfolding choose dispatch
-  kept-choose s h = by_test (is_same (choice s) s.current) (λ t. rw t h) (λ t. rw t (framed s (write (what.Run (choice s)) (record s { current = choice s })) refl refl refl (inl refl) h))
+  kept-choose s h =
+      by_test (is_same (choice s) s.current) (λ t. rw t h)
+      (λ t. rw t (framed s (write (what.Run (choice s)) (record s { current = choice s })) refl refl refl (inl refl) h))
 
   kept-yield_now : (s : State) → P s → P (yield_now s)
   unfolding yield_now
@@ -176,11 +209,17 @@ module _ (P : State → Type 0)
   abbrev SameStamp : ℕ → Progress → State → Type 0
   SameStamp i p s = stamps i ≡ false → p.stamp ≡ (progress_at s i).stamp
 
-  kept-go_to : (app : Application) (i op_index : ℕ) (p : Progress) (s : State) → SameStamp i p s → P s → P (go_to app i op_index p s)
+  kept-go_to : (app : Application) (i op_index : ℕ) (p : Progress) (s : State)
+      → SameStamp i p s → P s → P (go_to app i op_index p s)
   unfolding go_to
   kept-go_to app i op_index p s same h = by_test (eqb op_index (op_count app i))
-      (λ t. rw t (moved s i (record (task_at s i) { progress = record p { op_index = op_index; used = 0; call = no_call }; status = Ended }) (inr (refl, refl)) (refl, same) h))
-      (λ t. rw t (moved s i (record (task_at s i) { progress = record p { op_index = op_index; used = 0; call = no_call } }) (inl (refl, refl)) (refl, same) h))
+      (λ t.
+      rw t (moved s i
+      (record (task_at s i) { progress = record p { op_index = op_index; used = 0; call = no_call }; status = Ended })
+      (inr (refl, refl)) (refl, same) h))
+      (λ t.
+      rw t (moved s i (record (task_at s i) { progress = record p { op_index = op_index; used = 0; call = no_call } })
+      (inl (refl, refl)) (refl, same) h))
 
   kept-answer : (app : Application) (i : ℕ) (a : Option ℕ) (s : State) → P s → P (answer app i a s)
   unfolding answer
@@ -193,7 +232,9 @@ module _ (P : State → Type 0)
   unfolding use_up
   kept-use_up app i n s h = by_test (eqb ((progress_at s i).used + 1) n)
       (λ t. rw t (kept-go_to app i ((progress_at s i).op_index + 1) (progress_at s i) s (λ _. refl) h))
-      (λ t. rw t (moved s i (record (task_at s i) { progress = record (progress_at s i) { used = (progress_at s i).used + 1 } }) (inl (refl, refl)) (refl, λ _. refl) h))
+      (λ t.
+      rw t (moved s i (record (task_at s i) { progress = record (progress_at s i) { used = (progress_at s i).used + 1 } })
+      (inl (refl, refl)) (refl, λ _. refl) h))
 
   kept-sleep : (i w : ℕ) (s : State) → s.time < w → P s → P (sleep i w s)
   unfolding sleep
@@ -201,7 +242,9 @@ module _ (P : State → Type 0)
 
   kept-set_previous_wake : (i time : ℕ) (s : State) → P s → P (set_previous_wake i time s)
   unfolding set_previous_wake
-  kept-set_previous_wake i time s h = moved s i (record (task_at s i) { progress = record (progress_at s i) { previous_wake = time } }) (inl (refl, refl)) (refl, λ _. refl) h
+  kept-set_previous_wake i time s h =
+      moved s i (record (task_at s i) { progress = record (progress_at s i) { previous_wake = time } })
+      (inl (refl, refl)) (refl, λ _. refl) h
 
   kept-delay : (app : Application) (i n : ℕ) (s : State) → P s → P (delay app i n s)
   unfolding delay
@@ -211,7 +254,8 @@ module _ (P : State → Type 0)
       let now : t.time ≡ s.time = (keeps-answer app i (Some 0) s).time in
       by_test (eqb n 0)
       (λ q. rw q (kept-yield_now t k))
-      (λ q. let some : n ≢ 0 = (λ e. let f : eqb n 0 ≡ true = rw e refl in absurd (cc)) in rw q (kept-sleep i (s.time + n) t (omega arith) k))
+      (λ q. let some : n ≢ 0 = (λ e. let f : eqb n 0 ≡ true = rw e refl in absurd (cc)) in
+      rw q (kept-sleep i (s.time + n) t (omega arith) k))
 
   kept-delay_until : (app : Application) (i w : ℕ) (s : State) → P s → P (delay_until app i w s)
   unfolding delay_until
@@ -219,7 +263,8 @@ module _ (P : State → Type 0)
       let one : State = answer app i (Some 1) s in
       let now : one.time ≡ s.time = (keeps-answer app i (Some 1) s).time in
       by_test (ltb s.time w)
-      (λ t. let l = ltb-true s.time w t in rw t (kept-set_previous_wake i w (sleep i w one) (kept-sleep i w one (omega arith) (kept-answer app i (Some 1) s h))))
+      (λ t. let l = ltb-true s.time w t in
+      rw t (kept-set_previous_wake i w (sleep i w one) (kept-sleep i w one (omega arith) (kept-answer app i (Some 1) s h))))
       (λ t. rw t (kept-set_previous_wake i w (answer app i (Some 0) s) (kept-answer app i (Some 0) s h)))
 
   kept-fail : (check : Ending) (s : State) → is_failed_check (Some check) ≡ true → P s → P (fail check s)
@@ -227,7 +272,8 @@ module _ (P : State → Type 0)
 
   kept-stamp : (app : Application) (i : ℕ) (s : State) → stamps i ≡ true → P s → P (stamp app i s)
   unfolding stamp
-  kept-stamp app i s may h = kept-go_to app i ((progress_at s i).op_index + 1) (record (progress_at s i) { stamp = s.time }) s (λ no. absurd (cc)) h
+  kept-stamp app i s may h =
+      kept-go_to app i ((progress_at s i).op_index + 1) (record (progress_at s i) { stamp = s.time }) s (λ no. absurd (cc)) h
 
   kept-since : (app : Application) (i : ℕ) (s : State) → P s → P (since app i s)
   unfolding since
@@ -239,13 +285,15 @@ module _ (P : State → Type 0)
       (λ t. rw t (kept-go_to app i ((progress_at s i).op_index + 1) (progress_at s i) s (λ _. refl) h))
       (λ t. rw t (kept-fail (Check i (progress_at s i).op_index) s refl h))
 
-  kept-next_turn : (app : Application) (i : ℕ) (p : Progress) (l : Loop) (ls : List Loop) (left : Option ℕ) (s : State) → SameStamp i p s → P s → P (next_turn app i p l ls left s)
+  kept-next_turn : (app : Application) (i : ℕ) (p : Progress) (l : Loop) (ls : List Loop) (left : Option ℕ) (s : State)
+      → SameStamp i p s → P s → P (next_turn app i p l ls left s)
   kept-next_turn app i p l ls None s same h = kept-go_to app i l.start p s same h
   kept-next_turn app i p l ls (Some left) s same h = by_test (leb left 1)
       (λ q. rw q (kept-go_to app i (p.op_index + 1) (record p { loops = ls }) s same h))
       (λ q. rw q (kept-go_to app i l.start _ s same h))
 
-  kept-turn : (app : Application) (i : ℕ) (p : Progress) (ls : List Loop) (s : State) → SameStamp i p s → P s → P (turn app i p ls s)
+  kept-turn : (app : Application) (i : ℕ) (p : Progress) (ls : List Loop) (s : State)
+      → SameStamp i p s → P s → P (turn app i p ls s)
   kept-turn app i p [] s same h = kept-go_to app i (p.op_index + 1) p s same h
   kept-turn app i p (l ∷ ls) s same h = kept-next_turn app i p l ls l.left s same h
 
@@ -265,7 +313,8 @@ module _ (P : State → Type 0)
 
   -- ---- calls on objects
 
-  kept-one : {A : Type 0} (deed : A → State → State) (o : Option A) (s : State) → ((a : A) → P s → P (deed a s)) → P s → P (for_one deed o s)
+  kept-one : {A : Type 0} (deed : A → State → State) (o : Option A) (s : State)
+      → ((a : A) → P s → P (deed a s)) → P s → P (for_one deed o s)
   kept-one deed None s k h = h
   kept-one deed (Some a) s k h = k a h
 
@@ -279,7 +328,9 @@ module _ (P : State → Type 0)
 
   kept-wake_one : (i : ℕ) (list : WaitList) (s : State) → P s → P (wake_one i list s)
   kept-wake_one i list s h = by_test (is_locked s.locked list)
-      (λ t. rw t (moved s i (record (task_at s i) { status = awake_status (status_at s i) }) (inl (same_awake (status_at s i))) (refl, λ _. refl) h))
+      (λ t.
+      rw t (moved s i (record (task_at s i) { status = awake_status (status_at s i) })
+      (inl (same_awake (status_at s i))) (refl, λ _. refl) h))
       (λ t. rw t (made_ready s i h))
 
   kept-wake_best : (list : WaitList) (s : State) → P s → P (wake_best list s)
@@ -298,7 +349,9 @@ module _ (P : State → Type 0)
 
   -- a task's call goes on
   kept-with_call : (i : ℕ) (call : CallProgress) (s : State) → P s → P (with_call i call s)
-  kept-with_call i call s h = moved s i (record (task_at s i) { progress = record (progress_at s i) { call = call } }) (inl (refl, refl)) (refl, λ _. refl) h
+  kept-with_call i call s h =
+      moved s i (record (task_at s i) { progress = record (progress_at s i) { call = call } })
+      (inl (refl, refl)) (refl, λ _. refl) h
 
   kept-set_deadline : (i : ℕ) (ticks : Option ℕ) (s : State) → P s → P (set_deadline i ticks s)
   unfolding set_deadline
@@ -321,7 +374,9 @@ module _ (P : State → Type 0)
 
   kept-inherit : (i o : ℕ) (s : State) → P s → P (inherit i o s)
   unfolding inherit
-  kept-inherit i o s h = kept-one (inherit_from i) (object_at s o).holder s (λ holder k. kept-lend (task_at s i).priority holder _ (kept-with_call i _ s k)) h
+  kept-inherit i o s h =
+      kept-one (inherit_from i) (object_at s o).holder s
+      (λ holder k. kept-lend (task_at s i).priority holder _ (kept-with_call i _ s k)) h
 
   kept-fall_back : (o holder : ℕ) (s : State) → P s → P (fall_back o holder s)
   kept-fall_back o holder s h = by_test (eqb (mutexes_held s holder) 1)
@@ -344,7 +399,8 @@ module _ (P : State → Type 0)
   unfolding give_mutex
   kept-give_mutex app i o s h =
       let free : State = with_object o (record (object_at s o) { holder = None }) s in
-      kept-preempt _ (kept-answer app i (Some 1) _ (kept-wake_best (ToReceive o) _ (kept-disinherit i free (framed s free refl refl refl (inl refl) h))))
+      kept-preempt _ (kept-answer app i (Some 1) _
+      (kept-wake_best (ToReceive o) _ (kept-disinherit i free (framed s free refl refl refl (inl refl) h))))
 
   -- ---- calls that may wait, and those that don't
 
@@ -360,23 +416,34 @@ module _ (P : State → Type 0)
   unfolding wait_in
   kept-wait_in i list s t h =
       let call : CallProgress = record (call_at s i) { waits = true } in
-      taken (with_call i call s) i (λ ticket. Waiting (record { list = list; priority = (task_at s i).priority; ticket = ticket; deadline = (call_at s i).deadline })) refl (still_to_come (call_at s i).deadline s.time t) (kept-with_call i call s h)
+      taken (with_call i call s) i
+      (λ ticket.
+      Waiting (record { list = list; priority = (task_at s i).priority; ticket = ticket; deadline = (call_at s i).deadline }))
+      refl (still_to_come (call_at s i).deadline s.time t) (kept-with_call i call s h)
 
   -- the scheduler is held and the object locked, and the call goes on
   kept-lock : (i o : ℕ) (phase : Phase) (s : State) → P s → P (lock i o phase s)
-  kept-lock i o phase s h = let t : State = record s { call_hold = true; locked = Some o } in kept-with_call i _ t (framed s t refl refl refl (inl refl) h)
+  kept-lock i o phase s h =
+      let t : State = record s { call_hold = true; locked = Some o } in
+      kept-with_call i _ t (framed s t refl refl refl (inl refl) h)
 
   kept-decide : (i o : ℕ) (a : Access) (s : State) → P s → P (decide i o a s)
   unfolding decide
   kept-decide i o a s h = by_test (possible s o a || is_expired s i)
       (λ t. rw t (kept-lock i o Unlock s h))
       (λ t.
-      let on : is_expired (inherit i o s) i ≡ false = expired_inherited s i o ∙ or_false_right (possible s o a) (is_expired s i) t in
+      let on : is_expired (inherit i o s) i ≡ false =
+      expired_inherited s i o ∙ or_false_right (possible s o a) (is_expired s i) t in
       rw t (kept-lock i o Place _ (kept-wait_in i (list_for o a) (inherit i o s) on (kept-inherit i o s h))))
 
   kept-unlock : (s : State) → P s → P (unlock s)
   unfolding unlock
-  kept-unlock s h = kept-one unlock_object s.locked s (λ o k. kept-all_ready (tasks_of (awakened s (ToReceive o)) ++ tasks_of (awakened s (ToSend o))) (record s { locked = None }) (framed s (record s { locked = None }) refl refl refl (inl refl) k)) h
+  kept-unlock s h =
+      kept-one unlock_object s.locked s
+      (λ o k.
+      kept-all_ready (tasks_of (awakened s (ToReceive o)) ++ tasks_of (awakened s (ToSend o)))
+      (record s { locked = None }) (framed s (record s { locked = None }) refl refl refl (inl refl) k))
+      h
 
   kept-leave_call : (i : ℕ) (s : State) → P s → P (leave_call i s)
   unfolding leave_call
@@ -387,7 +454,8 @@ module _ (P : State → Type 0)
       (λ q. rw q (kept-choose (end_hold i Try s) free))
       (λ q. rw q (kept-preempt (end_hold i Try s) free))
 
-  kept-await : (app : Application) (i o : ℕ) (a : Access) (ticks : Option ℕ) (phase : Phase) (s : State) → P s → P (await app i o a ticks phase s)
+  kept-await : (app : Application) (i o : ℕ) (a : Access) (ticks : Option ℕ) (phase : Phase) (s : State)
+      → P s → P (await app i o a ticks phase s)
   kept-await app i o a ticks Start s h = kept-try app i o a _ (kept-set_deadline i ticks s h)
   kept-await app i o a ticks Try s h = kept-try app i o a s h
   kept-await app i o a ticks Decide s h = kept-decide i o a s h
@@ -410,7 +478,9 @@ module _ (P : State → Type 0)
   kept-resume : (i : ℕ) (s : State) → P s → P (resume i s)
   unfolding resume
   kept-resume i s h = by_test (can_resume (status_at s i))
-      (λ t. rw t (made_ready _ i (moved s i (record (task_at s i) { progress = resumed s.time (progress_at s i) }) (inl (refl, refl)) (refl, λ _. refl) h)))
+      (λ t.
+      rw t (made_ready _ i (moved s i (record (task_at s i) { progress = resumed s.time (progress_at s i) })
+      (inl (refl, refl)) (refl, λ _. refl) h)))
       (λ t. rw t h)
 
   kept-replied : (app : Application) (i : ℕ) (a : Option ℕ) (s : State) → P s → P (preempt (answer app i a s))
@@ -423,11 +493,14 @@ module _ (P : State → Type 0)
 
   kept-all_with_bits : (bits : ℕ) (is : List ℕ) (s : State) → P s → P (for_each (λ i. wake_with_bits i bits) is s)
   kept-all_with_bits bits [] s h = h
-  kept-all_with_bits bits (i ∷ is) s h = kept-all_with_bits bits is (wake_with_bits i bits s) (made_ready (keep_answer i bits s) i (kept-with_call i _ s h))
+  kept-all_with_bits bits (i ∷ is) s h =
+      kept-all_with_bits bits is (wake_with_bits i bits s) (made_ready (keep_answer i bits s) i (kept-with_call i _ s h))
 
   kept-set : (group mask : ℕ) (s : State) → P s → P (set_in_group group mask s)
   unfolding set_in_group
-  kept-set group mask s h = kept-with_bits group (bits_after_set group mask s) _ (kept-all_with_bits (bits_set group mask s) (met_by group (bits_set group mask s) s) s h)
+  kept-set group mask s h =
+      kept-with_bits group (bits_after_set group mask s) _
+      (kept-all_with_bits (bits_set group mask s) (met_by group (bits_set group mask s) s) s h)
 
   kept-begin_set : (i group mask : ℕ) (s : State) → P s → P (begin_set i group mask s)
   unfolding begin_set
@@ -436,7 +509,9 @@ module _ (P : State → Type 0)
       kept-with_call i _ _ (kept-with_call i _ _ (kept-set group mask t (framed s t refl refl refl (inl refl) h)))
 
   kept-end_hold : (i : ℕ) (phase : Phase) (s : State) → P s → P (end_hold i phase s)
-  kept-end_hold i phase s h = let t : State = record s { call_hold = false } in kept-with_call i _ t (framed s t refl refl refl (inl refl) h)
+  kept-end_hold i phase s h =
+      let t : State = record s { call_hold = false } in
+      kept-with_call i _ t (framed s t refl refl refl (inl refl) h)
 
   kept-end_set : (app : Application) (i : ℕ) (s : State) → P s → P (preempt (answer app i (call_at s i).kept (end_hold i Start s)))
   kept-end_set app i s h = kept-replied app i (call_at s i).kept (end_hold i Start s) (kept-end_hold i Start s h)
@@ -455,24 +530,32 @@ module _ (P : State → Type 0)
       (λ t. rw t (kept-answer app i (Some (bits_at s group)) _ (kept-with_bits group _ s h)))
       (λ t. rw t (kept-answer app i (Some (bits_at s group)) s h))
 
-  kept-begin_bits_wait : (i group : ℕ) (c : Condition) (ticks : Option ℕ) (s : State) → option_eq eqb ticks (Some 0) ≡ false → P s → P (begin_bits_wait i group c ticks s)
+  kept-begin_bits_wait : (i group : ℕ) (c : Condition) (ticks : Option ℕ) (s : State)
+      → option_eq eqb ticks (Some 0) ≡ false → P s → P (begin_bits_wait i group c ticks s)
   unfolding begin_bits_wait wait_for_bits set_deadline
   kept-begin_bits_wait i group c ticks s some h =
       let t : State = record s { call_hold = true } in
       let u : State = want i c (set_deadline i ticks t) in
-      kept-with_call i _ _ (taken u i (λ ticket. WaitingForBits group ticket (call_at u i).deadline) refl (begun_later i c ticks t some) (kept-with_call i _ _ (kept-set_deadline i ticks t (framed s t refl refl refl (inl refl) h))))
+      kept-with_call i _ _ (taken u i (λ ticket. WaitingForBits group ticket (call_at u i).deadline)
+      refl (begun_later i c ticks t some)
+      (kept-with_call i _ _ (kept-set_deadline i ticks t (framed s t refl refl refl (inl refl) h))))
 
-  kept-check : (app : Application) (i group : ℕ) (c : Condition) (ticks : Option ℕ) (s : State) → P s → P (check app i group c ticks s)
+  kept-check : (app : Application) (i group : ℕ) (c : Condition) (ticks : Option ℕ) (s : State)
+      → P s → P (check app i group c ticks s)
   unfolding check
   kept-check app i group c ticks s h = by_test (is_met (bits_at s group) c || option_eq eqb ticks (Some 0))
       (λ t. rw t (kept-answer_bits app i group c s h))
-      (λ t. rw t (kept-begin_bits_wait i group c ticks s (or_false_right (is_met (bits_at s group) c) (option_eq eqb ticks (Some 0)) t) h))
+      (λ t.
+      rw t
+      (kept-begin_bits_wait i group c ticks s (or_false_right (is_met (bits_at s group) c) (option_eq eqb ticks (Some 0)) t) h))
 
-  kept-final_bits : (app : Application) (i group : ℕ) (c : Condition) (kept : Option ℕ) (s : State) → P s → P (final_bits app i group c kept s)
+  kept-final_bits : (app : Application) (i group : ℕ) (c : Condition) (kept : Option ℕ) (s : State)
+      → P s → P (final_bits app i group c kept s)
   kept-final_bits app i group c None s h = kept-answer_bits app i group c s h
   kept-final_bits app i group c (Some bits) s h = kept-answer app i (Some bits) s h
 
-  kept-wait_bits : (app : Application) (i group : ℕ) (c : Condition) (ticks : Option ℕ) (phase : Phase) (s : State) → P s → P (wait_bits app i group c ticks phase s)
+  kept-wait_bits : (app : Application) (i group : ℕ) (c : Condition) (ticks : Option ℕ) (phase : Phase) (s : State)
+      → P s → P (wait_bits app i group c ticks phase s)
   kept-wait_bits app i group c ticks Start s h = kept-check app i group c ticks s h
   kept-wait_bits app i group c ticks Leave s h = kept-choose (end_hold i Try s) (kept-end_hold i Try s h)
   kept-wait_bits app i group c ticks Try s h = kept-final_bits app i group c (call_at s i).kept s h
@@ -484,7 +567,8 @@ module _ (P : State → Type 0)
 
   kept-received : (app : Application) (i : ℕ) (a : Option ℕ) (s : State) → P s → P (received app i a s)
   unfolding received
-  kept-received app i a s h = kept-go_to app i ((progress_at s i).op_index + 1) (record (progress_at s i) { answer = a }) s (λ _. refl) h
+  kept-received app i a s h =
+      kept-go_to app i ((progress_at s i).op_index + 1) (record (progress_at s i) { answer = a }) s (λ _. refl) h
 
   kept-take_command : (app : Application) (i o : ℕ) (s : State) → P s → P (take_command app i o s)
   unfolding take_command
@@ -511,7 +595,8 @@ module _ (P : State → Type 0)
   kept-clear_by_daemon app i group mask s h = kept-obeyed app i true (bits_at s group) _ (kept-with_bits group _ s h)
 
   kept-end_set_by_daemon : (app : Application) (i group : ℕ) (s : State) → P s → P (end_set_by_daemon app i group s)
-  kept-end_set_by_daemon app i group s h = kept-preempt _ (kept-obeyed app i false (bits_at s group) (end_hold i Start s) (kept-end_hold i Start s h))
+  kept-end_set_by_daemon app i group s h =
+      kept-preempt _ (kept-obeyed app i false (bits_at s group) (end_hold i Start s) (kept-end_hold i Start s h))
 
   kept-begin_command : (app : Application) (i : ℕ) (c : Command) (s : State) → P s → P (obey app i c Start s)
   kept-begin_command app i c s h = by_test c.clear
@@ -532,11 +617,14 @@ module _ (P : State → Type 0)
   kept-write w s h = framed s (write w s) refl refl refl (inl refl) h
 
   kept-isr : (app : Application) (handler op_index : ℕ) (op : IsrOp) (s : State) → P s → P (isr app handler op_index op s)
-  kept-isr app handler op_index (isr_op.Do o a) s h = kept-write (isr_told handler op_index (answer_to s o a)) (attempt None o a s) (kept-attempt None o a s h)
+  kept-isr app handler op_index (isr_op.Do o a) s h =
+      kept-write (isr_told handler op_index (answer_to s o a)) (attempt None o a s) (kept-attempt None o a s h)
   kept-isr app handler op_index (isr_op.Command c) s h =
       let send : Access = Send (item_of c) in
-      kept-write (isr_told handler op_index (answer_to s (commands_of app) send)) (attempt None (commands_of app) send s) (kept-attempt None (commands_of app) send s h)
-  kept-isr app handler op_index (isr_op.Resume i) s h = kept-write (isr_told handler op_index (one_if (can_resume (status_at s i)))) (resume i s) (kept-resume i s h)
+      kept-write (isr_told handler op_index (answer_to s (commands_of app) send))
+      (attempt None (commands_of app) send s) (kept-attempt None (commands_of app) send s h)
+  kept-isr app handler op_index (isr_op.Resume i) s h =
+      kept-write (isr_told handler op_index (one_if (can_resume (status_at s i)))) (resume i s) (kept-resume i s h)
   kept-isr app handler op_index (isr_op.GetBits group) s h = kept-write (isr_told handler op_index (Some (bits_at s group))) s h
   kept-isr app handler op_index (isr_op.Mark n) s h = kept-write (what.IsrMark handler n) s h
   kept-isr app handler op_index (isr_op.Expect condition) s h = h
@@ -544,20 +632,24 @@ module _ (P : State → Type 0)
   kept-isr app handler op_index isr_op.Else s h = h
   kept-isr app handler op_index isr_op.EndIf s h = h
 
-  kept-isr_each : (app : Application) (handler op_index over : ℕ) (answer : Option ℕ) (ops : List IsrOp) (s : State) → P s → P (isr_each app handler op_index over answer ops s)
+  kept-isr_each : (app : Application) (handler op_index over : ℕ) (answer : Option ℕ) (ops : List IsrOp) (s : State)
+      → P s → P (isr_each app handler op_index over answer ops s)
   kept-isr_each app handler op_index over answer [] s h = h
   kept-isr_each app handler op_index (suc over) answer (op ∷ ops) s h = kept-isr_each app handler (op_index + 1) over answer ops s h
   kept-isr_each app handler op_index zero answer (op ∷ ops) s h =
       let t : State = isr app handler op_index op s in
       by_test (is_failed op answer)
       (λ f. rw f (kept-fail (HandlerCheck handler op_index) s refl h))
-      (λ f. rw f (kept-isr_each app handler (op_index + 1) (isr_jump op answer ops) (isr_answer app s op answer) ops t (kept-isr app handler op_index op s h)))
+      (λ f.
+      rw f (kept-isr_each app handler (op_index + 1) (isr_jump op answer ops)
+      (isr_answer app s op answer) ops t (kept-isr app handler op_index op s h)))
 
   kept-handle : (app : Application) (handler : ℕ) (s : State) → P s → P (handle app handler s)
   unfolding handle
   kept-handle app handler s h = kept-isr_each app handler 0 0 None (ops_of app handler) s h
 
-  kept-each : {A : Type 0} (deed : A → State → State) (k : (a : A) (s : State) → P s → P (deed a s)) (ones : List A) (s : State) → P s → P (for_each deed ones s)
+  kept-each : {A : Type 0} (deed : A → State → State) (k : (a : A) (s : State) → P s → P (deed a s)) (ones : List A) (s : State)
+      → P s → P (for_each deed ones s)
   kept-each deed k [] s h = h
   kept-each deed k (a ∷ ones) s h = kept-each deed k ones (deed a s) (k a s h)
 
@@ -572,7 +664,9 @@ module _ (P : State → Type 0)
 
   kept-before_step : (app : Application) (handlers : List ℕ) (s : State) → P s → P (before_step app handlers s)
   unfolding before_step
-  kept-before_step app handlers s h = let t : State = record s { log = [] } in kept-each (inject app) (kept-inject app) handlers t (framed s t refl refl refl (inl refl) h)
+  kept-before_step app handlers s h =
+      let t : State = record s { log = [] } in
+      kept-each (inject app) (kept-inject app) handlers t (framed s t refl refl refl (inl refl) h)
 
   kept-increment : (s : State) → P s → P (increment_tick s)
   unfolding increment_tick advance
@@ -586,23 +680,28 @@ module _ (P : State → Type 0)
   unfolding tick_interrupt interrupt
   kept-tick app s h =
       let come : State = increment_tick s in
-      kept-unless_held slice kept-slice _ (kept-each (handle app) (kept-handle app) (interrupts_at app come.elapsed) come (kept-increment s h))
+      kept-unless_held slice kept-slice _
+      (kept-each (handle app) (kept-handle app) (interrupts_at app come.elapsed) come (kept-increment s h))
 
   kept-jump : (n : ℕ) (s : State) → NoneBetween n s → P s → P (jump n s)
   unfolding jump
-  kept-jump n s none h = let t : State = record s { elapsed = s.elapsed + n } in passed n t none (framed s t refl refl refl (inl refl) h)
+  kept-jump n s none h =
+      let t : State = record s { elapsed = s.elapsed + n } in
+      passed n t none (framed s t refl refl refl (inl refl) h)
 
   kept-jumped : (app : Application) (n : ℕ) (s : State) → NoneBetween n s → P s → P (jumped app n s)
   unfolding interrupt
   kept-jumped app n s none h =
       let come : State = jump n s in
-      kept-unless_held slice kept-slice _ (kept-each (handle app) (kept-handle app) (interrupts_at app come.elapsed) come (kept-jump n s none h))
+      kept-unless_held slice kept-slice _
+      (kept-each (handle app) (kept-handle app) (interrupts_at app come.elapsed) come (kept-jump n s none h))
 
   kept-idle : (app : Application) (limits : Limits) (s : State) → P s → P (idle app limits s)
   unfolding idle
   kept-idle app limits s h =
       let n : ℕ = ticks_ahead app limits s in
-      either_way P app.tickless (jumped app n s) (tick_interrupt app s) (kept-jumped app n s (none_ahead app limits s) h) (kept-tick app s h)
+      either_way P app.tickless (jumped app n s) (tick_interrupt app s)
+      (kept-jumped app n s (none_ahead app limits s) h) (kept-tick app s h)
 
   -- ---- the scheduler suspended and resumed
 
@@ -648,7 +747,8 @@ module _ (P : State → Type 0)
   kept-act app i (Repeat n) s may h = kept-go_to app i ((progress_at s i).op_index + 1) _ s (λ _. refl) h
   kept-act app i End s may h = kept-turn app i (progress_at s i) (progress_at s i).loops s (λ _. refl) h
   kept-act app i (If condition) s may h = kept-branch app i condition s h
-  kept-act app i Else s may h = kept-go_to app i (jump_from (script_of app i) (progress_at s i).op_index) (progress_at s i) s (λ _. refl) h
+  kept-act app i Else s may h =
+      kept-go_to app i (jump_from (script_of app i) (progress_at s i).op_index) (progress_at s i) s (λ _. refl) h
   kept-act app i EndIf s may h = kept-go_to app i ((progress_at s i).op_index + 1) (progress_at s i) s (λ _. refl) h
   kept-act app i Break s may h = kept-leave_loop app i s h
   kept-act app i Stamp s may h = kept-stamp app i s (may refl) h
@@ -666,10 +766,14 @@ module _ (P : State → Type 0)
   kept-act app i (Resume j) s may h = kept-replied app i _ (resume j s) (kept-resume j s h)
   kept-act app i (NextCommand o) s may h = kept-next_command app i o (call_at s i).phase s h
   kept-act app i Obey s may h = kept-obey app i (command_at s i) (call_at s i).phase s h
-  kept-act app i SuspendAll s may h = let t : State = record s { suspensions = s.suspensions + 1 } in kept-answer app i (Some 0) t (framed s t refl refl refl (inl refl) h)
-  kept-act app i ResumeAll s may h = kept-unless_held preempt kept-preempt _ (kept-answer app i (Some 0) (resume_scheduler s) (kept-resume_scheduler s h))
+  kept-act app i SuspendAll s may h =
+      let t : State = record s { suspensions = s.suspensions + 1 } in
+      kept-answer app i (Some 0) t (framed s t refl refl refl (inl refl) h)
+  kept-act app i ResumeAll s may h =
+      kept-unless_held preempt kept-preempt _ (kept-answer app i (Some 0) (resume_scheduler s) (kept-resume_scheduler s h))
 
-  kept-act_unless : (app : Application) (i : ℕ) (kind : Option Misuse) (op : Op) (s : State) → MayStamp i (Some op) → P s → P (act_unless app i kind op s)
+  kept-act_unless : (app : Application) (i : ℕ) (kind : Option Misuse) (op : Op) (s : State)
+      → MayStamp i (Some op) → P s → P (act_unless app i kind op s)
   kept-act_unless app i None op s may h = kept-judge i (progress_at s i).op_index (act app i op s) (kept-act app i op s may h)
   kept-act_unless app i (Some kind) op s may h = framed s (act_unless app i (Some kind) op s) refl refl refl (inr (inr refl)) h
 
@@ -681,22 +785,27 @@ module _ (P : State → Type 0)
   abbrev pub RunsAndMayStamp : Application → Option ℕ → State → Type 0
   RunsAndMayStamp app running s = (i : ℕ) → running ≡ Some i → MayStamp i (op_at app i (progress_at s i).op_index)
 
-  pub kept-act_current : (app : Application) (limits : Limits) (r : Option ℕ) (s : State) → RunsAndMayStamp app r s → P s → P (act_current app limits r s)
+  pub kept-act_current : (app : Application) (limits : Limits) (r : Option ℕ) (s : State)
+      → RunsAndMayStamp app r s → P s → P (act_current app limits r s)
   kept-act_current app limits None s may h = kept-idle app limits s h
   kept-act_current app limits (Some i) s may h = kept-act_if app i (op_at app i (progress_at s i).op_index) s (may i refl) h
 
-  pub kept-step : (app : Application) (limits : Limits) (handlers : List ℕ) (s : State) → RunsAndMayStamp app (before_step app handlers s).current (before_step app handlers s) → P s → P (step app limits handlers s)
+  pub kept-step : (app : Application) (limits : Limits) (handlers : List ℕ) (s : State)
+      → RunsAndMayStamp app (before_step app handlers s).current (before_step app handlers s) → P s → P (step app limits handlers s)
   unfolding step
   kept-step app limits handlers s may h =
       let begun : State = before_step app handlers s in
       let acted : State = unless_held settle (act_current app limits begun.current begun) in
-      framed acted (record acted { steps = s.steps + 1 }) refl refl refl (inl refl) (kept-unless_held settle kept-settle (act_current app limits begun.current begun) (kept-act_current app limits begun.current begun may (kept-before_step app handlers s h)))
+      framed acted (record acted { steps = s.steps + 1 }) refl refl refl (inl refl)
+      (kept-unless_held settle kept-settle (act_current app limits begun.current begun)
+      (kept-act_current app limits begun.current begun may (kept-before_step app handlers s h)))
 
   pub kept-reset : (app : Application) → P (nobody_ready app) → P (reset app)
   unfolding reset ready_at_reset
   kept-reset app h =
       let s : State = for_each make_ready (with_ops 0 app.tasks) (nobody_ready app) in
-      framed s (record s { current = choice s }) refl refl refl (inl refl) (kept-all_ready (with_ops 0 app.tasks) (nobody_ready app) h)
+      framed s (record s { current = choice s }) refl refl refl (inl refl)
+      (kept-all_ready (with_ops 0 app.tasks) (nobody_ready app) h)
 
 -- any task may stamp
 abbrev pub anyone : ℕ → Bool
@@ -704,18 +813,24 @@ anyone i = true
 
 -- what every state of a run has, if four kinds of change keep it
 module _ (P : State → Type 0)
-    (framed : (s t : State) → t.tasks ≡ s.tasks → t.next_ticket ≡ s.next_ticket → t.time ≡ s.time → Stops s.stopped t.stopped → P s → P t)
-    (moved : (s : State) (i : ℕ) (t : Task) → Stays (status_at s i) t.status → Remains true (task_at s i) t → P s → P (with_task i t s))
-    (taken : (s : State) (i : ℕ) (status : ℕ → Status) → ticket_of (status s.next_ticket) ≡ Some s.next_ticket → IfSome (wake_time_of (status s.next_ticket)) (λ w. s.time < w) → P s → P (take_ticket i status s))
+    (framed : (s t : State) → t.tasks ≡ s.tasks → t.next_ticket ≡ s.next_ticket
+    → t.time ≡ s.time → Stops s.stopped t.stopped → P s → P t)
+    (moved : (s : State) (i : ℕ) (t : Task) → Stays (status_at s i) t.status
+    → Remains true (task_at s i) t → P s → P (with_task i t s))
+    (taken : (s : State) (i : ℕ) (status : ℕ → Status) → ticket_of (status s.next_ticket) ≡ Some s.next_ticket
+    → IfSome (wake_time_of (status s.next_ticket)) (λ w. s.time < w) → P s → P (take_ticket i status s))
     (passed : (n : ℕ) (s : State) → NoneBetween n s → P s → P (wake_due (record s { time = s.time + n }))) where
-  pub kept_after : (app : Application) → P (nobody_ready app) → (limits : Limits) (plan : List Injection) (n : ℕ) → P (state_after app limits plan n)
+  pub kept_after : (app : Application) → P (nobody_ready app)
+      → (limits : Limits) (plan : List Injection) (n : ℕ) → P (state_after app limits plan n)
   kept_after app h limits plan zero = kept-reset P anyone framed moved taken passed app h
   kept_after app h limits plan (suc n) =
-      kept-step P anyone framed moved taken passed app limits (injected plan n) (state_after app limits plan n) (λ i runs is. refl) (kept_after app h limits plan n)
+      kept-step P anyone framed moved taken passed app limits (injected plan n)
+      (state_after app limits plan n) (λ i runs is. refl) (kept_after app h limits plan n)
 
 -- ---- a change of one task
 
-pub one_task : (ts : List Task) (i : ℕ) (t : Task) (j : ℕ) → ((get_or (set ts i t) j no_task ≡ t) × (j ≡ i)) ⊎ (get_or (set ts i t) j no_task ≡ get_or ts j no_task)
+pub one_task : (ts : List Task) (i : ℕ) (t : Task) (j : ℕ)
+    → ((get_or (set ts i t) j no_task ≡ t) × (j ≡ i)) ⊎ (get_or (set ts i t) j no_task ≡ get_or ts j no_task)
 one_task [] i t j = inr refl
 one_task (u ∷ us) zero t zero = inl (refl, refl)
 one_task (u ∷ us) zero t (suc j) = inr refl
@@ -738,28 +853,35 @@ Later now u = IfSome (wake_time_of u) (λ w. now < w)
 abbrev WakeLater : State → Type 0
 WakeLater s = (i : ℕ) → Later s.time (status_at s i)
 
-later-framed : (s t : State) → t.tasks ≡ s.tasks → t.next_ticket ≡ s.next_ticket → t.time ≡ s.time → Stops s.stopped t.stopped → WakeLater s → WakeLater t
-later-framed s t e n m stops h = λ i. let P : List Task → ℕ → Type 0 = λ ts time. Later time (get_or ts i no_task).status in subst (λ ts. P ts t.time) (sym e) (subst (λ time. P s.tasks time) (sym m) (h i))
+later-framed : (s t : State) → t.tasks ≡ s.tasks → t.next_ticket ≡ s.next_ticket
+    → t.time ≡ s.time → Stops s.stopped t.stopped → WakeLater s → WakeLater t
+later-framed s t e n m stops h = λ i.
+    let P : List Task → ℕ → Type 0 = λ ts time. Later time (get_or ts i no_task).status in
+    subst (λ ts. P ts t.time) (sym e) (subst (λ time. P s.tasks time) (sym m) (h i))
 
-later-set : (s : State) (i : ℕ) (t : Task) (now : ℕ) → Later now t.status → ((j : ℕ) → Later now (status_at s j)) → (j : ℕ) → Later now (get_or (set s.tasks i t) j no_task).status
+later-set : (s : State) (i : ℕ) (t : Task) (now : ℕ) → Later now t.status
+    → ((j : ℕ) → Later now (status_at s j)) → (j : ℕ) → Later now (get_or (set s.tasks i t) j no_task).status
 later-set s i t now l h j = elim (one_task s.tasks i t j) [
   | inl e ↦ subst (Later now) (sym (status_same (get_or (set s.tasks i t) j no_task) t e.0)) l
   | inr e ↦ subst (Later now) (sym (status_same (get_or (set s.tasks i t) j no_task) (get_or s.tasks j no_task) e)) (h j)
 ]
 
-later-moved : (s : State) (i : ℕ) (t : Task) → Stays (status_at s i) t.status → Remains true (task_at s i) t → WakeLater s → WakeLater (with_task i t s)
+later-moved : (s : State) (i : ℕ) (t : Task) → Stays (status_at s i) t.status
+    → Remains true (task_at s i) t → WakeLater s → WakeLater (with_task i t s)
 later-moved s i t u remains h =
     let W : Option ℕ → Type 0 = λ o. IfSome o (λ w. s.time < w) in
     later-set s i t s.time (elim u [ inl e ↦ subst W (sym e.1) (h i) | inr e ↦ subst W (sym e.1) tt ]) h
 
-later-taken : (s : State) (i : ℕ) (status : ℕ → Status) → ticket_of (status s.next_ticket) ≡ Some s.next_ticket → IfSome (wake_time_of (status s.next_ticket)) (λ w. s.time < w) → WakeLater s → WakeLater (take_ticket i status s)
+later-taken : (s : State) (i : ℕ) (status : ℕ → Status) → ticket_of (status s.next_ticket) ≡ Some s.next_ticket
+    → IfSome (wake_time_of (status s.next_ticket)) (λ w. s.time < w) → WakeLater s → WakeLater (take_ticket i status s)
 later-taken s i status is l h = later-set s i (record (task_at s i) { status = status s.next_ticket }) s.time l h
 
 -- Who still sleeps when some have been made Ready is none of them, and sleeps as before.
 abbrev Spared : State → List ℕ → ℕ → State → Type 0
 Spared s is i t = (wake_time_of (status_at t i) ≡ None) ⊎ ((status_at t i ≡ status_at s i) × AllByRecursion (λ j. i ≢ j) is)
 
-spared-one : (s : State) (j : ℕ) (i : ℕ) → (wake_time_of (status_at (make_ready j s) i) ≡ None) ⊎ (status_at (make_ready j s) i ≡ status_at s i)
+spared-one : (s : State) (j : ℕ) (i : ℕ)
+    → (wake_time_of (status_at (make_ready j s) i) ≡ None) ⊎ (status_at (make_ready j s) i ≡ status_at s i)
 spared-one s j i =
     let t : Task = record (task_at s j) { status = Ready s.next_ticket } in
     elim (one_task s.tasks j t i) [
@@ -772,45 +894,61 @@ spared s [] i = inr (refl, tt)
 spared s (j ∷ is) i = elim (spared (make_ready j s) is i) [
   | inl gone ↦ inl gone
   | inr kept ↦ elim (one_task s.tasks j (record (task_at s j) { status = Ready s.next_ticket }) i) [
-    | inl e ↦ inl (ap wake_time_of (kept.0 ∙ status_same (get_or (set s.tasks j (record (task_at s j) { status = Ready s.next_ticket })) i no_task) (record (task_at s j) { status = Ready s.next_ticket }) e.0))
+    | inl e ↦
+        inl (ap wake_time_of (kept.0
+        ∙ status_same (get_or (set s.tasks j (record (task_at s j) { status = Ready s.next_ticket })) i no_task)
+        (record (task_at s j) { status = Ready s.next_ticket }) e.0))
     | inr e ↦ by_test (eqb i j)
         (λ t.
         let same : i ≡ j = eqb-same i j t in
         elim (ready_or_absent s i) [
           | inl r ↦ inl (ap wake_time_of kept.0 ∙ rw (← same) r)
-          | inr a ↦ inl (ap wake_time_of (kept.0 ∙ status_same (get_or (set s.tasks j (record (task_at s j) { status = Ready s.next_ticket })) i no_task) (get_or s.tasks i no_task) e) ∙ a)
+          | inr a ↦
+              inl (ap wake_time_of (kept.0
+              ∙ status_same (get_or (set s.tasks j (record (task_at s j) { status = Ready s.next_ticket })) i no_task)
+              (get_or s.tasks i no_task) e)
+              ∙ a)
         ])
         (λ t. inr (
-          kept.0 ∙ status_same (get_or (set s.tasks j (record (task_at s j) { status = Ready s.next_ticket })) i no_task) (get_or s.tasks i no_task) e,
+          kept.0
+              ∙ status_same (get_or (set s.tasks j (record (task_at s j) { status = Ready s.next_ticket })) i no_task)
+              (get_or s.tasks i no_task) e,
           ((λ q. let f : eqb i j ≡ true = rw q (eqb-refl j) in absurd (cc)), kept.1),
         ))
   ]
 ] where
   -- one who is made Ready is Ready, if there is such a task
-  ready_or_absent : (s : State) (i : ℕ) → (wake_time_of (status_at (make_ready i s) i) ≡ None) ⊎ (wake_time_of (status_at s i) ≡ None)
+  ready_or_absent : (s : State) (i : ℕ)
+      → (wake_time_of (status_at (make_ready i s) i) ≡ None) ⊎ (wake_time_of (status_at s i) ≡ None)
   ready_or_absent s i = by_index s.tasks i (record (task_at s i) { status = Ready s.next_ticket }) refl where
-    by_index : (ts : List Task) (i : ℕ) (t : Task) → wake_time_of t.status ≡ None → (wake_time_of (get_or (set ts i t) i no_task).status ≡ None) ⊎ (wake_time_of (get_or ts i no_task).status ≡ None)
+    by_index : (ts : List Task) (i : ℕ) (t : Task) → wake_time_of t.status ≡ None
+        → (wake_time_of (get_or (set ts i t) i no_task).status ≡ None) ⊎ (wake_time_of (get_or ts i no_task).status ≡ None)
     by_index [] i t e = inr refl
     by_index (u ∷ us) zero t e = inl e
     by_index (u ∷ us) (suc i) t e = by_index us i t e
 
-until_key : (deadline : Option ℕ) (ticket time : ℕ) → deadline ≡ Some time → (if is_some deadline then Some (key 0 ticket) else None) ≡ Some (key 0 ticket)
+until_key : (deadline : Option ℕ) (ticket time : ℕ) → deadline ≡ Some time
+    → (if is_some deadline then Some (key 0 ticket) else None) ≡ Some (key 0 ticket)
 until_key None ticket time e = absurd (cc)
 until_key (Some deadline) ticket time e = refl
 
 delayed_some : (t : Task) (u : Status) (time : ℕ) → t.status ≡ u → wake_time_of u ≡ Some time → (k : Key) × (delayed_key t ≡ Some k)
 delayed_some t (Ready n) time e v = absurd (cc)
-delayed_some t (Awake w) time e v = (key 0 w.ticket, ap (λ (u : Status). delayed_key (record t { status = u })) e ∙ until_key w.deadline w.ticket time v)
-delayed_some t (Waiting w) time e v = (key 0 w.ticket, ap (λ (u : Status). delayed_key (record t { status = u })) e ∙ until_key w.deadline w.ticket time v)
+delayed_some t (Awake w) time e v =
+    (key 0 w.ticket, ap (λ (u : Status). delayed_key (record t { status = u })) e ∙ until_key w.deadline w.ticket time v)
+delayed_some t (Waiting w) time e v =
+    (key 0 w.ticket, ap (λ (u : Status). delayed_key (record t { status = u })) e ∙ until_key w.deadline w.ticket time v)
 delayed_some t (Asleep w n) time e v = (key 0 n, ap (λ (u : Status). delayed_key (record t { status = u })) e)
-delayed_some t (WaitingForBits g n d) time e v = (key 0 n, ap (λ (u : Status). delayed_key (record t { status = u })) e ∙ until_key d n time v)
+delayed_some t (WaitingForBits g n d) time e v =
+    (key 0 n, ap (λ (u : Status). delayed_key (record t { status = u })) e ∙ until_key d n time v)
 delayed_some t Suspended time e v = absurd (cc)
 delayed_some t Ended time e v = absurd (cc)
 
 -- One who wakes now is among those who are due.
 is_due_one : (s : State) (i : ℕ) → wake_time_of (status_at s i) ≡ Some s.time → AllByRecursion (λ j. i ≢ j) (tasks_of (due s)) → ⊥
 is_due_one s i w h = let d = delayed_some (task_at s i) (status_at s i) s.time refl w in found d.0 d.1 where
-  not_due : (es : List Entry) → AllByRecursion (λ j. i ≢ j) (tasks_of (filter (is_due s) es)) → AllByRecursion (λ (e : Entry). is_due s e ≡ true → i ≢ e.task) es
+  not_due : (es : List Entry) → AllByRecursion (λ j. i ≢ j) (tasks_of (filter (is_due s) es))
+      → AllByRecursion (λ (e : Entry). is_due s e ≡ true → i ≢ e.task) es
   not_due [] a = tt
   not_due (e ∷ es) a = by_test (is_due s e)
       (λ t. let b = rw t at a in ((λ _. b.0), not_due es b.1))
@@ -819,11 +957,15 @@ is_due_one s i w h = let d = delayed_some (task_at s i) (status_at s i) s.time r
   found : (k : Key) → delayed_key (task_at s i) ≡ Some k → ⊥
   found k e =
       let z : 0 + i ≡ i = omega arith in
-      let all = All-from_in_order (λ (e : Entry). is_due s e ≡ true → i ≢ e.task) (keyed delayed_key 0 s.tasks) (not_due (delayed_list s) h) in
-      let one : is_due s (entry i k) ≡ true → i ≢ i = rw z at (at_index delayed_key (λ (e : Entry). is_due s e ≡ true → i ≢ e.task) 0 i k s.tasks refl e all) in
+      let all =
+      All-from_in_order (λ (e : Entry). is_due s e ≡ true → i ≢ e.task)
+      (keyed delayed_key 0 s.tasks) (not_due (delayed_list s) h) in
+      let one : is_due s (entry i k) ≡ true → i ≢ i =
+      rw z at (at_index delayed_key (λ (e : Entry). is_due s e ≡ true → i ≢ e.task) 0 i k s.tasks refl e all) in
       one (rw w (eqb-refl s.time)) refl
 
-later_up : (o : Option ℕ) (now n : ℕ) → IfSome o (λ w. now < w) → IfSome o (λ w. now < w → now + n ≤ w) → (o ≡ Some (now + n) → ⊥) → IfSome o (λ w. now + n < w)
+later_up : (o : Option ℕ) (now n : ℕ) → IfSome o (λ w. now < w)
+    → IfSome o (λ w. now < w → now + n ≤ w) → (o ≡ Some (now + n) → ⊥) → IfSome o (λ w. now + n < w)
 later_up None now n h none g = tt
 later_up (Some w) now n h none g = let apart : w ≢ now + n = (λ e. g (ap Some e)) in let l = none h in omega arith
 
@@ -844,6 +986,9 @@ later-passed n s none h i =
           subst Q (sym kept.0) (subst R (sym now) later)
     ]
 
-pub wake_later : (app : Application) (limits : Limits) (plan : List Injection) (n task : ℕ) → Later (state_after app limits plan n).time (status_at (state_after app limits plan n) task)
+pub wake_later : (app : Application) (limits : Limits) (plan : List Injection) (n task : ℕ)
+    → Later (state_after app limits plan n).time (status_at (state_after app limits plan n) task)
 unfolding nobody_ready
-wake_later app limits plan n task = kept_after WakeLater later-framed later-moved later-taken later-passed app (λ i. subst (Later app.start) (sym (ended_at_reset app.start app.tasks i)) tt) limits plan n task
+wake_later app limits plan n task =
+    kept_after WakeLater later-framed later-moved later-taken later-passed app
+    (λ i. subst (Later app.start) (sym (ended_at_reset app.start app.tasks i)) tt) limits plan n task

@@ -1,8 +1,10 @@
 -- The choice, in words.
-use Rattle.std.proofs.Common.{◌≡◌, ◌+◌, ℕ, zero, suc, true, false, List, [], ◌∷◌, get_or, Option, Some, None, refl, ap, sym, subst, arith}
+use Rattle.std.proofs.Common.{◌≡◌, ◌+◌, ℕ, zero, suc, true, false, List, [], ◌∷◌, get_or, Option, Some, None, refl, ap, sym, subst}
+use Rattle.std.proofs.Common.{arith}
 use Rattle.std.specs.List.{AllByRecursion, cons_option}
 use Rattle.std.specs.Option.{option_map, is_some}
-use Rattle.model.specs.State.{State, Task, Status, Ready, Awake, Waiting, Asleep, WaitingForBits, Suspended, Ended, ticket_if_ready, task_at, no_task}
+use Rattle.model.specs.State.{State, Task, Status, Ready, Awake, Waiting, Asleep, WaitingForBits, Suspended, Ended, ticket_if_ready}
+use Rattle.model.specs.State.{task_at, no_task}
 use Rattle.model.specs.Order.{Key, Entry, key, put, in_order, entry, keyed, first, before, task_of}
 use Rattle.model.specs.Switching.{ready_list, ready_key, is_ready, choice}
 use Rattle.laws.specs.Choice.{IsBestReady, IsChoice}
@@ -20,11 +22,13 @@ pub All-from_in_order : (P : Entry → Type 0) (xs : List Entry) → AllByRecurs
 All-from_in_order P [] h = tt
 All-from_in_order P (x ∷ xs) h = let both = All-from_put P x (in_order xs) h in (both.0, All-from_in_order P xs both.1)
 
-rest : (P : Entry → Type 0) (o : ℕ) (xs : List Entry) (r : Option Key) → AllByRecursion P (cons_option (option_map (entry o) r) xs) → AllByRecursion P xs
+rest : (P : Entry → Type 0) (o : ℕ) (xs : List Entry) (r : Option Key)
+    → AllByRecursion P (cons_option (option_map (entry o) r) xs) → AllByRecursion P xs
 rest P o xs None h = h
 rest P o xs (Some k) h = h.1
 
-pub at_index : (f : Task → Option Key) (P : Entry → Type 0) (o i : ℕ) (k : Key) (ts : List Task) → f no_task ≡ None → f (get_or ts i no_task) ≡ Some k → AllByRecursion P (keyed f o ts) → P (entry (o + i) k)
+pub at_index : (f : Task → Option Key) (P : Entry → Type 0) (o i : ℕ) (k : Key) (ts : List Task)
+    → f no_task ≡ None → f (get_or ts i no_task) ≡ Some k → AllByRecursion P (keyed f o ts) → P (entry (o + i) k)
 at_index f P o i k [] n e h = absurd (cc)
 at_index f P o zero k (t ∷ ts) n e h =
     let z : o + 0 ≡ o = omega arith in
@@ -45,7 +49,8 @@ ready_is (WaitingForBits g n d) h = absurd (cc)
 ready_is Suspended h = absurd (cc)
 ready_is Ended h = absurd (cc)
 
-pub key_is : (p : ℕ) (u : Status) (k : Key) → option_map (key p) (ticket_if_ready u) ≡ Some k → (u ≡ Ready k.ticket) × (k.priority ≡ p)
+pub key_is : (p : ℕ) (u : Status) (k : Key) → option_map (key p) (ticket_if_ready u) ≡ Some k
+    → (u ≡ Ready k.ticket) × (k.priority ≡ p)
 key_is p (Ready n) k h = let e : key p n ≡ k = cc in (ap (λ (j : Key). Ready j.ticket) e, sym (ap (λ (j : Key). j.priority) e))
 key_is p (Awake w) k h = absurd (cc)
 key_is p (Waiting w) k h = absurd (cc)
@@ -55,16 +60,19 @@ key_is p Suspended k h = absurd (cc)
 key_is p Ended k h = absurd (cc)
 
 module _ (s : State) where
-  ready_key_is : (i : ℕ) → is_ready s i ≡ true → (n : ℕ) × ((task_at s i).status ≡ Ready n) × (ready_key (task_at s i) ≡ Some (key (task_at s i).priority n))
+  ready_key_is : (i : ℕ) → is_ready s i ≡ true
+      → (n : ℕ) × ((task_at s i).status ≡ Ready n) × (ready_key (task_at s i) ≡ Some (key (task_at s i).priority n))
   ready_key_is i h =
       let r = ready_is (task_at s i).status h in
       (r.0, r.1, ap (λ (u : Status). option_map (key (task_at s i).priority) (ticket_if_ready u)) r.1)
 
   -- whatever holds of the ready list
-  each_ready : (P : Entry → Type 0) → AllByRecursion P (ready_list s) → (i n : ℕ) → ready_key (task_at s i) ≡ Some (key (task_at s i).priority n) → P (entry i (key (task_at s i).priority n))
+  each_ready : (P : Entry → Type 0) → AllByRecursion P (ready_list s) → (i n : ℕ)
+      → ready_key (task_at s i) ≡ Some (key (task_at s i).priority n) → P (entry i (key (task_at s i).priority n))
   each_ready P h i n e =
       let z : 0 + i ≡ i = omega arith in
-      rw z at (at_index ready_key P 0 i (key (task_at s i).priority n) s.tasks refl e (All-from_in_order P (keyed ready_key 0 s.tasks) h))
+      rw z at (at_index ready_key P 0 i (key (task_at s i).priority n)
+      s.tasks refl e (All-from_in_order P (keyed ready_key 0 s.tasks) h))
 
   pub none_ready : ready_list s ≡ [] → (i : ℕ) → is_ready s i ≡ false
   none_ready e i = by_test (is_ready s i)

@@ -1,5 +1,6 @@
 -- Handlers that look: what their checks and branches come to, and by what a run is stopped.
-use Rattle.std.proofs.Common.{◌≡◌, ◌+◌, ◌++◌, ◌⊎◌, inl, inr, ℕ, zero, suc, true, false, length, List, [], ◌∷◌, Option, Some, None, refl, ap, sym, subst, ◌∙◌, arith}
+use Rattle.std.proofs.Common.{◌≡◌, ◌+◌, ◌++◌, ◌⊎◌, inl, inr, ℕ, zero, suc, true, false, length, List, [], ◌∷◌, Option, Some, None}
+use Rattle.std.proofs.Common.{refl, ap, sym, subst, ◌∙◌, arith}
 use Rattle.std.proofs.lemmas.List.{length-map, map-append}
 use Rattle.model.specs.declared.answer.AnswerCondition.{AnswerCondition}
 use Rattle.model.specs.declared.call.WaitList.{WaitList}
@@ -35,27 +36,33 @@ use Rattle.laws.proofs.Sleeping.{NoneBetween}
 
 -- ---- a handler's checks and branches
 
-pub passes : (app : Application) (handler op_index : ℕ) (condition : AnswerCondition) (answer : Option ℕ) (ops : List IsrOp) (s : State)
+pub passes : (app : Application) (handler op_index : ℕ)
+    (condition : AnswerCondition) (answer : Option ℕ) (ops : List IsrOp) (s : State)
     → holds condition answer ≡ true
     → isr_each app handler op_index 0 answer (isr_op.Expect condition ∷ ops) s ≡ isr_each app handler (op_index + 1) 0 answer ops s
 passes app handler op_index condition answer ops s h = rw h refl
 
-pub fails : (app : Application) (handler op_index : ℕ) (condition : AnswerCondition) (answer : Option ℕ) (ops : List IsrOp) (s : State)
+pub fails : (app : Application) (handler op_index : ℕ) (condition : AnswerCondition)
+    (answer : Option ℕ) (ops : List IsrOp) (s : State)
     → holds condition answer ≡ false
     → isr_each app handler op_index 0 answer (isr_op.Expect condition ∷ ops) s ≡ fail (HandlerCheck handler op_index) s
 fails app handler op_index condition answer ops s h = rw h refl
 
-pub ends_so : (app : Application) (limits : Limits) (check : End) (s : State) → s.stopped ≡ None → end_of app limits (fail check s) ≡ Some check
+pub ends_so : (app : Application) (limits : Limits) (check : End) (s : State)
+    → s.stopped ≡ None → end_of app limits (fail check s) ≡ Some check
 ends_so app limits check s none = rw none refl
 
-pub takes_branch : (app : Application) (handler op_index : ℕ) (condition : AnswerCondition) (answer : Option ℕ) (ops : List IsrOp) (s : State)
+pub takes_branch : (app : Application) (handler op_index : ℕ)
+    (condition : AnswerCondition) (answer : Option ℕ) (ops : List IsrOp) (s : State)
     → holds condition answer ≡ true
     → isr_each app handler op_index 0 answer (isr_op.If condition ∷ ops) s ≡ isr_each app handler (op_index + 1) 0 answer ops s
 takes_branch app handler op_index condition answer ops s h = rw h refl
 
 -- These ops are jumped over, and the one behind them.
-jumps_over : (app : Application) (handler op_index : ℕ) (answer : Option ℕ) (ops : List IsrOp) (last : IsrOp) (behind : List IsrOp) (s : State)
-    → isr_each app handler op_index (length ops + 1) answer (ops ++ last ∷ behind) s ≡ isr_each app handler (op_index + (length ops + 1)) 0 answer behind s
+jumps_over : (app : Application) (handler op_index : ℕ) (answer : Option ℕ)
+    (ops : List IsrOp) (last : IsrOp) (behind : List IsrOp) (s : State)
+    → isr_each app handler op_index (length ops + 1) answer (ops ++ last ∷ behind) s
+    ≡ isr_each app handler (op_index + (length ops + 1)) 0 answer behind s
 jumps_over app handler op_index answer [] last behind s = refl
 jumps_over app handler op_index answer (op ∷ ops) last behind s =
     let one : suc (length ops) + 1 ≡ suc (length ops + 1) = omega arith in
@@ -65,24 +72,33 @@ jumps_over app handler op_index answer (op ∷ ops) last behind s =
     ∙ ap (λ n. isr_each app handler n 0 answer behind s) further
 
 -- how long a branch is, with the op that ends it
-past_ops : (ops : List IsrOp) (last : IsrOp) (behind : List IsrOp) → AreWhole [] (isr_edges_of ops) → ends_branch (edge_of_isr last) ≡ true
+past_ops : (ops : List IsrOp) (last : IsrOp) (behind : List IsrOp)
+    → AreWhole [] (isr_edges_of ops) → ends_branch (edge_of_isr last) ≡ true
     → past_branch 0 (isr_edges_of (ops ++ last ∷ behind)) ≡ length ops + 1
 past_ops ops last behind whole ends =
     ap (past_branch 0) (map-append edge_of_isr ops (last ∷ behind))
     ∙ past_whole_branch [] (isr_edges_of ops) (edge_of_isr last) (isr_edges_of behind) whole ends
     ∙ ap (λ n. n + 1) (length-map ops edge_of_isr)
 
-pub skips_branch : (app : Application) (handler op_index : ℕ) (condition : AnswerCondition) (answer : Option ℕ) (ops : List IsrOp) (last : IsrOp)
-    (behind : List IsrOp) (s : State) → holds condition answer ≡ false → AreWhole [] (isr_edges_of ops) → ends_branch (edge_of_isr last) ≡ true
-    → isr_each app handler op_index 0 answer (isr_op.If condition ∷ ops ++ last ∷ behind) s ≡ isr_each app handler (op_index + 1 + (length ops + 1)) 0 answer behind s
+pub skips_branch : (app : Application) (handler op_index : ℕ)
+    (condition : AnswerCondition) (answer : Option ℕ) (ops : List IsrOp) (last : IsrOp)
+    (behind : List IsrOp) (s : State) → holds condition answer ≡ false
+    → AreWhole [] (isr_edges_of ops) → ends_branch (edge_of_isr last) ≡ true
+    → isr_each app handler op_index 0 answer (isr_op.If condition ∷ ops ++ last ∷ behind) s
+    ≡ isr_each app handler (op_index + 1 + (length ops + 1)) 0 answer behind s
 skips_branch app handler op_index condition answer ops last behind s h whole ends =
-    let jumps : isr_jump (isr_op.If condition) answer (ops ++ last ∷ behind) ≡ length ops + 1 = rw h (past_ops ops last behind whole ends) in
-    ap (λ n. isr_each app handler (op_index + 1) n answer (ops ++ last ∷ behind) s) jumps ∙ jumps_over app handler (op_index + 1) answer ops last behind s
+    let jumps : isr_jump (isr_op.If condition) answer (ops ++ last ∷ behind) ≡ length ops + 1 =
+    rw h (past_ops ops last behind whole ends) in
+    ap (λ n. isr_each app handler (op_index + 1) n answer (ops ++ last ∷ behind) s) jumps
+    ∙ jumps_over app handler (op_index + 1) answer ops last behind s
 
-pub skips_second : (app : Application) (handler op_index : ℕ) (answer : Option ℕ) (ops behind : List IsrOp) (s : State) → AreWhole [] (isr_edges_of ops)
-    → isr_each app handler op_index 0 answer (isr_op.Else ∷ ops ++ isr_op.EndIf ∷ behind) s ≡ isr_each app handler (op_index + 1 + (length ops + 1)) 0 answer behind s
+pub skips_second : (app : Application) (handler op_index : ℕ) (answer : Option ℕ) (ops behind : List IsrOp) (s : State)
+    → AreWhole [] (isr_edges_of ops)
+    → isr_each app handler op_index 0 answer (isr_op.Else ∷ ops ++ isr_op.EndIf ∷ behind) s
+    ≡ isr_each app handler (op_index + 1 + (length ops + 1)) 0 answer behind s
 skips_second app handler op_index answer ops behind s whole =
-    ap (λ n. isr_each app handler (op_index + 1) n answer (ops ++ isr_op.EndIf ∷ behind) s) (past_ops ops isr_op.EndIf behind whole refl)
+    ap (λ n. isr_each app handler (op_index + 1) n answer (ops ++ isr_op.EndIf ∷ behind) s)
+    (past_ops ops isr_op.EndIf behind whole refl)
     ∙ jumps_over app handler (op_index + 1) answer ops isr_op.EndIf behind s
 
 -- ---- no handler changes by what a run is stopped, but by a first check that fails
@@ -100,7 +116,8 @@ stopped-wake_best list s = of_first (task_of (first (waiters s list))) where
 stopped-fulfil : (caller : Option ℕ) (o : ℕ) (a : Access) (s : State) → (fulfil caller o a s).stopped ≡ s.stopped
 unfolding fulfil
 stopped-fulfil caller o a s = of_list (list_woken caller o a) where
-  of_list : (list : Option WaitList) → (for_one wake_best list (with_object o (object_after caller a (object_at s o)) s)).stopped ≡ s.stopped
+  of_list : (list : Option WaitList)
+      → (for_one wake_best list (with_object o (object_after caller a (object_at s o)) s)).stopped ≡ s.stopped
   of_list None = refl
   of_list (Some list) = stopped-wake_best list (with_object o (object_after caller a (object_at s o)) s)
 
@@ -112,7 +129,8 @@ stopped-resume : (i : ℕ) (s : State) → (resume i s).stopped ≡ s.stopped
 unfolding resume
 stopped-resume i s = by_test (can_resume (status_at s i)) (λ t. rw t refl) (λ t. rw t refl)
 
-stopped-isr : (app : Application) (handler op_index : ℕ) (op : IsrOp) (s : State) → (isr app handler op_index op s).stopped ≡ s.stopped
+stopped-isr : (app : Application) (handler op_index : ℕ) (op : IsrOp) (s : State)
+    → (isr app handler op_index op s).stopped ≡ s.stopped
 stopped-isr app handler op_index (isr_op.Do o a) s = stopped-attempt None o a s
 stopped-isr app handler op_index (isr_op.Command c) s = stopped-attempt None (commands_of app) (Send (item_of c)) s
 stopped-isr app handler op_index (isr_op.Resume i) s = stopped-resume i s
@@ -134,12 +152,15 @@ module _ (end : End) where
   stands-isr_each : (app : Application) (handler op_index over : ℕ) (answer : Option ℕ) (ops : List IsrOp) (s : State) → IsStopped s
       → IsStopped (isr_each app handler op_index over answer ops s)
   stands-isr_each app handler op_index over answer [] s h = h
-  stands-isr_each app handler op_index (suc over) answer (op ∷ ops) s h = stands-isr_each app handler (op_index + 1) over answer ops s h
+  stands-isr_each app handler op_index (suc over) answer (op ∷ ops) s h =
+      stands-isr_each app handler (op_index + 1) over answer ops s h
   stands-isr_each app handler op_index zero answer (op ∷ ops) s h =
       let t : State = isr app handler op_index op s in
       by_test (is_failed op answer)
       (λ f. rw f (stands-fail (HandlerCheck handler op_index) s h))
-      (λ f. rw f (stands-isr_each app handler (op_index + 1) (isr_jump op answer ops) (isr_answer app s op answer) ops t (stopped-isr app handler op_index op s ∙ h)))
+      (λ f.
+      rw f (stands-isr_each app handler (op_index + 1) (isr_jump op answer ops)
+      (isr_answer app s op answer) ops t (stopped-isr app handler op_index op s ∙ h)))
 
   stands-handle : (app : Application) (handler : ℕ) (s : State) → IsStopped s → IsStopped (handle app handler s)
   unfolding handle
@@ -156,7 +177,8 @@ module _ (end : End) where
 
   stands-preempt : (s : State) → IsStopped s → IsStopped (preempt s)
   unfolding preempt yield_now
-  stands-preempt s h = by_test (is_outranked s) (λ t. rw t (stands-choose (for_one to_back s.current s) (stands-back s.current s h))) (λ t. rw t h)
+  stands-preempt s h =
+      by_test (is_outranked s) (λ t. rw t (stands-choose (for_one to_back s.current s) (stands-back s.current s h))) (λ t. rw t h)
 
   stands-inject : (app : Application) (handler : ℕ) (s : State) → IsStopped s → IsStopped (inject app handler s)
   unfolding inject
@@ -171,7 +193,8 @@ module _ (end : End) where
   stands-each app [] s h = h
   stands-each app (handler ∷ handlers) s h = stands-each app handlers (inject app handler s) (stands-inject app handler s h)
 
-  pub stands_before_step : (app : Application) (handlers : List ℕ) (s : State) → IsStopped s → IsStopped (before_step app handlers s)
+  pub stands_before_step : (app : Application) (handlers : List ℕ) (s : State)
+      → IsStopped s → IsStopped (before_step app handlers s)
   unfolding before_step
   stands_before_step app handlers s h = stands-each app handlers (record s { log = [] }) h
 
@@ -181,24 +204,29 @@ module _ (end : End) where
   abbrev StandsOrMisused : State → Type 0
   StandsOrMisused s = IsStopped s ⊎ (is_misused s ≡ true)
 
-  stands-framed : (s t : State) → t.tasks ≡ s.tasks → t.next_ticket ≡ s.next_ticket → t.time ≡ s.time → Stops s.stopped t.stopped → StandsOrMisused s → StandsOrMisused t
+  stands-framed : (s t : State) → t.tasks ≡ s.tasks → t.next_ticket ≡ s.next_ticket
+      → t.time ≡ s.time → Stops s.stopped t.stopped → StandsOrMisused s → StandsOrMisused t
   stands-framed s t e n m stops h = elim stops [
     | inl same ↦ subst (λ (o : Option End). (o ≡ Some end) ⊎ (is_by_misuse o ≡ true)) (sym same) h
     | inr fails ↦ elim fails [
       | inl check ↦ elim h [
         | inl stopped ↦ (let contrary : None ≡ Some end = sym check.0 ∙ stopped in absurd (cc))
-        | inr misused ↦ (let contrary : is_by_misuse None ≡ true = subst (λ o. is_by_misuse o ≡ true) check.0 misused in absurd (cc))
+        | inr misused ↦
+            (let contrary : is_by_misuse None ≡ true = subst (λ o. is_by_misuse o ≡ true) check.0 misused in absurd (cc))
       ]
       | inr misused ↦ inr misused
     ]
   ]
 
-  stands-passed : (n : ℕ) (s : State) → NoneBetween n s → StandsOrMisused s → StandsOrMisused (wake_due (record s { time = s.time + n }))
+  stands-passed : (n : ℕ) (s : State) → NoneBetween n s → StandsOrMisused s
+      → StandsOrMisused (wake_due (record s { time = s.time + n }))
   unfolding wake_due
   stands-passed n s none h =
       let t : State = record s { time = s.time + n } in
       subst (λ (o : Option End). (o ≡ Some end) ⊎ (is_by_misuse o ≡ true)) (sym (stopped-all_ready (tasks_of (due t)) t)) h
 
-  pub stands_in_step : (app : Application) (limits : Limits) (running : Option ℕ) (s : State) → IsStopped s → StandsOrMisused (act_current app limits running s)
+  pub stands_in_step : (app : Application) (limits : Limits) (running : Option ℕ) (s : State)
+      → IsStopped s → StandsOrMisused (act_current app limits running s)
   stands_in_step app limits running s h =
-      kept-act_current StandsOrMisused anyone stands-framed (λ s i t u remains k. k) (λ s i status is later k. k) stands-passed app limits running s (λ i runs is. refl) (inl h)
+      kept-act_current StandsOrMisused anyone stands-framed (λ s i t u remains k. k)
+      (λ s i status is later k. k) stands-passed app limits running s (λ i runs is. refl) (inl h)

@@ -12,5 +12,7 @@ pub same_runs : (app : Application) (handler : ℕ) (s : State) → is_held s �
 unfolding inject
 same_runs app handler s held =
     let sp = spares-handle app handler s in
-    let same : is_held (handle app handler s) ≡ is_held s = ap₂ (λ (b : Bool) (n : ℕ). b || ltb 0 n) (ap (λ (x : Hold). x.held) sp.kept.hold) (ap (λ (x : Suspension). x.suspensions) sp.kept.suspension) in
+    let same : is_held (handle app handler s) ≡ is_held s =
+    ap₂ (λ (b : Bool) (n : ℕ). b || ltb 0 n) (ap (λ (x : Hold). x.held) sp.kept.hold)
+    (ap (λ (x : Suspension). x.suspensions) sp.kept.suspension) in
     ap (λ (t : State). t.current) (when_held preempt (handle app handler s) (same ∙ held)) ∙ sp.current

@@ -1,10 +1,14 @@
 -- Idle runs only where no task is Ready, and after a tick nobody outranks the running task.
-use Rattle.std.proofs.Common.{◌≡◌, ◌≤◌, ◌||◌, ◌&&◌, ◌+◌, ℕ, zero, suc, Bool, true, false, eqb, leb, ltb, List, [], ◌∷◌, Option, Some, None, refl, ap, ap₂, sym, subst, ◌∙◌, arith}
+use Rattle.std.proofs.Common.{◌≡◌, ◌≤◌, ◌||◌, ◌&&◌, ◌+◌, ℕ, zero, suc, Bool, true, false, eqb, leb, ltb, List, [], ◌∷◌, Option}
+use Rattle.std.proofs.Common.{Some, None, refl, ap, ap₂, sym, subst, ◌∙◌, arith}
 use Rattle.std.specs.List.{AllByRecursion, list_any}
 use Rattle.std.specs.Option.{option_eq}
 use Rattle.std.proofs.lemmas.Bool.{le-ltb}
 use Rattle.model.specs.declared.op.Op.{Op}
-use Rattle.model.specs.declared.op.Op.TheVariants.{Work, Delay, DelayUntil, Yield, Time, Mark, Expect, Repeat, End, If, Else, EndIf, Break, Stamp, Since, Await, Do, GiveMutex, MessagesWaiting, SpacesAvailable, SetBits, ClearBits, GetBits, WaitBits, Suspend, Resume, SuspendAll, ResumeAll, NextCommand, Obey}
+use Rattle.model.specs.declared.op.Op.TheVariants.{Work, Delay, DelayUntil, Yield, Time, Mark, Expect, Repeat, End, If, Else, EndIf}
+use Rattle.model.specs.declared.op.Op.TheVariants.{Break, Stamp, Since, Await, Do, GiveMutex, MessagesWaiting, SpacesAvailable}
+use Rattle.model.specs.declared.op.Op.TheVariants.{SetBits, ClearBits, GetBits, WaitBits, Suspend, Resume, SuspendAll, ResumeAll}
+use Rattle.model.specs.declared.op.Op.TheVariants.{NextCommand, Obey}
 use Rattle.model.specs.declared.op.Access.{Access}
 use Rattle.model.specs.declared.op.Access.TheVariants.{Receive}
 use Rattle.model.specs.declared.op.Command.{Command}
@@ -18,7 +22,8 @@ use Rattle.model.specs.Answers.{holds}
 use Rattle.model.specs.Application.{Application, Limits, interrupts_at, op_at}
 use Rattle.model.specs.State.{State, Progress, status_at, task_at, progress_at, call_at, bits_at, go_on, for_each, for_one}
 use Rattle.model.specs.Order.{Entry, first, task_of, tasks_of}
-use Rattle.model.specs.Switching.{to_back, dispatch, choose, choice, is_same, is_ready, ready_list, ready_key, yield_now, is_above, is_outranked, is_sharing, preempt, slice, settle, is_off, is_held, is_scheduler_suspended}
+use Rattle.model.specs.Switching.{to_back, dispatch, choose, choice, is_same, is_ready, ready_list, ready_key, yield_now, is_above}
+use Rattle.model.specs.Switching.{is_outranked, is_sharing, preempt, slice, settle, is_off, is_held, is_scheduler_suspended}
 use Rattle.model.specs.Waiting.{wait_in, set_deadline, is_expired, end_hold, unlock_object, unlock}
 use Rattle.model.specs.Objects.{possible, answer_to, list_for}
 use Rattle.model.specs.Mutexes.{inherit, after_timeout, give_mutex}
@@ -26,11 +31,14 @@ use Rattle.model.specs.Calls.{try, lock, decide, leave_call, await, do_now}
 use Rattle.model.specs.declared.plan.Injection.{Injection}
 use Rattle.model.specs.Handlers.{handle, interrupt, tick_interrupt, idle, ticks_ahead}
 use Rattle.model.specs.Time.{advance, due, increment_tick, jump, sleep, set_previous_wake, wake_due}
-use Rattle.model.specs.Ops.{go_to, answer, use_up, delay, delay_until, expect, open_loop, next_turn, turn, close_turn, branch, skip_branch, leave_loop, stamp, since}
-use Rattle.model.specs.Groups.{is_met, begin_set, set_bits, clear, answer_bits, wait_for_bits, begin_bits_wait, check, final_bits, wait_bits}
+use Rattle.model.specs.Ops.{go_to, answer, use_up, delay, delay_until, expect, open_loop, next_turn, turn, close_turn, branch}
+use Rattle.model.specs.Ops.{skip_branch, leave_loop, stamp, since}
+use Rattle.model.specs.Groups.{is_met, begin_set, set_bits, clear, answer_bits, wait_for_bits, begin_bits_wait, check, final_bits}
+use Rattle.model.specs.Groups.{wait_bits}
 use Rattle.model.specs.Suspension.{call_suspend, call_resume, suspend_all, resume_scheduler, resume_all}
 use Rattle.model.specs.Daemon.{take_command, next_command, obeyed, clear_by_daemon, obey, command_at}
-use Rattle.model.specs.Step.{is_ended, judge, act, misuse, act_unless, act_if, act_current, before_step, step, ready_at_reset, reset}
+use Rattle.model.specs.Step.{is_ended, judge, act, misuse, act_unless, act_if, act_current, before_step, step, ready_at_reset}
+use Rattle.model.specs.Step.{reset}
 use Rattle.model.specs.Run.{injected, state_after}
 use Rattle.model.proofs.Sorting.{by_test, Falls, Falls-in_order, IsAfter}
 use Rattle.model.proofs.Lists.{HasKey, list_has}
@@ -75,7 +83,9 @@ or_false false b t = refl
 or_false true b t = absurd (cc)
 
 idle_below : (s : State) → is_outranked s ≡ false → IdleAlone s
-idle_below s t e = let P : Option ℕ → Type 0 = λ r. list_any (is_above s r) (ready_list s) ≡ false in none_ready s (any_true (ready_list s) (subst P e t))
+idle_below s t e =
+    let P : Option ℕ → Type 0 = λ r. list_any (is_above s r) (ready_list s) ≡ false in
+    none_ready s (any_true (ready_list s) (subst P e t))
 
 idle-slice : (s : State) → IdleAlone (slice s)
 unfolding slice
@@ -99,8 +109,11 @@ idle-tick app s free =
 held-jumped : (app : Application) (n : ℕ) (s : State) → is_held (interrupt app (jump n s)) ≡ is_held s
 unfolding jump
 held-jumped app n s =
-    let k : Keeps (jump_come n s) (interrupt app (jump n s)) = keeps_both (jump_come n s) (jump n s) (interrupt app (jump n s)) (keeps-wake_due (jump_come n s)) (keeps-interrupt app (jump n s)) in
-    ap₂ (λ (b : Bool) (c : ℕ). b || ltb 0 c) (ap (λ (x : Hold). x.held) k.hold) (ap (λ (x : Suspension). x.suspensions) k.suspension)
+    let k : Keeps (jump_come n s) (interrupt app (jump n s)) =
+    keeps_both (jump_come n s) (jump n s) (interrupt app (jump n s))
+    (keeps-wake_due (jump_come n s)) (keeps-interrupt app (jump n s)) in
+    ap₂ (λ (b : Bool) (c : ℕ). b || ltb 0 c) (ap (λ (x : Hold). x.held) k.hold)
+    (ap (λ (x : Suspension). x.suspensions) k.suspension)
 
 idle-jumped : (app : Application) (n : ℕ) (s : State) → is_held s ≡ false → IdleAlone (jumped app n s)
 idle-jumped app n s free =
@@ -125,7 +138,9 @@ current-increment s =
 
 current-told : (app : Application) (s : State) → (interrupt app (increment_tick s)).current ≡ s.current
 unfolding interrupt
-current-told app s = let come : State = increment_tick s in current-handles app (interrupts_at app come.elapsed) come ∙ current-increment s
+current-told app s =
+    let come : State = increment_tick s in
+    current-handles app (interrupts_at app come.elapsed) come ∙ current-increment s
 
 current-use_up : (app : Application) (i n : ℕ) (s : State) → (use_up app i n s).current ≡ s.current
 unfolding use_up go_to
@@ -137,7 +152,9 @@ unfolding tick_interrupt
 idle-work app i s r =
     let told : State = interrupt app (increment_tick s) in
     by_test (is_held told)
-    (λ t. subst IdleAlone (sym (when_held slice told t)) (λ e. let f : Some i ≡ None = sym r ∙ sym (current-told app s) ∙ e in absurd (cc)))
+    (λ t.
+    subst IdleAlone (sym (when_held slice told t))
+    (λ e. let f : Some i ≡ None = sym r ∙ sym (current-told app s) ∙ e in absurd (cc)))
     (λ t. subst IdleAlone (sym (when_free slice told t)) (idle-slice told))
 
 idle-settle : (s : State) → IdleAlone s → IdleAlone (settle s)
@@ -154,11 +171,13 @@ current-delay_until : (app : Application) (i w : ℕ) (s : State) → (delay_unt
 unfolding delay_until set_previous_wake answer go_to
 current-delay_until app i w s = by_test (ltb s.time w) (λ t. rw t (current-sleep i w (answer app i (Some 1) s))) (λ t. rw t refl)
 
-current-expect : (app : Application) (i : ℕ) (condition : AnswerCondition) (s : State) → (expect app i condition s).current ≡ s.current
+current-expect : (app : Application) (i : ℕ) (condition : AnswerCondition) (s : State)
+    → (expect app i condition s).current ≡ s.current
 unfolding expect go_to
 current-expect app i condition s = by_test (holds condition (progress_at s i).answer) (λ t. rw t refl) (λ t. rw t refl)
 
-current-next_turn : (app : Application) (i : ℕ) (p : Progress) (l : Loop) (ls : List Loop) (left : Option ℕ) (s : State) → (next_turn app i p l ls left s).current ≡ s.current
+current-next_turn : (app : Application) (i : ℕ) (p : Progress) (l : Loop) (ls : List Loop) (left : Option ℕ) (s : State)
+    → (next_turn app i p l ls left s).current ≡ s.current
 unfolding go_to
 current-next_turn app i p l ls None s = refl
 current-next_turn app i p l ls (Some left) s = by_test (leb left 1) (λ q. rw q refl) (λ q. rw q refl)
@@ -168,7 +187,8 @@ unfolding go_to
 current-turn app i p [] s = refl
 current-turn app i p (l ∷ ls) s = current-next_turn app i p l ls l.left s
 
-current-branch : (app : Application) (i : ℕ) (condition : AnswerCondition) (s : State) → (branch app i condition s).current ≡ s.current
+current-branch : (app : Application) (i : ℕ) (condition : AnswerCondition) (s : State)
+    → (branch app i condition s).current ≡ s.current
 unfolding branch go_to
 current-branch app i condition s = by_test (holds condition (progress_at s i).answer) (λ t. rw t refl) (λ t. rw t refl)
 
@@ -179,7 +199,9 @@ idle-delay : (app : Application) (i n : ℕ) (s : State) → s.current ≡ Some 
 unfolding delay answer go_to
 idle-delay app i n s r = by_test (eqb n 0)
     (λ t. rw t (idle-yield_now (answer app i (Some 0) s)))
-    (λ t. rw t (still_runs i s (sleep i (s.time + n) (answer app i (Some 0) s)) r (current-sleep i (s.time + n) (answer app i (Some 0) s))))
+    (λ t.
+    rw t (still_runs i s (sleep i (s.time + n) (answer app i (Some 0) s))
+    r (current-sleep i (s.time + n) (answer app i (Some 0) s))))
 
 idle-try : (app : Application) (i o : ℕ) (a : Access) (s : State) → s.current ≡ Some i → IdleAlone (try app i o a s)
 unfolding try answer go_to
@@ -208,7 +230,8 @@ idle-leave_call i s = by_test (call_at s i).waits
     (λ t. rw t (idle-choose (end_hold i Try s)))
     (λ t. rw t (idle-preempt (end_hold i Try s)))
 
-idle-await : (app : Application) (i o : ℕ) (a : Access) (ticks : Option ℕ) (phase : Phase) (s : State) → s.current ≡ Some i → IdleAlone (await app i o a ticks phase s)
+idle-await : (app : Application) (i o : ℕ) (a : Access) (ticks : Option ℕ) (phase : Phase) (s : State)
+    → s.current ≡ Some i → IdleAlone (await app i o a ticks phase s)
 unfolding set_deadline
 idle-await app i o a ticks Start s r = idle-try app i o a (set_deadline i ticks s) r
 idle-await app i o a ticks Try s r = idle-try app i o a s r
@@ -227,7 +250,8 @@ idle-give_mutex app i o s = idle-preempt _
 
 -- ---- event groups
 
-idle-set_bits : (app : Application) (i g m : ℕ) (phase : Phase) (s : State) → s.current ≡ Some i → IdleAlone (set_bits app i g m phase s)
+idle-set_bits : (app : Application) (i g m : ℕ) (phase : Phase) (s : State)
+    → s.current ≡ Some i → IdleAlone (set_bits app i g m phase s)
 unfolding begin_set
 idle-set_bits app i g m Start s r = still_runs i s (begin_set i g m s) r (stays-set g m (record s { call_hold = true })).current
 idle-set_bits app i g m Try s r = idle-preempt _
@@ -240,21 +264,26 @@ current-answer_bits : (app : Application) (i g : ℕ) (c : Condition) (s : State
 unfolding answer_bits answer go_to
 current-answer_bits app i g c s = by_test (is_met (bits_at s g) c) (λ t. rw t refl) (λ t. rw t refl)
 
-current-check : (app : Application) (i g : ℕ) (c : Condition) (ticks : Option ℕ) (s : State) → (check app i g c ticks s).current ≡ s.current
+current-check : (app : Application) (i g : ℕ) (c : Condition) (ticks : Option ℕ) (s : State)
+    → (check app i g c ticks s).current ≡ s.current
 unfolding check begin_bits_wait wait_for_bits set_deadline
 current-check app i g c ticks s = by_test (is_met (bits_at s g) c || option_eq eqb ticks (Some 0))
     (λ t. rw t (current-answer_bits app i g c s))
     (λ t. rw t refl)
 
-current-final_bits : (app : Application) (i g : ℕ) (c : Condition) (kept : Option ℕ) (s : State) → (final_bits app i g c kept s).current ≡ s.current
+current-final_bits : (app : Application) (i g : ℕ) (c : Condition) (kept : Option ℕ) (s : State)
+    → (final_bits app i g c kept s).current ≡ s.current
 unfolding answer go_to
 current-final_bits app i g c None s = current-answer_bits app i g c s
 current-final_bits app i g c (Some bits) s = refl
 
-idle-final : (app : Application) (i g : ℕ) (c : Condition) (s : State) → s.current ≡ Some i → IdleAlone (final_bits app i g c (call_at s i).kept s)
-idle-final app i g c s r = still_runs i s (final_bits app i g c (call_at s i).kept s) r (current-final_bits app i g c (call_at s i).kept s)
+idle-final : (app : Application) (i g : ℕ) (c : Condition) (s : State)
+    → s.current ≡ Some i → IdleAlone (final_bits app i g c (call_at s i).kept s)
+idle-final app i g c s r =
+    still_runs i s (final_bits app i g c (call_at s i).kept s) r (current-final_bits app i g c (call_at s i).kept s)
 
-idle-wait_bits : (app : Application) (i g : ℕ) (c : Condition) (ticks : Option ℕ) (phase : Phase) (s : State) → s.current ≡ Some i → IdleAlone (wait_bits app i g c ticks phase s)
+idle-wait_bits : (app : Application) (i g : ℕ) (c : Condition) (ticks : Option ℕ) (phase : Phase) (s : State)
+    → s.current ≡ Some i → IdleAlone (wait_bits app i g c ticks phase s)
 idle-wait_bits app i g c ticks Start s r = still_runs i s (check app i g c ticks s) r (current-check app i g c ticks s)
 idle-wait_bits app i g c ticks Leave s r = idle-choose (end_hold i Try s)
 idle-wait_bits app i g c ticks Try s r = idle-final app i g c s r
@@ -270,7 +299,8 @@ idle-take_command app i o s r = by_test (possible s o Receive)
     (λ t. rw t (idle-preempt _))
     (λ t. rw t (still_runs i s (go_on i Decide s) r refl))
 
-idle-next_command : (app : Application) (i o : ℕ) (phase : Phase) (s : State) → s.current ≡ Some i → IdleAlone (next_command app i o phase s)
+idle-next_command : (app : Application) (i o : ℕ) (phase : Phase) (s : State)
+    → s.current ≡ Some i → IdleAlone (next_command app i o phase s)
 idle-next_command app i o Start s r = idle-take_command app i o s r
 idle-next_command app i o Try s r = idle-take_command app i o s r
 idle-next_command app i o Decide s r = idle-await app i o Receive None Decide s r
@@ -284,7 +314,8 @@ idle-begin_command app i c s r = by_test c.clear
     (λ t. rw t (still_runs i s (clear_by_daemon app i c.group c.mask s) r refl))
     (λ t. rw t (still_runs i s (begin_set i c.group c.mask s) r (stays-set c.group c.mask (record s { call_hold = true })).current))
 
-idle-obey : (app : Application) (i : ℕ) (c : Command) (phase : Phase) (s : State) → s.current ≡ Some i → IdleAlone (obey app i c phase s)
+idle-obey : (app : Application) (i : ℕ) (c : Command) (phase : Phase) (s : State)
+    → s.current ≡ Some i → IdleAlone (obey app i c phase s)
 idle-obey app i c Start s r = idle-begin_command app i c s r
 idle-obey app i c Try s r = idle-preempt _
 idle-obey app i c Decide s r = idle-preempt _
@@ -310,7 +341,9 @@ idle-act : (app : Application) (i : ℕ) (op : Op) (s : State) → s.current ≡
 unfolding answer go_to open_loop close_turn skip_branch leave_loop stamp since clear call_suspend call_resume suspend_all
 idle-act app i (Work n) s r = idle-work app i (use_up app i n s) (current-use_up app i n s ∙ r)
 idle-act app i (Delay n) s r = idle-delay app i n s r
-idle-act app i (DelayUntil n) s r = still_runs i s (delay_until app i ((progress_at s i).previous_wake + n) s) r (current-delay_until app i ((progress_at s i).previous_wake + n) s)
+idle-act app i (DelayUntil n) s r =
+    still_runs i s (delay_until app i ((progress_at s i).previous_wake + n) s)
+    r (current-delay_until app i ((progress_at s i).previous_wake + n) s)
 idle-act app i Yield s r = idle-yield_now (answer app i (Some 0) s)
 idle-act app i Time s r = still_runs i s (act app i Time s) r refl
 idle-act app i (Mark n) s r = still_runs i s (act app i (Mark n) s) r refl
@@ -339,7 +372,8 @@ idle-act app i Obey s r = idle-obey app i (command_at s i) (call_at s i).phase s
 idle-act app i SuspendAll s r = still_runs i s (act app i SuspendAll s) r refl
 idle-act app i ResumeAll s r = idle-resume_all app i s r
 
-idle-act_unless : (app : Application) (i : ℕ) (kind : Option Misuse) (op : Op) (s : State) → s.current ≡ Some i → IdleAlone (act_unless app i kind op s)
+idle-act_unless : (app : Application) (i : ℕ) (kind : Option Misuse) (op : Op) (s : State)
+    → s.current ≡ Some i → IdleAlone (act_unless app i kind op s)
 idle-act_unless app i None op s r = idle-judge i (progress_at s i).op_index (act app i op s) (idle-act app i op s r)
 idle-act_unless app i (Some kind) op s r = still_runs i s (act_unless app i (Some kind) op s) r refl
 
@@ -347,19 +381,22 @@ idle-act_if : (app : Application) (i : ℕ) (o : Option Op) (s : State) → s.cu
 idle-act_if app i None s r = still_runs i s s r refl
 idle-act_if app i (Some op) s r = idle-act_unless app i (misuse s i op) op s r
 
-idle-act_current : (app : Application) (limits : Limits) (r : Option ℕ) (s : State) → s.current ≡ r → (r ≡ None → is_held s ≡ false) → IdleAlone (act_current app limits r s)
+idle-act_current : (app : Application) (limits : Limits) (r : Option ℕ) (s : State)
+    → s.current ≡ r → (r ≡ None → is_held s ≡ false) → IdleAlone (act_current app limits r s)
 idle-act_current app limits None s e free = idle-idle app limits s (free refl)
 idle-act_current app limits (Some i) s e free = idle-act_if app i (op_at app i (progress_at s i).op_index) s e
 
 idle_free : (app : Application) (s : State) → IsState app s → s.current ≡ None → is_held s ≡ false
 idle_free app s h e = subst (RunsIn app s) e h.runs
 
-idle-step : (app : Application) → IsWellFormed app → (limits : Limits) (handlers : List ℕ) (s : State) → IsState app s → IdleAlone (step app limits handlers s)
+idle-step : (app : Application) → IsWellFormed app → (limits : Limits) (handlers : List ℕ) (s : State)
+    → IsState app s → IdleAlone (step app limits handlers s)
 unfolding step
 idle-step app formed limits handlers s reached =
     let r : State = before_step app handlers s in
     let t : State = act_current app limits r.current r in
-    let h : IdleAlone t = idle-act_current app limits r.current r refl (idle_free app r (reached_before_step app formed handlers s reached)) in
+    let h : IdleAlone t =
+    idle-act_current app limits r.current r refl (idle_free app r (reached_before_step app formed handlers s reached)) in
     by_test (is_held t)
     (λ q. subst IdleAlone (sym (when_held settle t q)) h)
     (λ q. subst IdleAlone (sym (when_free settle t q)) (idle-settle t h))
@@ -368,24 +405,30 @@ idle-reset : (app : Application) → IdleAlone (reset app)
 unfolding reset
 idle-reset app = λ e. chosen_none (ready_at_reset app) e
 
-idle_all : (app : Application) → IsWellFormed app → (limits : Limits) (plan : List Injection) (n : ℕ) → IdleAlone (state_after app limits plan n)
+idle_all : (app : Application) → IsWellFormed app
+    → (limits : Limits) (plan : List Injection) (n : ℕ) → IdleAlone (state_after app limits plan n)
 idle_all app formed limits plan zero = idle-reset app
-idle_all app formed limits plan (suc n) = idle-step app formed limits (injected plan n) (state_after app limits plan n) (reached_after app formed limits plan n)
+idle_all app formed limits plan (suc n) =
+    idle-step app formed limits (injected plan n) (state_after app limits plan n) (reached_after app formed limits plan n)
 
-pub idle_after : (app : Application) → IsWellFormed app → (limits : Limits) (plan : List Injection) (n task : ℕ) → (state_after app limits plan n).current ≡ None → is_ready (state_after app limits plan n) task ≡ false
+pub idle_after : (app : Application) → IsWellFormed app → (limits : Limits) (plan : List Injection) (n task : ℕ)
+    → (state_after app limits plan n).current ≡ None → is_ready (state_after app limits plan n) task ≡ false
 idle_after app formed limits plan n task e = idle_all app formed limits plan n e task
 
 -- ---- after a tick
 
-none_above : (s : State) (c : ℕ) (es : List Entry) → AllByRecursion (λ (e : Entry). e.key.priority ≤ (task_at s c).priority) es → list_any (is_above s (Some c)) es ≡ false
+none_above : (s : State) (c : ℕ) (es : List Entry)
+    → AllByRecursion (λ (e : Entry). e.key.priority ≤ (task_at s c).priority) es → list_any (is_above s (Some c)) es ≡ false
 none_above s c [] h = refl
 none_above s c (e ∷ es) h = rw (le-ltb (task_at s c).priority e.key.priority h.0) (none_above s c es h.1)
 
-after_first : (s : State) (e : Entry) (p : ℕ) → e.key.priority ≡ p → (es : List Entry) → AllByRecursion (λ (f : Entry). IsAfter f.key e.key) es → AllByRecursion (λ (f : Entry). f.key.priority ≤ p) es
+after_first : (s : State) (e : Entry) (p : ℕ) → e.key.priority ≡ p → (es : List Entry)
+    → AllByRecursion (λ (f : Entry). IsAfter f.key e.key) es → AllByRecursion (λ (f : Entry). f.key.priority ≤ p) es
 after_first s e p is [] h = tt
 after_first s e p is (f ∷ es) h = (let low = h.0.low in omega arith, after_first s e p is es h.1)
 
-by_list : (s : State) (es : List Entry) → AllByRecursion (HasKey ready_key s.tasks) es → Falls es → list_any (is_above s (task_of (first es))) es ≡ false
+by_list : (s : State) (es : List Entry) → AllByRecursion (HasKey ready_key s.tasks) es
+    → Falls es → list_any (is_above s (task_of (first es))) es ≡ false
 by_list s [] h f = refl
 by_list s (e ∷ es) h f =
     let is = key_is (task_at s e.task).priority (task_at s e.task).status e.key h.0.key in
@@ -397,7 +440,8 @@ chosen_top s = by_list s (ready_list s) (list_has ready_key s.tasks) (Falls-in_o
 top-choose : (s : State) → is_outranked (choose s) ≡ false
 unfolding choose dispatch
 top-choose s = by_test (is_same (choice s) s.current)
-    (λ t. let P : Option ℕ → Type 0 = λ r. list_any (is_above s r) (ready_list s) ≡ false in rw t (subst P (same_eq (choice s) s.current t) (chosen_top s)))
+    (λ t. let P : Option ℕ → Type 0 = λ r. list_any (is_above s r) (ready_list s) ≡ false in
+    rw t (subst P (same_eq (choice s) s.current t) (chosen_top s)))
     (λ t. rw t (chosen_top s))
 
 top-slice : (s : State) → is_outranked (slice s) ≡ false
@@ -417,8 +461,10 @@ not_outranked-jump app n s free =
     let told : State = interrupt app (jump n s) in
     subst (λ (t : State). is_outranked t ≡ false) (sym (when_free slice told (held-jumped app n s ∙ free))) (top-slice told)
 
-pub not_outranked-idle : (app : Application) (limits : Limits) (s : State) → is_held s ≡ false → is_outranked (idle app limits s) ≡ false
+pub not_outranked-idle : (app : Application) (limits : Limits) (s : State)
+    → is_held s ≡ false → is_outranked (idle app limits s) ≡ false
 unfolding idle
 not_outranked-idle app limits s free =
     let n : ℕ = ticks_ahead app limits s in
-    either_way (λ (t : State). is_outranked t ≡ false) app.tickless (jumped app n s) (tick_interrupt app s) (not_outranked-jump app n s free) (not_outranked-tick app s free)
+    either_way (λ (t : State). is_outranked t ≡ false) app.tickless (jumped app n s)
+    (tick_interrupt app s) (not_outranked-jump app n s free) (not_outranked-tick app s free)

@@ -7,13 +7,15 @@ use Rattle.model.specs.Run.{Run, IsRun, injected, state_after, events_after, end
 use Rattle.model.specs.State.{State}
 use Rattle.model.proofs.Lists.{eqb-apart}
 
-none_yet : (plan : List Injection) (steps n : ℕ) → AllByRecursion (λ (p : Injection). steps ≤ p.step) plan → n < steps → injected plan n ≡ []
+none_yet : (plan : List Injection) (steps n : ℕ)
+    → AllByRecursion (λ (p : Injection). steps ≤ p.step) plan → n < steps → injected plan n ≡ []
 none_yet [] steps n all l = refl
 none_yet (p ∷ plan) steps n all l =
     let apart : eqb p.step n ≡ false = eqb-apart p.step n (λ e. let le = all.0 in omega arith) in
     rw apart (none_yet plan steps n all.1 l)
 
-module _ (app : Application) (plan : List Injection) (limits : Limits) (run : Run) (h : IsRun app [] limits run) (all : AllByRecursion (λ (p : Injection). run.steps ≤ p.step) plan) where
+module _ (app : Application) (plan : List Injection) (limits : Limits) (run : Run)
+    (h : IsRun app [] limits run) (all : AllByRecursion (λ (p : Injection). run.steps ≤ p.step) plan) where
   same_state : (n : ℕ) → n ≤ run.steps → state_after app limits plan n ≡ state_after app limits [] n
   same_state zero l = refl
   same_state (suc n) l = rw (none_yet plan run.steps n all (omega arith), same_state n (omega arith)) refl

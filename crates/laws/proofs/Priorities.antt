@@ -25,14 +25,18 @@ module _ (app : Application) where
   abbrev AreAtReset : State → Type 0
   AreAtReset s = (i : ℕ) → (task_at s i).base_priority ≡ base_at_reset i
 
-  base-framed : (s t : State) → t.tasks ≡ s.tasks → t.next_ticket ≡ s.next_ticket → t.time ≡ s.time → Stops s.stopped t.stopped → AreAtReset s → AreAtReset t
+  base-framed : (s t : State) → t.tasks ≡ s.tasks → t.next_ticket ≡ s.next_ticket
+      → t.time ≡ s.time → Stops s.stopped t.stopped → AreAtReset s → AreAtReset t
   base-framed s t e n m stops h = λ i. ap (λ (ts : List Task). (get_or ts i no_task).base_priority) e ∙ h i
 
-  base-moved : (s : State) (i : ℕ) (t : Task) → Stays (status_at s i) t.status → Remains true (task_at s i) t → AreAtReset s → AreAtReset (with_task i t s)
+  base-moved : (s : State) (i : ℕ) (t : Task) → Stays (status_at s i) t.status
+      → Remains true (task_at s i) t → AreAtReset s → AreAtReset (with_task i t s)
   base-moved s i t u remains h = each-set no_task (λ j v. v.base_priority ≡ base_at_reset j) s.tasks i t (remains.0 ∙ h i) h
 
   base-taken : (s : State) (i : ℕ) (f : ℕ → Status) → AreAtReset s → AreAtReset (take_ticket i f s)
-  base-taken s i f h = each-set no_task (λ j v. v.base_priority ≡ base_at_reset j) s.tasks i (record (task_at s i) { status = f s.next_ticket }) (h i) h
+  base-taken s i f h =
+      each-set no_task (λ j v. v.base_priority ≡ base_at_reset j) s.tasks
+      i (record (task_at s i) { status = f s.next_ticket }) (h i) h
 
   base-all_ready : (is : List ℕ) (s : State) → AreAtReset s → AreAtReset (for_each make_ready is s)
   base-all_ready [] s h = h
@@ -47,20 +51,25 @@ module _ (app : Application) where
   base-nobody = λ i. refl
 
   base-after : (limits : Limits) (plan : List Injection) (n : ℕ) → AreAtReset (state_after app limits plan n)
-  base-after limits plan n = kept_after AreAtReset base-framed base-moved (λ s i f is later. base-taken s i f) base-passed app base-nobody limits plan n
+  base-after limits plan n =
+      kept_after AreAtReset base-framed base-moved (λ s i f is later. base-taken s i f) base-passed app base-nobody limits plan n
 
 -- ---- and those are the file's
 
-of_file : (start : ℕ) (ds : List Definition) (i : ℕ) → IfSome (slice_get ds i) (λ d. (get_or (map (task_at_reset start) ds) i no_task).base_priority ≡ d.priority)
+of_file : (start : ℕ) (ds : List Definition) (i : ℕ)
+    → IfSome (slice_get ds i) (λ d. (get_or (map (task_at_reset start) ds) i no_task).base_priority ≡ d.priority)
 of_file start [] i = tt
 of_file start (d ∷ ds) zero = refl
 of_file start (d ∷ ds) (suc i) = of_file start ds i
 
-pub base_of_file : (app : Application) (limits : Limits) (plan : List Injection) (n task : ℕ) → IfSome (definition_of app task) (λ d. (task_at (state_after app limits plan n) task).base_priority ≡ d.priority)
+pub base_of_file : (app : Application) (limits : Limits) (plan : List Injection) (n task : ℕ)
+    → IfSome (definition_of app task) (λ d. (task_at (state_after app limits plan n) task).base_priority ≡ d.priority)
 base_of_file app limits plan n task = by_definition (definition_of app task) (of_file app.start app.tasks task) where
-  by_definition : (o : Option Definition) → IfSome o (λ d. base_at_reset app task ≡ d.priority) → IfSome o (λ d. (task_at (state_after app limits plan n) task).base_priority ≡ d.priority)
+  by_definition : (o : Option Definition) → IfSome o (λ d. base_at_reset app task ≡ d.priority)
+      → IfSome o (λ d. (task_at (state_after app limits plan n) task).base_priority ≡ d.priority)
   by_definition None h = tt
   by_definition (Some d) h = base-after app limits plan n task ∙ h
 
-pub never_below_base : (app : Application) → IsWellFormed app → (limits : Limits) (plan : List Injection) (n task : ℕ) → (task_at (state_after app limits plan n) task).base_priority ≤ (task_at (state_after app limits plan n) task).priority
+pub never_below_base : (app : Application) → IsWellFormed app → (limits : Limits) (plan : List Injection) (n task : ℕ)
+    → (task_at (state_after app limits plan n) task).base_priority ≤ (task_at (state_after app limits plan n) task).priority
 never_below_base app formed limits plan n task = ((reached_after app formed limits plan n).sound.priorities task).0

@@ -1,5 +1,6 @@
 -- Idle sleeps past no wake time, and past no base interrupt; and up to the first of them.
-use Rattle.std.proofs.Common.{min, fold, ap, sym, subst, ◌≡◌, ◌-◌, ◌<◌, ◌≤◌, ◌+◌, ℕ, zero, suc, true, ltb, List, [], ◌∷◌, ◌++◌, get_or, inl, inr, ◌⊎◌, leb, leb-false, Option, Some, None, refl, ◌∙◌, arith}
+use Rattle.std.proofs.Common.{min, fold, ap, sym, subst, ◌≡◌, ◌-◌, ◌<◌, ◌≤◌, ◌+◌, ℕ, zero, suc, true, ltb, List, [], ◌∷◌, ◌++◌}
+use Rattle.std.proofs.Common.{get_or, inl, inr, ◌⊎◌, leb, leb-false, Option, Some, None, refl, ◌∙◌, arith}
 use Rattle.std.specs.List.{AllByRecursion, Contains, cons_option, filter, filter_map}
 use Rattle.std.specs.Prelude.{map}
 use Rattle.std.specs.Option.{IfSome, option_map}
@@ -38,25 +39,32 @@ to_wakes now ts = filter_map (λ (t : Task). option_map (λ time. time - now) (w
 abbrev IsLeast : ℕ → ℕ → Option ℕ → List ℕ → Type 0
 IsLeast now a wake ds = IfSome wake (λ w. fold min a ds ≤ w - now)
 
-least_first : (now a : ℕ) (o : Option ℕ) (ds ys : List ℕ) → IsLeast now a o (cons_option (option_map (λ time. time - now) o) ds ++ ys)
+least_first : (now a : ℕ) (o : Option ℕ) (ds ys : List ℕ)
+    → IsLeast now a o (cons_option (option_map (λ time. time - now) o) ds ++ ys)
 least_first now a None ds ys = tt
 least_first now a (Some w) ds ys = let l = least (min a (w - now)) (ds ++ ys) in omega arith
 
-least_rest : (now a : ℕ) (o wake : Option ℕ) (ds ys : List ℕ) → ((b : ℕ) → IsLeast now b wake (ds ++ ys)) → IsLeast now a wake (cons_option (option_map (λ time. time - now) o) ds ++ ys)
+least_rest : (now a : ℕ) (o wake : Option ℕ) (ds ys : List ℕ) → ((b : ℕ) → IsLeast now b wake (ds ++ ys))
+    → IsLeast now a wake (cons_option (option_map (λ time. time - now) o) ds ++ ys)
 least_rest now a None wake ds ys h = h a
 least_rest now a (Some w) wake ds ys h = h (min a (w - now))
 
-least_wake : (now : ℕ) (ts : List Task) (ys : List ℕ) (i a : ℕ) → IsLeast now a (wake_time_of (get_or ts i no_task).status) (to_wakes now ts ++ ys)
+least_wake : (now : ℕ) (ts : List Task) (ys : List ℕ) (i a : ℕ)
+    → IsLeast now a (wake_time_of (get_or ts i no_task).status) (to_wakes now ts ++ ys)
 least_wake now [] ys i a = tt
 least_wake now (t ∷ ts) ys zero a = least_first now a (wake_time_of t.status) (to_wakes now ts) ys
-least_wake now (t ∷ ts) ys (suc i) a = least_rest now a (wake_time_of t.status) (wake_time_of (get_or ts i no_task).status) (to_wakes now ts) ys (λ b. least_wake now ts ys i b)
+least_wake now (t ∷ ts) ys (suc i) a =
+    least_rest now a (wake_time_of t.status) (wake_time_of (get_or ts i no_task).status)
+    (to_wakes now ts) ys (λ b. least_wake now ts ys i b)
 
 -- Idle jumps over nobody's wake time.
 pub none_ahead : (app : Application) (limits : Limits) (s : State) → NoneBetween (ticks_ahead app limits s) s
-none_ahead app limits s i = by_time (wake_time_of (status_at s i)) (least_wake s.time s.tasks (ticks_to_interrupt app s) i (limits.ticks - s.elapsed)) where
-  by_time : (o : Option ℕ) → IfSome o (λ w. ticks_ahead app limits s ≤ w - s.time) → IfSome o (λ w. s.time < w → s.time + ticks_ahead app limits s ≤ w)
-  by_time None h = tt
-  by_time (Some w) h = λ l. omega arith
+none_ahead app limits s i =
+    by_time (wake_time_of (status_at s i)) (least_wake s.time s.tasks (ticks_to_interrupt app s) i (limits.ticks - s.elapsed)) where
+      by_time : (o : Option ℕ) → IfSome o (λ w. ticks_ahead app limits s ≤ w - s.time)
+          → IfSome o (λ w. s.time < w → s.time + ticks_ahead app limits s ≤ w)
+      by_time None h = tt
+      by_time (Some w) h = λ l. omega arith
 
 -- ---- base interrupts
 
@@ -101,9 +109,11 @@ least_past elapsed (i ∷ is) = by_test (ltb elapsed i.tick)
       least_to : (a d : ℕ) (xs : List ℕ) → a ≤ d → fold min a xs ≤ d
       least_to a d xs l = let m = least a xs in omega arith
 
-none_past : (a elapsed : ℕ) (xs ys : List ℕ) (is : List Interrupt) → IsLeastPast elapsed ys is → NonePast (fold min a (xs ++ ys)) elapsed is
+none_past : (a elapsed : ℕ) (xs ys : List ℕ) (is : List Interrupt)
+    → IsLeastPast elapsed ys is → NonePast (fold min a (xs ++ ys)) elapsed is
 none_past a elapsed xs ys [] h = tt
-none_past a elapsed xs ys (i ∷ is) h = ((λ l. least_appended a xs ys (i.tick - elapsed) (λ b. h.0 l b)), none_past a elapsed xs ys is h.1)
+none_past a elapsed xs ys (i ∷ is) h =
+    ((λ l. least_appended a xs ys (i.tick - elapsed) (λ b. h.0 l b)), none_past a elapsed xs ys is h.1)
 
 -- ---- idle
 
@@ -115,7 +125,9 @@ come-time s = by_test (is_scheduler_suspended s)
 
 -- base interrupts, and a switch, let no time pass
 keeps-end : (app : Application) (s : State) → Keeps s (unless_held slice (interrupt app s))
-keeps-end app s = let told : State = interrupt app s in keeps_both s told (unless_held slice told) (keeps-interrupt app s) (keeps-unless_held slice told keeps-slice)
+keeps-end app s =
+    let told : State = interrupt app s in
+    keeps_both s told (unless_held slice told) (keeps-interrupt app s) (keeps-unless_held slice told keeps-slice)
 
 time-tick : (app : Application) (s : State) → (tick_interrupt app s).time ≤ s.time + 1
 unfolding tick_interrupt
@@ -123,7 +135,8 @@ time-tick app s = let e = (keeps-end app (increment_tick s)).time in let l = com
 
 keeps-jumped : (app : Application) (n : ℕ) (s : State) → Keeps (jump_come n s) (jumped app n s)
 unfolding jump
-keeps-jumped app n s = keeps_both (jump_come n s) (jump n s) (jumped app n s) (keeps-wake_due (jump_come n s)) (keeps-end app (jump n s))
+keeps-jumped app n s =
+    keeps_both (jump_come n s) (jump n s) (jumped app n s) (keeps-wake_due (jump_come n s)) (keeps-end app (jump n s))
 
 module _ (app : Application) (limits : Limits) (s : State) where
   time-idle : (w : ℕ) → s.time + 1 ≤ w → s.time + ticks_ahead app limits s ≤ w → (idle app limits s).time ≤ w
@@ -134,7 +147,8 @@ module _ (app : Application) (limits : Limits) (s : State) where
       (let e : (jumped app n s).time ≡ s.time + n = (keeps-jumped app n s).time in omega arith)
       (let l = time-tick app s in omega arith)
 
-  elapsed_within : (most : ℕ) → s.elapsed + 1 ≤ most → s.elapsed + ticks_ahead app limits s ≤ most → (idle app limits s).elapsed ≤ most
+  elapsed_within : (most : ℕ) → s.elapsed + 1 ≤ most
+      → s.elapsed + ticks_ahead app limits s ≤ most → (idle app limits s).elapsed ≤ most
   unfolding idle
   elapsed_within most one many =
       let n : ℕ = ticks_ahead app limits s in
@@ -144,16 +158,21 @@ module _ (app : Application) (limits : Limits) (s : State) where
 
   pub idle_before_wake : (task : ℕ) → IfSome (wake_time_of (status_at s task)) (λ w. s.time < w → (idle app limits s).time ≤ w)
   idle_before_wake task = by_time (wake_time_of (status_at s task)) (none_ahead app limits s task) where
-    by_time : (o : Option ℕ) → IfSome o (λ w. s.time < w → s.time + ticks_ahead app limits s ≤ w) → IfSome o (λ w. s.time < w → (idle app limits s).time ≤ w)
+    by_time : (o : Option ℕ) → IfSome o (λ w. s.time < w → s.time + ticks_ahead app limits s ≤ w)
+        → IfSome o (λ w. s.time < w → (idle app limits s).time ≤ w)
     by_time None h = tt
     by_time (Some w) h = λ l. time-idle w (omega arith) (h l)
 
-  before_each : (is : List Interrupt) → NonePast (ticks_ahead app limits s) s.elapsed is → AllByRecursion (λ (i : Interrupt). s.elapsed < i.tick → (idle app limits s).elapsed ≤ i.tick) is
+  before_each : (is : List Interrupt) → NonePast (ticks_ahead app limits s) s.elapsed is
+      → AllByRecursion (λ (i : Interrupt). s.elapsed < i.tick → (idle app limits s).elapsed ≤ i.tick) is
   before_each [] h = tt
   before_each (i ∷ is) h = ((λ l. let m = h.0 l in elapsed_within i.tick (omega arith) (omega arith)), before_each is h.1)
 
-  pub idle_before_interrupts : AllByRecursion (λ (i : Interrupt). s.elapsed < i.tick → (idle app limits s).elapsed ≤ i.tick) app.interrupts
-  idle_before_interrupts = before_each app.interrupts (none_past (limits.ticks - s.elapsed) s.elapsed (ticks_to_wake s) (ticks_to_interrupt app s) app.interrupts (least_past s.elapsed app.interrupts))
+  pub idle_before_interrupts : AllByRecursion
+      (λ (i : Interrupt). s.elapsed < i.tick → (idle app limits s).elapsed ≤ i.tick) app.interrupts
+  idle_before_interrupts =
+      before_each app.interrupts (none_past (limits.ticks - s.elapsed) s.elapsed (ticks_to_wake s)
+      (ticks_to_interrupt app s) app.interrupts (least_past s.elapsed app.interrupts))
 
 -- ---- what it sleeps up to
 
@@ -176,7 +195,8 @@ reached a [] = inl refl
 reached a (x ∷ xs) = elim (reached (min a x) xs) [
   | inl e ↦ by_test (leb a x)
       (λ t. inl (let l = leb-true a x t in omega arith))
-      (λ t. inr (let l = leb-false a x t in let f : x ≡ fold min (min a x) xs = omega arith in subst (Contains (x ∷ xs)) f (here x xs)))
+      (λ t.
+      inr (let l = leb-false a x t in let f : x ≡ fold min (min a x) xs = omega arith in subst (Contains (x ∷ xs)) f (here x xs)))
   | inr c ↦ inr (there x (fold min (min a x) xs) xs c)
 ]
 
@@ -192,12 +212,15 @@ one_wake now d (Some w) ds ws later k c = elim (here_or_there (w - now) d ds c) 
   | inr more ↦ there w (now + d) ws (k more)
 ]
 
-hits_wake : (now d : ℕ) (ts : List Task) → ((i : ℕ) → IfSome (wake_time_of (get_or ts i no_task).status) (λ w. now < w)) → Contains (to_wakes now ts) d → Contains (wake_times ts) (now + d)
+hits_wake : (now d : ℕ) (ts : List Task) → ((i : ℕ) → IfSome (wake_time_of (get_or ts i no_task).status) (λ w. now < w))
+    → Contains (to_wakes now ts) d → Contains (wake_times ts) (now + d)
 hits_wake now d [] later c = absurd (nowhere d c)
 hits_wake now d (t ∷ ts) later c =
-    one_wake now d (wake_time_of t.status) (to_wakes now ts) (wake_times ts) (later 0) (λ more. hits_wake now d ts (λ i. later (suc i)) more) c
+    one_wake now d (wake_time_of t.status) (to_wakes now ts) (wake_times ts)
+    (later 0) (λ more. hits_wake now d ts (λ i. later (suc i)) more) c
 
-hits_interrupt : (elapsed d : ℕ) (is : List Interrupt) → Contains (to_come elapsed is) d → Contains (map (λ (i : Interrupt). i.tick) is) (elapsed + d)
+hits_interrupt : (elapsed d : ℕ) (is : List Interrupt) → Contains (to_come elapsed is) d
+    → Contains (map (λ (i : Interrupt). i.tick) is) (elapsed + d)
 hits_interrupt elapsed d [] c = absurd (nowhere d c)
 hits_interrupt elapsed d (i ∷ is) c = by_test (ltb elapsed i.tick)
     (λ t.
@@ -210,9 +233,11 @@ hits_interrupt elapsed d (i ∷ is) c = by_test (ltb elapsed i.tick)
     ])
     (λ t.
     let same : to_come elapsed (i ∷ is) ≡ to_come elapsed is = rw t refl in
-    there i.tick (elapsed + d) (map (λ (i : Interrupt). i.tick) is) (hits_interrupt elapsed d is (subst (λ (ds : List ℕ). Contains ds d) same c)))
+    there i.tick (elapsed + d) (map (λ (i : Interrupt). i.tick) is)
+    (hits_interrupt elapsed d is (subst (λ (ds : List ℕ). Contains ds d) same c)))
 
-module _ (app : Application) (limits : Limits) (s : State) (on : app.tickless ≡ true) (low : s.elapsed ≤ limits.ticks) (later : (i : ℕ) → IfSome (wake_time_of (status_at s i)) (λ w. s.time < w)) where
+module _ (app : Application) (limits : Limits) (s : State) (on : app.tickless ≡ true) (low : s.elapsed ≤ limits.ticks)
+    (later : (i : ℕ) → IfSome (wake_time_of (status_at s i)) (λ w. s.time < w)) where
   abbrev slept : ℕ
   slept = ticks_ahead app limits s
 
@@ -222,11 +247,15 @@ module _ (app : Application) (limits : Limits) (s : State) (on : app.tickless �
   slept_elapsed : (idle app limits s).elapsed ≡ s.elapsed + slept
   slept_elapsed = ap (λ (t : State). t.elapsed) (idle_jumps app limits s on) ∙ (keeps-jumped app slept s).elapsed
 
-  pub sleeps_until : Contains (wake_times s.tasks) (idle app limits s).time ⊎ (Contains (map (λ (i : Interrupt). i.tick) app.interrupts) (idle app limits s).elapsed ⊎ ((idle app limits s).elapsed ≡ limits.ticks))
+  pub sleeps_until : Contains (wake_times s.tasks) (idle app limits s).time
+      ⊎ (Contains (map (λ (i : Interrupt). i.tick) app.interrupts) (idle app limits s).elapsed
+      ⊎ ((idle app limits s).elapsed ≡ limits.ticks))
   sleeps_until = elim (reached (limits.ticks - s.elapsed) (ticks_to_wake s ++ ticks_to_interrupt app s)) [
     | inl e ↦ inr (inr (let t = slept_elapsed in omega arith))
     | inr c ↦ elim (Contains-append_cases (ticks_to_wake s) (ticks_to_interrupt app s) slept c) [
       | inl w ↦ inl (subst (Contains (wake_times s.tasks)) (sym slept_time) (hits_wake s.time slept s.tasks later w))
-      | inr i ↦ inr (inl (subst (Contains (map (λ (i : Interrupt). i.tick) app.interrupts)) (sym slept_elapsed) (hits_interrupt s.elapsed slept app.interrupts i)))
+      | inr i ↦
+          inr (inl (subst (Contains (map (λ (i : Interrupt). i.tick) app.interrupts))
+          (sym slept_elapsed) (hits_interrupt s.elapsed slept app.interrupts i)))
     ]
   ]

@@ -1,9 +1,11 @@
 -- Two tasks have two tickets.
-use Rattle.std.proofs.Common.{◌≡◌, ◌<◌, ◌≤◌, ◌+◌, ℕ, true, inl, inr, ◌⊎◌, List, [], ◌∷◌, map, get_or, set, Option, Some, None, refl, ap, sym, subst, ◌∙◌, arith}
+use Rattle.std.proofs.Common.{◌≡◌, ◌<◌, ◌≤◌, ◌+◌, ℕ, true, inl, inr, ◌⊎◌, List, [], ◌∷◌, map, get_or, set, Option, Some, None, refl}
+use Rattle.std.proofs.Common.{ap, sym, subst, ◌∙◌, arith}
 use Rattle.std.specs.Option.{IfSome}
 use Rattle.model.specs.declared.plan.Injection.{Injection}
 use Rattle.model.specs.Application.{Application, Limits}
-use Rattle.model.specs.State.{State, Task, Status, Ready, ticket_of, wake_time_of, task_at, status_at, with_task, take_ticket, for_each, no_task}
+use Rattle.model.specs.State.{State, Task, Status, Ready, ticket_of, wake_time_of, task_at, status_at, with_task, take_ticket}
+use Rattle.model.specs.State.{for_each, no_task}
 use Rattle.model.specs.Order.{tasks_of}
 use Rattle.model.specs.Switching.{make_ready}
 use Rattle.model.specs.Time.{due, wake_due}
@@ -19,11 +21,15 @@ record TicketsApart (s : State) : Type 0 where
   pub below : (i : ℕ) → Below s.next_ticket (status_at s i)
   pub apart : (i j ticket : ℕ) → ticket_of (status_at s i) ≡ Some ticket → ticket_of (status_at s j) ≡ Some ticket → i ≡ j
 
-apart-framed : (s t : State) → t.tasks ≡ s.tasks → t.next_ticket ≡ s.next_ticket → t.time ≡ s.time → Stops s.stopped t.stopped → TicketsApart s → TicketsApart t
+apart-framed : (s t : State) → t.tasks ≡ s.tasks → t.next_ticket ≡ s.next_ticket
+    → t.time ≡ s.time → Stops s.stopped t.stopped → TicketsApart s → TicketsApart t
 apart-framed s t e n m stops h =
     let at : (i : ℕ) → status_at t i ≡ status_at s i = λ i. ap (λ ts. (get_or ts i no_task).status) e in
     record {
-      below = λ i. let P : Status → Type 0 = λ u. Below t.next_ticket u in let Q : ℕ → Type 0 = λ next. Below next (status_at s i) in subst P (sym (at i)) (subst Q (sym n) (h.below i));
+      below = λ i.
+          let P : Status → Type 0 = λ u. Below t.next_ticket u in
+          let Q : ℕ → Type 0 = λ next. Below next (status_at s i) in
+          subst P (sym (at i)) (subst Q (sym n) (h.below i));
       apart = λ i j ticket a b. h.apart i j ticket (ap ticket_of (sym (at i)) ∙ a) (ap ticket_of (sym (at j)) ∙ b);
     }
 
@@ -39,11 +45,16 @@ module _ (s : State) (k : ℕ) (t : Task) (h : TicketsApart s) where
   new_at i = (get_or (set s.tasks k t) i no_task).status
 
   -- the task's ticket is one that it had, or above all
-  module _ (fresh : (ticket : ℕ) → ticket_of t.status ≡ Some ticket → (ticket_of (status_at s k) ≡ Some ticket) ⊎ (s.next_ticket ≤ ticket)) where
+  module _ (fresh : (ticket : ℕ) → ticket_of t.status ≡ Some ticket
+      → (ticket_of (status_at s k) ≡ Some ticket) ⊎ (s.next_ticket ≤ ticket)) where
     not_old : (j ticket : ℕ) → s.next_ticket ≤ ticket → ticket_of (status_at s j) ≡ Some ticket → ⊥
-    not_old j ticket l e = let P : Option ℕ → Type 0 = λ o. IfSome o (λ n. n < s.next_ticket) in let b = subst P e (h.below j) in omega arith
+    not_old j ticket l e =
+        let P : Option ℕ → Type 0 = λ o. IfSome o (λ n. n < s.next_ticket) in
+        let b = subst P e (h.below j) in
+        omega arith
 
-    one_new : (i j ticket : ℕ) → new_at i ≡ t.status → i ≡ k → new_at j ≡ status_at s j → ticket_of (new_at i) ≡ Some ticket → ticket_of (new_at j) ≡ Some ticket → i ≡ j
+    one_new : (i j ticket : ℕ) → new_at i ≡ t.status → i ≡ k → new_at j ≡ status_at s j
+        → ticket_of (new_at i) ≡ Some ticket → ticket_of (new_at j) ≡ Some ticket → i ≡ j
     one_new i j ticket e same f a b =
         let old : ticket_of (status_at s j) ≡ Some ticket = ap ticket_of (sym f) ∙ b in
         elim (fresh ticket (ap ticket_of (sym e) ∙ a)) [
@@ -71,26 +82,33 @@ module _ (s : State) (k : ℕ) (t : Task) (h : TicketsApart s) where
     | inr e ↦ subst (Below next) (sym (status_same _ _ e)) (g i)
   ]
 
-apart-moved : (s : State) (i : ℕ) (t : Task) → Stays (status_at s i) t.status → Remains true (task_at s i) t → TicketsApart s → TicketsApart (with_task i t s)
+apart-moved : (s : State) (i : ℕ) (t : Task) → Stays (status_at s i) t.status
+    → Remains true (task_at s i) t → TicketsApart s → TicketsApart (with_task i t s)
 unfolding new_at
 apart-moved s i t u remains h =
     let B : Option ℕ → Type 0 = λ o. IfSome o (λ ticket. ticket < s.next_ticket) in
     record {
-      below = below-set s i t h s.next_ticket (elim u [ inl e ↦ subst B (sym e.0) (h.below i) | inr e ↦ subst B (sym e.0) tt ]) h.below;
+      below =
+          below-set s i t h s.next_ticket (elim u [ inl e ↦ subst B (sym e.0) (h.below i) | inr e ↦ subst B (sym e.0) tt ]) h.below;
       apart = apart-set s i t h (λ ticket a. elim u [
         | inl e ↦ inl (sym e.0 ∙ a)
         | inr e ↦ (let none : None ≡ Some ticket = sym e.0 ∙ a in absurd (cc))
       ]);
     }
 
-apart-taken : (s : State) (i : ℕ) (f : ℕ → Status) → ticket_of (f s.next_ticket) ≡ Some s.next_ticket → IfSome (wake_time_of (f s.next_ticket)) (λ w. s.time < w) → TicketsApart s → TicketsApart (take_ticket i f s)
+apart-taken : (s : State) (i : ℕ) (f : ℕ → Status) → ticket_of (f s.next_ticket) ≡ Some s.next_ticket
+    → IfSome (wake_time_of (f s.next_ticket)) (λ w. s.time < w) → TicketsApart s → TicketsApart (take_ticket i f s)
 unfolding new_at
 apart-taken s i f is later h =
     let t : Task = record (task_at s i) { status = f s.next_ticket } in
     let P : Option ℕ → Type 0 = λ o. IfSome o (λ ticket. ticket < s.next_ticket + 1) in
     record {
-      below = below-set s i t h (s.next_ticket + 1) (subst P (sym is) (omega arith)) (λ j. below_more s.next_ticket (status_at s j) (h.below j));
-      apart = apart-set s i t h (λ ticket a. inr (let e : Some s.next_ticket ≡ Some ticket = sym is ∙ a in let q : s.next_ticket ≡ ticket = cc in omega arith));
+      below =
+          below-set s i t h (s.next_ticket + 1) (subst P (sym is) (omega arith))
+          (λ j. below_more s.next_ticket (status_at s j) (h.below j));
+      apart =
+          apart-set s i t h (λ ticket a.
+          inr (let e : Some s.next_ticket ≡ Some ticket = sym is ∙ a in let q : s.next_ticket ≡ ticket = cc in omega arith));
     }
 
 apart-ready : (s : State) (i : ℕ) → TicketsApart s → TicketsApart (make_ready i s)
@@ -109,12 +127,17 @@ apart-passed n s none h =
 apart-nobody : (app : Application) → TicketsApart (nobody_ready app)
 unfolding nobody_ready
 apart-nobody app =
-    let none : (i : ℕ) → ticket_of (get_or (map (task_at_reset app.start) app.tasks) i no_task).status ≡ None = λ i. ap ticket_of (ended_at_reset app.start app.tasks i) in
+    let none : (i : ℕ) → ticket_of (get_or (map (task_at_reset app.start) app.tasks) i no_task).status ≡ None = λ i.
+    ap ticket_of (ended_at_reset app.start app.tasks i) in
     let P : Option ℕ → Type 0 = λ o. IfSome o (λ ticket. ticket < 0) in
     record {
       below = λ i. subst P (sym (none i)) tt;
       apart = λ i j ticket a b. let f = none i in absurd (let g : None ≡ Some ticket = sym f ∙ a in cc);
     }
 
-pub tickets_apart : (app : Application) (limits : Limits) (plan : List Injection) (n a b ticket : ℕ) → ticket_of (status_at (state_after app limits plan n) a) ≡ Some ticket → ticket_of (status_at (state_after app limits plan n) b) ≡ Some ticket → a ≡ b
-tickets_apart app limits plan n a b ticket = (kept_after TicketsApart apart-framed apart-moved apart-taken apart-passed app (apart-nobody app) limits plan n).apart a b ticket
+pub tickets_apart : (app : Application) (limits : Limits) (plan : List Injection) (n a b ticket : ℕ)
+    → ticket_of (status_at (state_after app limits plan n) a) ≡ Some ticket
+    → ticket_of (status_at (state_after app limits plan n) b) ≡ Some ticket → a ≡ b
+tickets_apart app limits plan n a b ticket =
+    (kept_after TicketsApart apart-framed apart-moved apart-taken apart-passed app (apart-nobody app) limits plan n).apart a b
+    ticket

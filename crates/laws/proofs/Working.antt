@@ -18,7 +18,8 @@ one-act app i op s = by_op (λ op. (act app i op s).elapsed ≤ s.elapsed + 1)
     (let e = (resumes-all app i s).elapsed in omega arith)
     (λ op t. let e = (lasts-act app i op s t).elapsed in omega arith) op
 
-one-act_unless : (app : Application) (i : ℕ) (kind : Option Misuse) (op : Op) (s : State) → (act_unless app i kind op s).elapsed ≤ s.elapsed + 1
+one-act_unless : (app : Application) (i : ℕ) (kind : Option Misuse) (op : Op) (s : State)
+    → (act_unless app i kind op s).elapsed ≤ s.elapsed + 1
 one-act_unless app i None op s =
     let e = (judged i (progress_at s i).op_index (act app i op s)).elapsed in
     let one = one-act app i op s in
@@ -29,11 +30,13 @@ one-act_if : (app : Application) (i : ℕ) (o : Option Op) (s : State) → (act_
 one-act_if app i None s = omega arith
 one-act_if app i (Some op) s = one-act_unless app i (misuse s i op) op s
 
-one-act_current : (app : Application) (limits : Limits) (r : Option ℕ) (s : State) → is_some r ≡ true → (act_current app limits r s).elapsed ≤ s.elapsed + 1
+one-act_current : (app : Application) (limits : Limits) (r : Option ℕ) (s : State)
+    → is_some r ≡ true → (act_current app limits r s).elapsed ≤ s.elapsed + 1
 one-act_current app limits None s on = absurd (cc)
 one-act_current app limits (Some i) s on = one-act_if app i (op_at app i (progress_at s i).op_index) s
 
-pub one_by_task : (app : Application) (limits : Limits) (handlers : List ℕ) (s : State) → is_some (before_step app handlers s).current ≡ true → (step app limits handlers s).elapsed ≤ s.elapsed + 1
+pub one_by_task : (app : Application) (limits : Limits) (handlers : List ℕ) (s : State)
+    → is_some (before_step app handlers s).current ≡ true → (step app limits handlers s).elapsed ≤ s.elapsed + 1
 unfolding step
 one_by_task app limits handlers s on =
     let begun : State = before_step app handlers s in

@@ -4,7 +4,8 @@ use Rattle.model.specs.declared.answer.AnswerCondition.TheVariants.{Is, IsNot, B
 use Rattle.model.specs.declared.object.ObjectKind.TheVariants.{Queue}
 use Rattle.model.specs.declared.op.Access.TheVariants.{Receive}
 use Rattle.model.specs.declared.op.Op.{Op}
-use Rattle.model.specs.declared.op.Op.TheVariants.{Time, Mark, Expect, Repeat, End as EndLoop, If, Else, EndIf, Break, SuspendAll, ResumeAll}
+use Rattle.model.specs.declared.op.Op.TheVariants.{Time, Mark, Expect, Repeat, End as EndLoop, If, Else, EndIf, Break, SuspendAll}
+use Rattle.model.specs.declared.op.Op.TheVariants.{ResumeAll}
 use Rattle.model.specs.declared.event.Misuse.TheVariants.{EndedSuspended}
 use Rattle.model.specs.declared.event.End.TheVariants.{Pass, Check, Misuse}
 use Rattle.model.specs.declared.event.What.TheVariants as what

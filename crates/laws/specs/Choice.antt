@@ -12,7 +12,8 @@ IsNoEarlierThan c i = Unit {0}
 pub record IsBestReady (s : State) (c : ℕ) : Type 0 where
   pub ready : is_ready s c ≡ true
   pub highest : (i : ℕ) → is_ready s i ≡ true → (task_at s i).priority ≤ (task_at s c).priority
-  pub first : (i : ℕ) → is_ready s i ≡ true → (task_at s i).priority ≡ (task_at s c).priority → IsNoEarlierThan (task_at s c).status (task_at s i).status
+  pub first : (i : ℕ) → is_ready s i ≡ true → (task_at s i).priority ≡ (task_at s c).priority
+      → IsNoEarlierThan (task_at s c).status (task_at s i).status
 
 abbrev pub IsChoice : State → Option ℕ → Type 0
 IsChoice s None = (i : ℕ) → is_ready s i ≡ false

@@ -69,12 +69,15 @@ stuck = record {
   stands = record { situations = Waits 2 None ∷ Waits 2 None ∷ []; held = held_by m b ∷ held_by n a ∷ [] };
 }
 
--- the same beside a task that suspends itself, one that only asks the time, and one that computes; the handler resumes the first of these
+-- the same beside a task that suspends itself, one that only asks the time, and one that computes;
+-- the handler resumes the first of these
 abbrev pub five_tasks : Application
 five_tasks =
     let app = with_objects (Mutex ∷ Mutex ∷ []) (
-    a_task_of 2 (codes "a") (Delay 1 ∷ lock_forever n ∷ lock_forever m ∷ []) ∷ a_task_of 1 (codes "b") (lock m 0 ∷ Work 2 ∷ lock n 5 ∷ [])
-    ∷ a_task_of 3 (codes "c") (Suspend c ∷ Delay 7 ∷ []) ∷ a_task_of 1 (codes "e") (Time ∷ []) ∷ a_task_of 0 (codes "f") (Work 50 ∷ []) ∷ []) in
+    a_task_of 2 (codes "a") (Delay 1 ∷ lock_forever n ∷ lock_forever m ∷ [])
+    ∷ a_task_of 1 (codes "b") (lock m 0 ∷ Work 2 ∷ lock n 5 ∷ [])
+    ∷ a_task_of 3 (codes "c") (Suspend c ∷ Delay 7 ∷ []) ∷ a_task_of 1 (codes "e") (Time ∷ [])
+    ∷ a_task_of 0 (codes "f") (Work 50 ∷ []) ∷ []) in
     record app { handlers = record { name = codes "h"; ops = isr_op.Resume c ∷ [] } ∷ [] }
 
 -- A task is suspended, and another sleeps, while two are Ready.
@@ -91,7 +94,11 @@ waiting = record {
   app = five_tasks;
   plan = [];
   steps = 19;
-  stands = record { situations = Waits 2 None ∷ Waits 2 (Some 7) ∷ Suspended 1 ∷ Ended ∷ Runs 0 ∷ []; held = held_by m b ∷ held_by n a ∷ [] };
+  stands =
+      record {
+        situations = Waits 2 None ∷ Waits 2 (Some 7) ∷ Suspended 1 ∷ Ended ∷ Runs 0 ∷ [];
+        held = held_by m b ∷ held_by n a ∷ [];
+      };
 }
 
 abbrev pub resumed : Stopped
@@ -99,14 +106,16 @@ resumed = record {
   app = five_tasks;
   plan = point_at 3;
   steps = 20;
-  stands = record { situations = Waits 2 None ∷ Waits 2 (Some 7) ∷ Ended ∷ Ended ∷ Runs 0 ∷ []; held = held_by m b ∷ held_by n a ∷ [] };
+  stands =
+      record { situations = Waits 2 None ∷ Waits 2 (Some 7) ∷ Ended ∷ Ended ∷ Runs 0 ∷ []; held = held_by m b ∷ held_by n a ∷ [] };
 }
 
 -- ---- bits
 
 -- The daemon waits for a command, and the task for bits.
 abbrev pub nobody_sets : Stopped
-nobody_sets = record { app = deferred; plan = []; steps = 7; stands = record { situations = Waits 0 None ∷ Waits 0 None ∷ []; held = [] } }
+nobody_sets =
+    record { app = deferred; plan = []; steps = 7; stands = record { situations = Waits 0 None ∷ Waits 0 None ∷ []; held = [] } }
 
 -- ---- the table
 

@@ -3,7 +3,8 @@ use Rattle.std.specs.Prelude.{ℕ, true, false, List, [], ◌∷◌, None, codes
 use Rattle.model.specs.declared.object.ObjectKind.TheVariants.{Queue}
 use Rattle.model.specs.declared.op.Access.TheVariants.{Send, Receive}
 use Rattle.model.specs.declared.op.Op.{Op}
-use Rattle.model.specs.declared.op.Op.TheVariants.{Work, Delay, DelayUntil, Time, SetBits, GetBits, WaitBits, Suspend, Resume, SuspendAll, ResumeAll}
+use Rattle.model.specs.declared.op.Op.TheVariants.{Work, Delay, DelayUntil, Time, SetBits, GetBits, WaitBits, Suspend, Resume}
+use Rattle.model.specs.declared.op.Op.TheVariants.{SuspendAll, ResumeAll}
 use Rattle.model.specs.declared.event.Misuse.TheVariants.{WhileSuspended, NotSuspended, EndedSuspended}
 use Rattle.model.specs.declared.event.End.TheVariants.{Pass, Misuse}
 use Rattle.model.specs.declared.event.What.TheVariants as what

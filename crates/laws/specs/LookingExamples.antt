@@ -163,8 +163,8 @@ comes_at_the_end = record {
 
 -- ---- what a failed check leaves undone
 
--- A handler's last answer is `none` at first, and a mark leaves it. What is behind the check that fails isn't done. A task's check fails
--- in the same step, and the run's is the first.
+-- A handler's last answer is `none` at first, and a mark leaves it. What is behind the check that fails isn't done. A task's check
+-- fails in the same step, and the run's is the first.
 abbrev pub answers_none_at_first : Injected
 answers_none_at_first = record {
   app = with_handler [] (
@@ -285,7 +285,8 @@ makes_room_before_a_step = record {
 abbrev pub branches_in_branches : Injected
 branches_in_branches = record {
   app = with_handler [] (
-      isr_op.If (Is None) ∷ isr_op.Mark 1 ∷ isr_op.If (Is (Some 5)) ∷ isr_op.Mark 2 ∷ isr_op.If (Is None) ∷ isr_op.Else ∷ isr_op.EndIf
+      isr_op.If (Is None) ∷ isr_op.Mark 1 ∷ isr_op.If (Is (Some 5))
+      ∷ isr_op.Mark 2 ∷ isr_op.If (Is None) ∷ isr_op.Else ∷ isr_op.EndIf
       ∷ isr_op.Else ∷ isr_op.Mark 3 ∷ isr_op.EndIf ∷ isr_op.Else ∷ isr_op.If (Is None) ∷ isr_op.Mark 4 ∷ isr_op.EndIf ∷ isr_op.EndIf
       ∷ isr_op.Mark 5 ∷ []) (a_task (codes "a") (Mark 1 ∷ []) ∷ []);
   plan = point_at 0;

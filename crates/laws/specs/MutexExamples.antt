@@ -53,7 +53,8 @@ give semaphore = Do semaphore Give
 abbrev pub inversion_cured : Example
 inversion_cured = record {
   app = with_objects (Mutex ∷ []) (
-      a_task_of 1 (codes "a") (lock m 0 ∷ Work 2 ∷ unlock m ∷ Mark 1 ∷ []) ∷ a_task_of 2 (codes "b") (Delay 1 ∷ Work 1 ∷ Mark 2 ∷ [])
+      a_task_of 1 (codes "a") (lock m 0 ∷ Work 2 ∷ unlock m ∷ Mark 1 ∷ [])
+      ∷ a_task_of 2 (codes "b") (Delay 1 ∷ Work 1 ∷ Mark 2 ∷ [])
       ∷ a_task_of 3 (codes "c") (Delay 1 ∷ lock_forever m ∷ unlock m ∷ []) ∷ []);
   run = record {
     events =

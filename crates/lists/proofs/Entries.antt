@@ -1,5 +1,6 @@
 -- Laws of entries: of each of them, of those with or without a node, and of sorted ones.
-use Rattle.std.proofs.Common.{◌≡◌, ◌≢◌, ℕ, ◌<◌, ◌≤◌, ◌⊎◌, inl, inr, true, false, Some, None, List, [], ◌∷◌, ◌++◌, length, map, sym, ◌∙◌, ap, subst, arith, refl, eqb}
+use Rattle.std.proofs.Common.{◌≡◌, ◌≢◌, ℕ, ◌<◌, ◌≤◌, ◌⊎◌, inl, inr, true, false, Some, None, List, [], ◌∷◌, ◌++◌, length, map, sym}
+use Rattle.std.proofs.Common.{◌∙◌, ap, subst, arith, refl, eqb}
 use Rattle.std.proofs.lemmas.List.{length-map}
 use Rattle.std.proofs.lemmas.Bool.{cases_eq, cases_lt, ne_eqb, eq-eqb, le-ltb, lt-ltb}
 use Rattle.std.proofs.lemmas.Option.{same_Some}
@@ -146,20 +147,26 @@ without-other n x xs ne = let b : (x.0 == n) ≡ false = ne_eqb x.0 n ne in rw b
 
 pub without-apart : (n : ℕ) (xs : List (ℕ × ℕ)) → Apart (Some n) xs → without n xs ≡ xs
 without-apart n [] h = refl
-without-apart n (x ∷ xs) h = without-other n x xs (λ e. h.0 (ap Some (sym e))) ∙ ap (λ (ys : List (ℕ × ℕ)). x ∷ ys) (without-apart n xs h.1)
+without-apart n (x ∷ xs) h =
+    without-other n x xs (λ e. h.0 (ap Some (sym e))) ∙ ap (λ (ys : List (ℕ × ℕ)). x ∷ ys) (without-apart n xs h.1)
 
 pub without-append : (n : ℕ) (xs ys : List (ℕ × ℕ)) → without n (xs ++ ys) ≡ without n xs ++ without n ys
 without-append n [] ys = refl
 without-append n (x ∷ xs) ys = elim (cases_eq x.0 n) [
-  | inl same ↦ without-same n x (xs ++ ys) same ∙ without-append n xs ys ∙ ap (λ (zs : List (ℕ × ℕ)). zs ++ without n ys) (sym (without-same n x xs same))
+  | inl same ↦
+      without-same n x (xs ++ ys) same ∙ without-append n xs ys
+      ∙ ap (λ (zs : List (ℕ × ℕ)). zs ++ without n ys) (sym (without-same n x xs same))
   | inr other ↦
       without-other n x (xs ++ ys) other ∙ ap (λ (zs : List (ℕ × ℕ)). x ∷ zs) (without-append n xs ys)
       ∙ ap (λ (zs : List (ℕ × ℕ)). zs ++ without n ys) (sym (without-other n x xs other))
 ]
 
-pub without-split : (n w : ℕ) (fs bs : List (ℕ × ℕ)) → Apart (Some n) fs → Apart (Some n) bs → without n (fs ++ (n, w) ∷ bs) ≡ fs ++ bs
+pub without-split : (n w : ℕ) (fs bs : List (ℕ × ℕ)) → Apart (Some n) fs
+    → Apart (Some n) bs → without n (fs ++ (n, w) ∷ bs) ≡ fs ++ bs
 without-split n w [] bs h k = without-same n (n, w) bs refl ∙ without-apart n bs k
-without-split n w (x ∷ fs) bs h k = without-other n x (fs ++ (n, w) ∷ bs) (λ e. h.0 (ap Some (sym e))) ∙ ap (λ (ys : List (ℕ × ℕ)). x ∷ ys) (without-split n w fs bs h.1 k)
+without-split n w (x ∷ fs) bs h k =
+    without-other n x (fs ++ (n, w) ∷ bs) (λ e. h.0 (ap Some (sym e)))
+    ∙ ap (λ (ys : List (ℕ × ℕ)). x ∷ ys) (without-split n w fs bs h.1 k)
 
 pub Each-without : (P : ℕ × ℕ → Type 0) (n : ℕ) (xs : List (ℕ × ℕ)) → Each P xs → Each P (without n xs)
 Each-without P n [] h = tt
@@ -178,7 +185,9 @@ has_node-without_it n (x ∷ xs) = elim (cases_eq x.0 n) [
 pub has_node-without_other : (n m : ℕ) (xs : List (ℕ × ℕ)) → m ≢ n → has_node m (without n xs) ≡ has_node m xs
 has_node-without_other n m [] ne = refl
 has_node-without_other n m (x ∷ xs) ne = elim (cases_eq x.0 n) [
-  | inl same ↦ ap (has_node m) (without-same n x xs same) ∙ has_node-without_other n m xs ne ∙ sym (has_node-other m x xs (λ e. ne (sym e ∙ same)))
+  | inl same ↦
+      ap (has_node m) (without-same n x xs same) ∙ has_node-without_other n m xs ne
+      ∙ sym (has_node-other m x xs (λ e. ne (sym e ∙ same)))
   | inr other ↦ ap (has_node m) (without-other n x xs other) ∙ elim (cases_eq x.0 m) [
     | inl here ↦ has_node-same m x (without n xs) here ∙ sym (has_node-same m x xs here)
     | inr there ↦ has_node-other m x (without n xs) there ∙ has_node-without_other n m xs ne ∙ sym (has_node-other m x xs there)
@@ -190,23 +199,31 @@ has_node-without_other n m (x ∷ xs) ne = elim (cases_eq x.0 n) [
 pub insert_sorted-before : (n v : ℕ) (x : ℕ × ℕ) (xs : List (ℕ × ℕ)) → v < x.1 → insert_sorted (n, v) (x ∷ xs) ≡ (n, v) ∷ x ∷ xs
 insert_sorted-before n v x xs h = let t : nat_lt v x.1 ≡ true = lt-ltb v x.1 h in rw t refl
 
-pub insert_sorted-after : (n v : ℕ) (x : ℕ × ℕ) (xs : List (ℕ × ℕ)) → x.1 ≤ v → insert_sorted (n, v) (x ∷ xs) ≡ x ∷ insert_sorted (n, v) xs
+pub insert_sorted-after : (n v : ℕ) (x : ℕ × ℕ) (xs : List (ℕ × ℕ))
+    → x.1 ≤ v → insert_sorted (n, v) (x ∷ xs) ≡ x ∷ insert_sorted (n, v) xs
 insert_sorted-after n v x xs h = let t : nat_lt v x.1 ≡ false = le-ltb v x.1 h in rw t refl
 
 -- before entries of greater values, and after entries of values that are not
-pub insert_sorted-left : (n v : ℕ) (xs ys : List (ℕ × ℕ)) → Each (λ e. v < e.1) ys → insert_sorted (n, v) (xs ++ ys) ≡ insert_sorted (n, v) xs ++ ys
+pub insert_sorted-left : (n v : ℕ) (xs ys : List (ℕ × ℕ)) → Each (λ e. v < e.1) ys
+    → insert_sorted (n, v) (xs ++ ys) ≡ insert_sorted (n, v) xs ++ ys
 insert_sorted-left n v [] [] h = refl
 insert_sorted-left n v [] (y ∷ ys) h = insert_sorted-before n v y ys h.0
 insert_sorted-left n v (x ∷ xs) ys h = elim (cases_lt v x.1) [
-  | inl less ↦ insert_sorted-before n v x (xs ++ ys) less ∙ ap (λ (zs : List (ℕ × ℕ)). zs ++ ys) (sym (insert_sorted-before n v x xs less))
-  | inr more ↦ insert_sorted-after n v x (xs ++ ys) more ∙ ap (λ (zs : List (ℕ × ℕ)). x ∷ zs) (insert_sorted-left n v xs ys h) ∙ ap (λ (zs : List (ℕ × ℕ)). zs ++ ys) (sym (insert_sorted-after n v x xs more))
+  | inl less ↦
+      insert_sorted-before n v x (xs ++ ys) less ∙ ap (λ (zs : List (ℕ × ℕ)). zs ++ ys) (sym (insert_sorted-before n v x xs less))
+  | inr more ↦
+      insert_sorted-after n v x (xs ++ ys) more ∙ ap (λ (zs : List (ℕ × ℕ)). x ∷ zs) (insert_sorted-left n v xs ys h)
+      ∙ ap (λ (zs : List (ℕ × ℕ)). zs ++ ys) (sym (insert_sorted-after n v x xs more))
 ]
 
-pub insert_sorted-right : (n v : ℕ) (xs ys : List (ℕ × ℕ)) → Each (λ e. e.1 ≤ v) xs → insert_sorted (n, v) (xs ++ ys) ≡ xs ++ insert_sorted (n, v) ys
+pub insert_sorted-right : (n v : ℕ) (xs ys : List (ℕ × ℕ)) → Each (λ e. e.1 ≤ v) xs
+    → insert_sorted (n, v) (xs ++ ys) ≡ xs ++ insert_sorted (n, v) ys
 insert_sorted-right n v [] ys h = refl
-insert_sorted-right n v (x ∷ xs) ys h = insert_sorted-after n v x (xs ++ ys) h.0 ∙ ap (λ (zs : List (ℕ × ℕ)). x ∷ zs) (insert_sorted-right n v xs ys h.1)
+insert_sorted-right n v (x ∷ xs) ys h =
+    insert_sorted-after n v x (xs ++ ys) h.0 ∙ ap (λ (zs : List (ℕ × ℕ)). x ∷ zs) (insert_sorted-right n v xs ys h.1)
 
-pub Each-insert_sorted : (P : ℕ × ℕ → Type 0) (n v : ℕ) (xs : List (ℕ × ℕ)) → P (n, v) → Each P xs → Each P (insert_sorted (n, v) xs)
+pub Each-insert_sorted : (P : ℕ × ℕ → Type 0) (n v : ℕ) (xs : List (ℕ × ℕ))
+    → P (n, v) → Each P xs → Each P (insert_sorted (n, v) xs)
 Each-insert_sorted P n v [] p h = (p, tt)
 Each-insert_sorted P n v (x ∷ xs) p h = elim (cases_lt v x.1) [
   | inl less ↦ subst (Each P) (sym (insert_sorted-before n v x xs less)) (p, h)
@@ -225,15 +242,20 @@ length-insert_sorted n v (x ∷ xs) = elim (cases_lt v x.1) [
 pub IsSorted-insert_sorted : (n v : ℕ) (xs : List (ℕ × ℕ)) → IsSorted xs → IsSorted (insert_sorted (n, v) xs)
 IsSorted-insert_sorted n v [] h = (tt, tt)
 IsSorted-insert_sorted n v (x ∷ xs) h = elim (cases_lt v x.1) [
-  | inl less ↦ subst IsSorted (sym (insert_sorted-before n v x xs less)) (((omega (arith, less)), Each-imp (λ e. x.1 ≤ e.1) (λ e. v ≤ e.1) xs (λ e le. omega (arith, le, less)) h.0), h)
-  | inr more ↦ subst IsSorted (sym (insert_sorted-after n v x xs more)) (Each-insert_sorted (λ e. x.1 ≤ e.1) n v xs more h.0, IsSorted-insert_sorted n v xs h.1)
+  | inl less ↦
+      subst IsSorted (sym (insert_sorted-before n v x xs less))
+      (((omega (arith, less)), Each-imp (λ e. x.1 ≤ e.1) (λ e. v ≤ e.1) xs (λ e le. omega (arith, le, less)) h.0), h)
+  | inr more ↦
+      subst IsSorted (sym (insert_sorted-after n v x xs more))
+      (Each-insert_sorted (λ e. x.1 ≤ e.1) n v xs more h.0, IsSorted-insert_sorted n v xs h.1)
 ]
 
 pub IsSorted-without : (n : ℕ) (xs : List (ℕ × ℕ)) → IsSorted xs → IsSorted (without n xs)
 IsSorted-without n [] h = tt
 IsSorted-without n (x ∷ xs) h = elim (cases_eq x.0 n) [
   | inl same ↦ subst IsSorted (sym (without-same n x xs same)) (IsSorted-without n xs h.1)
-  | inr other ↦ subst IsSorted (sym (without-other n x xs other)) (Each-without (λ e. x.1 ≤ e.1) n xs h.0, IsSorted-without n xs h.1)
+  | inr other ↦
+      subst IsSorted (sym (without-other n x xs other)) (Each-without (λ e. x.1 ≤ e.1) n xs h.0, IsSorted-without n xs h.1)
 ]
 
 pub IsSorted-right : (xs ys : List (ℕ × ℕ)) → IsSorted (xs ++ ys) → IsSorted ys
@@ -246,12 +268,16 @@ pub EachOnce-insert_sorted : (n v : ℕ) (xs : List (ℕ × ℕ)) → Apart (Som
 EachOnce-insert_sorted n v [] a h = (tt, tt)
 EachOnce-insert_sorted n v (x ∷ xs) a h = elim (cases_lt v x.1) [
   | inl less ↦ subst EachOnce (sym (insert_sorted-before n v x xs less)) (a, h)
-  | inr more ↦ subst EachOnce (sym (insert_sorted-after n v x xs more)) (Each-insert_sorted (λ e. Some x.0 ≢ Some e.0) n v xs (λ e. a.0 (sym e)) h.0, EachOnce-insert_sorted n v xs a.1 h.1)
+  | inr more ↦
+      subst EachOnce (sym (insert_sorted-after n v x xs more))
+      (Each-insert_sorted (λ e. Some x.0 ≢ Some e.0) n v xs (λ e. a.0 (sym e)) h.0, EachOnce-insert_sorted n v xs a.1 h.1)
 ]
 
 pub EachOnce-without : (n : ℕ) (xs : List (ℕ × ℕ)) → EachOnce xs → EachOnce (without n xs)
 EachOnce-without n [] h = tt
 EachOnce-without n (x ∷ xs) h = elim (cases_eq x.0 n) [
   | inl same ↦ subst EachOnce (sym (without-same n x xs same)) (EachOnce-without n xs h.1)
-  | inr other ↦ subst EachOnce (sym (without-other n x xs other)) (Each-without (λ e. Some x.0 ≢ Some e.0) n xs h.0, EachOnce-without n xs h.1)
+  | inr other ↦
+      subst EachOnce (sym (without-other n x xs other))
+      (Each-without (λ e. Some x.0 ≢ Some e.0) n xs h.0, EachOnce-without n xs h.1)
 ]

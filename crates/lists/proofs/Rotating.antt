@@ -1,19 +1,22 @@
 -- The first node of a list goes last.
-use Rattle.std.proofs.Common.{◌≡◌, ℕ, ◌+◌, ◌<◌, ◌≤◌, Option, Some, None, List, [], ◌∷◌, ◌++◌, get_or, length, set, sym, ◌∙◌, ap, subst, arith, refl, append-nil}
+use Rattle.std.proofs.Common.{◌≡◌, ℕ, ◌+◌, ◌<◌, ◌≤◌, Option, Some, None, List, [], ◌∷◌, ◌++◌, get_or, length, set, sym, ◌∙◌, ap}
+use Rattle.std.proofs.Common.{subst, arith, refl, append-nil}
 use Rattle.std.proofs.lemmas.List.{get_or-set_same, set-set, set-get_or}
 use Rattle.lists.specs.Lists.{Each, rotated, second_of}
 use Rattle.lists.specs.Links.{node_at, ends_of, at_link, Linked, IsStored, Spells, SpellsRings}
 use Rattle.lists.proofs.Entries.{first_split, no_first}
 use Rattle.lists.proofs.Links.{at_place}
 use Rattle.lists.proofs.Spelled.{first_is}
-use Rattle.lists.proofs.Rings.{around, end-none, next_room, node-below, node-none, read_end, read_node, ring_out, ring_put, splits, within}
+use Rattle.lists.proofs.Rings.{around, end-none, next_room, node-below, node-none, read_end, read_node, ring_out, ring_put, splits}
+use Rattle.lists.proofs.Rings.{within}
 
 -- a list that stays as its first node goes last
 pub record Stays (ls : List (List (ℕ × ℕ))) (l : ℕ) : Type 0 where
   pub same : ls ≡ set ls l (rotated (get_or ls l []))
   pub none : None ≡ second_of (get_or ls l [])
 
-module _ {L N : ℕ} {next prev place : List (Option ℕ)} {values : List ℕ} {firsts lasts : List (Option ℕ)} {ls : List (List (ℕ × ℕ))} (h : Spells L N next prev place values firsts lasts ls) (l : ℕ) (hl : l < L) where
+module _ {L N : ℕ} {next prev place : List (Option ℕ)} {values : List ℕ} {firsts lasts : List (Option ℕ)}
+    {ls : List (List (ℕ × ℕ))} (h : Spells L N next prev place values firsts lasts ls) (l : ℕ) (hl : l < L) where
   abbrev forth : Option ℕ → Option ℕ
   forth = at_link next (get_or firsts l None)
 
@@ -61,7 +64,9 @@ module _ {L N : ℕ} {next prev place : List (Option ℕ)} {values : List ℕ} {
     pub second_is : get_or next n None ≡ second_of (get_or ls l [])
     second_is = (at_place forth back (Some n) [] split.1 linked.2).0 ∙ sym (ap second_of split.2)
 
-module _ {L N M : ℕ} {next prev : List ℕ} {place : List (Option ℕ)} {values : List ℕ} {ls : List (List (ℕ × ℕ))} (h : SpellsRings L N M next prev place values ls) (l : ℕ) (hl : l < L) (n : ℕ) (first : get_or next (N + l) 0 ≡ n) (below : n < N) where
+module _ {L N M : ℕ} {next prev : List ℕ} {place : List (Option ℕ)} {values : List ℕ}
+    {ls : List (List (ℕ × ℕ))} (h : SpellsRings L N M next prev place values ls) (l : ℕ)
+    (hl : l < L) (n : ℕ) (first : get_or next (N + l) 0 ≡ n) (below : n < N) where
   pub at_first : get_or (ends_of N next) l None ≡ Some n
   at_first =
       let room : N + l < length next = subst (λ (k : ℕ). N + l < k) (sym h.next_length) (within h l (N + l) hl (λ past. refl)) in
@@ -80,8 +85,12 @@ module _ {L N M : ℕ} {next prev : List ℕ} {place : List (Option ℕ)} {value
     -- the list without its first node
     out : SpellsRings L N M (set next (N + l) q) (set prev q (N + l)) (set place n None) values (set ls l parts.1)
     out =
-        subst (λ (k : ℕ). SpellsRings L N M (set next (N + l) k) (set prev k (N + l)) (set place n None) values (set ls l parts.1)) second
-        (subst (λ (k : ℕ). SpellsRings L N M (set next k (get_or next n 0)) (set prev (get_or next n 0) k) (set place n None) values (set ls l parts.1)) end_before
+        subst (λ (k : ℕ). SpellsRings L N M (set next (N + l) k) (set prev k (N + l)) (set place n None) values (set ls l parts.1))
+        second
+        (subst (λ (k : ℕ).
+        SpellsRings L N M (set next k (get_or next n 0)) (set prev (get_or next n 0) k)
+        (set place n None) values (set ls l parts.1))
+        end_before
         (ring_out h l n parts.0 [] parts.1 below (first_placed h.spells l hl n at_first) parts.2))
 
     rest_is : get_or (set ls l parts.1) l [] ≡ parts.1 ++ []
@@ -93,9 +102,13 @@ module _ {L N M : ℕ} {next prev : List ℕ} {place : List (Option ℕ)} {value
     at_end = end-none N (N + l) (omega arith)
 
     pub last_within : get_or (set prev q (N + l)) (N + l) 0 < M
-    last_within = within out l (get_or (set prev q (N + l)) (N + l) 0) hl (splits out l (N + l) parts.1 [] hl rest_is at_end (λ past. refl)).before_end
+    last_within =
+        within out l (get_or (set prev q (N + l)) (N + l) 0) hl
+        (splits out l (N + l) parts.1 [] hl rest_is at_end (λ past. refl)).before_end
 
-    pub ring_rotated : SpellsRings L N M (set (set (set next (N + l) q) n (N + l)) (get_or (set prev q (N + l)) (N + l) 0) n) (set (set (set prev q (N + l)) n (get_or (set prev q (N + l)) (N + l) 0)) (N + l) n) place values (set ls l (rotated (get_or ls l [])))
+    pub ring_rotated : SpellsRings L N M (set (set (set next (N + l) q) n (N + l)) (get_or (set prev q (N + l)) (N + l) 0) n)
+        (set (set (set prev q (N + l)) n (get_or (set prev q (N + l)) (N + l) 0)) (N + l) n) place values
+        (set ls l (rotated (get_or ls l [])))
     ring_rotated =
         let v = parts.0 in
         let rest = parts.1 in
@@ -104,21 +117,32 @@ module _ {L N M : ℕ} {next prev : List ℕ} {place : List (Option ℕ)} {value
         let prev' = set (set (set prev q (N + l)) n last) (N + l) n in
         let placed = first_placed h.spells l hl n at_first in
         let n_place : n < length place = subst (λ (k : ℕ). n < k) (sym h.spells.place_length) below in
-        let put = ring_put out l n v (N + l) rest [] hl below (get_or-set_same place n None None n_place) rest_is at_end (λ past. refl) in
-        let places : set (set place n None) n (Some l) ≡ place = set-set place n None (Some l) ∙ ap (set place n) (sym placed) ∙ set-get_or place n None in
-        let same_values : set values n v ≡ values = ap (set values n) (sym (first_valued h.spells l hl n at_first)) ∙ set-get_or values n 0 in
-        let lists : set (set ls l rest) l (rest ++ (n, v) ∷ []) ≡ set ls l (rotated (get_or ls l [])) = set-set ls l rest (rest ++ (n, v) ∷ []) ∙ ap (λ (xs : List (ℕ × ℕ)). set ls l (rotated xs)) (sym parts.2) in
+        let put =
+        ring_put out l n v (N + l) rest [] hl below (get_or-set_same place n None None n_place) rest_is at_end (λ past. refl) in
+        let places : set (set place n None) n (Some l) ≡ place =
+        set-set place n None (Some l) ∙ ap (set place n) (sym placed) ∙ set-get_or place n None in
+        let same_values : set values n v ≡ values =
+        ap (set values n) (sym (first_valued h.spells l hl n at_first)) ∙ set-get_or values n 0 in
+        let lists : set (set ls l rest) l (rest ++ (n, v) ∷ []) ≡ set ls l (rotated (get_or ls l [])) =
+        set-set ls l rest (rest ++ (n, v) ∷ []) ∙ ap (λ (xs : List (ℕ × ℕ)). set ls l (rotated xs)) (sym parts.2) in
         subst (λ (xs : List (List (ℕ × ℕ))). SpellsRings L N M next' prev' place values xs) lists
-        (subst (λ (xs : List (Option ℕ)). SpellsRings L N M next' prev' xs values (set (set ls l rest) l (rest ++ (n, v) ∷ []))) places
-        (subst (λ (xs : List ℕ). SpellsRings L N M next' prev' (set (set place n None) n (Some l)) xs (set (set ls l rest) l (rest ++ (n, v) ∷ []))) same_values put))
+        (subst (λ (xs : List (Option ℕ)). SpellsRings L N M next' prev' xs values (set (set ls l rest) l (rest ++ (n, v) ∷ [])))
+        places
+        (subst (λ (xs : List ℕ).
+        SpellsRings L N M next' prev' (set (set place n None) n (Some l)) xs (set (set ls l rest) l (rest ++ (n, v) ∷ [])))
+        same_values put))
 
   pub nobody_second : N ≤ get_or next n 0 → Stays ls l
-  nobody_second past = no_second_stays h.spells l hl n at_first (read_node N next n below (next_room h) ∙ end-none N (get_or next n 0) past)
+  nobody_second past =
+      no_second_stays h.spells l hl n at_first (read_node N next n below (next_room h) ∙ end-none N (get_or next n 0) past)
 
   pub somebody_second : get_or next n 0 < N → Some (get_or next n 0) ≡ second_of (get_or ls l [])
-  somebody_second q_below = sym (node-below N (get_or next n 0) q_below) ∙ sym (read_node N next n below (next_room h)) ∙ second_is h.spells l hl n at_first
+  somebody_second q_below =
+      sym (node-below N (get_or next n 0) q_below)
+      ∙ sym (read_node N next n below (next_room h)) ∙ second_is h.spells l hl n at_first
 
-pub nobody_first : {L N M : ℕ} {next prev : List ℕ} {place : List (Option ℕ)} {values : List ℕ} {ls : List (List (ℕ × ℕ))} → SpellsRings L N M next prev place values ls → (l : ℕ) → l < L → N ≤ get_or next (N + l) 0 → Stays ls l
+pub nobody_first : {L N M : ℕ} {next prev : List ℕ} {place : List (Option ℕ)} {values : List ℕ} {ls : List (List (ℕ × ℕ))}
+    → SpellsRings L N M next prev place values ls → (l : ℕ) → l < L → N ≤ get_or next (N + l) 0 → Stays ls l
 nobody_first {L} {N} {M} {next} h l hl past =
     let room : N + l < length next = subst (λ (k : ℕ). N + l < k) (sym h.next_length) (within h l (N + l) hl (λ past. refl)) in
     no_first_stays h.spells l hl (read_end N l next room ∙ end-none N (get_or next (N + l) 0) past)

@@ -1,5 +1,6 @@
 -- How the arrays of a table spell its lists.
-use Rattle.std.specs.Prelude.{◌≡◌, ◌⊎◌, ℕ, zero, suc, ◌+◌, ◌<◌, ◌≤◌, nat_lt, ◌==◌, if◌then◌else◌, Option, Some, None, List, [], ◌∷◌, ◌++◌, get_or, set, length, map, take, drop}
+use Rattle.std.specs.Prelude.{◌≡◌, ◌⊎◌, ℕ, zero, suc, ◌+◌, ◌<◌, ◌≤◌, nat_lt, ◌==◌, if◌then◌else◌, Option, Some, None, List, [], ◌∷◌}
+use Rattle.std.specs.Prelude.{◌++◌, get_or, set, length, map, take, drop}
 use Rattle.lists.specs.Lists.{Each, Apart, EachOnce, first_of}
 
 -- where the number in a link leads: 65535 leads nowhere
@@ -48,7 +49,8 @@ pub record IsStored (N : ℕ) (place : List (Option ℕ)) (values : List ℕ) (l
   pub valued : get_or values e.0 0 ≡ e.1
 
 -- the arrays of a table of L lists and N nodes spell these lists
-pub record Spells (L N : ℕ) (next prev place : List (Option ℕ)) (values : List ℕ) (firsts lasts : List (Option ℕ)) (ls : List (List (ℕ × ℕ))) : Type 0 where
+pub record Spells (L N : ℕ) (next prev place : List (Option ℕ)) (values : List ℕ)
+    (firsts lasts : List (Option ℕ)) (ls : List (List (ℕ × ℕ))) : Type 0 where
   pub next_length : length next ≡ N
   pub prev_length : length prev ≡ N
   pub place_length : length place ≡ N
@@ -56,7 +58,8 @@ pub record Spells (L N : ℕ) (next prev place : List (Option ℕ)) (values : Li
   pub firsts_length : length firsts ≡ L
   pub lasts_length : length lasts ≡ L
   pub as_many : length ls ≡ L
-  pub linked : (l : ℕ) → l < L → Linked (at_link next (get_or firsts l None)) (at_link prev (get_or lasts l None)) None (get_or ls l [])
+  pub linked : (l : ℕ) → l < L
+      → Linked (at_link next (get_or firsts l None)) (at_link prev (get_or lasts l None)) None (get_or ls l [])
   pub stored : (l : ℕ) → l < L → Each (IsStored N place values l) (get_or ls l [])
   pub distinct : (l : ℕ) → l < L → EachOnce (get_or ls l [])
   pub listed : (n l : ℕ) → get_or place n None ≡ Some l → (l < L) × (Apart (Some n) (get_or ls l []) → ⊥)
@@ -81,7 +84,8 @@ abbrev pub StaysIn : ℕ → ℕ → List (Option ℕ) → List ℕ → Type 0
 StaysIn L N place links = (at l : ℕ) → l < L → IsIn N place l at → N ≤ get_or links at 0 → get_or links at 0 ≡ N + l
 
 -- the arrays of a table of L lists, which are rings, and N nodes spell these lists
-pub record SpellsRings (L N M : ℕ) (next prev : List ℕ) (place : List (Option ℕ)) (values : List ℕ) (ls : List (List (ℕ × ℕ))) : Type 0 where
+pub record SpellsRings (L N M : ℕ) (next prev : List ℕ) (place : List (Option ℕ))
+    (values : List ℕ) (ls : List (List (ℕ × ℕ))) : Type 0 where
   pub as_many : M ≡ N + L
   pub next_length : length next ≡ M
   pub prev_length : length prev ≡ M

@@ -1,5 +1,6 @@
 -- What callers see of a table: for each list its entries in order, each a node and its value.
-use Rattle.std.specs.Prelude.{◌≡◌, ◌≢◌, ℕ, ◌<◌, ◌≤◌, IsTrue, Bool, not, ◌==◌, ◌||◌, nat_lt, if◌then◌else◌, false, Option, Some, None, List, [], ◌∷◌, ◌++◌, slice_index_or, filter, position, length}
+use Rattle.std.specs.Prelude.{◌≡◌, ◌≢◌, ℕ, ◌<◌, ◌≤◌, IsTrue, Bool, not, ◌==◌, ◌||◌, nat_lt, if◌then◌else◌, false, Option, Some}
+use Rattle.std.specs.Prelude.{None, List, [], ◌∷◌, ◌++◌, slice_index_or, filter, position, length}
 
 -- P holds of each element
 abbrev pub Each : {X : Type 0} → (X → Type 0) → List X → Type 0

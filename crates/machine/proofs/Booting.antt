@@ -1,5 +1,7 @@
 -- The kernel at reset.
-use Rattle.std.proofs.Common.{◌≡◌, ◌≢◌, ◌<◌, ◌≤◌, ◌+◌, ℕ, zero, suc, Bool, true, false, cond, eqb, List, [], ◌∷◌, ◌++◌, map, length, get_or, set, take, replicate, refl, ap, sym, subst, ◌∙◌, arith, get_or-set_same, get_or-set_other, append-nil, inl, inr, None}
+use Rattle.std.proofs.Common.{◌≡◌, ◌≢◌, ◌<◌, ◌≤◌, ◌+◌, ℕ, zero, suc, Bool, true, false, cond, eqb, List, [], ◌∷◌, ◌++◌, map, length}
+use Rattle.std.proofs.Common.{get_or, set, take, replicate, refl, ap, sym, subst, ◌∙◌, arith, get_or-set_same, get_or-set_other}
+use Rattle.std.proofs.Common.{append-nil, inl, inr, None}
 use Rattle.std.specs.List.{AllByRecursion}
 use Rattle.std.proofs.lemmas.List.{take_more, map-append, length-map, get_or_past}
 use Rattle.std.proofs.lemmas.Bool.{cases_lt}
@@ -7,7 +9,8 @@ use Rattle.model.specs.declared.call.Phase.TheVariants.{Place}
 use Rattle.model.specs.declared.op.Op.{Op}
 use Rattle.model.specs.Application.{Application, Definition, Limits}
 use Rattle.model.specs.Scripts.{IsDefinition, IsWellFormed}
-use Rattle.model.specs.State.{State, Task, Progress, no_call, Ready, Ended, wake_time_of, no_task, no_progress, task_at, status_at, for_each}
+use Rattle.model.specs.State.{State, Task, Progress, no_call, Ready, Ended, wake_time_of, no_task, no_progress, task_at, status_at}
+use Rattle.model.specs.State.{for_each}
 use Rattle.model.specs.Order.{keyed, list_by, tasks_of}
 use Rattle.model.specs.Switching.{make_ready, ready_key, choice, choose, dispatch, is_held, is_same}
 use Rattle.model.specs.Time.{delayed_key, due}
@@ -63,7 +66,8 @@ all_zero zero = tt
 all_zero (suc n) = (omega arith, all_zero n)
 
 -- every place holds nothing, and so do those past the last
-pub all_blank : (ps : List Progress) → length ps ≡ 32 → ((i : ℕ) → i < 32 → get_or ps i no_progress ≡ no_progress) → (i : ℕ) → progress_in ps i ≡ no_progress
+pub all_blank : (ps : List Progress) → length ps ≡ 32
+    → ((i : ℕ) → i < 32 → get_or ps i no_progress ≡ no_progress) → (i : ℕ) → progress_in ps i ≡ no_progress
 all_blank ps n h i = elim (cases_lt i 32) [ inl l ↦ h i l | inr m ↦ get_or_past ps i no_progress (omega arith) ]
 
 -- no task is in a list
@@ -88,25 +92,30 @@ none_due app m = rw (none_delayed app.start app.tasks) refl
 
 -- ---- priorities
 
-pub priority_at : (start : ℕ) (ds : List Definition) (i : ℕ) → priority_in (priorities_in ds) i ≡ (get_or (map (task_at_reset start) ds) i no_task).priority
+pub priority_at : (start : ℕ) (ds : List Definition) (i : ℕ)
+    → priority_in (priorities_in ds) i ≡ (get_or (map (task_at_reset start) ds) i no_task).priority
 priority_at start [] i = refl
 priority_at start (d ∷ ds) zero = refl
 priority_at start (d ∷ ds) (suc i) = priority_at start ds i
 
-pub base_priority_at : (start : ℕ) (ds : List Definition) (i : ℕ) → priority_in (priorities_in ds) i ≡ (get_or (map (task_at_reset start) ds) i no_task).base_priority
+pub base_priority_at : (start : ℕ) (ds : List Definition) (i : ℕ)
+    → priority_in (priorities_in ds) i ≡ (get_or (map (task_at_reset start) ds) i no_task).base_priority
 base_priority_at start [] i = refl
 base_priority_at start (d ∷ ds) zero = refl
 base_priority_at start (d ∷ ds) (suc i) = base_priority_at start ds i
 
-priority_at_low : (ds : List Definition) (k : ℕ) (d : Definition) → AllByRecursion IsDefinition ds → k < length ds → (get_or ds k d).priority < 32
+priority_at_low : (ds : List Definition) (k : ℕ) (d : Definition)
+    → AllByRecursion IsDefinition ds → k < length ds → (get_or ds k d).priority < 32
 priority_at_low [] k d h l = absurd (omega arith)
 priority_at_low (x ∷ ds) zero d h l = h.0.priority
 priority_at_low (x ∷ ds) (suc k) d h l = priority_at_low ds k d h.1 (omega arith)
 
-pub priority_low : (ds : List Definition) (k : ℕ) (d : Definition) → AllByRecursion IsDefinition ds → k < length ds → d ≡ get_or ds k d → d.priority < 32
+pub priority_low : (ds : List Definition) (k : ℕ) (d : Definition)
+    → AllByRecursion IsDefinition ds → k < length ds → d ≡ get_or ds k d → d.priority < 32
 priority_low ds k d h l e = rw e (priority_at_low ds k d h l)
 
-pub known_more : (ps : List ℕ) (k p : ℕ) → AllByRecursion (λ (n : ℕ). n < 32) ps → p < 32 → AllByRecursion (λ (n : ℕ). n < 32) (set ps k p)
+pub known_more : (ps : List ℕ) (k p : ℕ) → AllByRecursion (λ (n : ℕ). n < 32) ps
+    → p < 32 → AllByRecursion (λ (n : ℕ). n < 32) (set ps k p)
 known_more [] k p h l = tt
 known_more (q ∷ ps) zero p h l = (l, h.1)
 known_more (q ∷ ps) (suc k) p h l = (h.0, known_more ps k p h.1 l)
@@ -129,10 +138,13 @@ length_taken (d ∷ ds) zero l = refl
 length_taken (d ∷ ds) (suc k) l = ap suc (length_taken ds k (omega arith))
 
 -- An array whose places are those of a list, each seen in a way, and one more of each
-filled_more : {V X : Type 0} → (array : List V) (none v : V) (xs : List X) (empty x : X) (look : X → V) (k : ℕ) → k ≡ length xs → k < length array → ((i : ℕ) → get_or array i none ≡ look (get_or xs i empty)) → v ≡ look x → (i : ℕ) → get_or (set array k v) i none ≡ look (get_or (xs ++ x ∷ []) i empty)
+filled_more : {V X : Type 0} → (array : List V) (none v : V) (xs : List X) (empty x : X) (look : X → V) (k : ℕ)
+    → k ≡ length xs → k < length array → ((i : ℕ) → get_or array i none ≡ look (get_or xs i empty))
+    → v ≡ look x → (i : ℕ) → get_or (set array k v) i none ≡ look (get_or (xs ++ x ∷ []) i empty)
 filled_more array none v xs empty x look k long l h e i = by_test (eqb i k)
     (λ u. let same : i ≡ k = eqb-same i k u in
-    rw (same, get_or-set_same array k v none l) (e ∙ ap look (sym (ap (λ n. get_or (xs ++ x ∷ []) n empty) long ∙ at_end xs x empty))))
+    rw (same, get_or-set_same array k v none l)
+    (e ∙ ap look (sym (ap (λ n. get_or (xs ++ x ∷ []) n empty) long ∙ at_end xs x empty))))
     (λ u. let apart : i ≢ k = (λ q. let w : eqb i k ≡ true = rw q (eqb-refl k) in absurd (cc)) in
     rw (get_or-set_other array k i v none apart) (h i ∙ ap look (sym (not_at_end xs x empty i (λ q. apart (q ∙ sym long))))))
 
@@ -140,25 +152,37 @@ module _ (ds : List Definition) (k : ℕ) (d : Definition) (few : length ds ≤ 
   one_more : take (k + 1) ds ≡ take k ds ++ d ∷ []
   one_more = take_more ds k d l ∙ ap (λ x. take k ds ++ x ∷ []) (sym at)
 
-  pub progress_more : (start : ℕ) (ps : List Progress) → length ps ≡ 32 → ((i : ℕ) → progress_in ps i ≡ (get_or (map (task_at_reset start) (take k ds)) i no_task).progress) → (p : Progress) → p ≡ record no_progress { previous_wake = start; stamp = start } → (i : ℕ) → progress_in (set ps k p) i ≡ (get_or (map (task_at_reset start) (take (k + 1) ds)) i no_task).progress
+  pub progress_more : (start : ℕ) (ps : List Progress) → length ps ≡ 32
+      → ((i : ℕ) → progress_in ps i ≡ (get_or (map (task_at_reset start) (take k ds)) i no_task).progress)
+      → (p : Progress) → p ≡ record no_progress { previous_wake = start; stamp = start } → (i : ℕ)
+      → progress_in (set ps k p) i ≡ (get_or (map (task_at_reset start) (take (k + 1) ds)) i no_task).progress
   progress_more start ps full h p e i =
-      let more : map (task_at_reset start) (take (k + 1) ds) ≡ map (task_at_reset start) (take k ds) ++ task_at_reset start d ∷ [] = ap (map (task_at_reset start)) one_more ∙ map-append (task_at_reset start) (take k ds) (d ∷ []) in
-      let long : k ≡ length (map (task_at_reset start) (take k ds)) = sym (length-map (take k ds) (task_at_reset start) ∙ length_taken ds k l) in
-      rw more (filled_more ps no_progress p (map (task_at_reset start) (take k ds)) no_task (task_at_reset start d) (λ (t : Task). t.progress) k long (omega arith) h e i)
+      let more : map (task_at_reset start) (take (k + 1) ds) ≡ map (task_at_reset start) (take k ds) ++ task_at_reset start d ∷ [] =
+      ap (map (task_at_reset start)) one_more ∙ map-append (task_at_reset start) (take k ds) (d ∷ []) in
+      let long : k ≡ length (map (task_at_reset start) (take k ds)) =
+      sym (length-map (take k ds) (task_at_reset start) ∙ length_taken ds k l) in
+      rw more (filled_more ps no_progress p (map (task_at_reset start) (take k ds)) no_task
+      (task_at_reset start d) (λ (t : Task). t.progress) k long (omega arith) h e i)
 
-  pub priorities_more : (ps : List ℕ) → length ps ≡ 32 → ((i : ℕ) → get_or ps i 0 ≡ get_or (priorities_in (take k ds)) i 0) → (i : ℕ) → get_or (set ps k d.priority) i 0 ≡ get_or (priorities_in (take (k + 1) ds)) i 0
+  pub priorities_more : (ps : List ℕ) → length ps ≡ 32 → ((i : ℕ) → get_or ps i 0 ≡ get_or (priorities_in (take k ds)) i 0)
+      → (i : ℕ) → get_or (set ps k d.priority) i 0 ≡ get_or (priorities_in (take (k + 1) ds)) i 0
   priorities_more ps full h i =
-      let more : priorities_in (take (k + 1) ds) ≡ priorities_in (take k ds) ++ d.priority ∷ [] = ap priorities_in one_more ∙ map-append (λ (x : Definition). x.priority) (take k ds) (d ∷ []) in
-      let long : k ≡ length (priorities_in (take k ds)) = sym (length-map (take k ds) (λ (x : Definition). x.priority) ∙ length_taken ds k l) in
+      let more : priorities_in (take (k + 1) ds) ≡ priorities_in (take k ds) ++ d.priority ∷ [] =
+      ap priorities_in one_more ∙ map-append (λ (x : Definition). x.priority) (take k ds) (d ∷ []) in
+      let long : k ≡ length (priorities_in (take k ds)) =
+      sym (length-map (take k ds) (λ (x : Definition). x.priority) ∙ length_taken ds k l) in
       rw more (filled_more ps 0 d.priority (priorities_in (take k ds)) 0 d.priority (λ (n : ℕ). n) k long (omega arith) h refl i)
 
 -- ---- the tasks that have an op
 
-with_ops-append : (o : ℕ) (ds : List Definition) (d : Definition) → with_ops o (ds ++ d ∷ []) ≡ with_ops o ds ++ cond (eqb (length d.script) 0) [] ((o + length ds) ∷ [])
+with_ops-append : (o : ℕ) (ds : List Definition) (d : Definition)
+    → with_ops o (ds ++ d ∷ []) ≡ with_ops o ds ++ cond (eqb (length d.script) 0) [] ((o + length ds) ∷ [])
 with_ops-append o [] d = let n : o + 0 ≡ o = omega arith in rw n refl
 with_ops-append o (x ∷ ds) d =
     let n : (o + 1) + length ds ≡ o + suc (length ds) = omega arith in
-    let later : with_ops (o + 1) (ds ++ d ∷ []) ≡ with_ops (o + 1) ds ++ cond (eqb (length d.script) 0) [] ((o + suc (length ds)) ∷ []) = rw n at (with_ops-append (o + 1) ds d) in
+    let later : with_ops (o + 1) (ds ++ d ∷ [])
+    ≡ with_ops (o + 1) ds ++ cond (eqb (length d.script) 0) [] ((o + suc (length ds)) ∷ []) =
+    rw n at (with_ops-append (o + 1) ds d) in
     by_test (eqb (length x.script) 0) (λ t. rw t later) (λ t. rw t (ap (λ l. o ∷ l) later))
 
 pub empty_of : {ops script : List Op} {b : Bool} → ops ≡ script → eqb (length ops) 0 ≡ b → eqb (length script) 0 ≡ b
@@ -173,12 +197,16 @@ module _ (s : State) (ds : List Definition) (j : ℕ) (d : Definition) (l : j < 
   abbrev so : State
   so = for_each make_ready (with_ops 0 (take j ds)) s
 
-  pub ready_skipped : (v : Schedule) → eqb (length d.script) 0 ≡ true → sched.StandsFor v so → sched.StandsFor v (for_each make_ready (with_ops 0 (take (j + 1) ds)) s)
+  pub ready_skipped : (v : Schedule) → eqb (length d.script) 0 ≡ true → sched.StandsFor v so
+      → sched.StandsFor v (for_each make_ready (with_ops 0 (take (j + 1) ds)) s)
   ready_skipped v e h =
       let same : with_ops 0 (take (j + 1) ds) ≡ with_ops 0 (take j ds) = with_more ∙ rw e (append-nil (with_ops 0 (take j ds))) in
       rw same h
 
-  pub ready_one_more : (new : Schedule) → eqb (length d.script) 0 ≡ false → length s.tasks ≡ length ds → ((i : ℕ) → can_resume (status_at s i) ≡ false) → (j < length so.tasks → can_resume (status_at so j) ≡ false → sched.StandsFor new (make_ready j so)) → sched.StandsFor new (for_each make_ready (with_ops 0 (take (j + 1) ds)) s)
+  pub ready_one_more : (new : Schedule) → eqb (length d.script) 0 ≡ false → length s.tasks ≡ length ds
+      → ((i : ℕ) → can_resume (status_at s i) ≡ false)
+      → (j < length so.tasks → can_resume (status_at so j) ≡ false → sched.StandsFor new (make_ready j so))
+      → sched.StandsFor new (for_each make_ready (with_ops 0 (take (j + 1) ds)) s)
   ready_one_more new e n awake goes =
       let same : with_ops 0 (take (j + 1) ds) ≡ with_ops 0 (take j ds) ++ j ∷ [] = with_more ∙ rw e refl in
       let low : j < length so.tasks = rw ((keeps-all_ready (with_ops 0 (take j ds)) s).tasks, n) l in
@@ -199,9 +227,25 @@ sched_chosen : (v : Schedule) (s : State) → sched.StandsFor v (choose s) → s
 unfolding choose dispatch
 sched_chosen v s h = by_test (is_same (choice s) s.current)
     (λ t. let g : sched.StandsFor v s = rw t at h in
-    record { ready = g.ready; current = g.current ∙ sym (same_eq (choice s) s.current t); priorities = g.priorities; base_priorities = g.base_priorities; depth = g.depth; suspended = g.suspended; table = record { tickets = g.table.tickets; few = g.table.few; current = choice_within s; holders = g.table.holders } })
+    record {
+      ready = g.ready;
+      current = g.current ∙ sym (same_eq (choice s) s.current t);
+      priorities = g.priorities;
+      base_priorities = g.base_priorities;
+      depth = g.depth;
+      suspended = g.suspended;
+      table = record { tickets = g.table.tickets; few = g.table.few; current = choice_within s; holders = g.table.holders };
+    })
     (λ t. let g = rw t at h in
-    record { ready = g.ready; current = g.current; priorities = g.priorities; base_priorities = g.base_priorities; depth = g.depth; suspended = g.suspended; table = record { tickets = g.table.tickets; few = g.table.few; current = choice_within s; holders = g.table.holders } })
+    record {
+      ready = g.ready;
+      current = g.current;
+      priorities = g.priorities;
+      base_priorities = g.base_priorities;
+      depth = g.depth;
+      suspended = g.suspended;
+      table = record { tickets = g.table.tickets; few = g.table.few; current = choice_within s; holders = g.table.holders };
+    })
 
 -- Nobody sleeps.
 NobodyAsleep : State → Type 0
@@ -210,26 +254,32 @@ NobodyAsleep s = (i : ℕ) → wake_time_of (status_at s i) ≡ None
 awake-ready : (s : State) (i : ℕ) → NobodyAsleep s → NobodyAsleep (make_ready i s)
 unfolding NobodyAsleep
 awake-ready s i h j = by_index s.tasks i j h where
-  by_index : (ts : List Task) (i j : ℕ) → ((j : ℕ) → wake_time_of (get_or ts j no_task).status ≡ None) → wake_time_of (get_or (set ts i (record (get_or ts i no_task) { status = Ready s.next_ticket })) j no_task).status ≡ None
+  by_index : (ts : List Task) (i j : ℕ) → ((j : ℕ) → wake_time_of (get_or ts j no_task).status ≡ None)
+      → wake_time_of (get_or (set ts i (record (get_or ts i no_task) { status = Ready s.next_ticket })) j no_task).status ≡ None
   by_index [] i j h = refl
   by_index (u ∷ us) zero zero h = refl
   by_index (u ∷ us) zero (suc j) h = h (suc j)
   by_index (u ∷ us) (suc i) zero h = h 0
   by_index (u ∷ us) (suc i) (suc j) h = by_index us i j (λ k. h (suc k))
 
-ended_at_reset : (start : ℕ) (ds : List Definition) (i : ℕ) → wake_time_of (get_or (map (task_at_reset start) ds) i no_task).status ≡ None
+ended_at_reset : (start : ℕ) (ds : List Definition) (i : ℕ)
+    → wake_time_of (get_or (map (task_at_reset start) ds) i no_task).status ≡ None
 ended_at_reset start [] i = refl
 ended_at_reset start (d ∷ ds) zero = refl
 ended_at_reset start (d ∷ ds) (suc i) = ended_at_reset start ds i
 
-clock-all_ready : (t : Timeline) (is : List ℕ) (s : State) → clock.StandsFor t s → NobodyAsleep s → AllByRecursion (λ i. i < length s.tasks) is → clock.StandsFor t (for_each make_ready is s)
+clock-all_ready : (t : Timeline) (is : List ℕ) (s : State) → clock.StandsFor t s → NobodyAsleep s
+    → AllByRecursion (λ i. i < length s.tasks) is → clock.StandsFor t (for_each make_ready is s)
 unfolding NobodyAsleep
 clock-all_ready t [] s h none l = h
 clock-all_ready t (i ∷ is) s h none l =
     let u : Task = record (task_at s i) { status = Ready s.next_ticket } in
-    let next : clock.StandsFor t (make_ready i s) = on_clock.stands_kept t s (make_ready i s) i u h l.0 refl refl refl (ready_alike (status_at s i) s.next_ticket (none i)) (table-make_ready s i h.table) in
+    let next : clock.StandsFor t (make_ready i s) =
+    on_clock.stands_kept t s (make_ready i s) i u h l.0 refl refl refl
+    (ready_alike (status_at s i) s.next_ticket (none i)) (table-make_ready s i h.table) in
     clock-all_ready t is (make_ready i s) next (awake-ready s i none) (still_within is l.1) where
-      still_within : (js : List ℕ) → AllByRecursion (λ j. j < length s.tasks) js → AllByRecursion (λ j. j < length (make_ready i s).tasks) js
+      still_within : (js : List ℕ) → AllByRecursion (λ j. j < length s.tasks) js
+          → AllByRecursion (λ j. j < length (make_ready i s).tasks) js
       still_within [] a = tt
       still_within (j ∷ js) a = (rw length-set a.0, still_within js a.1)
 
@@ -244,17 +294,30 @@ module _ (app : Application) where
     locked = ap (λ (hold : Hold). hold.locked) (keeps-all_ready (with_ops 0 app.tasks) (nobody_ready app)).hold;
   }
 
-  pub queues_at_reset : (v : Exchange) → queues.StandsFor v None (reset app) → IsTable (nobody_ready app) → queues.StandsFor v None (nobody_ready app)
+  pub queues_at_reset : (v : Exchange) → queues.StandsFor v None (reset app)
+      → IsTable (nobody_ready app) → queues.StandsFor v None (nobody_ready app)
   queues_at_reset v h table =
       let same = same_at_reset in
-      stands_same (reset app) (nobody_ready app) (record { objects = sym same.objects; waits = λ i. sym (same.waits i); awake = λ i. sym (same.awake i); locked = sym same.locked }) v None h table
+      stands_same (reset app) (nobody_ready app)
+      (record {
+        objects = sym same.objects;
+        waits = λ i. sym (same.waits i);
+        awake = λ i. sym (same.awake i);
+        locked = sym same.locked;
+      })
+      v None h table
 
   pub nobody_awake-reset : AtLocked None (nobody_ready app)
   unfolding nobody_ready
   nobody_awake-reset = at_locked-nobody (nobody_ready app) (λ i. free_unwoken _ (call-reset app.start i app.tasks).1)
 
-  pub none_placing : (ps : List Progress) → ((i : ℕ) → progress_in ps i ≡ (get_or (map (task_at_reset app.start) app.tasks) i no_task).progress) → (i : ℕ) → (progress_in ps i).call.phase ≢ Place
-  none_placing ps h i q = let e : (progress_in ps i).call ≡ no_call = ap (λ (p : Progress). p.call) (h i) ∙ (call-reset app.start i app.tasks).0 in let f = rw e at q in absurd (cc)
+  pub none_placing : (ps : List Progress)
+      → ((i : ℕ) → progress_in ps i ≡ (get_or (map (task_at_reset app.start) app.tasks) i no_task).progress)
+      → (i : ℕ) → (progress_in ps i).call.phase ≢ Place
+  none_placing ps h i q =
+      let e : (progress_in ps i).call ≡ no_call = ap (λ (p : Progress). p.call) (h i) ∙ (call-reset app.start i app.tasks).0 in
+      let f = rw e at q in
+      absurd (cc)
 
 -- nobody is suspended in a new scheduler
 pub nobody_suspended : (i : ℕ) → get_or (replicate 32 false) i false ≡ false
@@ -279,13 +342,24 @@ booted app formed k v w h ready chooses =
     let none : State = nobody_ready app in
     let is : List ℕ = with_ops 0 app.tasks in
     let s : State = for_each make_ready is none in
-    let low : AllByRecursion (λ i. i < length none.tasks) is = with_ops_within 0 (length none.tasks) app.tasks (let n : length none.tasks ≡ length app.tasks = length-map app.tasks (task_at_reset app.start) in omega arith) in
+    let low : AllByRecursion (λ i. i < length none.tasks) is =
+    with_ops_within 0 (length none.tasks) app.tasks
+    (let n : length none.tasks ≡ length app.tasks = length-map app.tasks (task_at_reset app.start) in omega arith) in
     let awake : (i : ℕ) → wake_time_of (status_at none i) ≡ None = ended_at_reset app.start app.tasks in
     let keep = keeps-all_ready is none in
-    let on = sched_chosen w s (chooses s ready (held_by_none s (ap (λ (h : Hold). h.held) keep.hold) (ap (λ (x : Suspension). x.suspensions) keep.suspension))) in
-    let bits : SameBitWaits none (reset app) = bits_kept.same_both none s (reset app) (bits_kept.same_all_ready is none (nobody_waits is)) (bits_kept.same_parts s (reset app) refl refl) in
-    let c = clock-same k.clock s (record s { current = choice s }) (clock-all_ready k.clock is none h.rest.clock awake low) refl refl refl on.table in
-    record { sched = on; rest = rest_with_clock h.rest c (progress-all_ready is none) (kept-all_ready is none) (same_at_reset app) bits } where
+    let on =
+    sched_chosen w s (chooses s ready
+    (held_by_none s (ap (λ (h : Hold). h.held) keep.hold) (ap (λ (x : Suspension). x.suspensions) keep.suspension))) in
+    let bits : SameBitWaits none (reset app) =
+    bits_kept.same_both none s (reset app) (bits_kept.same_all_ready is none (nobody_waits is))
+    (bits_kept.same_parts s (reset app) refl refl) in
+    let c =
+    clock-same k.clock s (record s { current = choice s })
+    (clock-all_ready k.clock is none h.rest.clock awake low) refl refl refl on.table in
+    record {
+      sched = on;
+      rest = rest_with_clock h.rest c (progress-all_ready is none) (kept-all_ready is none) (same_at_reset app) bits;
+    } where
       nobody_waits : (js : List ℕ) → AllByRecursion (λ i. bits_wait (status_at (nobody_ready app) i) ≡ None) js
       nobody_waits [] = tt
       nobody_waits (j ∷ js) = (ap bits_wait (ended_reset app.start j app.tasks), nobody_waits js)
@@ -300,7 +374,8 @@ steps-reset app = (keeps-all_ready (with_ops 0 app.tasks) (nobody_ready app)).st
 pub steps_begin : (app : Application) (k : Machine) → Stands k (reset app) → k.steps ≡ 0
 steps_begin app k h = steps_are k (reset app) h ∙ steps-reset app
 
-pub begins : (app : Application) (plan : List Injection) (limits : Limits) (k : Machine) → Stands k (reset app) → IsUnderWay app plan limits k
+pub begins : (app : Application) (plan : List Injection) (limits : Limits) (k : Machine)
+    → Stands k (reset app) → IsUnderWay app plan limits k
 begins app plan limits k h = record {
   stands = let Q : ℕ → Type 0 = λ n. Stands k (state_after app limits plan n) in subst Q (sym (steps_begin app k h)) h;
   goes_on = λ n l. let e = steps_begin app k h in absurd (omega arith);

@@ -14,7 +14,8 @@ pub any : (k : Machine) (log : List Event) (s : State) → At k log s → AtAny 
 any k log s h = record { stands = Placed h.stands; log = h.log }
 
 -- A task is still to be placed, or none is.
-pub either : {Q : Type 0} → (k : Machine) (log : List Event) (s : State) → AtAny k log s → (At k log s → Q) → ((task : ℕ) (list : WaitList) → StandsBefore task list k s → Q) → Q
+pub either : {Q : Type 0} → (k : Machine) (log : List Event) (s : State) → AtAny k log s
+    → (At k log s → Q) → ((task : ℕ) (list : WaitList) → StandsBefore task list k s → Q) → Q
 either {Q} k log s h placed placing = by_stands h.stands where
   by_stands : Stands k s → Q
   by_stands (Placed p) = placed (record { stands = p; log = h.log })
@@ -55,10 +56,13 @@ module _ (k : Machine) (s : State) where
 
 -- Where the parts agree, no task is still to be placed.
 pub all_placed : (k : Machine) → Agrees k → (log : List Event) (s : State) → AtAny k log s → At k log s
-all_placed k a log s h = either k log s h (λ p. p) (λ task list b. absurd (a.1.rest.placed task (ap (λ (p : Progress). p.call.phase) (b.progress task) ∙ b.phase)))
+all_placed k a log s h =
+    either k log s h (λ p. p)
+    (λ task list b. absurd (a.1.rest.placed task (ap (λ (p : Progress). p.call.phase) (b.progress task) ∙ b.phase)))
 
 -- A deed that leaves each task in its lists
-pub does_any : (count : ℕ) (old new : Machine) (old_log new_log : Logged) (deed : State → State) → Agrees old → Does count old old_log new new_log deed → DoesAny count old old_log new new_log deed
+pub does_any : (count : ℕ) (old new : Machine) (old_log new_log : Logged) (deed : State → State)
+    → Agrees old → Does count old old_log new new_log deed → DoesAny count old old_log new new_log deed
 does_any count old new old_log new_log deed a d = record {
   at = λ s h. any new new_log.told (deed s) (d.at s (all_placed old a old_log.told s h));
   few = d.few;
@@ -66,10 +70,12 @@ does_any count old new old_log new_log deed a d = record {
 }
 
 -- or reports fewer events than it may
-pub does_more : (count more : ℕ) (old new : Machine) (old_log new_log : Logged) (deed : State → State) → count ≤ more → DoesAny count old old_log new new_log deed → DoesAny more old old_log new new_log deed
+pub does_more : (count more : ℕ) (old new : Machine) (old_log new_log : Logged) (deed : State → State)
+    → count ≤ more → DoesAny count old old_log new new_log deed → DoesAny more old old_log new new_log deed
 does_more count more old new old_log new_log deed l d = record { at = d.at; few = let f = d.few in omega arith; before = d.before }
 
-pub moves_any : (count : ℕ) (old new : Machine) (log : Logged) (deed : State → State) → Agrees old → Moves old new deed → DoesAny count old log new log deed
+pub moves_any : (count : ℕ) (old new : Machine) (log : Logged) (deed : State → State)
+    → Agrees old → Moves old new deed → DoesAny count old log new log deed
 moves_any count old new log deed a d = record {
   at = λ s h. any new log.told (deed s) (d log.told s (all_placed old a log.told s h));
   few = omega arith;

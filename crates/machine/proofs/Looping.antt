@@ -1,5 +1,6 @@
 -- The open loops, as the cells hold them.
-use Rattle.std.proofs.Common.{◌≡◌, ◌≢◌, ◌<◌, ◌≤◌, ◌-◌, ℕ, zero, suc, leb, true, List, ◌∷◌, length, drop, get_or, set, refl, ap, sym, subst, ◌∙◌, arith, get_or-set_same, get_or-set_other}
+use Rattle.std.proofs.Common.{◌≡◌, ◌≢◌, ◌<◌, ◌≤◌, ◌-◌, ℕ, zero, suc, leb, true, List, ◌∷◌, length, drop, get_or, set, refl, ap, sym}
+use Rattle.std.proofs.Common.{subst, ◌∙◌, arith, get_or-set_same, get_or-set_other}
 use Rattle.std.proofs.lemmas.Bool.Decides.{nat_tests}
 use Rattle.std.specs.Prelude.{false, Option, Some, option_map, if◌then◌else◌}
 use Rattle.model.specs.declared.loops.Loop.{Loop}
@@ -25,7 +26,8 @@ turned_in cells m l less =
 by_left : Loop → List Loop → Option ℕ → List Loop
 by_left l ls left = if is_last left then ls else record l { left = option_map (λ left. left - 1) left } ∷ ls
 
-after_more : (l : Loop) (ls : List Loop) (left : ℕ) → l.left ≡ Some left → 1 < left → after_turn (l ∷ ls) ≡ record l { left = Some (left - 1) } ∷ ls
+after_more : (l : Loop) (ls : List Loop) (left : ℕ) → l.left ≡ Some left
+    → 1 < left → after_turn (l ∷ ls) ≡ record l { left = Some (left - 1) } ∷ ls
 unfolding by_left
 after_more l ls left e more =
     let last : leb left 1 ≡ false = leb-no left 1 more in
@@ -51,7 +53,8 @@ one_turn_less cells (suc m) left old is some fits here more =
 cleared : (cells : List Loop) (m n : ℕ) → n ≡ m → open_in (set cells n no_loop) n ≡ open_in cells m
 cleared cells m n e = open_in-set cells n n no_loop (omega arith) ∙ ap (open_in cells) e
 
-pub without_innermost : (cells : List Loop) (n : ℕ) (old : List Loop) → open_in cells n ≡ old → 0 < n → open_in (set cells (n - 1) no_loop) (n - 1) ≡ drop 1 old
+pub without_innermost : (cells : List Loop) (n : ℕ) (old : List Loop) → open_in cells n ≡ old
+    → 0 < n → open_in (set cells (n - 1) no_loop) (n - 1) ≡ drop 1 old
 without_innermost cells zero old is some = absurd (omega (arith, some))
 without_innermost cells (suc m) old is some = cleared cells m (suc m - 1) (omega arith) ∙ ap (drop 1) is
 

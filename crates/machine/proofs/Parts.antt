@@ -1,12 +1,15 @@
 -- What the parts of the kernel make of the states that it represents.
-use Rattle.std.proofs.Common.{◌≡◌, ◌≢◌, ◌<◌, ◌≤◌, ℕ, zero, suc, Bool, true, false, eqb, List, [], ◌∷◌, ◌++◌, length, get_or, set, Option, Some, None, refl, ap, sym, subst, ◌∙◌, arith, get_or-set_same, get_or-set_other}
+use Rattle.std.proofs.Common.{◌≡◌, ◌≢◌, ◌<◌, ◌≤◌, ℕ, zero, suc, Bool, true, false, eqb, List, [], ◌∷◌, ◌++◌, length, get_or, set}
+use Rattle.std.proofs.Common.{Option, Some, None, refl, ap, sym, subst, ◌∙◌, arith, get_or-set_same, get_or-set_other}
 use Rattle.std.specs.List.{filter}
 use Rattle.std.specs.Option.{option_eq, is_some}
 use Rattle.std.proofs.Math.ListN.{length-set}
 use Rattle.model.specs.declared.call.Phase.TheVariants.{Place}
 use Rattle.model.specs.declared.event.Event.{Event}
 use Rattle.model.specs.declared.event.End.{End}
-use Rattle.model.specs.State.{State, Task, Progress, Status, Ready, Awake, Waiting, Asleep, WaitingForBits, Suspended, Ended, Object, ticket_if_ready, wait_if_awake, wake_time_of, no_call, no_task, no_progress, task_at, status_at, progress_at, call_at, with_task, printed}
+use Rattle.model.specs.State.{State, Task, Progress, Status, Ready, Awake, Waiting, Asleep, WaitingForBits, Suspended, Ended}
+use Rattle.model.specs.State.{Object, ticket_if_ready, wait_if_awake, wake_time_of, no_call, no_task, no_progress, task_at}
+use Rattle.model.specs.State.{status_at, progress_at, call_at, with_task, printed}
 use Rattle.model.specs.State as state
 use Rattle.model.specs.Order.{Entry, list_by, tasks_of}
 use Rattle.model.specs.Switching.{is_ready, make_ready, ready_key, write}
@@ -45,7 +48,9 @@ use Rattle.machine.specs.StandsFor.{progress_in, RestStandsFor, StandsFor, At, w
 -- ---- each task's progress
 
 -- The progress of a task changes alike on both sides.
-pub progress-set : (ps : List Progress) (ts : List Task) (i : ℕ) (t : Task) → ((j : ℕ) → progress_in ps j ≡ (get_or ts j no_task).progress) → i < length ps → i < length ts → (j : ℕ) → progress_in (set ps i t.progress) j ≡ (get_or (set ts i t) j no_task).progress
+pub progress-set : (ps : List Progress) (ts : List Task) (i : ℕ) (t : Task)
+    → ((j : ℕ) → progress_in ps j ≡ (get_or ts j no_task).progress) → i < length ps → i < length ts
+    → (j : ℕ) → progress_in (set ps i t.progress) j ≡ (get_or (set ts i t) j no_task).progress
 progress-set ps ts i t h l m j = by_test (eqb j i)
     (λ u. let same : j ≡ i = eqb-same j i u in
     rw (same, get_or-set_same ps i t.progress no_progress l, get_or-set_same ts i t no_task m) refl)
@@ -53,13 +58,15 @@ progress-set ps ts i t h l m j = by_test (eqb j i)
     rw (get_or-set_other ps i j t.progress no_progress apart, get_or-set_other ts i j t no_task apart) (h j))
 
 -- A task changes, but not its progress.
-pub progress-kept : (ts : List Task) (i : ℕ) (t : Task) → t.progress ≡ (get_or ts i no_task).progress → (j : ℕ) → (get_or (set ts i t) j no_task).progress ≡ (get_or ts j no_task).progress
+pub progress-kept : (ts : List Task) (i : ℕ) (t : Task) → t.progress ≡ (get_or ts i no_task).progress
+    → (j : ℕ) → (get_or (set ts i t) j no_task).progress ≡ (get_or ts j no_task).progress
 progress-kept ts i t e = each-set no_task (λ j (u : Task). u.progress ≡ (get_or ts j no_task).progress) ts i t e (λ j. refl)
 
 -- ---- the scheduler
 
 -- The scheduler represents each state of the same tasks, where the same one runs and it is held as often.
-pub sched-same : {v : Schedule} {s new : State} → sched.StandsFor v s → IsTable new → new.tasks ≡ s.tasks → new.current ≡ s.current → depth_of new ≡ depth_of s → sched.StandsFor v new
+pub sched-same : {v : Schedule} {s new : State} → sched.StandsFor v s → IsTable new
+    → new.tasks ≡ s.tasks → new.current ≡ s.current → depth_of new ≡ depth_of s → sched.StandsFor v new
 sched-same h table tasks current depth = record {
   ready = h.ready ∙ sym (ap (λ ts. with_priorities (list_by ready_key ts)) tasks);
   current = h.current ∙ sym current;
@@ -74,10 +81,13 @@ sched-same h table tasks current depth = record {
 
 -- those who wake at a time, by the tasks alone
 asleep_until : List Task → ℕ → List ℕ
-asleep_until ts m = tasks_of (filter (λ (e : Entry). option_eq eqb (wake_time_of (get_or ts e.task no_task).status) (Some m)) (list_by delayed_key ts))
+asleep_until ts m =
+    tasks_of
+    (filter (λ (e : Entry). option_eq eqb (wake_time_of (get_or ts e.task no_task).status) (Some m)) (list_by delayed_key ts))
 
 -- The clock represents each state of the same table and time.
-pub clock-same : (t : Timeline) (s new : State) → clock.StandsFor t s → new.tasks ≡ s.tasks → new.time ≡ s.time → ticks_of new ≡ ticks_of s → IsTable new → clock.StandsFor t new
+pub clock-same : (t : Timeline) (s new : State) → clock.StandsFor t s → new.tasks ≡ s.tasks
+    → new.time ≡ s.time → ticks_of new ≡ ticks_of s → IsTable new → clock.StandsFor t new
 unfolding asleep_until
 clock-same t s new h tasks time ticks table = record {
   now = h.now ∙ sym time;
@@ -119,7 +129,8 @@ apart k s h i t =
     let on : is_ready s i ≡ true = sym (on_sched.ready_same k.sched s i h.sched) ∙ t in
     asleep_is k.clock s h.rest.clock i ∙ ap (λ (o : Option ℕ). is_some o) (ready_awake (status_at s i) on)
 
-pub apart_back : (k : Machine) (s : State) → StandsFor k s → (i : ℕ) → is_asleep k.clock i ≡ true → schedule.is_ready k.sched i ≡ false
+pub apart_back : (k : Machine) (s : State) → StandsFor k s → (i : ℕ)
+    → is_asleep k.clock i ≡ true → schedule.is_ready k.sched i ≡ false
 apart_back k s h i t = by_test (schedule.is_ready k.sched i)
     (λ u. let f = apart k s h i u in absurd (cc))
     (λ u. u)
@@ -143,9 +154,12 @@ abbrev pub kept_of : State → Kept
 kept_of s = (s.suspensions, s.steps, s.stopped)
 
 -- The clock represents the new state; each task is where it was in its script, and what is kept beside the parts stays.
-module _ {k : Machine} {s new : State} {v : Schedule} {t : Timeline} (h : RestStandsFor k s) (on : clock.StandsFor t new) (progress : (i : ℕ) → progress_at new i ≡ progress_at s i) (kept : kept_of new ≡ kept_of s) where
+module _ {k : Machine} {s new : State} {v : Schedule} {t : Timeline} (h : RestStandsFor k s) (on : clock.StandsFor t new)
+    (progress : (i : ℕ) → progress_at new i ≡ progress_at s i) (kept : kept_of new ≡ kept_of s) where
   -- the queues and the groups are given too; the guess at the next interrupt may be another
-  pub rest_with : {q : Exchange} {g : EventGroups} {next : ℕ} → queues.StandsFor q None new → AtLocked None new → groups.StandsFor g new → RestStandsFor (record k { sched = v; clock = t; queues = q; groups = g; next_interrupt = next }) new
+  pub rest_with : {q : Exchange} {g : EventGroups} {next : ℕ} → queues.StandsFor q None new
+      → AtLocked None new → groups.StandsFor g new
+      → RestStandsFor (record k { sched = v; clock = t; queues = q; groups = g; next_interrupt = next }) new
   rest_with left locked there = record {
     progress = λ i. h.progress i ∙ sym (progress i);
     full = h.full;
@@ -160,23 +174,30 @@ module _ {k : Machine} {s new : State} {v : Schedule} {t : Timeline} (h : RestSt
   }
 
   -- the queues are given, and the same tasks wait for bits
-  pub rest_with_queues : {q : Exchange} → queues.StandsFor q None new → AtLocked None new → SameBitWaits s new → RestStandsFor (record k { sched = v; clock = t; queues = q }) new
+  pub rest_with_queues : {q : Exchange} → queues.StandsFor q None new → AtLocked None new
+      → SameBitWaits s new → RestStandsFor (record k { sched = v; clock = t; queues = q }) new
   rest_with_queues left locked bits = rest_with left locked (on_groups.stands_same k.groups s new h.groups bits on.table)
 
   -- the groups are given, and the same tasks wait at objects
-  pub rest_with_groups : {g : EventGroups} → SameWaits s new → groups.StandsFor g new → RestStandsFor (record k { sched = v; clock = t; groups = g }) new
-  rest_with_groups waits there = rest_with (stands_same s new waits k.queues None h.queues on.table) (at_locked_same None s new waits h.awake) there
+  pub rest_with_groups : {g : EventGroups} → SameWaits s new → groups.StandsFor g new
+      → RestStandsFor (record k { sched = v; clock = t; groups = g }) new
+  rest_with_groups waits there =
+      rest_with (stands_same s new waits k.queues None h.queues on.table) (at_locked_same None s new waits h.awake) there
 
   -- the same tasks wait
   pub rest_with_clock : SameWaits s new → SameBitWaits s new → RestStandsFor (record k { sched = v; clock = t }) new
   rest_with_clock waits bits = rest_with_groups waits (on_groups.stands_same k.groups s new h.groups bits on.table)
 
 -- Other parts represent the same state, and the guess may be another.
-pub rest_again : {k : Machine} {s : State} {v : Schedule} {t : Timeline} {q : Exchange} {g : EventGroups} {next : ℕ} → RestStandsFor k s → clock.StandsFor t s → queues.StandsFor q None s → groups.StandsFor g s → RestStandsFor (record k { sched = v; clock = t; queues = q; groups = g; next_interrupt = next }) s
+pub rest_again : {k : Machine} {s : State} {v : Schedule} {t : Timeline} {q : Exchange} {g : EventGroups} {next : ℕ}
+    → RestStandsFor k s → clock.StandsFor t s → queues.StandsFor q None s → groups.StandsFor g s
+    → RestStandsFor (record k { sched = v; clock = t; queues = q; groups = g; next_interrupt = next }) s
 rest_again h on left there = rest_with h on (λ _. refl) refl left h.awake there
 
 -- A task's progress changes, in the kernel and in its state, and is not in Place; the same tasks wait.
-pub rest_moved : {k : Machine} {s new : State} {v : Schedule} → RestStandsFor k s → clock.StandsFor k.clock new → kept_of new ≡ kept_of s → (i : ℕ) (t : Task) → i < length s.tasks → length s.tasks ≤ 32 → new.tasks ≡ set s.tasks i t → t.progress.call.phase ≢ Place → SameWaits s new → SameBitWaits s new
+pub rest_moved : {k : Machine} {s new : State} {v : Schedule} → RestStandsFor k s → clock.StandsFor k.clock new
+    → kept_of new ≡ kept_of s → (i : ℕ) (t : Task) → i < length s.tasks → length s.tasks ≤ 32
+    → new.tasks ≡ set s.tasks i t → t.progress.call.phase ≢ Place → SameWaits s new → SameBitWaits s new
     → RestStandsFor (record k { progress = set k.progress i t.progress; sched = v }) new
 rest_moved {k} {s} {new} h on kept i t l few is off waits bits =
     let n = h.full in
@@ -202,7 +223,8 @@ abbrev pub seen : State → Seen
 seen s = (s.tasks, s.time, ticks_of s, s.objects, s.group_bits, s.locked)
 
 -- Nothing changes that they see.
-pub rest_unseen : {k : Machine} {s new : State} {v : Schedule} {n m : ℕ} {e : Option End} → RestStandsFor k s → IsTable new → seen new ≡ seen s → n ≡ new.suspensions → m ≡ new.steps → e ≡ new.stopped
+pub rest_unseen : {k : Machine} {s new : State} {v : Schedule} {n m : ℕ} {e : Option End} → RestStandsFor k s
+    → IsTable new → seen new ≡ seen s → n ≡ new.suspensions → m ≡ new.steps → e ≡ new.stopped
     → RestStandsFor (record k { sched = v; suspensions = n; steps = m; stopped = e }) new
 rest_unseen {k} {s} {new} h table same suspended steps stopped =
     let tasks = ap (λ (x : Seen). x.0) same in
@@ -221,12 +243,17 @@ rest_unseen {k} {s} {new} h table same suspended steps stopped =
     }
 
 -- No part sees which events were reported, how many steps are done, and which end one has brought about.
-pub stands-unseen : (k : Machine) (s : State) → StandsFor k s → (log : List Event) (steps n : ℕ) (stopped end : Option End) → n ≡ steps → end ≡ stopped → StandsFor (record k { steps = n; stopped = end }) (record s { log = log; steps = steps; stopped = stopped })
+pub stands-unseen : (k : Machine) (s : State) → StandsFor k s
+    → (log : List Event) (steps n : ℕ) (stopped end : Option End) → n ≡ steps → end ≡ stopped
+    → StandsFor (record k { steps = n; stopped = end }) (record s { log = log; steps = steps; stopped = stopped })
 stands-unseen k s h log steps n stopped end same same_end =
     let new : State = record s { log = log; steps = steps; stopped = stopped } in
     let old = h.sched.table in
     let table : IsTable new = record { tickets = old.tickets; few = old.few; current = old.current; holders = old.holders } in
-    record { sched = sched-same h.sched table refl refl refl; rest = rest_unseen h.rest table refl h.rest.suspensions same same_end }
+    record {
+      sched = sched-same h.sched table refl refl refl;
+      rest = rest_unseen h.rest table refl h.rest.suspensions same same_end;
+    }
 
 -- other events alone
 pub stands-told : (k : Machine) (s : State) → StandsFor k s → (log : List Event) → StandsFor k (record s { log = log })
@@ -246,7 +273,10 @@ ready_within s i t = there_if (λ u. is_some (ticket_if_ready u)) refl s i t
 
 -- a Ready task waits for no bits
 pub not_for_bits : {X : Type 0} (s : State) (i : ℕ) → is_ready s i ≡ true → is_some (bits_wait (status_at s i)) ≡ true → X
-not_for_bits s i ready some = let none = ready_waits_not s i ready in let f : false ≡ true = sym (ap (λ o. is_some o) none) ∙ some in absurd (cc)
+not_for_bits s i ready some =
+    let none = ready_waits_not s i ready in
+    let f : false ≡ true = sym (ap (λ o. is_some o) none) ∙ some in
+    absurd (cc)
 
 module _ (k : Machine) (s : State) (h : StandsFor k s) (i : ℕ) (l : i < length s.tasks) where
   -- a Ready task goes behind its equals
@@ -255,55 +285,85 @@ module _ (k : Machine) (s : State) (h : StandsFor k s) (i : ℕ) (l : i < length
       let u : Status = status_at s i in
       let t : Task = record (task_at s i) { status = Ready s.next_ticket } in
       let alike : SleepsAlike t.status u = ready_alike u s.next_ticket (ready_awake u on) in
-      let c = on_clock.stands_kept k.clock s (make_ready i s) i t h.rest.clock l refl refl refl alike (table-make_ready s i h.sched.table) in
-      rest_with_clock h.rest c (progress-kept s.tasks i t refl) refl (same_ready i s (ready_free u on)) (bits_kept.same_ready i s (ready_waits_not s i on))
+      let c =
+      on_clock.stands_kept k.clock s (make_ready i s) i t h.rest.clock l
+      refl refl refl alike (table-make_ready s i h.sched.table) in
+      rest_with_clock h.rest c (progress-kept s.tasks i t refl) refl
+      (same_ready i s (ready_free u on)) (bits_kept.same_ready i s (ready_waits_not s i on))
 
   -- a Ready task begins to sleep
-  pub stands-slept : (wake_time : ℕ) → is_ready s i ≡ true → (v : Schedule) → v ≡ block i k.sched → (t : Timeline) → clock.StandsFor t (sleep i wake_time s) → StandsFor (record k { sched = v; clock = t }) (sleep i wake_time s)
+  pub stands-slept : (wake_time : ℕ) → is_ready s i ≡ true → (v : Schedule) → v ≡ block i k.sched → (t : Timeline)
+      → clock.StandsFor t (sleep i wake_time s) → StandsFor (record k { sched = v; clock = t }) (sleep i wake_time s)
   unfolding sleep
   stands-slept wake_time on v blocks t slept =
       let u : Task = record (task_at s i) { status = Asleep wake_time s.next_ticket } in
       let new : State = state.take_ticket i (Asleep wake_time) s in
       let c : clock.StandsFor t new = rw on at slept in
       rw on (record {
-        sched = rw blocks (on_sched.stands_blocked k.sched s new i u h.sched l refl refl refl refl refl refl c.table (sym (on_sched.ready_unsuspended (status_at s i) on)));
-        rest = rest_with_clock h.rest c (progress-kept s.tasks i u refl) refl (same_ticket i (Asleep wake_time) s refl (ready_free (status_at s i) on)) (bits_kept.same_ticket i (Asleep wake_time) s refl (ready_waits_not s i on));
+        sched =
+            rw blocks (on_sched.stands_blocked k.sched s new i u h.sched l refl refl refl refl
+            refl refl c.table (sym (on_sched.ready_unsuspended (status_at s i) on)));
+        rest =
+            rest_with_clock h.rest c (progress-kept s.tasks i u refl) refl
+            (same_ticket i (Asleep wake_time) s refl (ready_free (status_at s i) on))
+            (bits_kept.same_ticket i (Asleep wake_time) s refl (ready_waits_not s i on));
       })
 
   -- a task's progress changes
-  pub stands-changed : (p : Progress) → p.call.phase ≢ Place → (is_some (bits_wait (status_at s i)) ≡ true → p.call.wants ≡ (call_at s i).wants) → StandsFor (with_progress i p k) (state.with_progress i p s)
+  pub stands-changed : (p : Progress) → p.call.phase ≢ Place
+      → (is_some (bits_wait (status_at s i)) ≡ true → p.call.wants ≡ (call_at s i).wants)
+      → StandsFor (with_progress i p k) (state.with_progress i p s)
   stands-changed p off wants =
       let t : Task = record (task_at s i) { progress = p } in
       let new : State = with_task i t s in
       let table : IsTable new = table-set s i t h.sched.table (ticket_at s.next_ticket i s.tasks h.sched.table.tickets) in
-      let c = on_clock.stands_kept k.clock s new i t h.rest.clock l refl refl refl (same_alike (status_at s i) (status_at s i) refl) table in
+      let c =
+      on_clock.stands_kept k.clock s new i t h.rest.clock l refl refl
+      refl (same_alike (status_at s i) (status_at s i) refl) table in
       record {
         sched = on_sched.stands_kept k.sched s new i t h.sched l refl refl refl refl refl refl table refl;
-        rest = rest_moved h.rest c refl i t l h.sched.table.few refl off (same_progress i p s) (bits_kept.same_task i t s refl wants);
+        rest =
+            rest_moved h.rest c refl i t l h.sched.table.few refl off (same_progress i p s) (bits_kept.same_task i t s refl wants);
       }
 
   -- it goes on at an op, of this many, which isn't past the last one
-  pub stands-gone : (count op_index : ℕ) (p : Progress) → eqb op_index count ≡ false → is_ready s i ≡ true → StandsFor (with_progress i (record p { op_index = op_index; used = 0; call = no_call }) k) (with_task i (moved_to count op_index p (task_at s i)) s)
-  stands-gone count op_index p off ready = rw off (stands-changed (record p { op_index = op_index; used = 0; call = no_call }) (λ e. absurd (cc)) (not_for_bits s i ready))
+  pub stands-gone : (count op_index : ℕ) (p : Progress) → eqb op_index count ≡ false → is_ready s i ≡ true
+      → StandsFor (with_progress i (record p { op_index = op_index; used = 0; call = no_call }) k)
+      (with_task i (moved_to count op_index p (task_at s i)) s)
+  stands-gone count op_index p off ready =
+      rw off
+      (stands-changed (record p { op_index = op_index; used = 0; call = no_call }) (λ e. absurd (cc)) (not_for_bits s i ready))
 
   -- or is Ended
-  pub stands-ended : (count op_index : ℕ) (p : Progress) → eqb op_index count ≡ true → is_ready s i ≡ true → (v : Schedule) → v ≡ block i k.sched → StandsFor (record k { progress = set k.progress i (record p { op_index = op_index; used = 0; call = no_call }); sched = v }) (with_task i (moved_to count op_index p (task_at s i)) s)
+  pub stands-ended : (count op_index : ℕ) (p : Progress) → eqb op_index count ≡ true → is_ready s i ≡ true → (v : Schedule)
+      → v ≡ block i k.sched
+      → StandsFor (record k { progress = set k.progress i (record p { op_index = op_index; used = 0; call = no_call }); sched = v })
+      (with_task i (moved_to count op_index p (task_at s i)) s)
   stands-ended count op_index p on ready v blocks =
       let u : Status = status_at s i in
-      let t : Task = record (task_at s i) { progress = record p { op_index = op_index; used = 0; call = no_call }; status = Ended } in
+      let t : Task =
+      record (task_at s i) { progress = record p { op_index = op_index; used = 0; call = no_call }; status = Ended } in
       let new : State = with_task i t s in
       let table : IsTable new = table-set s i t h.sched.table tt in
       let c = on_clock.stands_kept k.clock s new i t h.rest.clock l refl refl refl (ended_alike u (ready_awake u ready)) table in
       rw on (record {
-        sched = rw blocks (on_sched.stands_blocked k.sched s new i t h.sched l refl refl refl refl refl refl table (sym (on_sched.ready_unsuspended u ready)));
-        rest = rest_moved h.rest c refl i t l h.sched.table.few refl (λ e. absurd (cc)) (same_free i t s refl (ready_free u ready)) (bits_kept.same_free i t s refl (ready_waits_not s i ready));
+        sched =
+            rw blocks (on_sched.stands_blocked k.sched s new i t h.sched l refl refl
+            refl refl refl refl table (sym (on_sched.ready_unsuspended u ready)));
+        rest =
+            rest_moved h.rest c refl i t l h.sched.table.few refl (λ e. absurd (cc))
+            (same_free i t s refl (ready_free u ready)) (bits_kept.same_free i t s refl (ready_waits_not s i ready));
       })
 
 -- An event is reported.
-pub at_written : (k : Machine) (log new_log : List Event) (s : State) (e : Event) → At k log s → new_log ≡ log ++ e ∷ [] → e.step ≡ k.steps → e.tick ≡ printed k.clock.now → At k new_log (write e.what s)
+pub at_written : (k : Machine) (log new_log : List Event) (s : State) (e : Event) → At k log s
+    → new_log ≡ log ++ e ∷ [] → e.step ≡ k.steps → e.tick ≡ printed k.clock.now → At k new_log (write e.what s)
 at_written k log new_log s e h told step tick = record {
   stands = stands-told k s h.stands (write e.what s).log;
-  log = told ∙ rw h.log (ap (λ (x : Event). s.log ++ x ∷ []) (event_same e s.steps (printed s.time) (step ∙ h.stands.rest.steps) (tick ∙ ap printed h.stands.rest.clock.now)));
+  log =
+      told
+      ∙ rw h.log (ap (λ (x : Event). s.log ++ x ∷ [])
+      (event_same e s.steps (printed s.time) (step ∙ h.stands.rest.steps) (tick ∙ ap printed h.stands.rest.clock.now)));
 } where
   event_same : (e : Event) (n m : ℕ) → e.step ≡ n → e.tick ≡ m → e ≡ record { step = n; tick = m; what = e.what }
   event_same e n m a b = ap (λ (x : ℕ). record e { step = x }) a ∙ ap (λ (x : ℕ). record e { step = n; tick = x }) b

@@ -1,5 +1,6 @@
 -- Who runs: what changes of the processor make of the states that the kernel represents.
-use Rattle.std.proofs.Common.{◌≡◌, ◌<◌, ℕ, Bool, true, false, not, cond, ◌||◌, List, [], ◌∷◌, ◌++◌, length, Option, Some, None, refl, ap, sym, subst, ◌∙◌, append-nil}
+use Rattle.std.proofs.Common.{◌≡◌, ◌<◌, ℕ, Bool, true, false, not, cond, ◌||◌, List, [], ◌∷◌, ◌++◌, length, Option, Some, None}
+use Rattle.std.proofs.Common.{refl, ap, sym, subst, ◌∙◌, append-nil}
 use Rattle.std.specs.Prelude.{nat_lt}
 use Rattle.std.specs.Option.{IfSome}
 use Rattle.std.proofs.lemmas.Option.{same_Some}
@@ -7,7 +8,8 @@ use Rattle.model.specs.declared.call.WaitList.{WaitList}
 use Rattle.model.specs.declared.event.Event.{Event}
 use Rattle.model.specs.declared.event.What.TheVariants as what
 use Rattle.model.specs.State.{State, printed, for_one}
-use Rattle.model.specs.Switching.{choice, dispatch, choose, yield_now, to_back, make_ready, is_ready, is_outranked, is_sharing, is_same, preempt, slice, settle, is_off, is_held, unless_held, write}
+use Rattle.model.specs.Switching.{choice, dispatch, choose, yield_now, to_back, make_ready, is_ready, is_outranked, is_sharing}
+use Rattle.model.specs.Switching.{is_same, preempt, slice, settle, is_off, is_held, unless_held, write}
 use Rattle.model.specs.Invariant.{IsTable}
 use Rattle.model.proofs.Sorting.{by_test}
 use Rattle.model.proofs.Lists.{eqb-refl}
@@ -76,10 +78,12 @@ pub none_above : (v new : Schedule) → new ≡ schedule.preempt v → schedule.
 none_above v new is none = ap (λ (w : Schedule). w.current) is ∙ rw none refl
 
 -- So it is at the end of a tick where no other of its priority is Ready either.
-pub none_in_turn : (v new : Schedule) → new ≡ schedule.slice v → schedule.is_outranked v || schedule.is_sharing v ≡ false → new.current ≡ v.current
+pub none_in_turn : (v new : Schedule) → new ≡ schedule.slice v
+    → schedule.is_outranked v || schedule.is_sharing v ≡ false → new.current ≡ v.current
 none_in_turn v new is none = ap (λ (w : Schedule). w.current) is ∙ rw none refl
 
-pub nothing_told : (log : List Event) (step time : ℕ) (before now : Option ℕ) → now ≡ before → log ≡ log ++ change step time before now
+pub nothing_told : (log : List Event) (step time : ℕ) (before now : Option ℕ)
+    → now ≡ before → log ≡ log ++ change step time before now
 nothing_told log step time before now e = rw (e, same_self before) (sym (append-nil log))
 
 -- all but the scheduler is as it was
@@ -88,9 +92,11 @@ rest-choose : (k : Machine) (s : State) → RestStandsFor k s → IsTable (choos
 unfolding choose dispatch
 rest-choose k s h table = by_test (is_same (choice s) s.current)
     (λ t. rw t h)
-    (λ t. let ordered : IsTable (write (what.Run (choice s)) (record s { current = choice s })) = rw t at table in rw t (rest_unseen h ordered refl h.suspensions h.steps h.stopped))
+    (λ t. let ordered : IsTable (write (what.Run (choice s)) (record s { current = choice s })) = rw t at table in
+    rw t (rest_unseen h ordered refl h.suspensions h.steps h.stopped))
 
-rest-back : (k : Machine) (s : State) (r : Option ℕ) → StandsFor k s → IfSome r (λ i. i < length s.tasks) → RestStandsFor k (for_one to_back r s)
+rest-back : (k : Machine) (s : State) (r : Option ℕ) → StandsFor k s
+    → IfSome r (λ i. i < length s.tasks) → RestStandsFor k (for_one to_back r s)
 unfolding to_back
 rest-back k s None h l = h.rest
 rest-back k s (Some i) h l = by_test (is_ready s i) (λ t. rw t (rest-made_ready k s h i l t)) (λ t. rw t h.rest)
@@ -112,7 +118,8 @@ rest-preempt k s h table = by_test (is_outranked s)
     (λ t. rw t h.rest)
 
 -- The scheduler has changed, and the event that reports it is written.
-module _ (k : Machine) (log new_log : List Event) (s : State) (v : Schedule) (before : Option ℕ) (h : At k log s) (b : before ≡ k.sched.current) (told : new_log ≡ log ++ change k.steps k.clock.now before v.current) where
+module _ (k : Machine) (log new_log : List Event) (s : State) (v : Schedule) (before : Option ℕ) (h : At k log s)
+    (b : before ≡ k.sched.current) (told : new_log ≡ log ++ change k.steps k.clock.now before v.current) where
   changed : (new : State) → sched.StandsFor v new → RestStandsFor k new → Tells s new → At (record k { sched = v }) new_log new
   changed new on rest tells = record {
     stands = record { sched = on; rest = rest_again rest rest.clock rest.queues rest.groups };
@@ -133,9 +140,12 @@ module _ (k : Machine) (log new_log : List Event) (s : State) (v : Schedule) (be
 
 -- The step ends.
 module _ (k : Machine) (log : List Event) (s : State) (h : At k log s) where
-  pub settled_off : (i : ℕ) (new : Machine) (new_log : List Event) → s.current ≡ Some i → is_ready s i ≡ false → At new new_log (choose s) → At new new_log (settle s)
+  pub settled_off : (i : ℕ) (new : Machine) (new_log : List Event) → s.current ≡ Some i
+      → is_ready s i ≡ false → At new new_log (choose s) → At new new_log (settle s)
   unfolding settle
-  settled_off i new new_log r t a = let Q : Option ℕ → Type 0 = λ o. At new new_log (cond (is_off s o) (choose s) s) in subst Q (sym r) (rw t a)
+  settled_off i new new_log r t a =
+      let Q : Option ℕ → Type 0 = λ o. At new new_log (cond (is_off s o) (choose s) s) in
+      subst Q (sym r) (rw t a)
 
   pub settled_on : (i : ℕ) → s.current ≡ Some i → is_ready s i ≡ true → At k log (settle s)
   unfolding settle
@@ -146,10 +156,12 @@ module _ (k : Machine) (log : List Event) (s : State) (h : At k log s) where
   settled_idle r = let Q : Option ℕ → Type 0 = λ o. At k log (cond (is_off s o) (choose s) s) in subst Q (sym r) h
 
 -- The event that reports who runs is written, or there is no change to report.
-pub change_told : (n t : ℕ) (before now current : Option ℕ) → now ≡ current → is_same now before ≡ false → record { step = n; tick = printed t; what = what.Run now } ∷ [] ≡ change n t before current
+pub change_told : (n t : ℕ) (before now current : Option ℕ) → now ≡ current → is_same now before ≡ false
+    → record { step = n; tick = printed t; what = what.Run now } ∷ [] ≡ change n t before current
 change_told n t before now current e q = rw (← e, q) refl
 
-pub change_none : (n t : ℕ) (before now current : Option ℕ) → now ≡ current → is_same now before ≡ true → change n t before current ≡ []
+pub change_none : (n t : ℕ) (before now current : Option ℕ) → now ≡ current
+    → is_same now before ≡ true → change n t before current ≡ []
 change_none n t before now current e q = rw (← e, q) refl
 
 pub not_true : (b : Bool) → not b ≡ true → b ≡ false
@@ -162,26 +174,34 @@ not_false false t = absurd (cc)
 
 -- ---- whether the scheduler is held
 
-pub settled_free : (k : Machine) (log : List Event) (s : State) → is_held s ≡ false → At k log (settle s) → At k log (unless_held settle s)
+pub settled_free : (k : Machine) (log : List Event) (s : State)
+    → is_held s ≡ false → At k log (settle s) → At k log (unless_held settle s)
 settled_free k log s none a = subst (At k log) (sym (when_free settle s none)) a
 
 pub settled_held : (k : Machine) (log : List Event) (s : State) → is_held s ≡ true → At k log s → At k log (unless_held settle s)
 settled_held k log s held a = subst (At k log) (sym (when_held settle s held)) a
 
-pub sliced_free : (k : Machine) (log : List Event) (s : State) → is_held s ≡ false → At k log (slice s) → At k log (unless_held slice s)
+pub sliced_free : (k : Machine) (log : List Event) (s : State)
+    → is_held s ≡ false → At k log (slice s) → At k log (unless_held slice s)
 sliced_free k log s none a = subst (At k log) (sym (when_free slice s none)) a
 
 -- Where it represents both the state and the settled one, it doesn't matter whether the scheduler is held.
-pub settled_either : (k : Machine) (log : List Event) (s : State) → At k log s → At k log (settle s) → At k log (unless_held settle s)
+pub settled_either : (k : Machine) (log : List Event) (s : State)
+    → At k log s → At k log (settle s) → At k log (unless_held settle s)
 settled_either k log s held free = by_test (is_held s) (λ t. settled_held k log s t held) (λ t. settled_free k log s t free)
 
 -- While a task is still to be placed the scheduler is held, and nothing switches.
-pub settled_before : (k : Machine) (log : List Event) (s : State) → AtAny k log s → (task : ℕ) (list : WaitList) → StandsBefore task list k s → AtAny k log (unless_held settle s)
+pub settled_before : (k : Machine) (log : List Event) (s : State) → AtAny k log s
+    → (task : ℕ) (list : WaitList) → StandsBefore task list k s → AtAny k log (unless_held settle s)
 settled_before k log s h task list b = subst (AtAny k log) (sym (when_held settle s (held_by_call s b.held))) h
 
-runs_before : (k : Machine) (s : State) (task i : ℕ) (list : WaitList) → StandsBefore task list k s → k.sched.current ≡ Some i → task ≡ i
+runs_before : (k : Machine) (s : State) (task i : ℕ) (list : WaitList)
+    → StandsBefore task list k s → k.sched.current ≡ Some i → task ≡ i
 runs_before k s task i list b r = same_Some task i (sym b.current ∙ sym b.sched.current ∙ r)
 
 -- It is Ready in the scheduler, and it runs.
-pub ready_before : (k : Machine) (s : State) (task i : ℕ) (list : WaitList) → StandsBefore task list k s → k.sched.current ≡ Some i → schedule.is_ready k.sched i ≡ true
-ready_before k s task i list b r = subst (λ (j : ℕ). schedule.is_ready k.sched j ≡ true) (runs_before k s task i list b r) (ready_if_listed task k.sched b.sched.still)
+pub ready_before : (k : Machine) (s : State) (task i : ℕ) (list : WaitList)
+    → StandsBefore task list k s → k.sched.current ≡ Some i → schedule.is_ready k.sched i ≡ true
+ready_before k s task i list b r =
+    subst (λ (j : ℕ). schedule.is_ready k.sched j ≡ true)
+    (runs_before k s task i list b r) (ready_if_listed task k.sched b.sched.still)

@@ -1,10 +1,12 @@
 -- Who is due becomes Ready, one after the other.
-use Rattle.std.proofs.Common.{None, Some, ◌≡◌, ◌≢◌, ◌<◌, ◌+◌, ℕ, zero, suc, true, false, eqb, List, [], ◌∷◌, ◌++◌, length, get_or, take, drop, refl, ap, sym, subst, ◌∙◌, arith}
+use Rattle.std.proofs.Common.{None, Some, ◌≡◌, ◌≢◌, ◌<◌, ◌+◌, ℕ, zero, suc, true, false, eqb, List, [], ◌∷◌, ◌++◌, length, get_or}
+use Rattle.std.proofs.Common.{take, drop, refl, ap, sym, subst, ◌∙◌, arith}
 use Rattle.std.specs.List.{AllByRecursion, IsDistinct, filter}
 use Rattle.std.specs.Option.{option_eq}
 use Rattle.std.proofs.lemmas.List.{take_more}
 use Rattle.model.specs.declared.event.Event.{Event}
-use Rattle.model.specs.State.{State, Task, Status, Ready, Awake, Waiting, WaitingForBits, Asleep, Suspended, Ended, wake_time_of, task_at, status_at, progress_at, for_each, no_task}
+use Rattle.model.specs.State.{State, Task, Status, Ready, Awake, Waiting, WaitingForBits, Asleep, Suspended, Ended, wake_time_of}
+use Rattle.model.specs.State.{task_at, status_at, progress_at, for_each, no_task}
 use Rattle.model.specs.Suspension.{can_resume}
 use Rattle.model.specs.Order.{Entry, tasks_of}
 use Rattle.model.specs.Switching.{make_ready, is_scheduler_suspended}
@@ -45,18 +47,22 @@ pub depth_woken : (v new : Schedule) (i : ℕ) → new ≡ schedule.wake i v →
 depth_woken v new i is = ap (λ (w : Schedule). w.depth) is ∙ by_test (eqb v.depth 0) (λ t. rw t refl) (λ t. rw t refl)
 
 -- Who sleeps isn't Ready, and nobody sleeps twice, so that all who are due can become Ready.
-pub to_wake : (ticks : ℕ) (k : Machine) (s : State) → StandsFor k s → (new : Timeline) (ds : List ℕ) → Jumps ticks k.clock new ds → AreToWake k.sched ds
+pub to_wake : (ticks : ℕ) (k : Machine) (s : State) → StandsFor k s
+    → (new : Timeline) (ds : List ℕ) → Jumps ticks k.clock new ds → AreToWake k.sched ds
 unfolding IsDistinct
-to_wake ticks k s h new ds a = by_parts ds (due_asleep ticks k.clock new ds a) (due_once ticks k.clock new ds a h.rest.clock.once) where
-  apart_from : (d : ℕ) (es : List ℕ) → AllByRecursion (λ e. eqb d e ≡ false) es → AllByRecursion (λ e. e ≢ d) es
-  apart_from d [] b = tt
-  apart_from d (e ∷ es) b = ((λ q. let f : eqb d e ≡ true = rw q (eqb-refl d) in let g = b.0 in absurd (cc)), apart_from d es b.1)
+to_wake ticks k s h new ds a =
+    by_parts ds (due_asleep ticks k.clock new ds a) (due_once ticks k.clock new ds a h.rest.clock.once) where
+      apart_from : (d : ℕ) (es : List ℕ) → AllByRecursion (λ e. eqb d e ≡ false) es → AllByRecursion (λ e. e ≢ d) es
+      apart_from d [] b = tt
+      apart_from d (e ∷ es) b =
+          ((λ q. let f : eqb d e ≡ true = rw q (eqb-refl d) in let g = b.0 in absurd (cc)), apart_from d es b.1)
 
-  by_parts : (es : List ℕ) → Each (λ d. is_asleep k.clock d ≡ true) es → IsDistinct eqb es → AreToWake k.sched es
-  by_parts [] x y = tt
-  by_parts (e ∷ es) x y = (apart_back k s h e x.0, apart_from e es y.0, by_parts es x.1 y.1)
+      by_parts : (es : List ℕ) → Each (λ d. is_asleep k.clock d ≡ true) es → IsDistinct eqb es → AreToWake k.sched es
+      by_parts [] x y = tt
+      by_parts (e ∷ es) x y = (apart_back k s h e x.0, apart_from e es y.0, by_parts es x.1 y.1)
 
-still_to_wake : (v : Schedule) (i : ℕ) (js : List ℕ) → AllByRecursion (λ j. j ≢ i) js → AreToWake v js → AreToWake (schedule.wake i v) js
+still_to_wake : (v : Schedule) (i : ℕ) (js : List ℕ) → AllByRecursion (λ j. j ≢ i) js
+    → AreToWake v js → AreToWake (schedule.wake i v) js
 still_to_wake v i [] a h = tt
 still_to_wake v i (j ∷ js) a h = (ready_woken v i j a.0 ∙ h.0, h.1, still_to_wake v i js a.1 h.2)
 
@@ -79,24 +85,28 @@ module _ (v : Schedule) (ts : List ℕ) (j : ℕ) (i : ℕ) (l : j < length ts) 
       subst P (sym is) (still_to_wake v i (drop (j + 1) ts) w.1 w.2)
 
   -- and of others after them
-  pub more_left : (more : List ℕ) → AreToWake v (drop j ts ++ more) → (new : Schedule) → new ≡ schedule.wake i v → AreToWake new (drop (j + 1) ts ++ more)
+  pub more_left : (more : List ℕ) → AreToWake v (drop j ts ++ more) → (new : Schedule)
+      → new ≡ schedule.wake i v → AreToWake new (drop (j + 1) ts ++ more)
   more_left more h new is =
       let w : AreToWake v (i ∷ (drop (j + 1) ts ++ more)) = subst (λ (us : List ℕ). AreToWake v (us ++ more)) drop_one h in
       let P : Schedule → Type 0 = λ x. AreToWake x (drop (j + 1) ts ++ more) in
       subst P (sym is) (still_to_wake v i (drop (j + 1) ts ++ more) w.1 w.2)
 
 -- one of those who are there
-at_there : (s : State) (ts : List ℕ) (j : ℕ) (d : ℕ) → j < length ts → AreThere s ts → (get_or ts j d < length s.tasks) × (can_resume (status_at s (get_or ts j d)) ≡ false)
+at_there : (s : State) (ts : List ℕ) (j : ℕ) (d : ℕ) → j < length ts → AreThere s ts
+    → (get_or ts j d < length s.tasks) × (can_resume (status_at s (get_or ts j d)) ≡ false)
 at_there s [] j d l h = absurd (omega arith)
 at_there s (t ∷ ts) zero d l h = h.0
 at_there s (t ∷ ts) (suc j) d l h = at_there s ts j d (omega arith) h.1
 
 -- Who isn't suspended isn't when others have become Ready either.
-pub still_awake : (s : State) (js : List ℕ) (i : ℕ) → can_resume (status_at s i) ≡ false → can_resume (status_at (for_each make_ready js s) i) ≡ false
+pub still_awake : (s : State) (js : List ℕ) (i : ℕ) → can_resume (status_at s i) ≡ false
+    → can_resume (status_at (for_each make_ready js s) i) ≡ false
 still_awake s [] i e = e
 still_awake s (j ∷ js) i e =
     let P : ℕ → Task → Type 0 = λ k t. k ≡ i → can_resume t.status ≡ false in
-    still_awake (make_ready j s) js i (each-set no_task P s.tasks j (record (task_at s j) { status = Ready s.next_ticket }) (λ _. refl) (λ k q. subst (λ (m : ℕ). can_resume (status_at s m) ≡ false) (sym q) e) i refl)
+    still_awake (make_ready j s) js i (each-set no_task P s.tasks j (record (task_at s j) { status = Ready s.next_ticket })
+    (λ _. refl) (λ k q. subst (λ (m : ℕ). can_resume (status_at s m) ≡ false) (sym q) e) i refl)
 
 pub still_there : (s : State) (js is : List ℕ) → AreThere s is → AreThere (for_each make_ready js s) is
 still_there s js [] h = tt
@@ -114,13 +124,18 @@ due_unsuspended s Ended e = refl
 -- those who are due
 pub due_there : (s : State) → AreThere s (tasks_of (due s))
 due_there s = of_list (delayed_list s) (list_within delayed_key s.tasks) where
-  of_list : (es : List Entry) → AllByRecursion (λ (e : Entry). e.task < length s.tasks) es → AreThere s (tasks_of (filter (is_due s) es))
+  of_list : (es : List Entry) → AllByRecursion (λ (e : Entry). e.task < length s.tasks) es
+      → AreThere s (tasks_of (filter (is_due s) es))
   of_list [] h = tt
-  of_list (e ∷ es) h = by_test (is_due s e) (λ t. rw t ((h.0, due_unsuspended s (status_at s e.task) t), of_list es h.1)) (λ t. rw t (of_list es h.1))
+  of_list (e ∷ es) h =
+      by_test (is_due s e) (λ t. rw t ((h.0, due_unsuspended s (status_at s e.task) t), of_list es h.1))
+      (λ t. rw t (of_list es h.1))
 
 -- What holds after one more of the tasks was made Ready.
 pub ready_more : (P : State → Type 0) (s : State) (ts : List ℕ) (j i : ℕ) → j < length ts → i ≡ get_or ts j i → AreThere s ts
-    → (i < length (for_each make_ready (take j ts) s).tasks → can_resume (status_at (for_each make_ready (take j ts) s) i) ≡ false → P (make_ready i (for_each make_ready (take j ts) s))) → P (for_each make_ready (take (j + 1) ts) s)
+    → (i < length (for_each make_ready (take j ts) s).tasks → can_resume (status_at (for_each make_ready (take j ts) s) i) ≡ false
+    → P (make_ready i (for_each make_ready (take j ts) s)))
+    → P (for_each make_ready (take (j + 1) ts) s)
 ready_more P s ts j i l e there goes =
     let so : State = for_each make_ready (take j ts) s in
     let own = at_there s ts j i l there in
@@ -157,16 +172,25 @@ module _ (k : Machine) (log : List Event) (s : State) (h : At k log s) (ticks : 
   pub sched-jumped : sched.StandsFor k.sched (at_jump ticks s)
   sched-jumped =
       let old = h.stands.sched.table in
-      let table : IsTable (at_jump ticks s) = record { tickets = old.tickets; few = old.few; current = old.current; holders = old.holders } in
+      let table : IsTable (at_jump ticks s) =
+      record { tickets = old.tickets; few = old.few; current = old.current; holders = old.holders } in
       sched-same h.stands.sched table refl refl refl
 
   pub groups-jumped : groups.StandsFor k.groups (at_jump ticks s)
-  groups-jumped = on_groups.stands_same k.groups s (at_jump ticks s) h.stands.rest.groups (bits_kept.same_parts s (at_jump ticks s) refl refl) sched-jumped.table
+  groups-jumped =
+      on_groups.stands_same k.groups s (at_jump ticks s) h.stands.rest.groups
+      (bits_kept.same_parts s (at_jump ticks s) refl refl) sched-jumped.table
 
   pub queues-jumped : queues.StandsFor k.queues None (at_jump ticks s)
-  queues-jumped = stands_same s (at_jump ticks s) (same_parts s (at_jump ticks s) refl refl refl) k.queues None h.stands.rest.queues sched-jumped.table
+  queues-jumped =
+      stands_same s (at_jump ticks s) (same_parts s (at_jump ticks s) refl refl refl)
+      k.queues None h.stands.rest.queues sched-jumped.table
 
-  pub jumped : (ds : List ℕ) (v : Schedule) (q : Exchange) (t : Timeline) (g : EventGroups) → ds ≡ tasks_of (due (at_jump ticks s)) → sched.StandsFor v (for_each make_ready ds (at_jump ticks s)) → queues.StandsFor q None (for_each make_ready ds (at_jump ticks s)) → groups.StandsFor g (for_each make_ready ds (at_jump ticks s)) → clock.StandsFor t (jump ticks s) → At (record k { sched = v; clock = t; queues = q; groups = g }) log (jump ticks s)
+  pub jumped : (ds : List ℕ) (v : Schedule) (q : Exchange) (t : Timeline) (g : EventGroups)
+      → ds ≡ tasks_of (due (at_jump ticks s)) → sched.StandsFor v (for_each make_ready ds (at_jump ticks s))
+      → queues.StandsFor q None (for_each make_ready ds (at_jump ticks s))
+      → groups.StandsFor g (for_each make_ready ds (at_jump ticks s)) → clock.StandsFor t (jump ticks s)
+      → At (record k { sched = v; clock = t; queues = q; groups = g }) log (jump ticks s)
   unfolding jump wake_due
   jumped ds v q t g is ready left bits awake =
       let next : State = at_jump ticks s in
@@ -174,12 +198,22 @@ module _ (k : Machine) (log : List Event) (s : State) (h : At k log s) (ticks : 
       let come : jump ticks s ≡ for_each make_ready ds next = ap (λ (x : List ℕ). for_each make_ready x next) (sym is) in
       let on : clock.StandsFor t (for_each make_ready ds next) = subst (clock.StandsFor t) come awake in
       subst (At (record k { sched = v; clock = t; queues = q; groups = g }) log) (sym come) (record {
-        stands = record { sched = ready; rest = rest_with h.stands.rest on (progress-all_ready ds next) (kept-all_ready ds next) left (at_locked-all_ready None ds next come_at) bits };
+        stands =
+            record {
+              sched = ready;
+              rest =
+                  rest_with h.stands.rest on (progress-all_ready ds next) (kept-all_ready ds next)
+                  left (at_locked-all_ready None ds next come_at) bits;
+            };
         log = h.log ∙ sym (log-all_ready ds next);
       })
 
 module _ (k : Machine) (log : List Event) (s : State) (h : At k log s) where
-  pub woken : (ds : List ℕ) (v : Schedule) (q : Exchange) (t : Timeline) (g : EventGroups) → ds ≡ tasks_of (due (at_next_tick s)) → sched.StandsFor v (for_each make_ready ds (at_next_tick s)) → queues.StandsFor q None (for_each make_ready ds (at_next_tick s)) → groups.StandsFor g (for_each make_ready ds (at_next_tick s)) → clock.StandsFor t (increment_tick s) → s.suspensions ≡ 0 → At (record k { sched = v; clock = t; queues = q; groups = g }) log (increment_tick s)
+  pub woken : (ds : List ℕ) (v : Schedule) (q : Exchange) (t : Timeline) (g : EventGroups)
+      → ds ≡ tasks_of (due (at_next_tick s)) → sched.StandsFor v (for_each make_ready ds (at_next_tick s))
+      → queues.StandsFor q None (for_each make_ready ds (at_next_tick s))
+      → groups.StandsFor g (for_each make_ready ds (at_next_tick s)) → clock.StandsFor t (increment_tick s)
+      → s.suspensions ≡ 0 → At (record k { sched = v; clock = t; queues = q; groups = g }) log (increment_tick s)
   unfolding increment_tick advance jump
   woken ds v q t g is ready left bits awake none =
       let come : increment_tick s ≡ jump 1 s = rw none refl in

@@ -1,5 +1,6 @@
 -- The cells of open loops are known by the loops.
-use Rattle.std.proofs.Common.{◌≡◌, ℕ, zero, suc, ◌<◌, ◌≤◌, inl, inr, List, [], ◌∷◌, length, replicate, get_or, set, refl, ap, sym, ◌∙◌, arith, get_or-set_same, get_or-set_other}
+use Rattle.std.proofs.Common.{◌≡◌, ℕ, zero, suc, ◌<◌, ◌≤◌, inl, inr, List, [], ◌∷◌, length, replicate, get_or, set, refl, ap, sym}
+use Rattle.std.proofs.Common.{◌∙◌, arith, get_or-set_same, get_or-set_other}
 use Rattle.std.proofs.lemmas.Bool.{cases_eq, cases_lt}
 use Rattle.std.proofs.lemmas.List.{ext_get_or, get_or-replicate, length-set}
 use Rattle.model.specs.declared.loops.Loop.{Loop}
@@ -14,7 +15,8 @@ length_cells [] = refl
 length_cells (l ∷ ls) = length-set _ _ _ ∙ length_cells ls
 
 -- a cell of an open loop
-below : (cells : List Loop) (n level : ℕ) → n ≤ 4 → level < n → get_or (cells_of (open_in cells n)) level no_loop ≡ get_or cells level no_loop
+below : (cells : List Loop) (n level : ℕ) → n ≤ 4 → level < n
+    → get_or (cells_of (open_in cells n)) level no_loop ≡ get_or cells level no_loop
 below cells zero level few less = absurd (omega (arith, less))
 below cells (suc n) level few less =
     let rest = cells_of (open_in cells n) in
@@ -26,7 +28,9 @@ below cells (suc n) level few less =
           ∙ ap (λ (k : ℕ). get_or (set rest n (get_or cells n no_loop)) k no_loop) same
           ∙ get_or-set_same rest n (get_or cells n no_loop) no_loop (omega (arith, few, long))
           ∙ ap (λ (k : ℕ). get_or cells k no_loop) (sym same)
-      | inr other ↦ at ∙ get_or-set_other rest n level (get_or cells n no_loop) no_loop other ∙ below cells n level (omega (arith, few)) (omega (arith, less, other))
+      | inr other ↦
+          at ∙ get_or-set_other rest n level (get_or cells n no_loop) no_loop other
+          ∙ below cells n level (omega (arith, few)) (omega (arith, less, other))
     ]
 
 -- a cell of none
@@ -38,7 +42,8 @@ above cells (suc n) level more known =
     ∙ get_or-set_other rest n level (get_or cells n no_loop) no_loop (omega (arith, more))
     ∙ above cells n level (omega (arith, more)) known
 
-pub same_loops : (cells : List Loop) (n : ℕ) → AreCells cells n → (cells_of (open_in cells n) ≡ cells) × (length (open_in cells n) ≡ n)
+pub same_loops : (cells : List Loop) (n : ℕ) → AreCells cells n
+    → (cells_of (open_in cells n) ≡ cells) × (length (open_in cells n) ≡ n)
 same_loops cells n h = (
   ext_get_or no_loop (cells_of (open_in cells n)) cells (length_cells (open_in cells n) ∙ sym h.full) (λ level known.
       let long = length_cells (open_in cells n) in

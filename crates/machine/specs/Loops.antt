@@ -1,5 +1,6 @@
 -- The open loops of a task, as the code has them.
-use Rattle.std.specs.Prelude.{◌≡◌, ℕ, zero, suc, ◌-◌, ◌≤◌, Bool, false, List, [], ◌∷◌, Option, Some, None, option_map, nat_le, if◌then◌else◌, length, replicate, set, slice_index_or}
+use Rattle.std.specs.Prelude.{◌≡◌, ℕ, zero, suc, ◌-◌, ◌≤◌, Bool, false, List, [], ◌∷◌, Option, Some, None, option_map, nat_le}
+use Rattle.std.specs.Prelude.{if◌then◌else◌, length, replicate, set, slice_index_or}
 use Rattle.model.specs.declared.loops.Loop.{Loop}
 
 -- what is in a cell that holds no loop

@@ -1,5 +1,6 @@
 -- What a kernel represents: a state of the definitions, whose tickets it doesn't have.
-use Rattle.std.specs.Prelude.{◌≡◌, ◌≢◌, ℕ, ◌+◌, ◌≤◌, true, List, [], ◌∷◌, Option, Some, None, length, slice_index_or, slice_set, if◌then◌else◌}
+use Rattle.std.specs.Prelude.{◌≡◌, ◌≢◌, ℕ, ◌+◌, ◌≤◌, true, List, [], ◌∷◌, Option, Some, None, length, slice_index_or, slice_set}
+use Rattle.std.specs.Prelude.{if◌then◌else◌}
 use Rattle.model.specs.declared.call.Phase.TheVariants.{Place}
 use Rattle.model.specs.declared.call.WaitList.{WaitList}
 use Rattle.model.specs.declared.event.Event.{Event}
@@ -82,13 +83,15 @@ pub record AtAny (k : Machine) (told : List Event) (s : State) : Type 0 where
 
 -- The deed is done: for every state that the old kernel represents, the new one represents what the deed makes of it. At
 -- most this many events are reported, each of which takes room of the log. The events before this step stay.
-pub record Does (count : ℕ) (old : Machine) (old_log : Logged) (new : Machine) (new_log : Logged) (deed : State → State) : Type 0 where
+pub record Does (count : ℕ) (old : Machine) (old_log : Logged)
+    (new : Machine) (new_log : Logged) (deed : State → State) : Type 0 where
   pub at : (s : State) → At old old_log.told s → At new new_log.told (deed s)
   pub few : old_log.room ≤ new_log.room + count
   pub before : new_log.before ≡ old_log.before
 
 -- the same, where a task may be still to be placed, before the deed or after it
-pub record DoesAny (count : ℕ) (old : Machine) (old_log : Logged) (new : Machine) (new_log : Logged) (deed : State → State) : Type 0 where
+pub record DoesAny (count : ℕ) (old : Machine) (old_log : Logged)
+    (new : Machine) (new_log : Logged) (deed : State → State) : Type 0 where
   pub at : (s : State) → AtAny old old_log.told s → AtAny new new_log.told (deed s)
   pub few : old_log.room ≤ new_log.room + count
   pub before : new_log.before ≡ old_log.before

@@ -9,29 +9,34 @@ use Rattle.model.specs.Time.{delayed_list, delayed_key, due, is_due}
 use Rattle.model.proofs.Sorting.{by_test}
 use Rattle.model.proofs.Lists.{HasKey, list_has, eqb-same}
 
-within_list : (f : Task → Option Key) (ts : List Task) (es : List Entry) → AllByRecursion (HasKey f ts) es → AllByRecursion (λ (e : Entry). e.task < length ts) es
+within_list : (f : Task → Option Key) (ts : List Task) (es : List Entry)
+    → AllByRecursion (HasKey f ts) es → AllByRecursion (λ (e : Entry). e.task < length ts) es
 within_list f ts [] h = tt
 within_list f ts (e ∷ es) h = (h.0.within, within_list f ts es h.1)
 
 pub list_within : (f : Task → Option Key) (ts : List Task) → AllByRecursion (λ (e : Entry). e.task < length ts) (list_by f ts)
 list_within f ts = within_list f ts (list_by f ts) (list_has f ts)
 
-first_within : (n : ℕ) (es : List Entry) → AllByRecursion (λ (e : Entry). e.task < n) es → IfSome (task_of (first es)) (λ task. task < n)
+first_within : (n : ℕ) (es : List Entry) → AllByRecursion (λ (e : Entry). e.task < n) es
+    → IfSome (task_of (first es)) (λ task. task < n)
 first_within n [] h = tt
 first_within n (e ∷ es) h = h.0
 
 pub choice_within : (s : State) → IfSome (choice s) (λ task. task < length s.tasks)
 choice_within s = first_within (length s.tasks) (ready_list s) (list_within ready_key s.tasks)
 
-due_within_list : (n : ℕ) (q : Entry → Bool) (es : List Entry) → AllByRecursion (λ (e : Entry). e.task < n) es → AllByRecursion (λ i. i < n) (tasks_of (filter q es))
+due_within_list : (n : ℕ) (q : Entry → Bool) (es : List Entry)
+    → AllByRecursion (λ (e : Entry). e.task < n) es → AllByRecursion (λ i. i < n) (tasks_of (filter q es))
 due_within_list n q [] h = tt
-due_within_list n q (e ∷ es) h = by_test (q e) (λ t. rw t (h.0, due_within_list n q es h.1)) (λ t. rw t (due_within_list n q es h.1))
+due_within_list n q (e ∷ es) h =
+    by_test (q e) (λ t. rw t (h.0, due_within_list n q es h.1)) (λ t. rw t (due_within_list n q es h.1))
 
 pub due_within : (s : State) → AllByRecursion (λ i. i < length s.tasks) (tasks_of (due s))
 due_within s = due_within_list (length s.tasks) (is_due s) (delayed_list s) (list_within delayed_key s.tasks)
 
 -- one more
-pub each-end : {A : Type 0} (deed : A → State → State) (s : State) (xs : List A) (x : A) → for_each deed (xs ++ x ∷ []) s ≡ deed x (for_each deed xs s)
+pub each-end : {A : Type 0} (deed : A → State → State) (s : State) (xs : List A) (x : A)
+    → for_each deed (xs ++ x ∷ []) s ≡ deed x (for_each deed xs s)
 each-end deed s [] x = refl
 each-end deed s (y ∷ xs) x = each-end deed (deed y s) xs x
 

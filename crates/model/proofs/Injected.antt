@@ -1,5 +1,7 @@
--- A run with a point: up to the step of its first injection it is the base run. And the events of a run, from one step to a later one.
-use Rattle.std.proofs.Common.{◌≡◌, ◌≢◌, ◌<◌, ◌≤◌, ℕ, zero, suc, true, eqb, List, [], ◌∷◌, ◌++◌, length, take, drop, ap, refl, sym, ◌∙◌, arith, length-append, append-nil}
+-- A run with a point: up to the step of its first injection it is the base run.
+-- And the events of a run, from one step to a later one.
+use Rattle.std.proofs.Common.{◌≡◌, ◌≢◌, ◌<◌, ◌≤◌, ℕ, zero, suc, true, eqb, List, [], ◌∷◌, ◌++◌, length, take, drop, ap, refl, sym}
+use Rattle.std.proofs.Common.{◌∙◌, arith, length-append, append-nil}
 use Rattle.std.proofs.Math.Seq.{drop-append_seam, drop-length, take-append_seam}
 use Rattle.std.specs.List.{AllByRecursion}
 use Rattle.std.proofs.lemmas.Bool.{ne_eqb}
@@ -21,7 +23,8 @@ pub none_below : (n : ℕ) (is : List Injection) → AllByRecursion (λ (i : Inj
 none_below n [] above = refl
 none_below n (i ∷ is) above = rw (ne_eqb i.step n (λ e. let more = above.0 in absurd (omega arith))) (none_below n is above.1)
 
-all_above : (m n : ℕ) (is : List Injection) → m < n → AllByRecursion (λ (i : Injection). n ≤ i.step) is → AllByRecursion (λ (i : Injection). m < i.step) is
+all_above : (m n : ℕ) (is : List Injection) → m < n → AllByRecursion (λ (i : Injection). n ≤ i.step) is
+    → AllByRecursion (λ (i : Injection). m < i.step) is
 all_above m n [] l all = tt
 all_above m n (i ∷ is) l all = ((let from = all.0 in omega arith), all_above m n is l all.1)
 
@@ -29,12 +32,14 @@ pub none_before : (is : List Injection) → AreInOrder is → (n : ℕ) → n < 
 none_before [] order n l = refl
 none_before (i ∷ is) order n l = none_below n (i ∷ is) (l, all_above n i.step is l order.0)
 
-pub all_from : (m n : ℕ) (is : List Injection) → m ≤ n → AllByRecursion (λ (i : Injection). n ≤ i.step) is → AllByRecursion (λ (i : Injection). m ≤ i.step) is
+pub all_from : (m n : ℕ) (is : List Injection) → m ≤ n → AllByRecursion (λ (i : Injection). n ≤ i.step) is
+    → AllByRecursion (λ (i : Injection). m ≤ i.step) is
 all_from m n [] l all = tt
 all_from m n (i ∷ is) l all = ((let from = all.0 in omega arith), all_from m n is l all.1)
 
 -- All are from there on where the first one is.
-pub from_first : (is : List Injection) → AreInOrder is → (n : ℕ) → n ≤ first_step is → AllByRecursion (λ (i : Injection). n ≤ i.step) is
+pub from_first : (is : List Injection) → AreInOrder is → (n : ℕ)
+    → n ≤ first_step is → AllByRecursion (λ (i : Injection). n ≤ i.step) is
 from_first [] order n l = tt
 from_first (i ∷ is) order n l = (l, all_from n i.step is l order.0)
 
@@ -53,7 +58,8 @@ none_past (i ∷ j ∷ is) order n l =
 
 -- ---- a run up to the step of the first injection
 
-module _ (app : Application) (limits : Limits) (plan : List Injection) (first : ℕ) (none : (n : ℕ) → n < first → injected plan n ≡ []) where
+module _ (app : Application) (limits : Limits) (plan : List Injection)
+    (first : ℕ) (none : (n : ℕ) → n < first → injected plan n ≡ []) where
   -- the state after this many steps is the base run's
   pub same_state : (n : ℕ) → n ≤ first → state_after app limits plan n ≡ state_after app limits [] n
   same_state zero l = refl
@@ -77,16 +83,21 @@ module _ (app : Application) (limits : Limits) (plan : List Injection) where
   extends (suc n) zero l = absurd (omega arith)
   extends (suc n) (suc m) l = by_test (eqb n m)
       (λ t.
-      let same : n ≡ m = eqb-same n m t in
-      ([], ap (λ (k : ℕ). events_after app limits plan (suc k)) (sym same) ∙ sym (append-nil (events_after app limits plan (suc n)))))
+      let same : n ≡ m = eqb-same n m t in (
+        [],
+        ap (λ (k : ℕ). events_after app limits plan (suc k)) (sym same) ∙ sym (append-nil (events_after app limits plan (suc n))),
+      ))
       (λ t.
       let apart : n ≢ m = (λ e. let u : eqb n m ≡ true = rw e (eqb-refl m) in absurd (cc)) in
       let more = extends (suc n) m (omega arith) in
-      let log : List Event = (state_after app limits plan (suc m)).log in
-      (more.0 ++ log, ap (λ (events : List Event). events ++ log) more.1 ∙ append_assoc (events_after app limits plan (suc n)) more.0 log))
+      let log : List Event = (state_after app limits plan (suc m)).log in (
+        more.0 ++ log,
+        ap (λ (events : List Event). events ++ log) more.1 ∙ append_assoc (events_after app limits plan (suc n)) more.0 log,
+      ))
 
   module _ (n m : ℕ) (l : n ≤ m) where
-    pub begins_with : take (length (events_after app limits plan n)) (events_after app limits plan m) ≡ events_after app limits plan n
+    pub begins_with : take (length (events_after app limits plan n)) (events_after app limits plan m)
+        ≡ events_after app limits plan n
     begins_with =
         let more = extends n m l in
         ap (take (length (events_after app limits plan n))) more.1 ∙ take-append_seam (events_after app limits plan n) more.0
@@ -96,15 +107,22 @@ module _ (app : Application) (limits : Limits) (plan : List Injection) where
         let more = extends n m l in
         omega (arith, ap length more.1, length-append (events_after app limits plan n) more.0)
 
-    pub goes_on_with : events_after app limits plan n ++ drop (length (events_after app limits plan n)) (events_after app limits plan m) ≡ events_after app limits plan m
+    pub goes_on_with : events_after app limits plan n
+        ++ drop (length (events_after app limits plan n)) (events_after app limits plan m)
+        ≡ events_after app limits plan m
     goes_on_with =
         let more = extends n m l in
-        ap (λ (events : List Event). events_after app limits plan n ++ events) (ap (drop (length (events_after app limits plan n))) more.1 ∙ drop-append_seam (events_after app limits plan n) more.0)
+        ap (λ (events : List Event). events_after app limits plan n ++ events)
+        (ap (drop (length (events_after app limits plan n))) more.1 ∙ drop-append_seam (events_after app limits plan n) more.0)
         ∙ sym more.1
 
     -- one step more
-    pub from_one_more : drop (length (events_after app limits plan n)) (events_after app limits plan (suc m)) ≡ drop (length (events_after app limits plan n)) (events_after app limits plan m) ++ (state_after app limits plan (suc m)).log
-    from_one_more = drop-append-le (length (events_after app limits plan n)) (events_after app limits plan m) (state_after app limits plan (suc m)).log no_fewer
+    pub from_one_more : drop (length (events_after app limits plan n)) (events_after app limits plan (suc m))
+        ≡ drop (length (events_after app limits plan n)) (events_after app limits plan m)
+        ++ (state_after app limits plan (suc m)).log
+    from_one_more =
+        drop-append-le (length (events_after app limits plan n))
+        (events_after app limits plan m) (state_after app limits plan (suc m)).log no_fewer
 
   -- none yet
   pub from_here : (n : ℕ) → drop (length (events_after app limits plan n)) (events_after app limits plan n) ≡ []

@@ -1,5 +1,6 @@
 -- Who is in a list: the tasks that have a key.
-use Rattle.std.proofs.Common.{◌≡◌, ℕ, ◌+◌, zero, suc, Bool, true, false, List, [], ◌∷◌, Option, Some, None, refl, ap, ◌∙◌, arith, eqb, get_or}
+use Rattle.std.proofs.Common.{◌≡◌, ℕ, ◌+◌, zero, suc, Bool, true, false, List, [], ◌∷◌, Option, Some, None, refl, ap, ◌∙◌, arith}
+use Rattle.std.proofs.Common.{eqb, get_or}
 use Rattle.std.specs.Prelude.{◌||◌}
 use Rattle.std.specs.List.{AllByRecursion, cons_option}
 use Rattle.std.specs.Option.{option_map}
@@ -34,18 +35,22 @@ has_task-in_order : (i : ℕ) (xs : List Entry) → has_task i (in_order xs) ≡
 has_task-in_order i [] = refl
 has_task-in_order i (x ∷ xs) = has_task-put i x (in_order xs) ∙ ap (λ (b : Bool). eqb x.task i || b) (has_task-in_order i xs)
 
-has_task-later : (i o : ℕ) (key : Option Key) (xs : List Entry) → has_task i xs ≡ true → has_task i (cons_option (option_map (entry o) key) xs) ≡ true
+has_task-later : (i o : ℕ) (key : Option Key) (xs : List Entry) → has_task i xs ≡ true
+    → has_task i (cons_option (option_map (entry o) key) xs) ≡ true
 has_task-later i o None xs h = h
 has_task-later i o (Some k) xs h = ap (λ (b : Bool). eqb o i || b) h ∙ or-true (eqb o i)
 
-has_task-first : (i o : ℕ) (key : Option Key) (k : Key) (xs : List Entry) → key ≡ Some k → o ≡ i → has_task i (cons_option (option_map (entry o) key) xs) ≡ true
+has_task-first : (i o : ℕ) (key : Option Key) (k : Key) (xs : List Entry) → key ≡ Some k
+    → o ≡ i → has_task i (cons_option (option_map (entry o) key) xs) ≡ true
 has_task-first i o key k xs is same = rw is (let t : eqb o i ≡ true = eq-eqb o i same in rw t refl)
 
 module _ (f : Task → Option Key) (none : f no_task ≡ None) where
-  has_task-keyed : (i o n : ℕ) (k : Key) (ts : List Task) → o + n ≡ i → f (get_or ts n no_task) ≡ Some k → has_task i (keyed f o ts) ≡ true
+  has_task-keyed : (i o n : ℕ) (k : Key) (ts : List Task) → o + n ≡ i
+      → f (get_or ts n no_task) ≡ Some k → has_task i (keyed f o ts) ≡ true
   has_task-keyed i o n k [] at is = absurd (cc)
   has_task-keyed i o zero k (t ∷ ts) at is = has_task-first i o (f t) k (keyed f (o + 1) ts) is (omega (arith, at))
-  has_task-keyed i o (suc n) k (t ∷ ts) at is = has_task-later i o (f t) (keyed f (o + 1) ts) (has_task-keyed i (o + 1) n k ts (omega (arith, at)) is)
+  has_task-keyed i o (suc n) k (t ∷ ts) at is =
+      has_task-later i o (f t) (keyed f (o + 1) ts) (has_task-keyed i (o + 1) n k ts (omega (arith, at)) is)
 
   -- a task with a key is in the list
   pub has_task-key : (i : ℕ) (k : Key) (ts : List Task) → f (get_or ts i no_task) ≡ Some k → has_task i (list_by f ts) ≡ true
@@ -56,5 +61,6 @@ no_entry i [] h = refl
 no_entry i (x ∷ xs) h = rw (eqb-apart x.task i h.0) (no_entry i xs h.1)
 
 -- and one without isn't
-pub has_task-none : (f : Task → Option Key) (i : ℕ) (ts : List Task) → f (get_or ts i no_task) ≡ None → has_task i (list_by f ts) ≡ false
+pub has_task-none : (f : Task → Option Key) (i : ℕ) (ts : List Task)
+    → f (get_or ts i no_task) ≡ None → has_task i (list_by f ts) ≡ false
 has_task-none f i ts is = no_entry i (list_by f ts) (list_without f i ts is)

@@ -1,5 +1,6 @@
 -- Scripts that are built op by op nest as a whole.
-use Rattle.std.proofs.Common.{◌≡◌, ◌<◌, ◌≤◌, ℕ, Bool, true, false, List, [], ◌∷◌, ◌++◌, ◌+◌, zero, suc, drop, length, slice_index_or, refl, ap, sym, ◌∙◌, arith, length-append}
+use Rattle.std.proofs.Common.{◌≡◌, ◌<◌, ◌≤◌, ℕ, Bool, true, false, List, [], ◌∷◌, ◌++◌, ◌+◌, zero, suc, drop, length}
+use Rattle.std.proofs.Common.{slice_index_or, refl, ap, sym, ◌∙◌, arith, length-append}
 use Rattle.std.specs.Prelude.{◌&&◌, nat_le, nat_lt, not, if◌then◌else◌}
 use Rattle.std.specs.List.{AllByRecursion}
 use Rattle.std.proofs.lemmas.Bool.{and_parts, leb-true, lt-ltb}
@@ -8,7 +9,8 @@ use Rattle.model.specs.declared.op.Op.{Op}
 use Rattle.model.specs.declared.op.Op.TheVariants.{Work, EndIf}
 use Rattle.model.specs.declared.block.Block.{Block}
 use Rattle.model.specs.declared.block.Edge.{Edge}
-use Rattle.model.specs.Blocks.{edge_of, edges_of, ends_loop, ending, is_innermost, is_loop, blocks_past, may_stand, Nests, NestsSoFar, blocks_after, open_behind, jump_from, jumped_over, jumps_from}
+use Rattle.model.specs.Blocks.{edge_of, edges_of, ends_loop, ending, is_innermost, is_loop, blocks_past, may_stand, Nests}
+use Rattle.model.specs.Blocks.{NestsSoFar, blocks_after, open_behind, jump_from, jumped_over, jumps_from}
 use Rattle.model.specs.Scripts.{InRange, IsScript, IsPrefix}
 
 -- a `work` takes a tick at least
@@ -96,7 +98,8 @@ jump_told ops jumps i d is l =
     ∙ ap (λ n. n + 1 + jumped_over (drop i (edges_of ops))) same
 
 -- and no other.
-pub none_jumps : (ops : List Op) (jumps : List ℕ) (i : ℕ) → jumps ≡ jumps_from 0 (edges_of ops) → length jumps ≤ i → i + 1 ≡ jump_from ops i
+pub none_jumps : (ops : List Op) (jumps : List ℕ) (i : ℕ)
+    → jumps ≡ jumps_from 0 (edges_of ops) → length jumps ≤ i → i + 1 ≡ jump_from ops i
 none_jumps ops jumps i is l =
     let many : length jumps ≡ length (edges_of ops) = ap length is ∙ jumps-length 0 (edges_of ops) in
     let none : drop i (edges_of ops) ≡ [] = drop_all i (edges_of ops) (omega arith) in

@@ -17,7 +17,8 @@ made {a} {b} events steps ticks end =
     ∙ ap (λ (n : ℕ). record a { events = b.events; steps = b.steps; ticks = n }) ticks
     ∙ ap (λ (e : End). record b { end = e }) end
 
-module _ (app : Application) (plan : List Injection) (limits : Limits) (a b : Run) (h : IsRun app plan limits a) (k : IsRun app plan limits b) where
+module _ (app : Application) (plan : List Injection) (limits : Limits)
+    (a b : Run) (h : IsRun app plan limits a) (k : IsRun app plan limits b) where
   -- no run ends before another
   not_less : a.steps < b.steps → a ≡ b
   not_less l = let none = k.goes_on a.steps l in let end = h.ends in absurd (cc)
@@ -29,7 +30,8 @@ module _ (app : Application) (plan : List Injection) (limits : Limits) (a b : Ru
   same e =
       let events : a.events ≡ b.events = h.trace ∙ ap (events_after app limits plan) e ∙ sym k.trace in
       let ticks : a.ticks ≡ b.ticks = h.elapsed ∙ ap (λ (n : ℕ). (state_after app limits plan n).elapsed) e ∙ sym k.elapsed in
-      let ends : Some a.end ≡ Some b.end = sym h.ends ∙ ap (λ (n : ℕ). end_of app limits (state_after app limits plan n)) e ∙ k.ends in
+      let ends : Some a.end ≡ Some b.end =
+      sym h.ends ∙ ap (λ (n : ℕ). end_of app limits (state_after app limits plan n)) e ∙ k.ends in
       let end : a.end ≡ b.end = cc in
       made events e ticks end
 
@@ -41,7 +43,8 @@ module _ (app : Application) (plan : List Injection) (limits : Limits) (a b : Ru
 
 -- ---- rows
 
-module _ (app : Application) (limits : Limits) (point : List Injection) (here there : Bool) (a b : Run) (h : IsRow app limits point here a) (k : IsRow app limits point there b) where
+module _ (app : Application) (limits : Limits) (point : List Injection) (here there : Bool)
+    (a b : Run) (h : IsRow app limits point here a) (k : IsRow app limits point there b) where
   same_base : h.base ≡ k.base
   same_base = one_run app [] limits h.base k.base h.is_base k.is_base
 
@@ -49,4 +52,7 @@ module _ (app : Application) (limits : Limits) (point : List Injection) (here th
   same_reached = h.is_reached ∙ ap (λ (r : Run). ltb (first_step point) r.steps) same_base ∙ sym k.is_reached
 
   pub one_row : (here ≡ there) × (a ≡ b)
-  one_row = (same_reached, one_run app (plan_of there point) limits a b (subst (λ r. IsRun app (plan_of r point) limits a) same_reached h.is_row) k.is_row)
+  one_row = (
+    same_reached,
+    one_run app (plan_of there point) limits a b (subst (λ r. IsRun app (plan_of r point) limits a) same_reached h.is_row) k.is_row,
+  )

@@ -1,12 +1,14 @@
 -- How a point lies in memory.
-use Rattle.std.proofs.Common.{◌≡◌, ◌≤◌, ◌<◌, ◌-◌, ℕ, zero, suc, List, [], ◌∷◌, length, take, slice_index, slice_index_or, refl, sym, ap, ap₂, arith}
+use Rattle.std.proofs.Common.{◌≡◌, ◌≤◌, ◌<◌, ◌-◌, ℕ, zero, suc, List, [], ◌∷◌, length, take, slice_index, slice_index_or, refl, sym}
+use Rattle.std.proofs.Common.{ap, ap₂, arith}
 use Rattle.model.specs.declared.plan.Injection.{Injection}
 use Rattle.model.specs.Points.{last_step}
 use Rattle.model.specs.Packing.{handlers_of, paired, steps_of}
 
 -- what lies in a place
 pub at_place : (is : List Injection) → length is ≤ 3 → (place : ℕ) → place < length is → (other : Injection)
-    → record { step = slice_index (steps_of is) place; handler = slice_index (handlers_of is) place } ≡ slice_index_or is place other
+    → record { step = slice_index (steps_of is) place; handler = slice_index (handlers_of is) place }
+    ≡ slice_index_or is place other
 at_place [] few place l other = absurd (omega arith)
 at_place (a ∷ []) few zero l other = refl
 at_place (a ∷ []) few (suc place) l other = absurd (omega arith)
@@ -38,7 +40,8 @@ pub first_of : (is : List Injection) → 1 ≤ length is → (x : Injection) →
 first_of [] some x at = absurd (omega arith)
 first_of (a ∷ is) some x at = (is, ap (λ (i : Injection). i ∷ is) (sym (at (omega arith))))
 
-pub last_of : (is : List Injection) → 1 ≤ length is → length is ≤ 3 → (x : Injection) → IsAt is (length is - 1) x → x.step ≡ last_step is
+pub last_of : (is : List Injection) → 1 ≤ length is → length is ≤ 3
+    → (x : Injection) → IsAt is (length is - 1) x → x.step ≡ last_step is
 last_of [] some few x at = absurd (omega arith)
 last_of (a ∷ []) some few x at = ap (λ (i : Injection). i.step) (at (omega arith))
 last_of (a ∷ b ∷ []) some few x at = ap (λ (i : Injection). i.step) (at (omega arith))

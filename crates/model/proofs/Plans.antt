@@ -1,5 +1,6 @@
 -- Points that don't fall, and among which none is at the step of the third after it, are a plan; others aren't.
-use Rattle.std.proofs.Common.{◌≡◌, ◌<◌, ◌≤◌, ◌+◌, ◌||◌, ℕ, suc, Bool, true, false, List, [], ◌∷◌, Option, Some, None, length, nat_lt, refl, eqb, ltb, subst, arith}
+use Rattle.std.proofs.Common.{◌≡◌, ◌<◌, ◌≤◌, ◌+◌, ◌||◌, ℕ, suc, Bool, true, false, List, [], ◌∷◌, Option, Some, None, length}
+use Rattle.std.proofs.Common.{nat_lt, refl, eqb, ltb, subst, arith}
 use Rattle.std.specs.List.{filter, AllByRecursion, slice_get}
 use Rattle.std.proofs.lemmas.Bool.{ltb-false, le-ltb, eqb-false, eq-eqb, ne_eqb, or_parts, eqb-true}
 use Rattle.std.proofs.lemmas.List.{length-map}
@@ -113,7 +114,8 @@ few_at_once ps rising spread n =
 at_first : (n : ℕ) (p : Injection) (ps : List Injection) → p.step ≡ n → length (at n (p ∷ ps)) ≡ suc (length (at n ps))
 at_first n p ps same = rw (eq-eqb p.step n same) refl
 
-four : (p : Injection) (ps : List Injection) → From p.step ps → Rises step_of ps → is_at p.step (slice_get ps 2) ≡ true → 3 < length (at p.step (p ∷ ps))
+four : (p : Injection) (ps : List Injection) → From p.step ps → Rises step_of ps
+    → is_at p.step (slice_get ps 2) ≡ true → 3 < length (at p.step (p ∷ ps))
 four p [] from rising found = absurd (cc)
 four p (a ∷ []) from rising found = absurd (cc)
 four p (a ∷ b ∷ []) from rising found = absurd (cc)
@@ -146,7 +148,15 @@ crowded_at (p ∷ ps) rising found =
     let later : IsCrowded ps = crowded_at ps rising.1 (other_holds (is_at p.step (slice_get ps 2)) (fourth_found ps) found t) in
     let count = later.many in
     let grows = more later.step p ps in
-    record { step = later.step; many = omega (arith, length-map (at later.step ps) (λ (q : Injection). q.handler), length-map (at later.step (p ∷ ps)) (λ (q : Injection). q.handler)) })
+    record {
+      step = later.step;
+      many =
+          omega (
+            arith,
+            length-map (at later.step ps) (λ (q : Injection). q.handler),
+            length-map (at later.step (p ∷ ps)) (λ (q : Injection). q.handler),
+          );
+    })
 
 -- ---- a point is a plan
 
@@ -157,5 +167,6 @@ at_most n (p ∷ ps) = let more = one_more n p ps in let rest = at_most n ps in 
 pub point_is_plan : (ps : List Injection) → IsPoint ps → IsPlan ps
 point_is_plan ps h = record {
   in_order = h.in_order;
-  few_at_once = λ n. let most = at_most n ps in let few = h.few in omega (arith, length-map (at n ps) (λ (p : Injection). p.handler));
+  few_at_once = λ n.
+      let most = at_most n ps in let few = h.few in omega (arith, length-map (at n ps) (λ (p : Injection). p.handler));
 }

@@ -16,10 +16,13 @@ same_numbers (x ∷ xs) (y ∷ ys) e =
     ap₂ (λ (z : ℕ) (zs : List ℕ). z ∷ zs) (eqb-same x y parts.0) (same_numbers xs ys parts.1)
 
 pub same_point : (xs ys : List Injection) → length xs ≤ 3 → length ys ≤ 3
-    → (pointwise eqb (steps_of xs) (steps_of ys) && pointwise eqb (handlers_of xs) (handlers_of ys)) && eqb (length xs) (length ys) ≡ true
+    → (pointwise eqb (steps_of xs) (steps_of ys) && pointwise eqb (handlers_of xs) (handlers_of ys)) && eqb (length xs) (length ys)
+    ≡ true
     → xs ≡ ys
 same_point xs ys few few' e =
-    let parts = and_parts (pointwise eqb (steps_of xs) (steps_of ys) && pointwise eqb (handlers_of xs) (handlers_of ys)) (eqb (length xs) (length ys)) e in
+    let parts =
+    and_parts (pointwise eqb (steps_of xs) (steps_of ys) && pointwise eqb (handlers_of xs) (handlers_of ys))
+    (eqb (length xs) (length ys)) e in
     let places = and_parts (pointwise eqb (steps_of xs) (steps_of ys)) (pointwise eqb (handlers_of xs) (handlers_of ys)) parts.0 in
     let steps = same_numbers (steps_of xs) (steps_of ys) places.0 in
     let handlers = same_numbers (handlers_of xs) (handlers_of ys) places.1 in

@@ -12,12 +12,15 @@ pub none_taken : (start : ℕ) (ds : List Definition) → AllTicketsBelow 0 (map
 none_taken start [] = tt
 none_taken start (d ∷ ds) = (tt, none_taken start ds)
 
-pub call-reset : (start i : ℕ) (ds : List Definition) → ((get_or (map (task_at_reset start) ds) i no_task).progress.call ≡ no_call) × (wait_of (get_or (map (task_at_reset start) ds) i no_task).status ≡ None)
+pub call-reset : (start i : ℕ) (ds : List Definition)
+    → ((get_or (map (task_at_reset start) ds) i no_task).progress.call ≡ no_call)
+    × (wait_of (get_or (map (task_at_reset start) ds) i no_task).status ≡ None)
 call-reset start i [] = (refl, refl)
 call-reset start zero (d ∷ ds) = (refl, refl)
 call-reset start (suc i) (d ∷ ds) = call-reset start i ds
 
-pub holders-reset : (tasks o : ℕ) (kinds : List ObjectKind) → IfSome (get_or (map object_at_reset kinds) o no_object).holder (λ holder. holder < tasks)
+pub holders-reset : (tasks o : ℕ) (kinds : List ObjectKind)
+    → IfSome (get_or (map object_at_reset kinds) o no_object).holder (λ holder. holder < tasks)
 holders-reset tasks o [] = tt
 holders-reset tasks zero ((Queue size) ∷ kinds) = tt
 holders-reset tasks zero ((Semaphore most first) ∷ kinds) = tt

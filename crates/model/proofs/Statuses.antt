@@ -1,7 +1,8 @@
 -- What a status says: who is Ready neither waits nor sleeps, and who doesn't wait hasn't been woken.
 use Rattle.std.proofs.Common.{◌≡◌, true, None, refl}
 use Rattle.std.specs.Option.{is_some}
-use Rattle.model.specs.State.{Status, Ready, Awake, Waiting, Asleep, WaitingForBits, Suspended, Ended, ticket_if_ready, wait_if_awake, wake_time_of}
+use Rattle.model.specs.State.{Status, Ready, Awake, Waiting, Asleep, WaitingForBits, Suspended, Ended, ticket_if_ready}
+use Rattle.model.specs.State.{wait_if_awake, wake_time_of}
 use Rattle.model.specs.Invariant.{wait_of}
 
 pub ready_awake : (u : Status) → is_some (ticket_if_ready u) ≡ true → wake_time_of u ≡ None

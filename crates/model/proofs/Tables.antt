@@ -4,7 +4,8 @@ use Rattle.std.specs.List.{AllByRecursion, cons_option}
 use Rattle.std.specs.Option.{IfSome, is_some}
 use Rattle.std.specs.Prelude.{if◌then◌else◌}
 use Rattle.std.proofs.Math.ListN.{length-set}
-use Rattle.model.specs.State.{State, Task, Status, Ready, Awake, Waiting, Asleep, WaitingForBits, Suspended, Ended, ticket_of, task_at, with_task, take_ticket, no_task, Object}
+use Rattle.model.specs.State.{State, Task, Status, Ready, Awake, Waiting, Asleep, WaitingForBits, Suspended, Ended, ticket_of}
+use Rattle.model.specs.State.{task_at, with_task, take_ticket, no_task, Object}
 use Rattle.model.specs.Order.{Key, key}
 use Rattle.model.specs.Switching.{ready_key, make_ready}
 use Rattle.model.specs.Time.{delayed_key}
@@ -26,7 +27,8 @@ ready_below n t (WaitingForBits g m d) b = tt
 ready_below n t Suspended b = tt
 ready_below n t Ended b = tt
 
-until_below : (n : ℕ) (deadline : Option ℕ) (ticket : ℕ) → ticket < n → KeyBelow n (if is_some deadline then Some (key 0 ticket) else None)
+until_below : (n : ℕ) (deadline : Option ℕ) (ticket : ℕ) → ticket < n
+    → KeyBelow n (if is_some deadline then Some (key 0 ticket) else None)
 until_below n None ticket b = tt
 until_below n (Some deadline) ticket b = (b, tt)
 
@@ -55,7 +57,8 @@ tickets_more : (n : ℕ) (ts : List Task) → AllTicketsBelow n ts → AllTicket
 tickets_more n [] h = tt
 tickets_more n (t ∷ ts) h = (later n (ticket_of t.status) h.0, tickets_more n ts h.1)
 
-tickets-set : (n i : ℕ) (t : Task) (ts : List Task) → HasTicketBelow n t.status → AllTicketsBelow n ts → AllTicketsBelow n (set ts i t)
+tickets-set : (n i : ℕ) (t : Task) (ts : List Task) → HasTicketBelow n t.status
+    → AllTicketsBelow n ts → AllTicketsBelow n (set ts i t)
 tickets-set n i t [] s h = tt
 tickets-set n zero t (u ∷ us) s h = (s, h.1)
 tickets-set n (suc i) t (u ∷ us) s h = (h.0, tickets-set n i t us s h.1)
@@ -67,12 +70,21 @@ ticket_at n (suc i) (t ∷ ts) h = ticket_at n i ts h.1
 
 -- a task changes, but takes no ticket
 pub table-set : (s : State) (i : ℕ) (t : Task) → IsTable s → HasTicketBelow s.next_ticket t.status → IsTable (with_task i t s)
-table-set s i t h b = record { tickets = tickets-set s.next_ticket i t s.tasks b h.tickets; few = rw length-set h.few; current = rw length-set h.current; holders = λ o. rw length-set (h.holders o) }
+table-set s i t h b =
+    record {
+      tickets = tickets-set s.next_ticket i t s.tasks b h.tickets;
+      few = rw length-set h.few;
+      current = rw length-set h.current;
+      holders = λ o. rw length-set (h.holders o);
+    }
 
 -- a task takes the next ticket
-pub table-taken : (s : State) (i : ℕ) (f : ℕ → Status) → IsTable s → HasTicketBelow (s.next_ticket + 1) (f s.next_ticket) → IsTable (take_ticket i f s)
+pub table-taken : (s : State) (i : ℕ) (f : ℕ → Status) → IsTable s
+    → HasTicketBelow (s.next_ticket + 1) (f s.next_ticket) → IsTable (take_ticket i f s)
 table-taken s i f h b = record {
-  tickets = tickets-set (s.next_ticket + 1) i (record (task_at s i) { status = f s.next_ticket }) s.tasks b (tickets_more s.next_ticket s.tasks h.tickets);
+  tickets =
+      tickets-set (s.next_ticket + 1) i (record (task_at s i) { status = f s.next_ticket })
+      s.tasks b (tickets_more s.next_ticket s.tasks h.tickets);
   few = rw length-set h.few;
   current = rw length-set h.current;
   holders = λ o. rw length-set (h.holders o);
@@ -82,15 +94,18 @@ pub table-make_ready : (s : State) (i : ℕ) → IsTable s → IsTable (make_rea
 table-make_ready s i h = table-taken s i Ready h (omega arith)
 
 -- what holds of every other place holds of each where one was changed
-pub each-set_but : {A : Type 0} (none : A) (P : ℕ → A → Type 0) (xs : List A) (i : ℕ) (x : A) → i < length xs → P i x → ((j : ℕ) → j ≢ i → P j (get_or xs j none)) → (j : ℕ) → P j (get_or (set xs i x) j none)
+pub each-set_but : {A : Type 0} (none : A) (P : ℕ → A → Type 0) (xs : List A) (i : ℕ) (x : A) → i < length xs
+    → P i x → ((j : ℕ) → j ≢ i → P j (get_or xs j none)) → (j : ℕ) → P j (get_or (set xs i x) j none)
 each-set_but none P [] i x l p h j = absurd (omega arith)
 each-set_but none P (y ∷ ys) zero x l p h zero = p
 each-set_but none P (y ∷ ys) zero x l p h (suc j) = h (suc j) (λ e. omega arith)
 each-set_but none P (y ∷ ys) (suc i) x l p h zero = h zero (λ e. omega arith)
-each-set_but none P (y ∷ ys) (suc i) x l p h (suc j) = each-set_but none (λ k. P (suc k)) ys i x (omega arith) p (λ k ne. h (suc k) (λ e. ne (omega arith))) j
+each-set_but none P (y ∷ ys) (suc i) x l p h (suc j) =
+    each-set_but none (λ k. P (suc k)) ys i x (omega arith) p (λ k ne. h (suc k) (λ e. ne (omega arith))) j
 
 -- what holds of each place still holds where one was changed
-pub each-set : {A : Type 0} (none : A) (P : ℕ → A → Type 0) (xs : List A) (i : ℕ) (x : A) → P i x → ((j : ℕ) → P j (get_or xs j none)) → (j : ℕ) → P j (get_or (set xs i x) j none)
+pub each-set : {A : Type 0} (none : A) (P : ℕ → A → Type 0) (xs : List A) (i : ℕ) (x : A)
+    → P i x → ((j : ℕ) → P j (get_or xs j none)) → (j : ℕ) → P j (get_or (set xs i x) j none)
 each-set none P [] i x p h j = h j
 each-set none P (y ∷ ys) zero x p h zero = p
 each-set none P (y ∷ ys) zero x p h (suc j) = h (suc j)
@@ -98,7 +113,8 @@ each-set none P (y ∷ ys) (suc i) x p h zero = h zero
 each-set none P (y ∷ ys) (suc i) x p h (suc j) = each-set none (λ k. P (suc k)) ys i x p (λ k. h (suc k)) j
 
 -- who holds the object after a call is the caller, or who held it
-pub held_after : (caller : Option ℕ) (a : Access) (o : Object) (tasks : ℕ) → IfSome caller (λ i. i < tasks) → IfSome o.holder (λ i. i < tasks) → IfSome (object_after caller a o).holder (λ i. i < tasks)
+pub held_after : (caller : Option ℕ) (a : Access) (o : Object) (tasks : ℕ) → IfSome caller (λ i. i < tasks)
+    → IfSome o.holder (λ i. i < tasks) → IfSome (object_after caller a o).holder (λ i. i < tasks)
 held_after caller (Send v) o tasks l h = h
 held_after caller (SendFront v) o tasks l h = h
 held_after caller (Overwrite v) o tasks l h = h

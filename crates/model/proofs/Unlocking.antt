@@ -1,11 +1,13 @@
 -- Who was Awake is Ready after an unlock.
-use Rattle.std.proofs.Common.{◌≡◌, ◌<◌, ◌||◌, ℕ, zero, suc, true, false, eqb, arith, List, [], ◌∷◌, ◌++◌, length, get_or, Option, Some, None, refl, ap, sym, subst, ◌∙◌, get_or-set_same}
+use Rattle.std.proofs.Common.{◌≡◌, ◌<◌, ◌||◌, ℕ, zero, suc, true, false, eqb, arith, List, [], ◌∷◌, ◌++◌, length, get_or, Option}
+use Rattle.std.proofs.Common.{Some, None, refl, ap, sym, subst, ◌∙◌, get_or-set_same}
 use Rattle.std.specs.Prelude.{Bool}
 use Rattle.std.specs.Option.{IfSome, option_and_then, is_some}
 use Rattle.std.proofs.Math.ListN.{length-set}
 use Rattle.model.specs.declared.call.WaitList.{WaitList}
 use Rattle.model.specs.declared.call.WaitList.TheVariants.{ToReceive, ToSend}
-use Rattle.model.specs.State.{State, Task, Wait, Ready, ticket_if_ready, wait_if_awake, task_at, status_at, progress_at, for_each, no_task}
+use Rattle.model.specs.State.{State, Task, Wait, Ready, ticket_if_ready, wait_if_awake, task_at, status_at, progress_at, for_each}
+use Rattle.model.specs.State.{no_task}
 use Rattle.model.specs.Order.{Key, Entry, key, tasks_of}
 use Rattle.model.specs.Switching.{is_ready, make_ready}
 use Rattle.model.specs.Waiting.{same_list, wait_key, awakened, is_locked}
@@ -41,7 +43,9 @@ still_ready : (s : State) (js : List ℕ) (i : ℕ) → is_ready s i ≡ true �
 still_ready s [] i r = r
 still_ready s (j ∷ js) i r =
     let P : ℕ → Task → Type 0 = λ k t. k ≡ i → is_some (ticket_if_ready t.status) ≡ true in
-    let one : is_ready (make_ready j s) i ≡ true = each-set no_task P s.tasks j (record (task_at s j) { status = Ready s.next_ticket }) (λ _. refl) (λ k e. subst (λ (m : ℕ). is_ready s m ≡ true) (sym e) r) i refl in
+    let one : is_ready (make_ready j s) i ≡ true =
+    each-set no_task P s.tasks j (record (task_at s j) { status = Ready s.next_ticket })
+    (λ _. refl) (λ k e. subst (λ (m : ℕ). is_ready s m ≡ true) (sym e) r) i refl in
     still_ready (make_ready j s) js i one
 
 made_of : (s : State) (js : List ℕ) (i : ℕ) → i < length s.tasks → among i js ≡ true → is_ready (for_each make_ready js s) i ≡ true
@@ -51,15 +55,18 @@ made_of s (j ∷ js) i l t = by_test (eqb j i)
     (λ e.
     let same : j ≡ i = eqb-same j i e in
     let R : Task → Type 0 = λ u. is_some (ticket_if_ready u.status) ≡ true in
-    let one : is_ready (make_ready i s) i ≡ true = subst R (sym (get_or-set_same s.tasks i (record (task_at s i) { status = Ready s.next_ticket }) no_task l)) refl in
+    let one : is_ready (make_ready i s) i ≡ true =
+    subst R (sym (get_or-set_same s.tasks i (record (task_at s i) { status = Ready s.next_ticket }) no_task l)) refl in
     still_ready (make_ready j s) js i (subst (λ k. is_ready (make_ready k s) i ≡ true) (sym same) one))
     (λ e. made_of (make_ready j s) js i (rw length-set l) (rw e at t))
 
-not_woken_still : (s : State) (js : List ℕ) (i : ℕ) → wait_if_awake (status_at s i) ≡ None → wait_if_awake (status_at (for_each make_ready js s) i) ≡ None
+not_woken_still : (s : State) (js : List ℕ) (i : ℕ) → wait_if_awake (status_at s i) ≡ None
+    → wait_if_awake (status_at (for_each make_ready js s) i) ≡ None
 not_woken_still s [] i n = n
 not_woken_still s (j ∷ js) i n =
     let P : ℕ → Task → Type 0 = λ k t. k ≡ i → wait_if_awake t.status ≡ None in
-    not_woken_still (make_ready j s) js i (each-set no_task P s.tasks j (record (task_at s j) { status = Ready s.next_ticket }) (λ _. refl) (λ k e. subst (λ (m : ℕ). wait_if_awake (status_at s m) ≡ None) (sym e) n) i refl)
+    not_woken_still (make_ready j s) js i (each-set no_task P s.tasks j (record (task_at s j) { status = Ready s.next_ticket })
+    (λ _. refl) (λ k e. subst (λ (m : ℕ). wait_if_awake (status_at s m) ≡ None) (sym e) n) i refl)
 
 -- those whom the unlock of an object makes Ready
 abbrev pub opened_by : State → ℕ → List ℕ
@@ -68,14 +75,17 @@ opened_by s o = tasks_of (awakened s (ToReceive o)) ++ tasks_of (awakened s (ToS
 unfoldable pub awake_key : WaitList → Task → Option Key
 awake_key list t = option_and_then (wait_key list) (wait_if_awake t.status)
 
-awake_keyed : (s : State) (i : ℕ) (w : Wait) → wait_if_awake (status_at s i) ≡ Some w → awake_key w.list (task_at s i) ≡ Some (key w.priority w.ticket)
+awake_keyed : (s : State) (i : ℕ) (w : Wait) → wait_if_awake (status_at s i) ≡ Some w
+    → awake_key w.list (task_at s i) ≡ Some (key w.priority w.ticket)
 unfolding awake_key
 awake_keyed s i w e = ap (option_and_then (wait_key w.list)) e ∙ (let t = same_list-refl w.list in rw t refl)
 
-awake_among : (s : State) (i : ℕ) (w : Wait) → wait_if_awake (status_at s i) ≡ Some w → among i (tasks_of (awakened s w.list)) ≡ true
+awake_among : (s : State) (i : ℕ) (w : Wait) → wait_if_awake (status_at s i) ≡ Some w
+    → among i (tasks_of (awakened s w.list)) ≡ true
 unfolding awake_key
 awake_among s i w e =
-    among-tasks_of i (awakened s w.list) ∙ has_task-key (awake_key w.list) refl i (key w.priority w.ticket) s.tasks (awake_keyed s i w e)
+    among-tasks_of i (awakened s w.list)
+    ∙ has_task-key (awake_key w.list) refl i (key w.priority w.ticket) s.tasks (awake_keyed s i w e)
 
 or_left : (a b : Bool) → a ≡ true → (a || b) ≡ true
 or_left true b e = refl
@@ -85,7 +95,8 @@ or_right : (a b : Bool) → b ≡ true → (a || b) ≡ true
 or_right true b e = refl
 or_right false b e = e
 
-of_locked : (s : State) (o i : ℕ) (list : WaitList) → is_locked (Some o) list ≡ true → among i (tasks_of (awakened s list)) ≡ true → among i (opened_by s o) ≡ true
+of_locked : (s : State) (o i : ℕ) (list : WaitList) → is_locked (Some o) list ≡ true
+    → among i (tasks_of (awakened s list)) ≡ true → among i (opened_by s o) ≡ true
 of_locked s o i (ToReceive p) t a =
     let same : o ≡ p = eqb-same o p t in
     let b : among i (tasks_of (awakened s (ToReceive o))) ≡ true = rw same a in
@@ -93,7 +104,8 @@ of_locked s o i (ToReceive p) t a =
 of_locked s o i (ToSend p) t a =
     let same : o ≡ p = eqb-same o p t in
     let b : among i (tasks_of (awakened s (ToSend o))) ≡ true = rw same a in
-    among-append i (tasks_of (awakened s (ToReceive o))) (tasks_of (awakened s (ToSend o))) ∙ or_right (among i (tasks_of (awakened s (ToReceive o)))) _ b
+    among-append i (tasks_of (awakened s (ToReceive o))) (tasks_of (awakened s (ToSend o)))
+    ∙ or_right (among i (tasks_of (awakened s (ToReceive o)))) _ b
 
 awake_within : (ts : List Task) (i : ℕ) (w : Wait) → wait_if_awake (get_or ts i no_task).status ≡ Some w → i < length ts
 awake_within [] i w e = absurd (cc)
@@ -101,11 +113,15 @@ awake_within (t ∷ ts) zero w e = omega arith
 awake_within (t ∷ ts) (suc i) w e = let l = awake_within ts i w e in omega arith
 
 -- nobody is Awake any more
-pub none_left : (s : State) (o i : ℕ) → IfSome (wait_if_awake (status_at s i)) (λ w. is_locked (Some o) w.list ≡ true) → wait_if_awake (status_at (for_each make_ready (opened_by s o) s) i) ≡ None
+pub none_left : (s : State) (o i : ℕ) → IfSome (wait_if_awake (status_at s i)) (λ w. is_locked (Some o) w.list ≡ true)
+    → wait_if_awake (status_at (for_each make_ready (opened_by s o) s) i) ≡ None
 none_left s o i h = by_wait (wait_if_awake (status_at s i)) refl h where
-  by_wait : (w : Option Wait) → wait_if_awake (status_at s i) ≡ w → IfSome w (λ w. is_locked (Some o) w.list ≡ true) → wait_if_awake (status_at (for_each make_ready (opened_by s o) s) i) ≡ None
+  by_wait : (w : Option Wait) → wait_if_awake (status_at s i) ≡ w → IfSome w (λ w. is_locked (Some o) w.list ≡ true)
+      → wait_if_awake (status_at (for_each make_ready (opened_by s o) s) i) ≡ None
   by_wait None e h = not_woken_still s (opened_by s o) i e
-  by_wait (Some w) e h = ready_not_woken (status_at (for_each make_ready (opened_by s o) s) i) (made_of s (opened_by s o) i (awake_within s.tasks i w e) (of_locked s o i w.list h (awake_among s i w e)))
+  by_wait (Some w) e h =
+      ready_not_woken (status_at (for_each make_ready (opened_by s o) s) i)
+      (made_of s (opened_by s o) i (awake_within s.tasks i w e) (of_locked s o i w.list h (awake_among s i w e)))
 
 -- and nobody is further in a script
 pub still_at : (s : State) (js : List ℕ) (i : ℕ) → progress_at (for_each make_ready js s) i ≡ progress_at s i
@@ -113,7 +129,8 @@ still_at s [] i = refl
 still_at s (j ∷ js) i =
     let P : ℕ → Task → Type 0 = λ k t. k ≡ i → t.progress ≡ progress_at s i in
     let own : j ≡ i → progress_at s j ≡ progress_at s i = ap (progress_at s) in
-    still_at (make_ready j s) js i ∙ each-set no_task P s.tasks j (record (task_at s j) { status = Ready s.next_ticket }) own (λ k. ap (progress_at s)) i refl
+    still_at (make_ready j s) js i
+    ∙ each-set no_task P s.tasks j (record (task_at s j) { status = Ready s.next_ticket }) own (λ k. ap (progress_at s)) i refl
 
 pub locked-all_ready : (s : State) (js : List ℕ) → (for_each make_ready js s).locked ≡ s.locked
 locked-all_ready s [] = refl

@@ -1,5 +1,6 @@
 -- The blocks of a script, loops and branches: which op opens and ends which, and where an op jumps to (profile).
-use Rattle.std.specs.Prelude.{◌≡◌, ℕ, ◌+◌, ◌-◌, ◌==◌, ◌&&◌, Bool, true, false, not, nat_lt, List, [], ◌∷◌, length, map, filter, drop, if◌then◌else◌}
+use Rattle.std.specs.Prelude.{◌≡◌, ℕ, ◌+◌, ◌-◌, ◌==◌, ◌&&◌, Bool, true, false, not, nat_lt, List, [], ◌∷◌, length, map, filter}
+use Rattle.std.specs.Prelude.{drop, if◌then◌else◌}
 use Rattle.model.specs.declared.block.Block.{Block}
 use Rattle.model.specs.declared.block.Block.TheVariants as block
 use Rattle.model.specs.declared.block.Edge.{Edge}
@@ -122,7 +123,8 @@ may_come op ops = may_stand (edge_of (ending (open_behind ops) op)) (open_behind
 
 -- ---- where an op jumps to
 
--- how many ops there are to the end of the branch in which they begin, its `else` or `end` included, where this many `if` are open in it
+-- how many ops there are to the end of the branch in which they begin, its `else` or `end` included,
+-- where this many `if` are open in it
 abbrev pub past_branch : ℕ → List Edge → ℕ
 past_branch inner [] = 0
 past_branch inner (OpensIf ∷ edges) = past_branch (inner + 1) edges + 1
@@ -137,8 +139,8 @@ past_loop inner (OpensLoop ∷ edges) = past_loop (inner + 1) edges + 1
 past_loop inner (EndsLoop ∷ edges) = if inner == 0 then 1 else past_loop (inner - 1) edges + 1
 past_loop inner (edge ∷ edges) = past_loop inner edges + 1
 
--- over how many ops the first of these jumps: an `if` and an `else` over the branch that begins behind them, and a `break` over what
--- is left of its loop
+-- over how many ops the first of these jumps: an `if` and an `else` over the branch that begins behind them, and a `break` over
+-- what is left of its loop
 abbrev pub jumped_over : List Edge → ℕ
 jumped_over [] = 0
 jumped_over (OpensIf ∷ edges) = past_branch 0 edges

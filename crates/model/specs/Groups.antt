@@ -1,11 +1,13 @@
 -- Event groups: bits that tasks set, clear and wait for.
-use Rattle.std.specs.Prelude.{ℕ, ◌-◌, ◌==◌, ◌||◌, Bool, true, false, List, Option, Some, None, nat_lt, nat_eq, if◌then◌else◌, fold, filter, filter_map, bit_and, bit_or, option_map, unwrap_or}
+use Rattle.std.specs.Prelude.{ℕ, ◌-◌, ◌==◌, ◌||◌, Bool, true, false, List, Option, Some, None, nat_lt, nat_eq, if◌then◌else◌, fold}
+use Rattle.std.specs.Prelude.{filter, filter_map, bit_and, bit_or, option_map, unwrap_or}
 use Rattle.std.specs.Option.{option_eq}
 use Rattle.model.specs.declared.call.Condition.{Condition}
 use Rattle.model.specs.declared.call.Phase.{Phase}
 use Rattle.model.specs.declared.call.Phase.TheVariants.{Start, Try, Leave}
 use Rattle.model.specs.Application.{Application}
-use Rattle.model.specs.State.{State, Task, WaitingForBits, ticket_if_for_bits, take_ticket, call_at, with_call, go_on, bits_at, with_bits, for_each}
+use Rattle.model.specs.State.{State, Task, WaitingForBits, ticket_if_for_bits, take_ticket, call_at, with_call, go_on, bits_at}
+use Rattle.model.specs.State.{with_bits, for_each}
 use Rattle.model.specs.Order.{Key, Entry, key, list_by, tasks_of}
 use Rattle.model.specs.Switching.{make_ready, choose, preempt}
 use Rattle.model.specs.Waiting.{set_deadline, end_hold}

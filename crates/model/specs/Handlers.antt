@@ -1,5 +1,6 @@
 -- Interrupt handlers: they do their ops without waiting, before a step or at a tick.
-use Rattle.std.specs.Prelude.{ℕ, zero, suc, ◌+◌, ◌-◌, Bool, false, not, min, List, [], ◌∷◌, ◌++◌, Option, Some, None, nat_lt, if◌then◌else◌, map, filter, fold, filter_map, option_map}
+use Rattle.std.specs.Prelude.{ℕ, zero, suc, ◌+◌, ◌-◌, Bool, false, not, min, List, [], ◌∷◌, ◌++◌, Option, Some, None, nat_lt}
+use Rattle.std.specs.Prelude.{if◌then◌else◌, map, filter, fold, filter_map, option_map}
 use Rattle.model.specs.declared.op.IsrOp.{IsrOp}
 use Rattle.model.specs.declared.op.IsrOp.TheVariants.{Do, Command, Resume, GetBits, Mark, Expect, If, Else, EndIf}
 use Rattle.model.specs.declared.event.End.TheVariants.{HandlerCheck}
@@ -28,7 +29,8 @@ abbrev pub isr : Application → ℕ → ℕ → IsrOp → State → State
 isr app handler op_index (Do object access) s =
     write (isr_told handler op_index (answer_to s object access)) (attempt None object access s)
 isr app handler op_index (Command c) s =
-    write (isr_told handler op_index (answer_to s (commands_of app) (Send (item_of c)))) (attempt None (commands_of app) (Send (item_of c)) s)
+    write (isr_told handler op_index (answer_to s (commands_of app) (Send (item_of c))))
+    (attempt None (commands_of app) (Send (item_of c)) s)
 isr app handler op_index (Resume task) s =
     write (isr_told handler op_index (one_if (can_resume (status_at s task)))) (resume task s)
 isr app handler op_index (GetBits group) s = write (isr_told handler op_index (Some (bits_at s group))) s
@@ -62,7 +64,8 @@ isr_each app handler op_index (suc over) answer (op ∷ ops) s = isr_each app ha
 isr_each app handler op_index zero answer (op ∷ ops) s =
     if is_failed op answer
     then fail (HandlerCheck handler op_index) s
-    else isr_each app handler (op_index + 1) (isr_jump op answer ops) (isr_answer app s op answer) ops (isr app handler op_index op s)
+    else isr_each app handler (op_index + 1) (isr_jump op answer ops)
+    (isr_answer app s op answer) ops (isr app handler op_index op s)
 
 -- The handler runs; at first its last answer is `none`.
 unfoldable pub handle : Application → ℕ → State → State

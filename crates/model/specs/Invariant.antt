@@ -1,5 +1,6 @@
 -- What is true of every state that a run comes to, by the definitions alone.
-use Rattle.std.specs.Prelude.{◌≡◌, ◌<◌, ◌≤◌, ℕ, ◌+◌, Bool, true, false, List, [], ◌∷◌, Option, Some, None, ◌⊎◌, length, drop, slice_get, IfSome}
+use Rattle.std.specs.Prelude.{◌≡◌, ◌<◌, ◌≤◌, ℕ, ◌+◌, Bool, true, false, List, [], ◌∷◌, Option, Some, None, ◌⊎◌, length, drop}
+use Rattle.std.specs.Prelude.{slice_get, IfSome}
 use Rattle.std.specs.List.{AllByRecursion}
 use Rattle.model.specs.declared.object.ObjectKind.{ObjectKind}
 use Rattle.model.specs.declared.object.ObjectKind.TheVariants.{Queue, Semaphore}
@@ -15,7 +16,8 @@ use Rattle.model.specs.declared.loops.Loop.{Loop}
 use Rattle.model.specs.Application.{Application, script_of, op_at}
 use Rattle.model.specs.Blocks.{Nests, edges_of, loops_in}
 use Rattle.model.specs.Scripts.{priorities}
-use Rattle.model.specs.State.{State, Task, Progress, Object, Status, Wait, Waiting, Awake, Asleep, Suspended, Ended, wait_if_awake, ticket_of, task_at, status_at, progress_at, call_at, object_at}
+use Rattle.model.specs.State.{State, Task, Progress, Object, Status, Wait, Waiting, Awake, Asleep, Suspended, Ended, wait_if_awake}
+use Rattle.model.specs.State.{ticket_of, task_at, status_at, progress_at, call_at, object_at}
 use Rattle.model.specs.Switching.{is_ready, is_held, is_scheduler_suspended}
 use Rattle.model.specs.Waiting.{is_locked}
 use Rattle.model.specs.Objects.{list_for}
@@ -150,7 +152,8 @@ IsObject _ o = Unit {0}
 
 -- A task's priority is at least that of the file, and one of those that there are, as is that of its wait.
 abbrev pub HasPriority : Task → Type 0
-HasPriority t = (t.base_priority ≤ t.priority) × (t.priority < priorities) × IfSome (wait_of t.status) (λ w. w.priority < priorities)
+HasPriority t =
+    (t.base_priority ≤ t.priority) × (t.priority < priorities) × IfSome (wait_of t.status) (λ w. w.priority < priorities)
 
 -- what every deed keeps, while this is held and locked
 pub record IsSound (app : Application) (hold : Hold) (s : State) : Type 0 where

@@ -1,5 +1,6 @@
 -- Mutexes, and priority inheritance: when the holder of a mutex takes another priority. All of it is profile.
-use Rattle.std.specs.Prelude.{ℕ, ◌==◌, ◌&&◌, Bool, not, Some, None, max, nat_lt, if◌then◌else◌, length, filter, option_map, unwrap_or}
+use Rattle.std.specs.Prelude.{ℕ, ◌==◌, ◌&&◌, Bool, not, Some, None, max, nat_lt, if◌then◌else◌, length, filter, option_map}
+use Rattle.std.specs.Prelude.{unwrap_or}
 use Rattle.model.specs.declared.call.WaitList.{WaitList}
 use Rattle.model.specs.declared.call.WaitList.TheVariants.{ToReceive}
 use Rattle.model.specs.Application.{Application}

@@ -1,5 +1,6 @@
 -- Queues, semaphores and mutexes: which calls are possible, what they answer, and what they do.
-use Rattle.std.specs.Prelude.{ℕ, ◌+◌, ◌-◌, Bool, true, [], ◌∷◌, ◌++◌, Option, Some, None, nat_lt, if◌then◌else◌, length, drop, slice_get, is_none}
+use Rattle.std.specs.Prelude.{ℕ, ◌+◌, ◌-◌, Bool, true, [], ◌∷◌, ◌++◌, Option, Some, None, nat_lt, if◌then◌else◌, length, drop}
+use Rattle.std.specs.Prelude.{slice_get, is_none}
 use Rattle.model.specs.declared.call.WaitList.{WaitList}
 use Rattle.model.specs.declared.call.WaitList.TheVariants.{ToReceive, ToSend}
 use Rattle.model.specs.declared.op.Access.{Access}

@@ -1,5 +1,6 @@
 -- A run of the kernel, from reset to its end, with handlers injected by a plan.
-use Rattle.std.specs.Prelude.{◌≡◌, ℕ, zero, suc, ◌<◌, ◌==◌, ◌&&◌, Bool, not, List, [], ◌++◌, map, filter, Option, Some, None, is_some, is_none, nat_lt, nat_le, if◌then◌else◌}
+use Rattle.std.specs.Prelude.{◌≡◌, ℕ, zero, suc, ◌<◌, ◌==◌, ◌&&◌, Bool, not, List, [], ◌++◌, map, filter, Option, Some, None}
+use Rattle.std.specs.Prelude.{is_some, is_none, nat_lt, nat_le, if◌then◌else◌}
 use Rattle.std.specs.List.{list_any, list_all}
 use Rattle.std.specs.Option.{option_or}
 use Rattle.model.specs.declared.event.Event.{Event}
@@ -68,8 +69,8 @@ pub record IsRun (app : Application) (plan : List Injection) (limits : Limits) (
 abbrev pub plan_of : Bool → List Injection → List Injection
 plan_of reached point = if reached then point else []
 
--- A row. Its point is reached where the base run, into which nothing is injected, gets beyond the step of its first injection. It is
--- the run with all its injections then, of which those at or past its end do nothing, and otherwise the base run.
+-- A row. Its point is reached where the base run, into which nothing is injected, gets beyond the step of its first injection. It
+-- is the run with all its injections then, of which those at or past its end do nothing, and otherwise the base run.
 pub record IsRow (app : Application) (limits : Limits) (point : List Injection) (reached : Bool) (row : Run) : Type 0 where
   pub base : Run
   pub is_base : IsRun app [] limits base

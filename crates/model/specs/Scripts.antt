@@ -1,12 +1,14 @@
 -- Which scripts, handlers and applications are well formed.
-use Rattle.std.specs.Prelude.{◌≡◌, ◌<◌, ◌≤◌, ℕ, ◌+◌, ◌&&◌, ◌==◌, nat_lt, nat_le, Bool, true, false, not, List, [], ◌∷◌, length, Option, Some, None, is_some, IfSome, slice_get, option_map, unwrap_or, if◌then◌else◌}
+use Rattle.std.specs.Prelude.{◌≡◌, ◌<◌, ◌≤◌, ℕ, ◌+◌, ◌&&◌, ◌==◌, nat_lt, nat_le, Bool, true, false, not, List, [], ◌∷◌, length}
+use Rattle.std.specs.Prelude.{Option, Some, None, is_some, IfSome, slice_get, option_map, unwrap_or, if◌then◌else◌}
 use Rattle.std.specs.List.{AllByRecursion}
 use Rattle.model.specs.declared.object.ObjectKind.{ObjectKind}
 use Rattle.model.specs.declared.object.ObjectKind.TheVariants.{Queue, Semaphore, Mutex}
 use Rattle.model.specs.declared.op.Access.{Access}
 use Rattle.model.specs.declared.op.Access.TheVariants.{Send, SendFront, Overwrite, Receive, Peek, Take, Give, Lock}
 use Rattle.model.specs.declared.op.Op.{Op}
-use Rattle.model.specs.declared.op.Op.TheVariants.{Work, DelayUntil, Repeat, Await, Do, GiveMutex, MessagesWaiting, SpacesAvailable, SetBits, ClearBits, GetBits, WaitBits, Suspend, Resume, NextCommand, Obey}
+use Rattle.model.specs.declared.op.Op.TheVariants.{Work, DelayUntil, Repeat, Await, Do, GiveMutex, MessagesWaiting, SpacesAvailable}
+use Rattle.model.specs.declared.op.Op.TheVariants.{SetBits, ClearBits, GetBits, WaitBits, Suspend, Resume, NextCommand, Obey}
 use Rattle.model.specs.declared.op.IsrOp.{IsrOp}
 use Rattle.model.specs.declared.op.IsrOp.TheVariants as isr
 use Rattle.model.specs.declared.plan.Injection.{Injection}
@@ -14,7 +16,8 @@ use Rattle.model.specs.declared.plan.PointEntry.{PointEntry}
 use Rattle.model.specs.declared.plan.PointEntry.TheVariants.{One, Every}
 use Rattle.model.specs.Points.{IsPoint}
 use Rattle.model.specs.Blocks.{Nests, NestsSoFar, edges_of, isr_edges_of}
-use Rattle.model.specs.Application.{Application, Handler, Interrupt, Definition, interrupts_at, of_file, commands_of, script_of, is_endless}
+use Rattle.model.specs.Application.{Application, Handler, Interrupt, Definition, interrupts_at, of_file, commands_of, script_of}
+use Rattle.model.specs.Application.{is_endless}
 
 -- ---- how many there may be (profile)
 

@@ -2,7 +2,8 @@
 --
 -- Every entry to the ready list and every beginning of a sleep or a wait takes the next ticket. Tickets say who came
 -- first; the code has none.
-use Rattle.std.specs.Prelude.{ℕ, ◌+◌, ◌%◌, ◌==◌, if◌then◌else◌, Bool, false, List, Option, Some, None, [], slice_index_or, slice_set, fold}
+use Rattle.std.specs.Prelude.{ℕ, ◌+◌, ◌%◌, ◌==◌, if◌then◌else◌, Bool, false, List, Option, Some, None, [], slice_index_or}
+use Rattle.std.specs.Prelude.{slice_set, fold}
 use Rattle.model.specs.declared.call.CallProgress.{CallProgress}
 use Rattle.model.specs.declared.call.Phase.{Phase}
 use Rattle.model.specs.declared.call.Phase.TheVariants.{Start}

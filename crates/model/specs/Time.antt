@@ -1,7 +1,9 @@
 -- Time passes: who wakes when, and how a task goes to sleep.
-use Rattle.std.specs.Prelude.{ℕ, zero, suc, ◌+◌, ◌-◌, Bool, List, Option, Some, None, is_some, option_map, nat_eq, if◌then◌else◌, filter}
+use Rattle.std.specs.Prelude.{ℕ, zero, suc, ◌+◌, ◌-◌, Bool, List, Option, Some, None, is_some, option_map, nat_eq, if◌then◌else◌}
+use Rattle.std.specs.Prelude.{filter}
 use Rattle.std.specs.Option.{option_eq}
-use Rattle.model.specs.State.{State, Task, Asleep, ticket_of, wake_time_of, status_at, progress_at, take_ticket, with_progress, for_each}
+use Rattle.model.specs.State.{State, Task, Asleep, ticket_of, wake_time_of, status_at, progress_at, take_ticket, with_progress}
+use Rattle.model.specs.State.{for_each}
 use Rattle.model.specs.Order.{Key, Entry, key, list_by, tasks_of}
 use Rattle.model.specs.Switching.{is_ready, make_ready, is_scheduler_suspended}
 
@@ -11,8 +13,8 @@ use Rattle.model.specs.Switching.{is_ready, make_ready, is_scheduler_suspended}
 abbrev pub delayed_key : Task → Option Key
 delayed_key t = if is_some (wake_time_of t.status) then option_map (key 0) (ticket_of t.status) else None
 
--- those who sleep, or wait until a deadline, in the order in which they began; FreeRTOS orders its list by wake time (`pxDelayedTaskList`,
--- `pxOverflowDelayedTaskList`)
+-- those who sleep, or wait until a deadline, in the order in which they began; FreeRTOS orders its list by wake time
+-- (`pxDelayedTaskList`, `pxOverflowDelayedTaskList`)
 abbrev pub delayed_list : State → List Entry
 delayed_list s = list_by delayed_key s.tasks
 

@@ -1,10 +1,12 @@
 -- Tasks that wait at an object: how a wait begins, and how a task is woken.
-use Rattle.std.specs.Prelude.{ℕ, ◌+◌, ◌==◌, Bool, true, false, List, ◌++◌, Option, Some, None, nat_le, if◌then◌else◌, option_map, option_and_then, unwrap_or}
+use Rattle.std.specs.Prelude.{ℕ, ◌+◌, ◌==◌, Bool, true, false, List, ◌++◌, Option, Some, None, nat_le, if◌then◌else◌, option_map}
+use Rattle.std.specs.Prelude.{option_and_then, unwrap_or}
 use Rattle.model.specs.declared.call.CallProgress.{CallProgress}
 use Rattle.model.specs.declared.call.Phase.{Phase}
 use Rattle.model.specs.declared.call.WaitList.{WaitList}
 use Rattle.model.specs.declared.call.WaitList.TheVariants.{ToReceive, ToSend}
-use Rattle.model.specs.State.{State, Task, Status, Waiting, Awake, Wait, wait_if_waiting, wait_if_awake, task_at, status_at, take_ticket, with_status, call_at, with_call, for_one, for_each}
+use Rattle.model.specs.State.{State, Task, Status, Waiting, Awake, Wait, wait_if_waiting, wait_if_awake, task_at, status_at}
+use Rattle.model.specs.State.{take_ticket, with_status, call_at, with_call, for_one, for_each}
 use Rattle.model.specs.Order.{Key, Entry, key, list_by, tasks_of, first, task_of}
 use Rattle.model.specs.Switching.{make_ready, is_same}
 
@@ -36,7 +38,8 @@ unfoldable pub wait_in : ℕ → WaitList → State → State
 wait_in task list s =
     let call : CallProgress = call_at s task in
     let priority : ℕ = (task_at s task).priority in
-    let status : ℕ → Status = λ ticket. Waiting (record { list = list; priority = priority; ticket = ticket; deadline = call.deadline }) in
+    let status : ℕ → Status = λ ticket.
+    Waiting (record { list = list; priority = priority; ticket = ticket; deadline = call.deadline }) in
     take_ticket task status (with_call task (record call { waits = true }) s)
 
 -- The task's call may wait for this many ticks from now, or for ever (`vTaskInternalSetTimeOutState`).
@@ -80,7 +83,8 @@ wake_best list s = for_one (λ task. wake_one task list) (task_of (first (waiter
 -- The object is unlocked, and its Awake tasks are Ready: first those who waited to receive, then those who waited to send.
 abbrev pub unlock_object : ℕ → State → State
 unlock_object object s =
-    for_each make_ready (tasks_of (awakened s (ToReceive object)) ++ tasks_of (awakened s (ToSend object))) (record s { locked = None })
+    for_each make_ready (tasks_of (awakened s (ToReceive object)) ++ tasks_of (awakened s (ToSend object)))
+    (record s { locked = None })
 
 -- The locked object is unlocked (`prvUnlockQueue`).
 unfoldable pub unlock : State → State

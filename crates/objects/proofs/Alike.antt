@@ -5,7 +5,8 @@ use Rattle.std.proofs.lemmas.List.{get_or_default}
 use Rattle.model.specs.State.{no_object}
 use Rattle.objects.specs.Places.{last_place, object_places}
 use Rattle.objects.specs.Items.{object_in}
-use Rattle.objects.specs.Rings.{Fields, IsFront, base_of, count_of, head_of, listed, object_of, objects_of, place, ring, size_of, wrap}
+use Rattle.objects.specs.Rings.{Fields, IsFront, base_of, count_of, head_of, listed, object_of, objects_of, place, ring, size_of}
+use Rattle.objects.specs.Rings.{wrap}
 use Rattle.objects.proofs.Listed.{listed-same}
 use Rattle.objects.proofs.Rings.{object-is, place-in}
 
@@ -13,19 +14,24 @@ use Rattle.objects.proofs.Rings.{object-is, place-in}
 abbrev pub AreAlike : Fields → Fields → ℕ → ℕ → Type 0
 AreAlike a b q count = (k : ℕ) → k < count → get_or a.pool (place a q k) 0 ≡ get_or b.pool (place b q k) 0
 
-pub same_queue : (a b : Fields) (q : ℕ) → q < object_places → size_of a q ≡ size_of b q → count_of a q ≡ count_of b q → AreAlike a b q (count_of a q) → object_in (objects_of a) q ≡ object_in (objects_of b) q
+pub same_queue : (a b : Fields) (q : ℕ) → q < object_places → size_of a q ≡ size_of b q → count_of a q ≡ count_of b q
+    → AreAlike a b q (count_of a q) → object_in (objects_of a) q ≡ object_in (objects_of b) q
 same_queue a b q hq sizes counts alike =
     let items : ring a q ≡ ring b q =
     listed-same (λ k. get_or a.pool (place a q k) 0) (λ k. get_or b.pool (place b q k) 0) (count_of a q) alike
     ∙ ap (listed (λ k. get_or b.pool (place b q k) 0)) counts in
-    object-is a q hq ∙ ap₂ (λ (size : ℕ) (xs : List ℕ). record no_object { size = size; items = xs }) sizes items ∙ sym (object-is b q hq)
+    object-is a q hq ∙ ap₂ (λ (size : ℕ) (xs : List ℕ). record no_object { size = size; items = xs }) sizes items
+    ∙ sym (object-is b q hq)
 
-pub same_queues : (a b : Fields) → ((q : ℕ) → q < object_places → object_in (objects_of a) q ≡ object_in (objects_of b) q) → objects_of a ≡ objects_of b
+pub same_queues : (a b : Fields) → ((q : ℕ) → q < object_places → object_in (objects_of a) q ≡ object_in (objects_of b) q)
+    → objects_of a ≡ objects_of b
 unfolding objects_of
-same_queues a b same = listed-same (object_of a) (object_of b) object_places (λ q hq. sym (object-is a q hq) ∙ same q hq ∙ object-is b q hq)
+same_queues a b same =
+    listed-same (object_of a) (object_of b) object_places (λ q hq. sym (object-is a q hq) ∙ same q hq ∙ object-is b q hq)
 
 -- item k of a queue, which is read `at` places behind the base, lies in the front of a pool
-module _ {a : Fields} (h : IsFront a) (q k size at : ℕ) (hq : q < object_places) (hk : k < count_of a q) (sizes : size ≡ size_of a q) (steps : at ≡ wrap size (head_of a q + k)) where
+module _ {a : Fields} (h : IsFront a) (q k size at : ℕ) (hq : q < object_places) (hk : k < count_of a q)
+    (sizes : size ≡ size_of a q) (steps : at ≡ wrap size (head_of a q + k)) where
   place_is : base_of a q + at ≡ place a q k
   place_is = ap (λ (p : ℕ). base_of a q + p) (steps ∙ ap (λ (n : ℕ). wrap n (head_of a q + k)) sizes)
 
@@ -38,9 +44,11 @@ module _ {a : Fields} (h : IsFront a) (q k size at : ℕ) (hq : q < object_place
       elim (cases_lt q last_place) [
         | inl less ↦ let far = h.storage.apart q last_place less (omega arith) in omega (arith, is, here, front, far)
         | inr more ↦
-            let end : base_of a q + size_of a q ≡ base_of a last_place + size_of a last_place = ap (λ (r : ℕ). base_of a r + size_of a r) (omega (arith, hq, more)) in
+            let end : base_of a q + size_of a q ≡ base_of a last_place + size_of a last_place =
+            ap (λ (r : ℕ). base_of a r + size_of a r) (omega (arith, hq, more)) in
             omega (arith, is, here, front, end)
       ]
 
   pub item_is : (item : ℕ) → item ≡ get_or a.pool (base_of a q + at) item → item ≡ get_or a.pool (place a q k) 0
-  item_is item read = read ∙ get_or_default a.pool (base_of a q + at) item 0 within_front ∙ ap (λ (p : ℕ). get_or a.pool p 0) place_is
+  item_is item read =
+      read ∙ get_or_default a.pool (base_of a q + at) item 0 within_front ∙ ap (λ (p : ℕ). get_or a.pool p 0) place_is

@@ -1,5 +1,6 @@
 -- A call that is carried out: in the definitions the same object changes in the same way.
-use Rattle.std.proofs.Common.{◌≡◌, ℕ, zero, suc, ◌+◌, ◌<◌, inl, inr, true, false, Bool, ◌&&◌, Option, Some, None, List, [], ◌∷◌, get_or, set, length, sym, ◌∙◌, ap, subst, refl, arith}
+use Rattle.std.proofs.Common.{◌≡◌, ℕ, zero, suc, ◌+◌, ◌<◌, inl, inr, true, false, Bool, ◌&&◌, Option, Some, None, List, [], ◌∷◌}
+use Rattle.std.proofs.Common.{get_or, set, length, sym, ◌∙◌, ap, subst, refl, arith}
 use Rattle.std.specs.Prelude.{nat_lt, not}
 use Rattle.std.specs.Option.{IfSome, is_none}
 use Rattle.std.proofs.lemmas.Bool.{cases_eq, cases_lt, le-ltb, lt-ltb}
@@ -37,14 +38,16 @@ there_held (x ∷ xs) (suc o) task e = let h = there_held xs o task e in omega (
 
 module _ (v : Exchange) (d : Option Decider) (s : State) (o : ℕ) (h : StandsFor v d s) (known : o < length v.objects) where
   -- an object is another now
-  stands_put : o < length s.objects → (x : Object) → IfSome x.holder (λ i. i < length s.tasks) → StandsFor (record v { objects = set v.objects o x }) d (with_object o x s)
+  stands_put : o < length s.objects → (x : Object) → IfSome x.holder (λ i. i < length s.tasks)
+      → StandsFor (record v { objects = set v.objects o x }) d (with_object o x s)
   stands_put there x held = record {
     number = length-set s.objects o x ∙ h.number;
     objects = λ k. elim (cases_eq k o) [
       | inl same ↦
           subst (λ (j : ℕ). object_in (set v.objects o x) j ≡ object_at (with_object o x s) j) (sym same)
           (get_or-set_same v.objects o x no_object known ∙ sym (get_or-set_same s.objects o x no_object there))
-      | inr other ↦ get_or-set_other v.objects o k x no_object other ∙ h.objects k ∙ sym (get_or-set_other s.objects o k x no_object other)
+      | inr other ↦
+          get_or-set_other v.objects o k x no_object other ∙ h.objects k ∙ sym (get_or-set_other s.objects o k x no_object other)
     ];
     waiters = record {
       lists = h.waiters.lists;
@@ -60,17 +63,27 @@ module _ (v : Exchange) (d : Option Decider) (s : State) (o : ℕ) (h : StandsFo
   }
 
   -- a possible call is carried out
-  pub stands_carried : (new : Exchange) (caller : Option ℕ) (a : Access) → o < v.number → new ≡ record v { objects = set v.objects o (object_after caller a (object_in v.objects o)) } → IfSome caller (λ i. i < length s.tasks)
+  pub stands_carried : (new : Exchange) (caller : Option ℕ) (a : Access) → o < v.number
+      → new ≡ record v { objects = set v.objects o (object_after caller a (object_in v.objects o)) }
+      → IfSome caller (λ i. i < length s.tasks)
       → StandsFor new d (with_object o (object_after caller a (object_at s o)) s)
   stands_carried new caller a there e l =
       subst (λ (w : Exchange). StandsFor w d (with_object o (object_after caller a (object_at s o)) s)) (sym e)
-      (subst (λ (x : Object). StandsFor (record v { objects = set v.objects o (object_after caller a x) }) d (with_object o (object_after caller a (object_at s o)) s)) (sym (h.objects o))
-      (stands_put (let many = h.number in omega (arith, many, there)) (object_after caller a (object_at s o)) (held_after caller a (object_at s o) (length s.tasks) l (h.waiters.table.holders o))))
+      (subst (λ (x : Object).
+      StandsFor (record v { objects = set v.objects o (object_after caller a x) })
+      d (with_object o (object_after caller a (object_at s o)) s))
+      (sym (h.objects o))
+      (stands_put (let many = h.number in omega (arith, many, there)) (object_after caller a (object_at s o))
+      (held_after caller a (object_at s o) (length s.tasks) l (h.waiters.table.holders o))))
 
   -- a mutex that a task holds is freed
-  pub stands_freed : (new : Exchange) (task : ℕ) → (object_at s o).holder ≡ Some task → new ≡ record v { objects = set v.objects o (record (object_in v.objects o) { holder = None }) } → StandsFor new d (with_object o (record (object_at s o) { holder = None }) s)
+  pub stands_freed : (new : Exchange) (task : ℕ) → (object_at s o).holder ≡ Some task
+      → new ≡ record v { objects = set v.objects o (record (object_in v.objects o) { holder = None }) }
+      → StandsFor new d (with_object o (record (object_at s o) { holder = None }) s)
   stands_freed new task held e =
       let freed : Object → Object = λ x. record x { holder = None } in
       subst (λ (w : Exchange). StandsFor w d (with_object o (freed (object_at s o)) s)) (sym e)
-      (subst (λ (x : Object). StandsFor (record v { objects = set v.objects o (freed x) }) d (with_object o (freed (object_at s o)) s)) (sym (h.objects o))
+      (subst
+      (λ (x : Object). StandsFor (record v { objects = set v.objects o (freed x) }) d (with_object o (freed (object_at s o)) s))
+      (sym (h.objects o))
       (stands_put (there_held s.objects o task held) (freed (object_at s o)) tt))

@@ -1,5 +1,6 @@
 -- A task that begins to wait, while its object is locked: the queues stay until it is placed.
-use Rattle.std.proofs.Common.{◌≡◌, ◌≢◌, ℕ, ◌<◌, true, false, Bool, Option, Some, None, List, [], ◌∷◌, length, set, sym, ◌∙◌, ap, subst, refl, eqb}
+use Rattle.std.proofs.Common.{◌≡◌, ◌≢◌, ℕ, ◌<◌, true, false, Bool, Option, Some, None, List, [], ◌∷◌, length, set, sym, ◌∙◌, ap}
+use Rattle.std.proofs.Common.{subst, refl, eqb}
 use Rattle.std.proofs.Math.ListN.{length-set}
 use Rattle.std.proofs.lemmas.List.{get_or-set_other, get_or-set_same}
 use Rattle.std.specs.List.{AllByRecursion}
@@ -11,7 +12,8 @@ use Rattle.model.specs.declared.call.WaitList.TheVariants.{ToReceive, ToSend}
 use Rattle.model.specs.declared.event.End.{End}
 use Rattle.model.specs.declared.event.Event.{Event}
 use Rattle.model.specs.declared.op.Access.{Access}
-use Rattle.model.specs.State.{State, Progress, Task, no_task, wait_if_awake, call_at, go_on, progress_at, status_at, task_at, with_progress}
+use Rattle.model.specs.State.{State, Progress, Task, no_task, wait_if_awake, call_at, go_on, progress_at, status_at, task_at}
+use Rattle.model.specs.State.{with_progress}
 use Rattle.model.specs.Invariant.{wait_of}
 use Rattle.model.specs.Order.{Entry}
 use Rattle.model.specs.Objects.{list_for}
@@ -33,25 +35,44 @@ use Rattle.objects.proofs.Standing.{stands_awakened}
 
 -- ---- what the queues don't see
 
-pub stands_unseen : (v : Exchange) (d : Option Decider) (s : State) (time elapsed steps : ℕ) (held : Bool) (stopped : Option End) (log : List Event) → StandsFor v d s
+pub stands_unseen : (v : Exchange) (d : Option Decider) (s : State)
+    (time elapsed steps : ℕ) (held : Bool) (stopped : Option End) (log : List Event)
+    → StandsFor v d s
     → StandsFor v d (record s { time = time; elapsed = elapsed; call_hold = held; steps = steps; stopped = stopped; log = log })
 stands_unseen v d s time elapsed steps held stopped log h =
     stands_same s (record s { time = time; elapsed = elapsed; call_hold = held; steps = steps; stopped = stopped; log = log })
     (record { objects = refl; waits = λ i. refl; awake = λ i. refl; locked = refl }) v d h
-    (record { tickets = h.waiters.table.tickets; few = h.waiters.table.few; current = h.waiters.table.current; holders = h.waiters.table.holders })
+    (record {
+      tickets = h.waiters.table.tickets;
+      few = h.waiters.table.few;
+      current = h.waiters.table.current;
+      holders = h.waiters.table.holders;
+    })
 
 -- A task goes on with its call, or in its script.
-pub stands_staying : (v : Exchange) (d : Option Decider) (s : State) (i : ℕ) (p : Progress) → StandsFor v d s → StandsFor v d (with_progress i p s)
+pub stands_staying : (v : Exchange) (d : Option Decider) (s : State) (i : ℕ) (p : Progress)
+    → StandsFor v d s → StandsFor v d (with_progress i p s)
 stands_staying v d s i p h =
     stands_same s (with_progress i p s) (same_progress i p s) v d h
-    (table-set s i (record (task_at s i) { progress = p }) h.waiters.table (ticket_at s.next_ticket i s.tasks h.waiters.table.tickets))
+    (table-set s i (record (task_at s i) { progress = p }) h.waiters.table
+    (ticket_at s.next_ticket i s.tasks h.waiters.table.tickets))
 
-pub stands_gone_on : (v : Exchange) (d : Option Decider) (s : State) (i : ℕ) (phase : Phase) → StandsFor v d s → StandsFor v d (go_on i phase s)
-stands_gone_on v d s i phase h = stands_staying v d s i (record (progress_at s i) { call = record (call_at s i) { phase = phase } }) h
+pub stands_gone_on : (v : Exchange) (d : Option Decider) (s : State) (i : ℕ) (phase : Phase)
+    → StandsFor v d s → StandsFor v d (go_on i phase s)
+stands_gone_on v d s i phase h =
+    stands_staying v d s i (record (progress_at s i) { call = record (call_at s i) { phase = phase } }) h
 
 -- Who is woken stays in its list.
-pub stands_awaken : (v : Exchange) (d : Option Decider) (s : State) (i : ℕ) → StandsFor v d s → IfSome v.lock (Counts (awaken i s)) → StandsFor v d (awaken i s)
-stands_awaken v d s i h counts = record { number = h.number; objects = h.objects; waiters = stands_awakened v.waiting d s i h.waiters; locked = h.locked; counts = counts }
+pub stands_awaken : (v : Exchange) (d : Option Decider) (s : State) (i : ℕ)
+    → StandsFor v d s → IfSome v.lock (Counts (awaken i s)) → StandsFor v d (awaken i s)
+stands_awaken v d s i h counts =
+    record {
+      number = h.number;
+      objects = h.objects;
+      waiters = stands_awakened v.waiting d s i h.waiters;
+      locked = h.locked;
+      counts = counts;
+    }
 
 -- ---- nobody is counted
 
@@ -66,16 +87,19 @@ none_first s [] h = tt
 none_first s (e ∷ es) h = (h.0, none_first s es h.1)
 
 -- Another task than this one is as it was, and this one isn't Awake: then nobody in a list is, if nobody was.
-module _ (s t : State) (i : ℕ) (others : (j : ℕ) → j ≢ i → status_at t j ≡ status_at s j) (own : wait_if_awake (status_at t i) ≡ None) (list : WaitList) (h : FirstAwake s 0 (standing s list)) where
+module _ (s t : State) (i : ℕ) (others : (j : ℕ) → j ≢ i → status_at t j ≡ status_at s j)
+    (own : wait_if_awake (status_at t i) ≡ None) (list : WaitList) (h : FirstAwake s 0 (standing s list)) where
   not_awake : (e : Entry) → HasKey (standing_key list) t.tasks e → is_awake t e.task ≡ false
   not_awake e k = by_test (eqb e.task i)
       (λ u. ap is_some (subst (λ (j : ℕ). wait_if_awake (status_at t j) ≡ None) (sym (eqb-same e.task i u)) own))
       (λ u.
       let ne : e.task ≢ i = λ q. let w : eqb e.task i ≡ true = rw q (eqb-refl i) in absurd cc in
       let same : status_at t e.task ≡ status_at s e.task = others e.task ne in
-      let there : standing_key list (task_at s e.task) ≡ Some e.key = ap (λ u. option_and_then (wait_key list) (wait_of u)) (sym same) ∙ k.key in
+      let there : standing_key list (task_at s e.task) ≡ Some e.key =
+      ap (λ u. option_and_then (wait_key list) (wait_of u)) (sym same) ∙ k.key in
       ap (λ u. is_some (wait_if_awake u)) same
-      ∙ found (λ j. is_awake s j ≡ false) e.task (standing s list) (none_first s (standing s list) h) (has_task-key (standing_key list) refl e.task e.key s.tasks there))
+      ∙ found (λ j. is_awake s j ≡ false) e.task (standing s list) (none_first s (standing s list) h)
+      (has_task-key (standing_key list) refl e.task e.key s.tasks there))
 
   none_awake : (es : List Entry) → AllByRecursion (HasKey (standing_key list) t.tasks) es → FirstAwake t 0 es
   none_awake [] k = tt
@@ -95,16 +119,19 @@ module _ (s : State) (i : ℕ) (q : WaitList) where
   pub waits_now : i < length s.tasks → wait_if_awake (status_at (wait_in i q s) i) ≡ None
   unfolding wait_in
   waits_now l =
-      let u : Task = record (task_at s i) { progress = record (progress_at s i) { call = record (call_at s i) { waits = true } } } in
+      let u : Task =
+      record (task_at s i) { progress = record (progress_at s i) { call = record (call_at s i) { waits = true } } } in
       ap (λ (t : Task). wait_if_awake t.status) (get_or-set_same (set s.tasks i u) i _ no_task (rw length-set l))
 
-  counts_begun : (lock : Option Lock) → i < length s.tasks → IfSome lock (λ (l : Lock). (l.receivers ≡ 0) × (l.senders ≡ 0)) → IfSome lock (Counts s) → IfSome lock (Counts (wait_in i q s))
+  counts_begun : (lock : Option Lock) → i < length s.tasks → IfSome lock (λ (l : Lock). (l.receivers ≡ 0) × (l.senders ≡ 0))
+      → IfSome lock (Counts s) → IfSome lock (Counts (wait_in i q s))
   counts_begun None l zeros h = tt
   counts_begun (Some m) l zeros h =
       let t : State = wait_in i q s in
       let P : WaitList → ℕ → Type 0 = λ list k. FirstAwake s k (standing s list) in
       let Q : WaitList → ℕ → Type 0 = λ list k. FirstAwake t k (standing t list) in
-      let one : (list : WaitList) (k : ℕ) → k ≡ 0 → P list k → Q list k = λ list k e p. subst (Q list) (sym e) (none_awake_then s t i others_as_before (waits_now l) list (subst (P list) e p)) in
+      let one : (list : WaitList) (k : ℕ) → k ≡ 0 → P list k → Q list k = λ list k e p.
+      subst (Q list) (sym e) (none_awake_then s t i others_as_before (waits_now l) list (subst (P list) e p)) in
       (one (ToReceive m.object) m.receivers zeros.0 h.0, one (ToSend m.object) m.senders zeros.1 h.1)
 
 objects_begun : (s : State) (i : ℕ) (q : WaitList) → (wait_in i q s).objects ≡ s.objects
@@ -115,7 +142,8 @@ locked_begun : (s : State) (i : ℕ) (q : WaitList) → (wait_in i q s).locked �
 unfolding wait_in
 locked_begun s i q = refl
 
-pub stands_begins : (v : Exchange) (s : State) (i : ℕ) (q : WaitList) → StandsFor v None s → i < length s.tasks → wait_of (status_at s i) ≡ None → CountsNobody v
+pub stands_begins : (v : Exchange) (s : State) (i : ℕ) (q : WaitList) → StandsFor v None s
+    → i < length s.tasks → wait_of (status_at s i) ≡ None → CountsNobody v
     → StandsFor v (Some (record { task = i; list = q; priority = (task_at s i).priority })) (wait_in i q s)
 stands_begins v s i q h l none nobody = record {
   number = ap length (objects_begun s i q) ∙ h.number;
@@ -130,17 +158,20 @@ stands_begins v s i q h l none nobody = record {
 module _ (v : Exchange) (s : State) (i o : ℕ) (h : StandsFor v None (record s { locked = Some o })) where
   -- to wait
   pub stands_deciding : (a : Access) → i < length s.tasks → wait_of (status_at s i) ≡ None → CountsNobody v
-      → StandsFor v (Some (record { task = i; list = list_for o a; priority = (task_at s i).priority })) (lock i o Place (wait_in i (list_for o a) s))
+      → StandsFor v (Some (record { task = i; list = list_for o a; priority = (task_at s i).priority }))
+      (lock i o Place (wait_in i (list_for o a) s))
   unfolding wait_in
   stands_deciding a l none nobody =
       let d : Option Decider = Some (record { task = i; list = list_for o a; priority = (task_at s i).priority }) in
       let shut : State = record s { locked = Some o } in
       let w : State = wait_in i (list_for o a) shut in
       let begun : StandsFor v d w = stands_begins v shut i (list_for o a) h l none nobody in
-      stands_gone_on v d (record w { call_hold = true }) i Place (stands_unseen v d w w.time w.elapsed w.steps true w.stopped w.log begun)
+      stands_gone_on v d (record w { call_hold = true }) i Place
+      (stands_unseen v d w w.time w.elapsed w.steps true w.stopped w.log begun)
 
   -- or not
   pub stands_declining : StandsFor v None (lock i o Unlock s)
   stands_declining =
       let w : State = record s { locked = Some o } in
-      stands_gone_on v None (record w { call_hold = true }) i Unlock (stands_unseen v None w w.time w.elapsed w.steps true w.stopped w.log h)
+      stands_gone_on v None (record w { call_hold = true }) i Unlock
+      (stands_unseen v None w w.time w.elapsed w.steps true w.stopped w.log h)

@@ -1,5 +1,6 @@
 -- Who is in a waiting list: those who wait, but not the one who is still to be placed.
-use Rattle.std.proofs.Common.{◌≡◌, ◌≢◌, ℕ, zero, suc, ◌+◌, get_or, ◌&&◌, ◌||◌, Bool, true, false, not, List, [], ◌∷◌, Option, Some, None, refl, ap, sym, subst, ◌∙◌, arith, eqb}
+use Rattle.std.proofs.Common.{◌≡◌, ◌≢◌, ℕ, zero, suc, ◌+◌, get_or, ◌&&◌, ◌||◌, Bool, true, false, not, List, [], ◌∷◌, Option, Some}
+use Rattle.std.proofs.Common.{None, refl, ap, sym, subst, ◌∙◌, arith, eqb}
 use Rattle.std.specs.Prelude.{nat_lt, ◌==◌}
 use Rattle.std.specs.List.{AllByRecursion}
 use Rattle.std.specs.Option.{is_some, option_and_then}
@@ -36,7 +37,8 @@ list_at (suc l) = next (list_at l).0 (list_at l).1 where
 
 -- a task that is apart from each list is in no place
 pub no_place : (v : List (List (ℕ × ℕ))) (i : ℕ) → ((list : WaitList) → Apart (Some i) (waiting_in v list)) → place_of v i ≡ None
-no_place v i absent = place_of-None i v (λ l below. let r = list_at l in subst (λ (k : ℕ). Apart (Some i) (entries_of v k)) r.1 (absent r.0))
+no_place v i absent =
+    place_of-None i v (λ l below. let r = list_at l in subst (λ (k : ℕ). Apart (Some i) (entries_of v k)) r.1 (absent r.0))
 
 -- ---- an entry put among others
 
@@ -67,13 +69,16 @@ once_priorities (e ∷ es) d = (apart_priorities e.task es d.0, once_priorities 
 
 -- ---- those who are in a list
 
-standing_apart : (s : State) (i : ℕ) (list : WaitList) → standing_key list (task_at s i) ≡ None → Apart (Some i) (with_priorities (standing s list))
+standing_apart : (s : State) (i : ℕ) (list : WaitList) → standing_key list (task_at s i) ≡ None
+    → Apart (Some i) (with_priorities (standing s list))
 standing_apart s i list none = apart_priorities i (standing s list) (list_without (standing_key list) i s.tasks none)
 
-standing_has : (s : State) (i : ℕ) (list : WaitList) (k : Key) → standing_key list (task_at s i) ≡ Some k → has_node i (with_priorities (standing s list)) ≡ true
+standing_has : (s : State) (i : ℕ) (list : WaitList) (k : Key)
+    → standing_key list (task_at s i) ≡ Some k → has_node i (with_priorities (standing s list)) ≡ true
 standing_has s i list k is = has_node-with_priorities i (standing s list) ∙ has_task-key (standing_key list) refl i k s.tasks is
 
-has_key : (f : Task → Option Key) (ts : List Task) (i : ℕ) (es : List Entry) → AllByRecursion (HasKey f ts) es → has_node i (with_priorities es) ≡ true → (k : Key) × (f (get_or ts i no_task) ≡ Some k)
+has_key : (f : Task → Option Key) (ts : List Task) (i : ℕ) (es : List Entry) → AllByRecursion (HasKey f ts) es
+    → has_node i (with_priorities es) ≡ true → (k : Key) × (f (get_or ts i no_task) ≡ Some k)
 has_key f ts i [] h e = absurd cc
 has_key f ts i (x ∷ es) h e = by_test (eqb x.task i)
     (λ t. (x.key, subst (λ (n : ℕ). f (get_or ts n no_task) ≡ Some x.key) (eqb-same x.task i t) h.0.key))
@@ -104,20 +109,26 @@ module _ (v : Exchange) (s : State) (d : Decider) (h : StandsFor v (Some d) s) w
   still_absent : (list : WaitList) → Apart (Some d.task) (waiting_in v.waiting list)
   still_absent list = by_test (same_list d.list list)
       (λ t. subst (λ (q : WaitList). Apart (Some d.task) (waiting_in v.waiting q)) (same_list-true d.list list t)
-      (once_inserted (d.task, d.priority) (waiting_in v.waiting d.list) (subst EachOnce (sym own) (once_priorities (standing s d.list) (distinct_from (standing_key d.list) 0 s.tasks)))))
+      (once_inserted (d.task, d.priority) (waiting_in v.waiting d.list)
+      (subst EachOnce (sym own) (once_priorities (standing s d.list) (distinct_from (standing_key d.list) 0 s.tasks)))))
       (λ t.
-      let there : has_node d.task (with_priorities (standing s d.list)) ≡ true = ap (has_node d.task) (sym own) ∙ inserted-has (d.task, d.priority) (waiting_in v.waiting d.list) in
+      let there : has_node d.task (with_priorities (standing s d.list)) ≡ true =
+      ap (has_node d.task) (sym own) ∙ inserted-has (d.task, d.priority) (waiting_in v.waiting d.list) in
       let k = has_key (standing_key d.list) s.tasks d.task (standing s d.list) (list_has (standing_key d.list) s.tasks) there in
-      subst (Apart (Some d.task)) (sym (elsewhere list t)) (standing_apart s d.task list (stands_once d.list list k.0 (status_at s d.task) k.1 t)))
+      subst (Apart (Some d.task)) (sym (elsewhere list t))
+      (standing_apart s d.task list (stands_once d.list list k.0 (status_at s d.task) k.1 t)))
 
   -- it is in no list yet
   pub still_free : place_of v.waiting d.task ≡ None
   still_free = no_place v.waiting d.task still_absent
 
   -- any other is where it is
-  pub others_listed : (i : ℕ) → d.task ≢ i → (list : WaitList) → has_node i (waiting_in v.waiting list) ≡ has_node i (with_priorities (standing s list))
+  pub others_listed : (i : ℕ) → d.task ≢ i → (list : WaitList)
+      → has_node i (waiting_in v.waiting list) ≡ has_node i (with_priorities (standing s list))
   others_listed i ne list = by_test (same_list d.list list)
-      (λ t. subst (λ (q : WaitList). has_node i (waiting_in v.waiting q) ≡ has_node i (with_priorities (standing s q))) (same_list-true d.list list t)
+      (λ t.
+      subst (λ (q : WaitList). has_node i (waiting_in v.waiting q) ≡ has_node i (with_priorities (standing s q)))
+      (same_list-true d.list list t)
       (sym (has_node-inserted i (d.task, d.priority) (waiting_in v.waiting d.list) ne) ∙ ap (has_node i) own))
       (λ t. ap (has_node i) (elsewhere list t))
 
@@ -128,17 +139,27 @@ wait_cases None P n w = n refl
 wait_cases (Some x) P n w = w x refl
 
 -- It is, where it waits.
-pub waiting_is : (v : List (List (ℕ × ℕ))) (s : State) (i : ℕ) → IsSound list_places 32 v → ((list : WaitList) → has_node i (waiting_in v list) ≡ has_node i (with_priorities (standing s list))) → is_some (place_of v i) ≡ is_some (wait_of (status_at s i))
+pub waiting_is : (v : List (List (ℕ × ℕ))) (s : State) (i : ℕ) → IsSound list_places 32 v
+    → ((list : WaitList) → has_node i (waiting_in v list) ≡ has_node i (with_priorities (standing s list)))
+    → is_some (place_of v i) ≡ is_some (wait_of (status_at s i))
 waiting_is v s i sound listed = wait_cases (wait_of (status_at s i)) (λ o. is_some (place_of v i) ≡ is_some o)
-    (λ none. ap is_some (no_place v i (λ list. apart_from_test i (waiting_in v list) (listed list ∙ has_node-apart i (with_priorities (standing s list)) (standing_apart s i list (no_wait s i list none))))))
+    (λ none.
+    ap is_some (no_place v i (λ list.
+    apart_from_test i (waiting_in v list)
+    (listed list ∙ has_node-apart i (with_priorities (standing s list)) (standing_apart s i list (no_wait s i list none))))))
     (λ w is.
-    let keyed : standing_key w.list (task_at s i) ≡ Some (key w.priority w.ticket) = ap (option_and_then (wait_key w.list)) is ∙ (let t = same_list-refl w.list in rw t refl) in
+    let keyed : standing_key w.list (task_at s i) ≡ Some (key w.priority w.ticket) =
+    ap (option_and_then (wait_key w.list)) is ∙ (let t = same_list-refl w.list in rw t refl) in
     ap is_some (sound.one_place i (number_of w.list) (listed w.list ∙ standing_has s i w.list (key w.priority w.ticket) keyed)))
 
-pub stands_waiting : (v : Exchange) (s : State) (i : ℕ) → IsSound list_places 32 v.waiting → StandsFor v None s → is_some (place_of v.waiting i) ≡ is_some (wait_of (status_at s i))
+pub stands_waiting : (v : Exchange) (s : State) (i : ℕ) → IsSound list_places 32 v.waiting
+    → StandsFor v None s → is_some (place_of v.waiting i) ≡ is_some (wait_of (status_at s i))
 stands_waiting v s i sound h = waiting_is v.waiting s i sound (λ list. ap (has_node i) (h.waiters.lists list))
 
-pub stands_placing : (v : Exchange) (s : State) (d : Decider) (i : ℕ) → IsSound list_places 32 v.waiting → StandsFor v (Some d) s → is_some (place_of v.waiting i) ≡ (not (i == d.task) && is_some (wait_of (status_at s i)))
+pub stands_placing : (v : Exchange) (s : State) (d : Decider) (i : ℕ) → IsSound list_places 32 v.waiting
+    → StandsFor v (Some d) s → is_some (place_of v.waiting i) ≡ (not (i == d.task) && is_some (wait_of (status_at s i)))
 stands_placing v s d i sound h = by_test (i == d.task)
     (λ t. rw t (ap is_some (subst (λ (k : ℕ). place_of v.waiting k ≡ None) (sym (eqb-same i d.task t)) (still_free v s d h))))
-    (λ t. rw t (waiting_is v.waiting s i sound (others_listed v s d h i (λ e. let u : eqb i d.task ≡ true = rw e (eqb-refl i) in absurd cc))))
+    (λ t.
+    rw t (waiting_is v.waiting s i sound
+    (others_listed v s d h i (λ e. let u : eqb i d.task ≡ true = rw e (eqb-refl i) in absurd cc))))

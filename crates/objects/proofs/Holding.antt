@@ -1,5 +1,6 @@
 -- Who holds how many mutexes, when one is locked or freed.
-use Rattle.std.proofs.Common.{◌≡◌, ◌≢◌, ℕ, zero, suc, ◌+◌, ◌-◌, ◌<◌, ◌≤◌, inl, inr, cond, Option, Some, None, List, [], ◌∷◌, get_or, set, length, replicate, sym, ◌∙◌, ap, subst, refl, arith}
+use Rattle.std.proofs.Common.{◌≡◌, ◌≢◌, ℕ, zero, suc, ◌+◌, ◌-◌, ◌<◌, ◌≤◌, inl, inr, cond, Option, Some, None, List, [], ◌∷◌, get_or}
+use Rattle.std.proofs.Common.{set, length, replicate, sym, ◌∙◌, ap, subst, refl, arith}
 use Rattle.std.proofs.lemmas.Bool.{cases_eq}
 use Rattle.std.proofs.lemmas.List.{get_or-replicate, get_or-set_same, get_or-set_other, length-set}
 use Rattle.model.specs.Switching.{is_same}
@@ -84,14 +85,16 @@ module _ (holders : List (Option ℕ)) (held : List ℕ) (h : AreMutexes holders
     ];
   }
 
-  pub mutex_locked : (task : ℕ) → task < 32 → holder_in holders o ≡ None → AreMutexes (set holders o (Some task)) (set held task (get_or held task 0 + 1))
+  pub mutex_locked : (task : ℕ) → task < 32 → holder_in holders o ≡ None
+      → AreMutexes (set holders o (Some task)) (set held task (get_or held task 0 + 1))
   mutex_locked task l free =
       let here : one_of task (holder_in holders o) ≡ 0 = ap (one_of task) free in
       let own : one_of task (Some task) ≡ 1 = rw (eqb-refl task) refl in
       counts_put (Some task) task (get_or held task 0 + 1) l (omega (arith, here, own)) (λ i ne.
       let e = eqb-apart task i (λ q. ne (sym q)) in ap (one_of i) free ∙ rw e refl)
 
-  pub mutex_freed : (task : ℕ) → task < 32 → holder_in holders o ≡ Some task → AreMutexes (set holders o None) (set held task (get_or held task 0 - 1))
+  pub mutex_freed : (task : ℕ) → task < 32 → holder_in holders o ≡ Some task
+      → AreMutexes (set holders o None) (set held task (get_or held task 0 - 1))
   mutex_freed task l own =
       let here : one_of task (holder_in holders o) ≡ 1 = ap (one_of task) own ∙ rw (eqb-refl task) refl in
       let gone : one_of task None ≡ 0 = refl in

@@ -1,10 +1,12 @@
 -- Where a task is, by cases on its status and on the list.
-use Rattle.std.proofs.Common.{◌≡◌, ◌≢◌, ℕ, ◌+◌, ◌<◌, true, false, Option, None, List, [], ◌∷◌, refl, ap, ap₂, sym, ◌∙◌, arith, get_or, length, suc}
+use Rattle.std.proofs.Common.{◌≡◌, ◌≢◌, ℕ, ◌+◌, ◌<◌, true, false, Option, None, List, [], ◌∷◌, refl, ap, ap₂, sym, ◌∙◌, arith}
+use Rattle.std.proofs.Common.{get_or, length, suc}
 use Rattle.std.specs.List.{AllByRecursion, cons_option}
 use Rattle.std.specs.Option.{IfSome, option_and_then, option_map}
 use Rattle.model.specs.declared.call.WaitList.{WaitList}
 use Rattle.model.specs.declared.call.WaitList.TheVariants.{ToReceive, ToSend}
-use Rattle.model.specs.State.{State, Status, Ready, Awake, Waiting, Asleep, WaitingForBits, Suspended, Ended, Task, Wait, no_task, wait_if_waiting, wait_if_awake, ticket_of, status_at}
+use Rattle.model.specs.State.{State, Status, Ready, Awake, Waiting, Asleep, WaitingForBits, Suspended, Ended, Task, Wait, no_task}
+use Rattle.model.specs.State.{wait_if_waiting, wait_if_awake, ticket_of, status_at}
 use Rattle.model.specs.Order.{Key, Entry, entry, in_order, keyed}
 use Rattle.model.specs.Waiting.{same_list, wait_key, waiters, is_locked, awake_status}
 use Rattle.model.specs.Invariant.{AllTicketsBelow, HasTicketBelow, wait_of}
@@ -46,10 +48,12 @@ standing_key list t = option_and_then (wait_key list) (wait_of t.status)
 abbrev pub waiting_key : WaitList → Task → Option Key
 waiting_key list t = option_and_then (wait_key list) (wait_if_waiting t.status)
 
-key_below : (n : ℕ) (list : WaitList) (w : Wait) → w.ticket < n → AllByRecursion (λ (k : Key). k.ticket < n) (cons_option (wait_key list w) [])
+key_below : (n : ℕ) (list : WaitList) (w : Wait) → w.ticket < n
+    → AllByRecursion (λ (k : Key). k.ticket < n) (cons_option (wait_key list w) [])
 key_below n list w h = by_test (same_list w.list list) (λ t. rw t (h, tt)) (λ t. rw t tt)
 
-standing_below : (n : ℕ) (list : WaitList) (u : Status) → HasTicketBelow n u → AllByRecursion (λ (k : Key). k.ticket < n) (cons_option (option_and_then (wait_key list) (wait_of u)) [])
+standing_below : (n : ℕ) (list : WaitList) (u : Status) → HasTicketBelow n u
+    → AllByRecursion (λ (k : Key). k.ticket < n) (cons_option (option_and_then (wait_key list) (wait_of u)) [])
 standing_below n list (Ready m) h = tt
 standing_below n list (Awake w) h = key_below n list w h
 standing_below n list (Waiting w) h = key_below n list w h
@@ -86,12 +90,17 @@ ticket_of-awake Ended = refl
 abbrev pub AwakeAtLocked : State → Type 0
 AwakeAtLocked s = (task : ℕ) → IfSome (wait_if_awake (status_at s task)) (λ w. is_locked s.locked w.list ≡ true)
 
-locked_key : (s : State) (list : WaitList) (w : Wait) → is_locked s.locked list ≡ false → is_locked s.locked w.list ≡ true → wait_key list w ≡ None
+locked_key : (s : State) (list : WaitList) (w : Wait) → is_locked s.locked list ≡ false
+    → is_locked s.locked w.list ≡ true → wait_key list w ≡ None
 locked_key s list w shut shown = by_test (same_list w.list list)
-    (λ t. absurd (let e : is_locked s.locked w.list ≡ is_locked s.locked list = ap (is_locked s.locked) (same_list-true w.list list t) in cc (e, shown, shut)))
+    (λ t.
+    absurd (let e : is_locked s.locked w.list ≡ is_locked s.locked list = ap (is_locked s.locked) (same_list-true w.list list t) in
+    cc (e, shown, shut)))
     (λ t. rw t refl)
 
-waiting_same : (s : State) (list : WaitList) (u : Status) → is_locked s.locked list ≡ false → IfSome (wait_if_awake u) (λ w. is_locked s.locked w.list ≡ true) → option_and_then (wait_key list) (wait_if_waiting u) ≡ option_and_then (wait_key list) (wait_of u)
+waiting_same : (s : State) (list : WaitList) (u : Status) → is_locked s.locked list ≡ false
+    → IfSome (wait_if_awake u) (λ w. is_locked s.locked w.list ≡ true)
+    → option_and_then (wait_key list) (wait_if_waiting u) ≡ option_and_then (wait_key list) (wait_of u)
 waiting_same s list (Ready m) shut h = refl
 waiting_same s list (Awake w) shut h = sym (locked_key s list w shut h)
 waiting_same s list (Waiting w) shut h = refl
@@ -100,9 +109,15 @@ waiting_same s list (WaitingForBits g m d) shut h = refl
 waiting_same s list Suspended shut h = refl
 waiting_same s list Ended shut h = refl
 
-keyed_same : (f g : Task → Option Key) (o : ℕ) (ts : List Task) → ((i : ℕ) → i < length ts → f (get_or ts i no_task) ≡ g (get_or ts i no_task)) → keyed f o ts ≡ keyed g o ts
+keyed_same : (f g : Task → Option Key) (o : ℕ) (ts : List Task)
+    → ((i : ℕ) → i < length ts → f (get_or ts i no_task) ≡ g (get_or ts i no_task)) → keyed f o ts ≡ keyed g o ts
 keyed_same f g o [] h = refl
-keyed_same f g o (t ∷ ts) h = ap₂ (λ (k : Option Key) (es : List Entry). cons_option (option_map (entry o) k) es) (h 0 (omega arith)) (keyed_same f g (o + 1) ts (λ i l. h (suc i) (omega (arith, l))))
+keyed_same f g o (t ∷ ts) h =
+    ap₂ (λ (k : Option Key) (es : List Entry). cons_option (option_map (entry o) k) es)
+    (h 0 (omega arith)) (keyed_same f g (o + 1) ts (λ i l. h (suc i) (omega (arith, l))))
 
-pub waiters_all : (s : State) (list : WaitList) → is_locked s.locked list ≡ false → AwakeAtLocked s → waiters s list ≡ standing s list
-waiters_all s list shut h = ap in_order (keyed_same (waiting_key list) (standing_key list) 0 s.tasks (λ i l. waiting_same s list (get_or s.tasks i no_task).status shut (h i)))
+pub waiters_all : (s : State) (list : WaitList) → is_locked s.locked list ≡ false
+    → AwakeAtLocked s → waiters s list ≡ standing s list
+waiters_all s list shut h =
+    ap in_order (keyed_same (waiting_key list) (standing_key list) 0 s.tasks
+    (λ i l. waiting_same s list (get_or s.tasks i no_task).status shut (h i)))

@@ -1,11 +1,13 @@
 -- Lists with priorities in place of values.
-use Rattle.std.proofs.Common.{◌≡◌, ℕ, zero, suc, ◌+◌, ◌-◌, ◌<◌, ◌≤◌, inl, inr, Bool, true, false, not, Some, None, List, [], ◌∷◌, get_or, set, length, map, replicate, sym, ◌∙◌, ap, ap₂, subst, arith, refl}
+use Rattle.std.proofs.Common.{◌≡◌, ℕ, zero, suc, ◌+◌, ◌-◌, ◌<◌, ◌≤◌, inl, inr, Bool, true, false, not, Some, None, List, [], ◌∷◌}
+use Rattle.std.proofs.Common.{get_or, set, length, map, replicate, sym, ◌∙◌, ap, ap₂, subst, arith, refl}
 use Rattle.std.specs.Prelude.{◌==◌, ◌||◌, nat_lt, if◌then◌else◌}
 use Rattle.std.specs.List.{position_or_len}
 use Rattle.std.proofs.lemmas.Bool.{cases_eq, cases_lt, lt-ltb, le-ltb}
 use Rattle.std.proofs.lemmas.List.{length-map, get_or-map, get_or_past}
 use Rattle.lists.specs.Lists.{Each, EachOnce, IsSound, entries_of, first_of, has_node, insert_sorted, place_of, without}
-use Rattle.lists.proofs.Entries.{Each-insert_sorted, Each-without, insert_sorted-after, insert_sorted-before, without-other, without-same}
+use Rattle.lists.proofs.Entries.{Each-insert_sorted, Each-without, insert_sorted-after, insert_sorted-before, without-other}
+use Rattle.lists.proofs.Entries.{without-same}
 use Rattle.lists.proofs.Laws.{entries_of-set_other, entries_of-set_same, entries_of-without}
 use Rattle.objects.specs.Places.{list_places}
 use Rattle.objects.specs.WaitingLists.{AreWaitingLists, mirror, mirrored}
@@ -20,8 +22,11 @@ has_node-mirror n (x ∷ xs) = ap (λ (b : Bool). x.0 == n || b) (has_node-mirro
 without-mirror : (n : ℕ) (xs : List (ℕ × ℕ)) → map mirror (without n xs) ≡ without n (map mirror xs)
 without-mirror n [] = refl
 without-mirror n (x ∷ xs) = elim (cases_eq x.0 n) [
-  | inl same ↦ ap (map mirror) (without-same n x xs same) ∙ without-mirror n xs ∙ sym (without-same n (mirror x) (map mirror xs) same)
-  | inr other ↦ ap (map mirror) (without-other n x xs other) ∙ ap (λ (ys : List (ℕ × ℕ)). mirror x ∷ ys) (without-mirror n xs) ∙ sym (without-other n (mirror x) (map mirror xs) other)
+  | inl same ↦
+      ap (map mirror) (without-same n x xs same) ∙ without-mirror n xs ∙ sym (without-same n (mirror x) (map mirror xs) same)
+  | inr other ↦
+      ap (map mirror) (without-other n x xs other) ∙ ap (λ (ys : List (ℕ × ℕ)). mirror x ∷ ys) (without-mirror n xs)
+      ∙ sym (without-other n (mirror x) (map mirror xs) other)
 ]
 
 -- before the first of lower priority
@@ -31,7 +36,8 @@ falling-before e f fs less = let b : nat_lt f.1 e.1 ≡ true = lt-ltb f.1 e.1 le
 falling-after : (e f : ℕ × ℕ) (fs : List (ℕ × ℕ)) → e.1 ≤ f.1 → insert_by_priority e (f ∷ fs) ≡ f ∷ insert_by_priority e fs
 falling-after e f fs le = let b : nat_lt f.1 e.1 ≡ false = le-ltb f.1 e.1 le in rw b refl
 
-pub insert_by_priority-mirror : (n p : ℕ) (xs : List (ℕ × ℕ)) → p ≤ 31 → Each (λ e. e.1 ≤ 31) xs → map mirror (insert_sorted (n, 31 - p) xs) ≡ insert_by_priority (n, p) (map mirror xs)
+pub insert_by_priority-mirror : (n p : ℕ) (xs : List (ℕ × ℕ)) → p ≤ 31 → Each (λ e. e.1 ≤ 31) xs
+    → map mirror (insert_sorted (n, 31 - p) xs) ≡ insert_by_priority (n, p) (map mirror xs)
 insert_by_priority-mirror n p [] fits h = ap (λ (k : ℕ). (n, k) ∷ []) (omega (arith, fits))
 insert_by_priority-mirror n p (x ∷ xs) fits h =
     let at : 31 - (31 - p) ≡ p = omega (arith, fits) in
@@ -72,7 +78,8 @@ mirrored-set (y ∷ ys) (suc l) xs = ap (λ (zs : List (List (ℕ × ℕ))). map
 
 pub mirrored-without : (n : ℕ) (ls : List (List (ℕ × ℕ))) → mirrored (map (without n) ls) ≡ map (without n) (mirrored ls)
 mirrored-without n [] = refl
-mirrored-without n (l ∷ ls) = ap₂ (λ (e : List (ℕ × ℕ)) (es : List (List (ℕ × ℕ))). e ∷ es) (without-mirror n l) (mirrored-without n ls)
+mirrored-without n (l ∷ ls) =
+    ap₂ (λ (e : List (ℕ × ℕ)) (es : List (List (ℕ × ℕ))). e ∷ es) (without-mirror n l) (mirrored-without n ls)
 
 pub mirrored-empty : (n : ℕ) → mirrored (replicate n []) ≡ replicate n []
 mirrored-empty zero = refl
@@ -90,10 +97,13 @@ sound-mirrored {L} {N} {ls} h =
     let at : (l : ℕ) → map mirror (entries_of ls l) ≡ entries_of (mirrored ls) l = λ l. sym (entries_of-mirrored ls l) in
     record {
       as_many = length-map ls (map mirror) ∙ h.as_many;
-      one_place = λ n l has. place_of-mirrored n ls ∙ h.one_place n l (sym (has_node-mirror n (entries_of ls l)) ∙ ap (has_node n) (at l) ∙ has);
+      one_place = λ n l has.
+          place_of-mirrored n ls ∙ h.one_place n l (sym (has_node-mirror n (entries_of ls l)) ∙ ap (has_node n) (at l) ∙ has);
       distinct = λ l. subst EachOnce (at l) (EachOnce-mirror (entries_of ls l) (h.distinct l));
       nodes = λ l. subst (Each (λ e. e.0 < N)) (at l) (Each-mirror (λ k. k < N) (entries_of ls l) (h.nodes l));
-      few = λ l. subst (λ (xs : List (ℕ × ℕ)). length xs ≤ N) (at l) (let few = h.few l in let same = length-map (entries_of ls l) mirror in omega (arith, few, same));
+      few = λ l.
+          subst (λ (xs : List (ℕ × ℕ)). length xs ≤ N) (at l)
+          (let few = h.few l in let same = length-map (entries_of ls l) mirror in omega (arith, few, same));
     }
 
 -- what the calls make of the lists of the table
@@ -105,28 +115,38 @@ are_waiting_empty n sound = record { sound = sound; known = λ l. none n l } whe
   none (suc m) zero = tt
   none (suc m) (suc l) = none m l
 
-pub are_waiting_without : {ls : List (List (ℕ × ℕ))} → AreWaitingLists ls → (n : ℕ) → IsSound list_places 32 (map (without n) ls) → AreWaitingLists (map (without n) ls)
+pub are_waiting_without : {ls : List (List (ℕ × ℕ))} → AreWaitingLists ls → (n : ℕ)
+    → IsSound list_places 32 (map (without n) ls) → AreWaitingLists (map (without n) ls)
 are_waiting_without {ls} h n sound = record {
   sound = sound;
-  known = λ l. subst (Each (λ e. e.1 ≤ 31)) (sym (entries_of-without n l ls)) (Each-without (λ e. e.1 ≤ 31) n (entries_of ls l) (h.known l));
+  known = λ l.
+      subst (Each (λ e. e.1 ≤ 31)) (sym (entries_of-without n l ls)) (Each-without (λ e. e.1 ≤ 31) n (entries_of ls l) (h.known l));
 }
 
-pub are_waiting_put : {ls : List (List (ℕ × ℕ))} → AreWaitingLists ls → (l n v : ℕ) → l < list_places → v ≤ 31 → IsSound list_places 32 (set ls l (insert_sorted (n, v) (entries_of ls l))) → AreWaitingLists (set ls l (insert_sorted (n, v) (entries_of ls l)))
+pub are_waiting_put : {ls : List (List (ℕ × ℕ))} → AreWaitingLists ls → (l n v : ℕ) → l < list_places
+    → v ≤ 31 → IsSound list_places 32 (set ls l (insert_sorted (n, v) (entries_of ls l)))
+    → AreWaitingLists (set ls l (insert_sorted (n, v) (entries_of ls l)))
 are_waiting_put {ls} h l n v below fits sound = record {
   sound = sound;
   known = λ k. elim (cases_eq k l) [
     | inl same ↦
         let many = h.sound.as_many in
         subst (λ (j : ℕ). Each (λ e. e.1 ≤ 31) (entries_of (set ls l (insert_sorted (n, v) (entries_of ls l))) j)) (sym same)
-        (subst (Each (λ e. e.1 ≤ 31)) (sym (entries_of-set_same ls l (insert_sorted (n, v) (entries_of ls l)) (omega (arith, many, below)))) (Each-insert_sorted (λ e. e.1 ≤ 31) n v (entries_of ls l) fits (h.known l)))
-    | inr other ↦ subst (Each (λ e. e.1 ≤ 31)) (sym (entries_of-set_other ls l k (insert_sorted (n, v) (entries_of ls l)) other)) (h.known k)
+        (subst (Each (λ e. e.1 ≤ 31))
+        (sym (entries_of-set_same ls l (insert_sorted (n, v) (entries_of ls l)) (omega (arith, many, below))))
+        (Each-insert_sorted (λ e. e.1 ≤ 31) n v (entries_of ls l) fits (h.known l)))
+    | inr other ↦
+        subst (Each (λ e. e.1 ≤ 31)) (sym (entries_of-set_other ls l k (insert_sorted (n, v) (entries_of ls l)) other)) (h.known k)
   ];
 }
 
-pub mirrored-put : {ls : List (List (ℕ × ℕ))} → AreWaitingLists ls → (l n p : ℕ) → p ≤ 31 → mirrored (set ls l (insert_sorted (n, 31 - p) (entries_of ls l))) ≡ set (mirrored ls) l (insert_by_priority (n, p) (entries_of (mirrored ls) l))
+pub mirrored-put : {ls : List (List (ℕ × ℕ))} → AreWaitingLists ls → (l n p : ℕ) → p ≤ 31
+    → mirrored (set ls l (insert_sorted (n, 31 - p) (entries_of ls l)))
+    ≡ set (mirrored ls) l (insert_by_priority (n, p) (entries_of (mirrored ls) l))
 mirrored-put {ls} h l n p fits =
     mirrored-set ls l (insert_sorted (n, 31 - p) (entries_of ls l))
-    ∙ ap (set (mirrored ls) l) (insert_by_priority-mirror n p (entries_of ls l) fits (h.known l) ∙ ap (insert_by_priority (n, p)) (sym (entries_of-mirrored ls l)))
+    ∙ ap (set (mirrored ls) l) (insert_by_priority-mirror n p (entries_of ls l) fits (h.known l)
+    ∙ ap (insert_by_priority (n, p)) (sym (entries_of-mirrored ls l)))
 
 -- the first stays the first
 first_of-mirror : (xs : List (ℕ × ℕ)) → first_of xs ≡ first_of (map mirror xs)

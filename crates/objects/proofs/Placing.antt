@@ -1,5 +1,6 @@
 -- A task that has begun to wait, from then until it is placed.
-use Rattle.std.proofs.Common.{◌≡◌, ◌≢◌, ℕ, ◌<◌, true, false, Option, Some, None, List, [], ◌∷◌, map, length, set, sym, ◌∙◌, ap, subst, arith, refl}
+use Rattle.std.proofs.Common.{◌≡◌, ◌≢◌, ℕ, ◌<◌, true, false, Option, Some, None, List, [], ◌∷◌, map, length, set, sym, ◌∙◌, ap}
+use Rattle.std.proofs.Common.{subst, arith, refl}
 use Rattle.std.specs.Prelude.{nat_lt}
 use Rattle.std.proofs.Math.ListN.{length-set}
 use Rattle.std.proofs.lemmas.Option.{same_Some}
@@ -26,7 +27,8 @@ module _ (v : List (List (ℕ × ℕ))) (i : ℕ) (absent : (list : WaitList) �
   without_free list = without-apart i (waiting_in v list) (absent list)
 
   takes : (s : State) (q : WaitList) (p : ℕ) (deadline : Option ℕ) → WaitersStand v None s → i < length s.tasks
-      → WaitersStand v (Some (record { task = i; list = q; priority = p })) (take_ticket i (λ ticket. Waiting (record { list = q; priority = p; ticket = ticket; deadline = deadline })) s)
+      → WaitersStand v (Some (record { task = i; list = q; priority = p }))
+      (take_ticket i (λ ticket. Waiting (record { list = q; priority = p; ticket = ticket; deadline = deadline })) s)
   takes s q p deadline h l =
       let status : ℕ → Status = λ ticket. Waiting (record { list = q; priority = p; ticket = ticket; deadline = deadline }) in
       let d : Decider = record { task = i; list = q; priority = p } in
@@ -39,7 +41,9 @@ module _ (v : List (List (ℕ × ℕ))) (i : ℕ) (absent : (list : WaitList) �
             (rw (same_list-refl q)
             (ap (insert_by_priority (i, p)) (sym (without_free q) ∙ ap (without i) (h.lists q))
             ∙ sym (standing-joined s i status h.table l q p (rw (same_list-refl q) refl)))))
-            (λ t. rw t (sym (without_free list) ∙ ap (without i) (h.lists list) ∙ sym (standing-left s i status h.table l list (rw t refl))));
+            (λ t.
+            rw t (sym (without_free list) ∙ ap (without i) (h.lists list)
+            ∙ sym (standing-left s i status h.table l list (rw t refl))));
         table = table-taken s i status h.table (omega arith);
       }
 
@@ -50,11 +54,13 @@ module _ (v : List (List (ℕ × ℕ))) (i : ℕ) (absent : (list : WaitList) �
       let call = record (call_at s i) { waits = true } in
       let u : Task = record (task_at s i) { progress = record (progress_at s i) { call = call } } in
       let t : State = with_task i u s in
-      let before : WaitersStand v None t = stands_kept v None s i u h (λ list. refl) (ticket_at s.next_ticket i s.tasks h.table.tickets) in
+      let before : WaitersStand v None t =
+      stands_kept v None s i u h (λ list. refl) (ticket_at s.next_ticket i s.tasks h.table.tickets) in
       takes t q (task_at s i).priority (call_at s i).deadline before (subst (λ (k : ℕ). i < k) (sym (length-set s.tasks i u)) l)
 
 -- It is placed: the lists come to be what they were counted as.
-pub stands_placed : (v : List (List (ℕ × ℕ))) (s : State) (q : WaitList) (p i : ℕ) → length v ≡ list_places → number_of q < list_places → WaitersStand v (Some (record { task = i; list = q; priority = p })) s
+pub stands_placed : (v : List (List (ℕ × ℕ))) (s : State) (q : WaitList) (p i : ℕ) → length v ≡ list_places
+    → number_of q < list_places → WaitersStand v (Some (record { task = i; list = q; priority = p })) s
     → WaitersStand (set v (number_of q) (insert_by_priority (i, p) (waiting_in v q))) None s
 stands_placed v s q p i many known h =
     let new : List (ℕ × ℕ) = insert_by_priority (i, p) (waiting_in v q) in
@@ -64,15 +70,19 @@ stands_placed v s q p i many known h =
           let same : q ≡ list = same_list-true q list t in
           let was = h.lists list in
           let now : insert_by_priority (i, p) (waiting_in v list) ≡ with_priorities (standing s list) = rw t at was in
-          let there : new ≡ with_priorities (standing s q) = subst (λ (w : WaitList). insert_by_priority (i, p) (waiting_in v w) ≡ with_priorities (standing s w)) (sym same) now in
+          let there : new ≡ with_priorities (standing s q) =
+          subst (λ (w : WaitList). insert_by_priority (i, p) (waiting_in v w) ≡ with_priorities (standing s w)) (sym same) now in
           subst (λ (w : WaitList). waiting_in (set v (number_of q) new) w ≡ with_priorities (standing s w)) same
           (entries_of-set_same v (number_of q) new (omega (arith, many, known)) ∙ there))
-          (λ t. let was = h.lists list in let now = rw t at was in entries_of-set_other v (number_of q) (number_of list) new (other_number q list t) ∙ now);
+          (λ t. let was = h.lists list in
+          let now = rw t at was in
+          entries_of-set_other v (number_of q) (number_of list) new (other_number q list t) ∙ now);
       table = h.table;
     }
 
 -- Both at once.
-pub stands_begun : (v : List (List (ℕ × ℕ))) (s : State) (q : WaitList) (p i : ℕ) → IsSound list_places 32 v → place_of v i ≡ None → number_of q < list_places → WaitersStand v None s → i < length s.tasks → (task_at s i).priority ≡ p
+pub stands_begun : (v : List (List (ℕ × ℕ))) (s : State) (q : WaitList) (p i : ℕ) → IsSound list_places 32 v
+    → place_of v i ≡ None → number_of q < list_places → WaitersStand v None s → i < length s.tasks → (task_at s i).priority ≡ p
     → WaitersStand (set v (number_of q) (insert_by_priority (i, p) (waiting_in v q))) None (wait_in i q s)
 stands_begun v s q p i sound free known h l priority =
     stands_placed v (wait_in i q s) q p i sound.as_many known
@@ -81,26 +91,35 @@ stands_begun v s q p i sound free known h l priority =
 
 -- Meanwhile a task may be woken through another object: it leaves its list.
 
-insert_by_priority-apart : (i : ℕ) (e : ℕ × ℕ) (xs : List (ℕ × ℕ)) → Some i ≢ Some e.0 → Apart (Some i) xs → Apart (Some i) (insert_by_priority e xs)
+insert_by_priority-apart : (i : ℕ) (e : ℕ × ℕ) (xs : List (ℕ × ℕ)) → Some i ≢ Some e.0
+    → Apart (Some i) xs → Apart (Some i) (insert_by_priority e xs)
 insert_by_priority-apart i e [] n h = (n, tt)
-insert_by_priority-apart i e (x ∷ xs) n h = by_test (nat_lt x.1 e.1) (λ t. rw t (n, h)) (λ t. rw t (h.0, insert_by_priority-apart i e xs n h.1))
+insert_by_priority-apart i e (x ∷ xs) n h =
+    by_test (nat_lt x.1 e.1) (λ t. rw t (n, h)) (λ t. rw t (h.0, insert_by_priority-apart i e xs n h.1))
 
-pub stands_readied_but : (v : List (List (ℕ × ℕ))) (s : State) (d : Decider) (i : ℕ) → WaitersStand v (Some d) s → i < length s.tasks → i ≢ d.task → has_node i (waiting_in v d.list) ≡ false
+pub stands_readied_but : (v : List (List (ℕ × ℕ))) (s : State) (d : Decider) (i : ℕ)
+    → WaitersStand v (Some d) s → i < length s.tasks → i ≢ d.task → has_node i (waiting_in v d.list) ≡ false
     → WaitersStand (map (without i) v) (Some d) (make_ready i s)
 stands_readied_but v s d i h l other away = record {
   lists = λ list.
-      let ready : with_priorities (standing (make_ready i s) list) ≡ without i (with_priorities (standing s list)) = standing-left s i Ready h.table l list refl in
+      let ready : with_priorities (standing (make_ready i s) list) ≡ without i (with_priorities (standing s list)) =
+      standing-left s i Ready h.table l list refl in
       by_test (same_list d.list list)
       (λ t.
       let same : d.list ≡ list = same_list-true d.list list t in
-      let absent : Apart (Some i) (waiting_in v list) = apart_from_test i (waiting_in v list) (subst (λ (w : WaitList). has_node i (waiting_in v w) ≡ false) same away) in
+      let absent : Apart (Some i) (waiting_in v list) =
+      apart_from_test i (waiting_in v list) (subst (λ (w : WaitList). has_node i (waiting_in v w) ≡ false) same away) in
       let was = h.lists list in
       let now : insert_by_priority (d.task, d.priority) (waiting_in v list) ≡ with_priorities (standing s list) = rw t at was in
       rw t (
-      ap (insert_by_priority (d.task, d.priority)) (entries_of-without i (number_of list) v ∙ without-apart i (waiting_in v list) absent)
-      ∙ sym (without-apart i (insert_by_priority (d.task, d.priority) (waiting_in v list)) (insert_by_priority-apart i (d.task, d.priority) (waiting_in v list) (λ q. other (same_Some i d.task q)) absent))
+      ap (insert_by_priority (d.task, d.priority))
+      (entries_of-without i (number_of list) v ∙ without-apart i (waiting_in v list) absent)
+      ∙ sym (without-apart i (insert_by_priority (d.task, d.priority) (waiting_in v list))
+      (insert_by_priority-apart i (d.task, d.priority) (waiting_in v list) (λ q. other (same_Some i d.task q)) absent))
       ∙ ap (without i) now ∙ sym ready
       ))
-      (λ t. let was = h.lists list in let now : waiting_in v list ≡ with_priorities (standing s list) = rw t at was in rw t (entries_of-without i (number_of list) v ∙ ap (without i) now ∙ sym ready));
+      (λ t. let was = h.lists list in
+      let now : waiting_in v list ≡ with_priorities (standing s list) = rw t at was in
+      rw t (entries_of-without i (number_of list) v ∙ ap (without i) now ∙ sym ready));
   table = table-taken s i Ready h.table (omega arith);
 }

@@ -2,7 +2,8 @@
 use Rattle.std.proofs.Common.{◌≡◌, ℕ, eqb, ltb, Option, Some, None, refl}
 use Rattle.model.specs.State.{State, Task, call_at, for_one, object_at, progress_at, task_at, with_task}
 use Rattle.model.specs.Switching.{is_ready, to_back}
-use Rattle.model.specs.Mutexes.{after_timeout, disinherit, fall_back, inherit, inherit_from, inherits, lend, mutexes_held, set_priority}
+use Rattle.model.specs.Mutexes.{after_timeout, disinherit, fall_back, inherit, inherit_from, inherits, lend, mutexes_held}
+use Rattle.model.specs.Mutexes.{set_priority}
 use Rattle.model.specs.Invariant.{IsTable}
 use Rattle.model.proofs.Sorting.{by_test}
 use Rattle.model.proofs.Tables.{table-make_ready, table-set, ticket_at}
@@ -31,7 +32,8 @@ kept s = record { same = same s; table = λ h. h }
 kept_both : (a b c : State) → KeepsWaits a b → KeepsWaits b c → KeepsWaits a c
 kept_both a b c h k = record { same = same_both a b c h.same k.same; table = λ t. k.table (h.table t) }
 
-kept-for_one : (deed : ℕ → State → State) (o : Option ℕ) (s : State) → ((i : ℕ) → KeepsWaits s (deed i s)) → KeepsWaits s (for_one deed o s)
+kept-for_one : (deed : ℕ → State → State) (o : Option ℕ) (s : State)
+    → ((i : ℕ) → KeepsWaits s (deed i s)) → KeepsWaits s (for_one deed o s)
 kept-for_one deed None s k = kept s
 kept-for_one deed (Some i) s k = k i
 
@@ -59,7 +61,8 @@ kept-set_priority s i priority =
     (λ e. rw e (kept s))
     (λ e. rw e (kept_both s t (to_back i t) (kept-task s i (record (task_at s i) { priority = priority }) refl) (kept-to_back t i)))
 
-pub stands_ranked : (v : Exchange) (d : Option Decider) (s : State) (i priority : ℕ) → StandsFor v d s → StandsFor v d (set_priority i priority s)
+pub stands_ranked : (v : Exchange) (d : Option Decider) (s : State) (i priority : ℕ)
+    → StandsFor v d s → StandsFor v d (set_priority i priority s)
 stands_ranked v d s i priority = stands_kept v d s (set_priority i priority s) (kept-set_priority s i priority)
 
 pub at_locked-ranked : (d : Option Decider) (s : State) (i priority : ℕ) → AtLocked d s → AtLocked d (set_priority i priority s)
@@ -72,7 +75,9 @@ kept-lend s priority holder = by_test (ltb (task_at s holder).priority priority)
 
 kept-inherit_from : (s : State) (i holder : ℕ) → KeepsWaits s (inherit_from i holder s)
 kept-inherit_from s i holder =
-    let u : Task = record (task_at s i) { progress = record (progress_at s i) { call = record (call_at s i) { inherited = inherits i holder s } } } in
+    let u : Task =
+    record (task_at s i)
+    { progress = record (progress_at s i) { call = record (call_at s i) { inherited = inherits i holder s } } } in
     let t : State = with_task i u s in
     kept_both s t (lend (task_at s i).priority holder t) (kept-task s i u refl) (kept-lend t (task_at s i).priority holder)
 

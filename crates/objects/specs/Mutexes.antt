@@ -11,7 +11,8 @@ holder_in holders object = slice_index_or holders object None
 abbrev pub count_held : ℕ → List (Option ℕ) → ℕ
 count_held task holders = length (filter (λ holder. is_same holder (Some task)) holders)
 
--- what is true between two calls: there is a holder or none for each place, and of each of 32 tasks the count of those that it holds is kept
+-- what is true between two calls: there is a holder or none for each place,
+-- and of each of 32 tasks the count of those that it holds is kept
 pub record AreMutexes (holders : List (Option ℕ)) (held : List ℕ) : Type 0 where
   pub as_many : length holders ≡ object_places
   pub for_all : length held ≡ 32

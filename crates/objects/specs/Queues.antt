@@ -1,5 +1,6 @@
 -- What callers see of the queues, and the states that they represent.
-use Rattle.std.specs.Prelude.{◌≡◌, ◌<◌, ℕ, ◌==◌, if◌then◌else◌, List, Option, Some, None, length, option_map, option_and_then, IfSome}
+use Rattle.std.specs.Prelude.{◌≡◌, ◌<◌, ℕ, ◌==◌, if◌then◌else◌, List, Option, Some, None, length, option_map, option_and_then}
+use Rattle.std.specs.Prelude.{IfSome}
 use Rattle.lists.specs.Lists.{first_of}
 use Rattle.model.specs.declared.op.Access.{Access}
 use Rattle.model.specs.declared.op.Access.TheVariants.{Overwrite}
@@ -78,8 +79,8 @@ Counts s lock =
 abbrev pub CountsNobody : Exchange → Type 0
 CountsNobody v = IfSome v.lock (λ (l : Lock). (l.receivers ≡ 0) × (l.senders ≡ 0))
 
--- The objects are the state's, and as many. The waiting lists are the tasks that wait there, together with the one who is still to be
--- placed, if there is one. The same object is locked, and its wakes are counted.
+-- The objects are the state's, and as many. The waiting lists are the tasks that wait there, together with the one who is still to
+-- be placed, if there is one. The same object is locked, and its wakes are counted.
 pub record StandsFor (v : Exchange) (decider : Option Decider) (s : State) : Type 0 where
   pub number : length s.objects ≡ v.number
   pub objects : (object : ℕ) → object_in v.objects object ≡ object_at s object

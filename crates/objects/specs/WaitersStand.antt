@@ -1,5 +1,6 @@
 -- What the waiting lists represent: the tasks that wait in a state of the definitions, whose tickets the lists don't have.
-use Rattle.std.specs.Prelude.{◌≡◌, ℕ, zero, suc, ◌+◌, Bool, true, false, is_some, List, [], ◌∷◌, Option, Some, None, nat_lt, if◌then◌else◌, option_and_then, IfSome}
+use Rattle.std.specs.Prelude.{◌≡◌, ℕ, zero, suc, ◌+◌, Bool, true, false, is_some, List, [], ◌∷◌, Option, Some, None, nat_lt}
+use Rattle.std.specs.Prelude.{if◌then◌else◌, option_and_then, IfSome}
 use Rattle.model.specs.declared.call.WaitList.{WaitList}
 use Rattle.model.specs.declared.call.WaitList.TheVariants.{ToReceive, ToSend}
 use Rattle.model.specs.State.{State, Task, wait_if_awake, status_at}
@@ -55,7 +56,8 @@ one_more count = if nat_lt count 32 then count + 1 else count
 
 -- Since this object was locked, this many were woken of those who wait to receive from it, and of those who wait to send to
 -- it (`cTxLock`, `cRxLock`): they are Awake, and come first.
-pub record StandLocked (v : List (List (ℕ × ℕ))) (decider : Option Decider) (object receivers senders : ℕ) (s : State) : Type 0 where
+pub record StandLocked (v : List (List (ℕ × ℕ))) (decider : Option Decider)
+    (object receivers senders : ℕ) (s : State) : Type 0 where
   pub stand : WaitersStand v decider s
   pub locked : s.locked ≡ Some object
   pub to_receive : FirstAwake s receivers (standing s (ToReceive object))

@@ -1,10 +1,12 @@
 -- A task is still to be placed: what the calls of handlers make of the states that the kernel represents then.
-use Rattle.std.proofs.Common.{◌≡◌, ◌≢◌, ◌<◌, ℕ, true, false, eqb, ltb, set, List, [], ◌∷◌, length, get_or, Option, Some, None, refl, ap, sym, subst, ◌∙◌}
+use Rattle.std.proofs.Common.{◌≡◌, ◌≢◌, ◌<◌, ℕ, true, false, eqb, ltb, set, List, [], ◌∷◌, length, get_or, Option, Some, None, refl}
+use Rattle.std.proofs.Common.{ap, sym, subst, ◌∙◌}
 use Rattle.std.specs.Prelude.{if◌then◌else◌}
 use Rattle.std.specs.List.{AllByRecursion}
 use Rattle.std.specs.Option.{option_map, option_and_then}
 use Rattle.model.specs.declared.call.WaitList.{WaitList}
-use Rattle.model.specs.State.{State, Task, Progress, Status, Object, Ready, Awake, Waiting, Asleep, WaitingForBits, Suspended, Ended, wait_if_waiting, task_at, status_at, progress_at, call_at, with_object, for_one, no_task}
+use Rattle.model.specs.State.{State, Task, Progress, Status, Object, Ready, Awake, Waiting, Asleep, WaitingForBits, Suspended}
+use Rattle.model.specs.State.{Ended, wait_if_waiting, task_at, status_at, progress_at, call_at, with_object, for_one, no_task}
 use Rattle.model.specs.Order.{Key, Entry, first, task_of}
 use Rattle.model.specs.Switching.{is_ready, make_ready}
 use Rattle.model.specs.Waiting.{wait_key, same_list, awake_status, awaken, is_locked, waiters, wake_one, wake_best}
@@ -40,22 +42,30 @@ use Rattle.machine.specs.StandsFor.{StandsBefore, Stands, decider}
 use Rattle.machine.specs.StandsFor.Stands.{Placed, Placing}
 use Rattle.machine.proofs.Parts.{Kept, kept_of, progress-kept}
 use Rattle.machine.proofs.Waking.{progress-ready}
-use Rattle.ops.proofs.Waits.{awake_unready, awake_resumes, awake_alike, best, woken_free, waits_there, opened, wakes_it, Unwoken, unwoken}
+use Rattle.ops.proofs.Waits.{awake_unready, awake_resumes, awake_alike, best, woken_free, waits_there, opened, wakes_it, Unwoken}
+use Rattle.ops.proofs.Waits.{unwoken}
 use Rattle.ops.proofs.Waits.Unwoken.{Nobody, Counted}
 
 -- ---- what isn't changed stays
 
 -- A task changes, but not its priority.
-priority-kept : (ts : List Task) (i : ℕ) (t : Task) → t.priority ≡ (get_or ts i no_task).priority → (j : ℕ) → (get_or (set ts i t) j no_task).priority ≡ (get_or ts j no_task).priority
+priority-kept : (ts : List Task) (i : ℕ) (t : Task) → t.priority ≡ (get_or ts i no_task).priority
+    → (j : ℕ) → (get_or (set ts i t) j no_task).priority ≡ (get_or ts j no_task).priority
 priority-kept ts i t e = each-set no_task (λ j (u : Task). u.priority ≡ (get_or ts j no_task).priority) ts i t e (λ j. refl)
 
--- The scheduler, the clock and the queues are given, and the same tasks wait for bits; each task is where it was in its script, and what is kept beside the parts stays.
-before_with : {task : ℕ} {list : WaitList} {k : Machine} {s new : State} {v : Schedule} {t : Timeline} {q : Exchange} → StandsBefore task list k s → sched.StandsBefore task v new → clock.StandsBefore task (call_at s task).deadline t new → queues.StandsFor q (Some (decider task list s)) new → AtLocked (Some (decider task list s)) new → SameBitWaits s new
-    → ((i : ℕ) → progress_at new i ≡ progress_at s i) → (task_at new task).priority ≡ (task_at s task).priority → kept_of new ≡ kept_of s → new.current ≡ s.current → new.call_hold ≡ s.call_hold → StandsBefore task list (record k { sched = v; clock = t; queues = q }) new
+-- The scheduler, the clock and the queues are given, and the same tasks wait for bits;
+-- each task is where it was in its script, and what is kept beside the parts stays.
+before_with : {task : ℕ} {list : WaitList} {k : Machine} {s new : State} {v : Schedule} {t : Timeline} {q : Exchange}
+    → StandsBefore task list k s → sched.StandsBefore task v new → clock.StandsBefore task (call_at s task).deadline t new
+    → queues.StandsFor q (Some (decider task list s)) new → AtLocked (Some (decider task list s)) new → SameBitWaits s new
+    → ((i : ℕ) → progress_at new i ≡ progress_at s i) → (task_at new task).priority ≡ (task_at s task).priority
+    → kept_of new ≡ kept_of s → new.current ≡ s.current → new.call_hold ≡ s.call_hold
+    → StandsBefore task list (record k { sched = v; clock = t; queues = q }) new
 before_with {task} {list} {k} {s} {new} {v} {t} {q} b on awake there locked bits progress priority kept current held = record {
   sched = on;
   clock = subst (λ (p : Progress). clock.StandsBefore task p.call.deadline t new) (sym (progress task)) awake;
-  queues = subst (λ (n : ℕ). queues.StandsFor q (Some (record { task = task; list = list; priority = n })) new) (sym priority) there;
+  queues =
+      subst (λ (n : ℕ). queues.StandsFor q (Some (record { task = task; list = list; priority = n })) new) (sym priority) there;
   groups = on_groups.stands_same k.groups s new b.groups bits on.table;
   suspensions = b.suspensions ∙ sym (ap (λ (x : Kept). x.0) kept);
   awake = subst (λ (n : ℕ). AtLocked (Some (record { task = task; list = list; priority = n })) new) (sym priority) locked;
@@ -78,14 +88,16 @@ has_node-inserted i p (f ∷ fs) = by_test (ltb f.1 p)
     (λ t. rw (t, eqb-refl i) refl)
     (λ t. rw t (by_test (eqb f.0 i) (λ u. rw u refl) (λ u. rw u (has_node-inserted i p fs))))
 
-keyed_at : (key : Task → Option Key) (ts : List Task) (i : ℕ) (es : List Entry) → AllByRecursion (HasKey key ts) es → has_task i es ≡ true → (k : Key) × (key (get_or ts i no_task) ≡ Some k)
+keyed_at : (key : Task → Option Key) (ts : List Task) (i : ℕ) (es : List Entry)
+    → AllByRecursion (HasKey key ts) es → has_task i es ≡ true → (k : Key) × (key (get_or ts i no_task) ≡ Some k)
 keyed_at key ts i [] has t = absurd (cc)
 keyed_at key ts i (e ∷ es) has t = by_test (eqb e.task i)
     (λ u. (e.key, subst (λ (j : ℕ). key (get_or ts j no_task) ≡ Some e.key) (eqb-same e.task i u) has.0.key))
     (λ u. keyed_at key ts i es has.1 (rw u at t))
 
 -- who waits in one list, and is in another: they are one list
-one_list : (a b : WaitList) (k m : Key) (u : Status) → option_and_then (wait_key a) (wait_if_waiting u) ≡ Some k → option_and_then (wait_key b) (wait_of u) ≡ Some m → a ≡ b
+one_list : (a b : WaitList) (k m : Key) (u : Status) → option_and_then (wait_key a) (wait_if_waiting u) ≡ Some k
+    → option_and_then (wait_key b) (wait_of u) ≡ Some m → a ≡ b
 one_list a b k m (Ready n) e f = absurd (cc)
 one_list a b k m (Awake w) e f = absurd (cc)
 one_list a b k m (Waiting w) e f = by_test (same_list w.list a)
@@ -102,15 +114,21 @@ module _ (task : ℕ) (list : WaitList) (k : Machine) (s : State) (b : StandsBef
   pub stands_there : (m : Key) × (option_and_then (wait_key list) (wait_of (status_at s task)) ≡ Some m)
   stands_there =
       let own : same_list list list ≡ true = same_list-refl list in
-      let joined : insert_by_priority (task, (task_at s task).priority) (waiting_in k.queues.waiting list) ≡ with_priorities (standing s list) = rw own at (b.queues.waiters.lists list) in
+      let joined : insert_by_priority (task, (task_at s task).priority) (waiting_in k.queues.waiting list)
+      ≡ with_priorities (standing s list) =
+      rw own at (b.queues.waiters.lists list) in
       let node : has_task task (standing s list) ≡ true =
-      sym (has_node-with_priorities task (standing s list)) ∙ ap (has_node task) (sym joined) ∙ has_node-inserted task (task_at s task).priority (waiting_in k.queues.waiting list) in
-      keyed_at (λ (t : Task). option_and_then (wait_key list) (wait_of t.status)) s.tasks task (standing s list) (list_has (λ (t : Task). option_and_then (wait_key list) (wait_of t.status)) s.tasks) node
+      sym (has_node-with_priorities task (standing s list)) ∙ ap (has_node task) (sym joined)
+      ∙ has_node-inserted task (task_at s task).priority (waiting_in k.queues.waiting list) in
+      keyed_at (λ (t : Task). option_and_then (wait_key list) (wait_of t.status)) s.tasks task (standing s list)
+      (list_has (λ (t : Task). option_and_then (wait_key list) (wait_of t.status)) s.tasks) node
 
   -- Who is woken from a list that isn't locked is another.
-  pub woken_apart : (i : ℕ) (other : WaitList) (n : Key) → is_locked s.locked other ≡ false → option_and_then (wait_key other) (wait_if_waiting (status_at s i)) ≡ Some n → task ≢ i
+  pub woken_apart : (i : ℕ) (other : WaitList) (n : Key) → is_locked s.locked other ≡ false
+      → option_and_then (wait_key other) (wait_if_waiting (status_at s i)) ≡ Some n → task ≢ i
   woken_apart i other n off e same =
-      let there : option_and_then (wait_key other) (wait_if_waiting (status_at s task)) ≡ Some n = subst (λ (j : ℕ). option_and_then (wait_key other) (wait_if_waiting (status_at s j)) ≡ Some n) (sym same) e in
+      let there : option_and_then (wait_key other) (wait_if_waiting (status_at s task)) ≡ Some n =
+      subst (λ (j : ℕ). option_and_then (wait_key other) (wait_if_waiting (status_at s j)) ≡ Some n) (sym same) e in
       let one : other ≡ list = one_list other list n stands_there.0 (status_at s task) there stands_there.1 in
       let on : is_locked s.locked list ≡ true = b.awake.to_place in
       let f : false ≡ true = sym off ∙ ap (is_locked s.locked) one ∙ on in
@@ -120,35 +138,78 @@ module _ (task : ℕ) (list : WaitList) (k : Machine) (s : State) (b : StandsBef
   pub ready_beside : (i : ℕ) → task ≢ i → schedule.is_ready k.sched i ≡ is_ready s i
   ready_beside i ne =
       let gone : Schedule = record k.sched { ready = without task (lined_up k.sched); pending = [] } in
-      let stands : sched.StandsFor gone s = record { ready = b.sched.ready; current = b.sched.current; priorities = b.sched.priorities; base_priorities = b.sched.base_priorities; depth = b.sched.depth; suspended = b.sched.suspended; table = b.sched.table } in
+      let stands : sched.StandsFor gone s =
+      record {
+        ready = b.sched.ready;
+        current = b.sched.current;
+        priorities = b.sched.priorities;
+        base_priorities = b.sched.base_priorities;
+        depth = b.sched.depth;
+        suspended = b.sched.suspended;
+        table = b.sched.table;
+      } in
       sym (has_node-without_other task i (lined_up k.sched) (λ e. ne (sym e))) ∙ on_sched.ready_same gone s i stands
 
   -- an object changes
-  pub stored_before : (o : ℕ) (x : Object) (q : Exchange) → queues.StandsFor q (Some (decider task list s)) (with_object o x s) → StandsBefore task list (record k { queues = q }) (with_object o x s)
+  pub stored_before : (o : ℕ) (x : Object) (q : Exchange) → queues.StandsFor q (Some (decider task list s)) (with_object o x s)
+      → StandsBefore task list (record k { queues = q }) (with_object o x s)
   stored_before o x q there =
       let table : IsTable (with_object o x s) = there.waiters.table in
-      let on : sched.StandsBefore task k.sched (with_object o x s) = record { ready = b.sched.ready; still = b.sched.still; current = b.sched.current; priorities = b.sched.priorities; base_priorities = b.sched.base_priorities; depth = b.sched.depth; suspended = b.sched.suspended; table = table } in
-      let awake : clock.StandsBefore task (call_at s task).deadline k.clock (with_object o x s) = record { now = b.clock.now; age = b.clock.age; held = b.clock.held; sorted = b.clock.sorted; once = b.clock.once; delayed = b.clock.delayed; awake = b.clock.awake; table = table } in
-      before_with b on awake there (at_locked-stored (Some (decider task list s)) o x s b.awake) (bits_kept.same_object o x s) (λ _. refl) refl refl refl refl
+      let on : sched.StandsBefore task k.sched (with_object o x s) =
+      record {
+        ready = b.sched.ready;
+        still = b.sched.still;
+        current = b.sched.current;
+        priorities = b.sched.priorities;
+        base_priorities = b.sched.base_priorities;
+        depth = b.sched.depth;
+        suspended = b.sched.suspended;
+        table = table;
+      } in
+      let awake : clock.StandsBefore task (call_at s task).deadline k.clock (with_object o x s) =
+      record {
+        now = b.clock.now;
+        age = b.clock.age;
+        held = b.clock.held;
+        sorted = b.clock.sorted;
+        once = b.clock.once;
+        delayed = b.clock.delayed;
+        awake = b.clock.awake;
+        table = table;
+      } in
+      before_with b on awake there (at_locked-stored (Some (decider task list s)) o x s b.awake)
+      (bits_kept.same_object o x s) (λ _. refl) refl refl refl refl
 
   -- someone is Awake, perhaps itself
-  pub awakened_before : (i : ℕ) → i < length s.tasks → (q : Exchange) → queues.StandsFor q (Some (decider task list s)) (awaken i s) → AtLocked (Some (decider task list s)) (awaken i s) → SameBitWaits s (awaken i s) → StandsBefore task list (record k { queues = q }) (awaken i s)
+  pub awakened_before : (i : ℕ) → i < length s.tasks → (q : Exchange)
+      → queues.StandsFor q (Some (decider task list s)) (awaken i s) → AtLocked (Some (decider task list s)) (awaken i s)
+      → SameBitWaits s (awaken i s) → StandsBefore task list (record k { queues = q }) (awaken i s)
   awakened_before i l q there locked bits =
       let t : Task = record (task_at s i) { status = awake_status (status_at s i) } in
       let table : IsTable (awaken i s) = there.waiters.table in
-      let on = on_sched.stands_before_kept k.sched s (awaken i s) task i t b.sched l refl refl refl (ap (λ (o : Option ℕ). option_map (λ n. record { priority = (task_at s i).priority; ticket = n }) o) (awake_unready (status_at s i))) refl refl table (awake_resumes (status_at s i)) in
-      let awake = on_clock.stands_before_kept k.clock s (awaken i s) task i (call_at s task).deadline t b.clock l refl refl refl (awake_alike (status_at s i)) table in
+      let on =
+      on_sched.stands_before_kept k.sched s (awaken i s) task i t b.sched l refl refl refl
+      (ap (λ (o : Option ℕ). option_map (λ n. record { priority = (task_at s i).priority; ticket = n }) o)
+      (awake_unready (status_at s i)))
+      refl refl table (awake_resumes (status_at s i)) in
+      let awake =
+      on_clock.stands_before_kept k.clock s (awaken i s) task i (call_at s task).deadline
+      t b.clock l refl refl refl (awake_alike (status_at s i)) table in
       before_with b on awake there locked bits (progress-kept s.tasks i t refl) (priority-kept s.tasks i t refl task) refl refl refl
 
 -- who is woken becomes Ready
-module _ (task : ℕ) (tl : WaitList) (k : Machine) (s : State) (b : StandsBefore task tl k s) (list : WaitList) (i : ℕ) (is : Some i ≡ (if is_locked s.locked list then None else best s list)) where
+module _ (task : ℕ) (tl : WaitList) (k : Machine) (s : State) (b : StandsBefore task tl k s)
+    (list : WaitList) (i : ℕ) (is : Some i ≡ (if is_locked s.locked list then None else best s list)) where
   apart_there : task ≢ i
   apart_there = woken_apart task tl k s b i list (waits_there s list i is).key (opened s list i is) (waits_there s list i is).there
 
   pub free_before : schedule.is_ready k.sched i ≡ false
   free_before = ready_beside task tl k s b i apart_there ∙ (waits_there s list i is).unready
 
-  pub woken_before : (v : Schedule) (t : Timeline) (q : Exchange) → (task ≢ i → i < length s.tasks → sched.StandsBefore task v (make_ready i s)) → (task ≢ i → i < length s.tasks → clock.StandsBefore task (call_at s task).deadline t (make_ready i s)) → queues.StandsFor q (Some (decider task tl s)) (wake_best list s)
+  pub woken_before : (v : Schedule) (t : Timeline) (q : Exchange)
+      → (task ≢ i → i < length s.tasks → sched.StandsBefore task v (make_ready i s))
+      → (task ≢ i → i < length s.tasks → clock.StandsBefore task (call_at s task).deadline t (make_ready i s))
+      → queues.StandsFor q (Some (decider task tl s)) (wake_best list s)
       → StandsBefore task tl (record k { sched = v; clock = t; queues = q }) (wake_best list s)
   woken_before v t q on awake there =
       let l = (waits_there s list i is).within in
@@ -162,18 +223,28 @@ module _ (task : ℕ) (tl : WaitList) (k : Machine) (s : State) (b : StandsBefor
       (before_with b (on apart_there l) (awake apart_there l) left locked bits (progress-ready s i) priority refl refl refl)
 
 -- in either case whoever is woken isn't Ready in the scheduler
-pub woken_free_any : (k : Machine) (s : State) (list : WaitList) (i : ℕ) → Stands k s → ((d : Option Decider) → queues.StandsFor k.queues d s → AtLocked d s → Some i ≡ (if is_locked s.locked list then None else best s list)) → schedule.is_ready k.sched i ≡ false
+pub woken_free_any : (k : Machine) (s : State) (list : WaitList) (i : ℕ) → Stands k s
+    → ((d : Option Decider) → queues.StandsFor k.queues d s → AtLocked d s
+    → Some i ≡ (if is_locked s.locked list then None else best s list))
+    → schedule.is_ready k.sched i ≡ false
 woken_free_any k s list i (Placed h) is = woken_free k s h list i (is None h.rest.queues h.rest.awake)
 woken_free_any k s list i (Placing task tl b) is = free_before task tl k s b list i (is (Some (decider task tl s)) b.queues b.awake)
 
 -- or nobody does
-module _ (task : ℕ) (tl : WaitList) (k : Machine) (s : State) (b : StandsBefore task tl k s) (list : WaitList) (is : None ≡ (if is_locked s.locked list then None else best s list)) (q : Exchange) (there : queues.StandsFor q (Some (decider task tl s)) (wake_best list s)) where
+module _ (task : ℕ) (tl : WaitList) (k : Machine) (s : State) (b : StandsBefore task tl k s)
+    (list : WaitList) (is : None ≡ (if is_locked s.locked list then None else best s list))
+    (q : Exchange) (there : queues.StandsFor q (Some (decider task tl s)) (wake_best list s)) where
   pub unwoken_before : StandsBefore task tl (record k { queues = q }) (wake_best list s)
   unwoken_before = by_case (unwoken s list is) where
     by_case : Unwoken s list → StandsBefore task tl (record k { queues = q }) (wake_best list s)
     by_case (Nobody one) = subst (StandsBefore task tl (record k { queues = q })) (sym one)
-        (before_with b b.sched b.clock (subst (queues.StandsFor q (Some (decider task tl s))) one there) b.awake (bits_kept.same s) (λ _. refl) refl refl refl refl)
-    by_case (Counted i l one) = subst (StandsBefore task tl (record k { queues = q })) (sym one) (awakened_before task tl k s b i l q (subst (queues.StandsFor q (Some (decider task tl s))) one there) (subst (AtLocked (Some (decider task tl s))) one (at_locked-wake_best (Some (decider task tl s)) list s b.awake)) (subst (SameBitWaits s) one (bits_elsewhere.same_wake_best list s)))
+        (before_with b b.sched b.clock (subst (queues.StandsFor q (Some (decider task tl s))) one there)
+        b.awake (bits_kept.same s) (λ _. refl) refl refl refl refl)
+    by_case (Counted i l one) =
+        subst (StandsBefore task tl (record k { queues = q })) (sym one)
+        (awakened_before task tl k s b i l q (subst (queues.StandsFor q (Some (decider task tl s))) one there)
+        (subst (AtLocked (Some (decider task tl s))) one (at_locked-wake_best (Some (decider task tl s)) list s b.awake))
+        (subst (SameBitWaits s) one (bits_elsewhere.same_wake_best list s)))
 
 -- what a wake reports: nothing
 pub log-wake_best : (list : WaitList) (s : State) → (wake_best list s).log ≡ s.log

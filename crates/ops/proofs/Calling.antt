@@ -1,5 +1,6 @@
 -- A call on a queue: what it makes of the states that the kernel represents, whether or not a task is still to be placed.
-use Rattle.std.proofs.Common.{IfSome, length, ◌≡◌, ◌<◌, ℕ, zero, suc, Bool, true, false, List, [], ◌∷◌, set, Option, Some, None, refl, ap, sym, subst, ◌∙◌, arith}
+use Rattle.std.proofs.Common.{IfSome, length, ◌≡◌, ◌<◌, ℕ, zero, suc, Bool, true, false, List, [], ◌∷◌, set, Option, Some, None}
+use Rattle.std.proofs.Common.{refl, ap, sym, subst, ◌∙◌, arith}
 use Rattle.model.specs.declared.call.WaitList.{WaitList}
 use Rattle.model.specs.declared.op.Access.{Access}
 use Rattle.model.specs.declared.op.Access.TheVariants.{Send, SendFront, Overwrite, Receive, Peek, Take, Give, Lock}
@@ -32,10 +33,12 @@ pub objects_are : (k : Machine) (s : State) → Stands k s → (o : ℕ) → obj
 objects_are k s (Placed h) o = h.rest.queues.objects o
 objects_are k s (Placing task list b) o = b.queues.objects o
 
-pub answers : (k : Machine) (s : State) (o : ℕ) (a : Access) (given : Option ℕ) → Stands k s → given ≡ reply (object_in k.queues.objects o) a → given ≡ answer_to s o a
+pub answers : (k : Machine) (s : State) (o : ℕ) (a : Access) (given : Option ℕ)
+    → Stands k s → given ≡ reply (object_in k.queues.objects o) a → given ≡ answer_to s o a
 answers k s o a given h e = e ∙ ap (λ (x : Object). reply x a) (objects_are k s h o)
 
-pub is_possible : (k : Machine) (s : State) (o : ℕ) (a : Access) (b : Bool) → Stands k s → allows (object_in k.queues.objects o) a ≡ b → possible s o a ≡ b
+pub is_possible : (k : Machine) (s : State) (o : ℕ) (a : Access) (b : Bool)
+    → Stands k s → allows (object_in k.queues.objects o) a ≡ b → possible s o a ≡ b
 is_possible k s o a b h e = ap (λ (x : Object). allows x a) (sym (objects_are k s h o)) ∙ e
 
 -- ---- for what there is room
@@ -61,57 +64,86 @@ room_by_size Take x y e h = tt
 room_by_size Give x y e h = tt
 room_by_size Lock x y e h = tt
 
-size_set : (os : List Object) (o j : ℕ) (x : Object) → x.size ≡ (object_in os o).size → (object_in (set os o x) j).size ≡ (object_in os j).size
+size_set : (os : List Object) (o j : ℕ) (x : Object) → x.size ≡ (object_in os o).size
+    → (object_in (set os o x) j).size ≡ (object_in os j).size
 size_set [] o j x e = refl
 size_set (y ∷ ys) zero zero x e = e
 size_set (y ∷ ys) zero (suc j) x e = refl
 size_set (y ∷ ys) (suc o) zero x e = refl
 size_set (y ∷ ys) (suc o) (suc j) x e = size_set ys o j x e
 
-pub room_still : (k : Machine) (q : Exchange) (caller : Option ℕ) (o : ℕ) (a : Access) → q ≡ record k.queues { objects = set k.queues.objects o (object_after caller a (object_in k.queues.objects o)) } → (j : ℕ) (b : Access) → HasRoom k j b → HasRoom (record k { queues = q }) j b
+pub room_still : (k : Machine) (q : Exchange) (caller : Option ℕ) (o : ℕ) (a : Access)
+    → q ≡ record k.queues { objects = set k.queues.objects o (object_after caller a (object_in k.queues.objects o)) }
+    → (j : ℕ) (b : Access) → HasRoom k j b → HasRoom (record k { queues = q }) j b
 room_still k q caller o a is j b room = (
   let same = ap (λ (v : Exchange). v.number) is in let below = room.0 in omega (arith, same, below),
-  room_by_size b (object_in k.queues.objects j) (object_in q.objects j) (ap (λ (v : Exchange). (object_in v.objects j).size) is ∙ size_set k.queues.objects o j (object_after caller a (object_in k.queues.objects o)) (same_size caller a (object_in k.queues.objects o))) room.1,
+  room_by_size b (object_in k.queues.objects j) (object_in q.objects j)
+      (ap (λ (v : Exchange). (object_in v.objects j).size) is
+      ∙ size_set k.queues.objects o j (object_after caller a (object_in k.queues.objects o))
+      (same_size caller a (object_in k.queues.objects o)))
+      room.1,
 )
 
 -- ---- the object changes
 
 -- who makes the call is a task, or none
-pub caller_within : (k : Machine) (s : State) → Stands k s → (caller : Option ℕ) → IsCaller k caller → IfSome caller (λ i. i < length s.tasks)
+pub caller_within : (k : Machine) (s : State) → Stands k s → (caller : Option ℕ)
+    → IsCaller k caller → IfSome caller (λ i. i < length s.tasks)
 caller_within k s h None r = tt
-caller_within k s (Placed h) (Some i) r = let L : Option ℕ → Type 0 = λ o. IfSome o (λ j. j < length s.tasks) in subst L (sym h.sched.current ∙ r) h.sched.table.current
-caller_within k s (Placing task list b) (Some i) r = let L : Option ℕ → Type 0 = λ o. IfSome o (λ j. j < length s.tasks) in subst L (sym b.sched.current ∙ r) b.sched.table.current
+caller_within k s (Placed h) (Some i) r =
+    let L : Option ℕ → Type 0 = λ o. IfSome o (λ j. j < length s.tasks) in
+    subst L (sym h.sched.current ∙ r) h.sched.table.current
+caller_within k s (Placing task list b) (Some i) r =
+    let L : Option ℕ → Type 0 = λ o. IfSome o (λ j. j < length s.tasks) in
+    subst L (sym b.sched.current ∙ r) b.sched.table.current
 
-module _ (k : Machine) (q : Exchange) (caller : Option ℕ) (o : ℕ) (a : Access) (calls : IsCaller k caller) (stores : (s : State) (d : Option Decider) → queues.StandsFor k.queues d s → IfSome caller (λ i. i < length s.tasks) → queues.StandsFor q d (with_object o (object_after caller a (object_at s o)) s)) where
+module _ (k : Machine) (q : Exchange) (caller : Option ℕ) (o : ℕ) (a : Access) (calls : IsCaller k caller)
+    (stores : (s : State) (d : Option Decider) → queues.StandsFor k.queues d s → IfSome caller (λ i. i < length s.tasks)
+    → queues.StandsFor q d (with_object o (object_after caller a (object_at s o)) s)) where
   abbrev stored : State → State
   stored s = with_object o (object_after caller a (object_at s o)) s
 
-  pub stored_placed : (log : List Event) (s : State) → At k log s → At (record k { queues = q }) log (with_object o (object_after caller a (object_at s o)) s)
-  stored_placed log s p = stored_at k log s p o (object_after caller a (object_at s o)) q (stores s None p.stands.rest.queues (caller_within k s (Placed p.stands) caller calls))
+  pub stored_placed : (log : List Event) (s : State) → At k log s
+      → At (record k { queues = q }) log (with_object o (object_after caller a (object_at s o)) s)
+  stored_placed log s p =
+      stored_at k log s p o (object_after caller a (object_at s o)) q
+      (stores s None p.stands.rest.queues (caller_within k s (Placed p.stands) caller calls))
 
-  pub stored_any : (log : List Event) (s : State) → AtAny k log s → AtAny (record k { queues = q }) log (with_object o (object_after caller a (object_at s o)) s)
+  pub stored_any : (log : List Event) (s : State) → AtAny k log s
+      → AtAny (record k { queues = q }) log (with_object o (object_after caller a (object_at s o)) s)
   stored_any log s h = either k log s h
       (λ p. any (record k { queues = q }) log (stored s) (stored_placed log s p))
-      (λ task list b. record { stands = Placing task list (stored_before task list k s b o (object_after caller a (object_at s o)) q (stores s (Some (decider task list s)) b.queues (caller_within k s h.stands caller calls))); log = h.log })
+      (λ task list b.
+      record {
+        stands =
+            Placing task list (stored_before task list k s b o (object_after caller a (object_at s o)) q
+            (stores s (Some (decider task list s)) b.queues (caller_within k s h.stands caller calls)));
+        log = h.log;
+      })
 
   pub stored_some : StandsForSome k → StandsForSome (record k { queues = q })
   stored_some h = let there = stored_any (h.0).log h.0 (record { stands = h.1; log = refl }) in (stored h.0, there.stands)
 
   -- and one waiter is woken, or nobody
   module _ (new : Machine) (log : List Event) (s : State) where
-    pub fulfilled : (list : WaitList) → Some list ≡ list_woken caller o a → At new log (wake_best list (with_object o (object_after caller a (object_at s o)) s)) → At new log (fulfil caller o a s)
+    pub fulfilled : (list : WaitList) → Some list ≡ list_woken caller o a
+        → At new log (wake_best list (with_object o (object_after caller a (object_at s o)) s)) → At new log (fulfil caller o a s)
     unfolding fulfil
     fulfilled list is h = subst (λ (x : Option WaitList). At new log (for_one wake_best x (stored s))) is h
 
-    pub fulfilled_any : (list : WaitList) → Some list ≡ list_woken caller o a → AtAny new log (wake_best list (with_object o (object_after caller a (object_at s o)) s)) → AtAny new log (fulfil caller o a s)
+    pub fulfilled_any : (list : WaitList) → Some list ≡ list_woken caller o a
+        → AtAny new log (wake_best list (with_object o (object_after caller a (object_at s o)) s))
+        → AtAny new log (fulfil caller o a s)
     unfolding fulfil
     fulfilled_any list is h = subst (λ (x : Option WaitList). AtAny new log (for_one wake_best x (stored s))) is h
 
-    pub fulfilled_none : None ≡ list_woken caller o a → At new log (with_object o (object_after caller a (object_at s o)) s) → At new log (fulfil caller o a s)
+    pub fulfilled_none : None ≡ list_woken caller o a
+        → At new log (with_object o (object_after caller a (object_at s o)) s) → At new log (fulfil caller o a s)
     unfolding fulfil
     fulfilled_none is h = subst (λ (x : Option WaitList). At new log (for_one wake_best x (stored s))) is h
 
-    pub fulfilled_none_any : None ≡ list_woken caller o a → AtAny new log (with_object o (object_after caller a (object_at s o)) s) → AtAny new log (fulfil caller o a s)
+    pub fulfilled_none_any : None ≡ list_woken caller o a
+        → AtAny new log (with_object o (object_after caller a (object_at s o)) s) → AtAny new log (fulfil caller o a s)
     unfolding fulfil
     fulfilled_none_any is h = subst (λ (x : Option WaitList). AtAny new log (for_one wake_best x (stored s))) is h
 
@@ -135,8 +167,11 @@ module _ (new : Machine) (log : List Event) (s : State) (caller : Option ℕ) (o
   declined_any t h = rw t h
 
 -- What the op of a call that waits does is what the call does in its phase.
-pub in_phase : (app : Application) (old new : Machine) (old_log new_log : Logged) (task object : ℕ) (access : Access) (ticks : Option ℕ) (phase : Phase) → (progress_in old.progress task).call.phase ≡ phase
-    → DoesAny 2 old old_log new new_log (await app task object access ticks phase) → DoesAny 2 old old_log new new_log (act app task (Await object access ticks))
+pub in_phase : (app : Application) (old new : Machine) (old_log new_log : Logged)
+    (task object : ℕ) (access : Access) (ticks : Option ℕ) (phase : Phase)
+    → (progress_in old.progress task).call.phase ≡ phase
+    → DoesAny 2 old old_log new new_log (await app task object access ticks phase)
+    → DoesAny 2 old old_log new new_log (act app task (Await object access ticks))
 in_phase app old new old_log new_log task object access ticks phase e d = record {
   at = λ s h.
       let now : (call_at s task).phase ≡ phase = ap (λ (p : Progress). p.call.phase) (sym (progress_is old s h.stands task)) ∙ e in

@@ -1,5 +1,6 @@
 -- Where a call decides to wait, and is placed: what that makes of the states that the kernel represents.
-use Rattle.std.proofs.Common.{◌≡◌, ◌≢◌, ◌<◌, ◌+◌, ◌||◌, ℕ, Bool, true, false, eqb, set, List, [], length, get_or, get_or-set_same, get_or-set_other, Option, Some, None, refl, ap, sym, subst, ◌∙◌, arith}
+use Rattle.std.proofs.Common.{◌≡◌, ◌≢◌, ◌<◌, ◌+◌, ◌||◌, ℕ, Bool, true, false, eqb, set, List, [], length, get_or, get_or-set_same}
+use Rattle.std.proofs.Common.{get_or-set_other, Option, Some, None, refl, ap, sym, subst, ◌∙◌, arith}
 use Rattle.std.specs.Prelude.{if◌then◌else◌}
 use Rattle.std.specs.Option.{IfSome}
 use Rattle.std.proofs.Math.ListN.{length-set}
@@ -9,7 +10,8 @@ use Rattle.model.specs.declared.call.Phase.TheVariants.{Place, Unlock, Start, Tr
 use Rattle.model.specs.declared.call.WaitList.{WaitList}
 use Rattle.model.specs.declared.op.Access.{Access}
 use Rattle.model.specs.declared.event.Event.{Event}
-use Rattle.model.specs.State.{State, Task, Progress, Waiting, Wait, wait_if_awake, task_at, status_at, progress_at, call_at, with_task, go_on, no_task}
+use Rattle.model.specs.State.{State, Task, Progress, Waiting, Wait, wait_if_awake, task_at, status_at, progress_at, call_at}
+use Rattle.model.specs.State.{with_task, go_on, no_task}
 use Rattle.model.specs.Switching.{is_ready}
 use Rattle.model.specs.Waiting.{wait_in, is_expired, end_hold}
 use Rattle.model.specs.Objects.{possible, list_for}
@@ -92,13 +94,15 @@ module _ (s : State) (i : ℕ) (list : WaitList) (object : ℕ) (l : i < length 
       let here : get_or (set s.tasks i first) i no_task ≡ first = get_or-set_same s.tasks i first no_task l in
       let m : i < length (set s.tasks i first) = rw length-set l in
       ap (λ (ts : List Task). get_or ts i no_task) then_tasks
-      ∙ get_or-set_same (set s.tasks i first) i (record (get_or (set s.tasks i first) i no_task) { status = Waiting wait }) no_task m
+      ∙ get_or-set_same (set s.tasks i first) i
+      (record (get_or (set s.tasks i first) i no_task) { status = Waiting wait }) no_task m
       ∙ ap (λ (t : Task). record t { status = Waiting wait }) here
 
   begun_others : (j : ℕ) → j ≢ i → task_at begun j ≡ task_at s j
   begun_others j ne =
       ap (λ (ts : List Task). get_or ts j no_task) then_tasks
-      ∙ get_or-set_other (set s.tasks i first) i j (record (get_or (set s.tasks i first) i no_task) { status = Waiting wait }) no_task ne
+      ∙ get_or-set_other (set s.tasks i first) i j
+      (record (get_or (set s.tasks i first) i no_task) { status = Waiting wait }) no_task ne
       ∙ get_or-set_other s.tasks i j first no_task ne
 
   next_call : CallProgress
@@ -116,9 +120,12 @@ module _ (s : State) (i : ℕ) (list : WaitList) (object : ℕ) (l : i < length 
   unfolding last next_call
   decided_others j ne = get_or-set_other begun.tasks i j last no_task ne ∙ begun_others j ne
 
-  pub progress_decided : progress_at decided i ≡ record (progress_at s i) { call = record (call_at s i) { phase = Place; waits = true } }
+  pub progress_decided : progress_at decided i
+      ≡ record (progress_at s i) { call = record (call_at s i) { phase = Place; waits = true } }
   unfolding last next_call first call
-  progress_decided = ap (λ (t : Task). t.progress) decided_at ∙ ap (λ (t : Task). record t.progress { call = record t.progress.call { phase = Place } }) begun_at
+  progress_decided =
+      ap (λ (t : Task). t.progress) decided_at
+      ∙ ap (λ (t : Task). record t.progress { call = record t.progress.call { phase = Place } }) begun_at
 
   pub priority_decided : (task_at decided i).priority ≡ (task_at s i).priority
   unfolding last next_call first call
@@ -127,7 +134,8 @@ module _ (s : State) (i : ℕ) (list : WaitList) (object : ℕ) (l : i < length 
   pub progress_others : (j : ℕ) → j ≢ i → progress_at decided j ≡ progress_at s j
   progress_others j ne = ap (λ (t : Task). t.progress) (decided_others j ne)
 
-  pub begun_free : (begun.call_hold ≡ s.call_hold) × (begun.current ≡ s.current) × (begun.time ≡ s.time) × (begun.elapsed ≡ s.elapsed) × (begun.steps ≡ s.steps) × (begun.stopped ≡ s.stopped) × (begun.log ≡ s.log)
+  pub begun_free : (begun.call_hold ≡ s.call_hold) × (begun.current ≡ s.current) × (begun.time ≡ s.time)
+      × (begun.elapsed ≡ s.elapsed) × (begun.steps ≡ s.steps) × (begun.stopped ≡ s.stopped) × (begun.log ≡ s.log)
   unfolding wait_in
   begun_free = (refl, refl, refl, refl, refl, refl, refl)
 
@@ -136,26 +144,32 @@ module _ (s : State) (i : ℕ) (list : WaitList) (object : ℕ) (l : i < length 
   begun_suspensions = refl
 
   -- the scheduler
-  pub sched_decided : (v : Schedule) → v.pending ≡ [] → sched.StandsFor v s → is_ready s i ≡ true → s.call_hold ≡ false → (w : Schedule) → w ≡ record v { depth = v.depth + 1 } → IsTable decided → sched.StandsBefore i w decided
+  pub sched_decided : (v : Schedule) → v.pending ≡ [] → sched.StandsFor v s → is_ready s i ≡ true → s.call_hold ≡ false
+      → (w : Schedule) → w ≡ record v { depth = v.depth + 1 } → IsTable decided → sched.StandsBefore i w decided
   unfolding last next_call
   sched_decided v calm h ready free w is table =
       let one : sched.StandsBefore i v begun = on_sched.stands_waiting v s i list calm h l ready in
-      let mid : IsTable locked_then = record { tickets = one.table.tickets; few = one.table.few; current = one.table.current; holders = one.table.holders } in
+      let mid : IsTable locked_then =
+      record { tickets = one.table.tickets; few = one.table.few; current = one.table.current; holders = one.table.holders } in
       let two = on_sched.stands_before_held v begun locked_then i one (begun_free.0 ∙ free) refl refl refl mid in
-      rw is (on_sched.stands_before_kept (record v { depth = v.depth + 1 }) locked_then decided i i last two begun_within refl refl refl refl refl refl table refl)
+      rw is (on_sched.stands_before_kept (record v { depth = v.depth + 1 }) locked_then
+      decided i i last two begun_within refl refl refl refl refl refl table refl)
 
   -- the clock
-  pub clock_decided : (t : Timeline) → clock.StandsFor t s → is_ready s i ≡ true → IsTable decided → clock.StandsBefore i (call_at decided i).deadline t decided
+  pub clock_decided : (t : Timeline) → clock.StandsFor t s → is_ready s i ≡ true
+      → IsTable decided → clock.StandsBefore i (call_at decided i).deadline t decided
   unfolding last next_call
   clock_decided t h ready table =
       let one : clock.StandsBefore i (call_at s i).deadline t begun = on_clock.stands_waiting t s i list h l ready in
       let same : (call_at decided i).deadline ≡ (call_at s i).deadline = ap (λ (p : Progress). p.call.deadline) progress_decided in
       subst (λ (d : Option ℕ). clock.StandsBefore i d t decided) (sym same)
-      (on_clock.stands_before_kept t begun decided i i (call_at s i).deadline last one begun_within refl refl refl (record { key = refl; wake_time = refl }) table)
+      (on_clock.stands_before_kept t begun decided i i (call_at s i).deadline last one
+      begun_within refl refl refl (record { key = refl; wake_time = refl }) table)
 
 -- The queue is locked, and the scheduler held.
 module _ (k : Machine) (log : List Event) (s : State) (h : At k log s) (i o : ℕ) (c : CanDecide k i) (v : Schedule) (q : Exchange)
-    (calm : IsCalm k.sched) (holds : s.call_hold ≡ false → sched.StandsFor v (record s { call_hold = true })) (held : v ≡ record k.sched { depth = k.sched.depth + 1 })
+    (calm : IsCalm k.sched) (holds : s.call_hold ≡ false → sched.StandsFor v (record s { call_hold = true }))
+    (held : v ≡ record k.sched { depth = k.sched.depth + 1 })
     (locks : ((j : ℕ) → wait_if_awake (status_at s j) ≡ None) → queues.StandsFor q None (record s { locked = Some o })) where
   l : i < length s.tasks
   l = within k log s h i c.runs.current
@@ -179,7 +193,8 @@ module _ (k : Machine) (log : List Event) (s : State) (h : At k log s) (i o : �
   pub held_at : At (record k { sched = v; queues = q }) log shut
   held_at =
       let on = holds free in
-      let table : IsTable shut = record { tickets = on.table.tickets; few = on.table.few; current = on.table.current; holders = on.table.holders } in
+      let table : IsTable shut =
+      record { tickets = on.table.tickets; few = on.table.few; current = on.table.current; holders = on.table.holders } in
       let there : State = record s { locked = Some o } in
       let same : SameWaits there shut = same_parts there shut refl refl refl in
       let c = clock-same k.clock s shut h.stands.rest.clock refl refl refl table in
@@ -187,13 +202,17 @@ module _ (k : Machine) (log : List Event) (s : State) (h : At k log s) (i o : �
       record {
         stands = record {
           sched = sched-same on table refl refl refl;
-          rest = rest_with_queues h.stands.rest c (λ _. refl) refl (stands_same there shut same q None locking table) locked (bits_kept.same_parts s shut refl refl);
+          rest =
+              rest_with_queues h.stands.rest c (λ _. refl) refl (stands_same there shut same q None locking table)
+              locked (bits_kept.same_parts s shut refl refl);
         };
         log = h.log;
       }
 
   -- or it waits
-  module _ (a : Access) (nobody : CountsNobody q) (next : WaitList) (next_is : next ≡ list_for o a) (p : Progress) (is : p ≡ record (progress_in k.progress i) { call = record (progress_in k.progress i).call { phase = Place; waits = true } }) where
+  module _ (a : Access) (nobody : CountsNobody q) (next : WaitList) (next_is : next ≡ list_for o a) (p : Progress)
+      (is : p
+      ≡ record (progress_in k.progress i) { call = record (progress_in k.progress i).call { phase = Place; waits = true } }) where
     list : WaitList
     list = list_for o a
 
@@ -204,7 +223,8 @@ module _ (k : Machine) (log : List Event) (s : State) (h : At k log s) (i o : �
     in_place : queues.StandsFor q (Some (decider i list after)) after
     unfolding list after
     in_place =
-        subst (λ (n : ℕ). queues.StandsFor q (Some (record { task = i; list = list_for o a; priority = n })) after) (sym (priority_decided s i list o l))
+        subst (λ (n : ℕ). queues.StandsFor q (Some (record { task = i; list = list_for o a; priority = n })) after)
+        (sym (priority_decided s i list o l))
         (stands_deciding q s i o locking a l (ready_free (status_at s i) ready) nobody)
 
     awake_there : AtLocked (Some (decider i list after)) after
@@ -229,7 +249,8 @@ module _ (k : Machine) (log : List Event) (s : State) (h : At k log s) (i o : �
         (λ u. let apart : j ≢ i = (λ e. let w : eqb j i ≡ true = rw e (eqb-refl i) in absurd (cc)) in
         rw (get_or-set_other k.progress i j p _ apart) (h.stands.rest.progress j ∙ sym (progress_others s i list o l j apart)))
 
-    pub waits : AtAny (with_progress i p (record k { sched = v; queues = q; wait_list = next })) log (lock i o Place (wait_in i (list_for o a) s))
+    pub waits : AtAny (with_progress i p (record k { sched = v; queues = q; wait_list = next }))
+        log (lock i o Place (wait_in i (list_for o a) s))
     unfolding list after
     waits =
         let new : Machine = with_progress i p (record k { sched = v; queues = q; wait_list = next }) in
@@ -250,7 +271,8 @@ module _ (k : Machine) (log : List Event) (s : State) (h : At k log s) (i o : �
             held = held_then;
             phase = phase_then;
             wait_list = next_is;
-            placed = λ j ne e. h.stands.rest.placed j (ap (λ (x : Progress). x.call.phase) (sym (get_or-set_other k.progress i j p _ ne)) ∙ e);
+            placed = λ j ne e.
+                h.stands.rest.placed j (ap (λ (x : Progress). x.call.phase) (sym (get_or-set_other k.progress i j p _ ne)) ∙ e);
           });
           log = log_then;
         } where
@@ -263,7 +285,9 @@ module _ (k : Machine) (log : List Event) (s : State) (h : At k log s) (i o : �
               let locked_then : State = record begun_then { call_hold = true; locked = Some o } in
               on_groups.stands_same k.groups s after h.stands.rest.groups
               (bits_kept.same_both s begun_then after (bits_elsewhere.same_wait_in i (list_for o a) s (ready_waits_not s i ready))
-              (bits_kept.same_both begun_then locked_then after (bits_kept.same_parts begun_then locked_then refl refl) (bits_kept.same_go_on i Place locked_then))) table
+              (bits_kept.same_both begun_then locked_then after
+              (bits_kept.same_parts begun_then locked_then refl refl) (bits_kept.same_go_on i Place locked_then)))
+              table
 
           clock_there : clock.StandsBefore i (call_at after i).deadline k.clock after
           clock_there = clock_decided s i list o l k.clock h.stands.rest.clock ready table
@@ -292,15 +316,19 @@ module _ (new : Machine) (log : List Event) (s : State) (i o : ℕ) (a : Access)
   unfolding decide
   decided_not t h = rw t h
 
-  pub decided_to_wait : (possible s o a || is_expired s i) ≡ false → AtAny new log (lock i o Place (wait_in i (list_for o a) (inherit i o s))) → AtAny new log (decide i o a s)
+  pub decided_to_wait : (possible s o a || is_expired s i) ≡ false
+      → AtAny new log (lock i o Place (wait_in i (list_for o a) (inherit i o s))) → AtAny new log (decide i o a s)
   unfolding decide
   decided_to_wait t h = rw t h
 
 -- ---- a task is placed
 
-module _ (k : Machine) (log : List Event) (s : State) (i : ℕ) (list : WaitList) (b : StandsBefore i list k s) (told : log ≡ s.log) (v : Schedule) (q : Exchange) (t : Timeline) (new : Machine)
+module _ (k : Machine) (log : List Event) (s : State) (i : ℕ) (list : WaitList) (b : StandsBefore i list k s)
+    (told : log ≡ s.log) (v : Schedule) (q : Exchange) (t : Timeline) (new : Machine)
     (on : sched.StandsFor v s) (there : queues.StandsFor q None s) (awake : clock.StandsFor t s)
-    (is : new ≡ with_progress i (record (progress_in k.progress i) { call = record (progress_in k.progress i).call { phase = Unlock } }) (record k { sched = v; queues = q; clock = t })) where
+    (is : new
+    ≡ with_progress i (record (progress_in k.progress i) { call = record (progress_in k.progress i).call { phase = Unlock } })
+    (record k { sched = v; queues = q; clock = t })) where
   l_then : i < length s.tasks
   l_then = let L : Option ℕ → Type 0 = λ o. IfSome o (λ j. j < length s.tasks) in subst L b.current on.table.current
 
@@ -314,7 +342,8 @@ module _ (k : Machine) (log : List Event) (s : State) (i : ℕ) (list : WaitList
   unfolding p
   placed_then j e = by_test (eqb j i)
       (λ u. let same : j ≡ i = eqb-same j i u in
-      let own : progress_in (set k.progress i p) j ≡ p = ap (λ (m : ℕ). progress_in (set k.progress i p) m) same ∙ get_or-set_same k.progress i p _ long_then in
+      let own : progress_in (set k.progress i p) j ≡ p =
+      ap (λ (m : ℕ). progress_in (set k.progress i p) m) same ∙ get_or-set_same k.progress i p _ long_then in
       let f : Unlock ≡ Place = sym (ap (λ (x : Progress). x.call.phase) own) ∙ e in absurd (cc))
       (λ u. let apart : j ≢ i = (λ r. let w : eqb j i ≡ true = rw r (eqb-refl i) in absurd (cc)) in
       b.placed j apart (ap (λ (x : Progress). x.call.phase) (sym (get_or-set_other k.progress i j p _ apart)) ∙ e))
@@ -326,8 +355,10 @@ module _ (k : Machine) (log : List Event) (s : State) (i : ℕ) (list : WaitList
       let later : State = with_task i u s in
       let same : SameWaits s later = same_progress i p s in
       let shown = stands_same s later same q None there in
-      let one : p ≡ record (progress_in k.progress i) { call = record (progress_in k.progress i).call { phase = Unlock } } = ap (λ (x : Progress). record x { call = record x.call { phase = Unlock } }) (sym (b.progress i)) in
-      let is_new : new ≡ with_progress i p (record k { sched = v; queues = q; clock = t }) = is ∙ ap (λ (x : Progress). with_progress i x (record k { sched = v; queues = q; clock = t })) (sym one) in
+      let one : p ≡ record (progress_in k.progress i) { call = record (progress_in k.progress i).call { phase = Unlock } } =
+      ap (λ (x : Progress). record x { call = record x.call { phase = Unlock } }) (sym (b.progress i)) in
+      let is_new : new ≡ with_progress i p (record k { sched = v; queues = q; clock = t }) =
+      is ∙ ap (λ (x : Progress). with_progress i x (record k { sched = v; queues = q; clock = t })) (sym one) in
       let table : IsTable later = kept_table in
       subst (λ (x : Machine). At x log later) (sym is_new) (record {
         stands = record {
@@ -335,7 +366,9 @@ module _ (k : Machine) (log : List Event) (s : State) (i : ℕ) (list : WaitList
           rest = record {
             progress = progress-set k.progress s.tasks i u b.progress long_then l_then;
             full = rw length-set b.full;
-            clock = on_clock.stands_kept t s later i u awake l_then refl refl refl (same_alike (status_at s i) (status_at s i) refl) table;
+            clock =
+                on_clock.stands_kept t s later i u awake l_then refl refl refl
+                (same_alike (status_at s i) (status_at s i) refl) table;
             queues = shown table;
             groups = on_groups.stands_same k.groups s later b.groups (bits_kept.same_task i u s refl (λ _. refl)) table;
             suspensions = b.suspensions;
@@ -348,23 +381,42 @@ module _ (k : Machine) (log : List Event) (s : State) (i : ℕ) (list : WaitList
         log = told;
       }) where
         kept_table : IsTable (with_task i (record (task_at s i) { progress = p }) s)
-        kept_table = table-set s i (record (task_at s i) { progress = p }) on.table (ticket_at s.next_ticket i s.tasks on.table.tickets)
+        kept_table =
+            table-set s i (record (task_at s i) { progress = p }) on.table (ticket_at s.next_ticket i s.tasks on.table.tickets)
 
 -- ---- a hold begins, or ends
 
-pub hold_at : (b : Bool) (k : Machine) (log : List Event) (s : State) → At k log s → (v : Schedule) → sched.StandsFor v (record s { call_hold = b }) → At (record k { sched = v }) log (record s { call_hold = b })
-hold_at b k log s h v on = record { stands = record { sched = on; rest = rest_unseen h.stands.rest on.table refl h.stands.rest.suspensions h.stands.rest.steps h.stands.rest.stopped }; log = h.log }
+pub hold_at : (b : Bool) (k : Machine) (log : List Event) (s : State) → At k log s → (v : Schedule)
+    → sched.StandsFor v (record s { call_hold = b }) → At (record k { sched = v }) log (record s { call_hold = b })
+hold_at b k log s h v on =
+    record {
+      stands =
+          record {
+            sched = on;
+            rest = rest_unseen h.stands.rest on.table refl h.stands.rest.suspensions h.stands.rest.steps h.stands.rest.stopped;
+          };
+      log = h.log;
+    }
 
 -- The task's call has let go of the scheduler, and goes on with this phase.
-module _ (k new : Machine) (log : List Event) (s : State) (h : At k log s) (i : ℕ) (c : CanLeave k i) (w : Schedule) (unhold : s.call_hold ≡ true → sched.StandsFor w (record s { call_hold = false })) (runs : w.current ≡ k.sched.current)
-    (v : Progress) (view : v ≡ progress_in k.progress i) (phase : Phase) (off : phase ≢ Place) (is : new ≡ with_progress i (record (progress_in k.progress i) { call = record v.call { phase = phase; waits = false } }) (record k { sched = w })) where
+module _ (k new : Machine) (log : List Event) (s : State) (h : At k log s) (i : ℕ) (c : CanLeave k i) (w : Schedule)
+    (unhold : s.call_hold ≡ true → sched.StandsFor w (record s { call_hold = false })) (runs : w.current ≡ k.sched.current)
+    (v : Progress) (view : v ≡ progress_in k.progress i) (phase : Phase) (off : phase ≢ Place)
+    (is : new
+    ≡ with_progress i (record (progress_in k.progress i) { call = record v.call { phase = phase; waits = false } })
+    (record k { sched = w })) where
   same : v ≡ progress_at s i
   same = view ∙ h.stands.rest.progress i
 
   pub freed : At new log (end_hold i phase s)
-  freed = recalled (record k { sched = w }) new log (record s { call_hold = false }) (hold_at false k log s h w (unhold (is_held s.suspensions s.call_hold k.sched.depth h.stands.sched.depth (sym h.stands.rest.suspensions ∙ c.awake) c.held))) i
+  freed =
+      recalled (record k { sched = w }) new log (record s { call_hold = false })
+      (hold_at false k log s h w (unhold
+      (is_held s.suspensions s.call_hold k.sched.depth h.stands.sched.depth (sym h.stands.rest.suspensions ∙ c.awake) c.held)))
+      i
       (runs ∙ c.call.current)
-      (record v.call { phase = phase; waits = false }) (record (call_at s i) { phase = phase; waits = false }) is (ap (λ (p : Progress). record p.call { phase = phase; waits = false }) same) off (λ _. refl)
+      (record v.call { phase = phase; waits = false }) (record (call_at s i) { phase = phase; waits = false })
+      is (ap (λ (p : Progress). record p.call { phase = phase; waits = false }) same) off (λ _. refl)
 
   pub waited : (call_at s i).waits ≡ v.call.waits
   waited = ap (λ (p : Progress). p.call.waits) (sym same)

@@ -1,5 +1,6 @@
 -- While a `suspend_all` is in force: what its calls make of the states that the kernel represents.
-use Rattle.std.proofs.Common.{◌≡◌, ◌≢◌, ◌<◌, ◌+◌, ◌-◌, ℕ, zero, suc, true, false, List, Option, Some, None, refl, ap, sym, subst, ◌∙◌, arith}
+use Rattle.std.proofs.Common.{◌≡◌, ◌≢◌, ◌<◌, ◌+◌, ◌-◌, ℕ, zero, suc, true, false, List, Option, Some, None, refl, ap, sym, subst}
+use Rattle.std.proofs.Common.{◌∙◌, arith}
 use Rattle.std.proofs.lemmas.Bool.{eq-eqb, ne_eqb, lt-ltb}
 use Rattle.model.specs.declared.event.Event.{Event}
 use Rattle.model.specs.Application.{Application}
@@ -32,17 +33,25 @@ use Rattle.ops.proofs.Suspending.{ready_by, runs_by}
 
 module _ (k : Machine) (log : List Event) (s : State) (h : At k log s) where
   -- another number of them
-  pub with_suspensions : (v : Schedule) (n m : ℕ) → n ≡ m → sched.StandsFor v (record s { suspensions = m }) → At (record k { sched = v; suspensions = n }) log (record s { suspensions = m })
-  with_suspensions v n m e on = record { stands = record { sched = on; rest = rest_unseen h.stands.rest on.table refl e h.stands.rest.steps h.stands.rest.stopped }; log = h.log }
+  pub with_suspensions : (v : Schedule) (n m : ℕ) → n ≡ m → sched.StandsFor v (record s { suspensions = m })
+      → At (record k { sched = v; suspensions = n }) log (record s { suspensions = m })
+  with_suspensions v n m e on =
+      record {
+        stands = record { sched = on; rest = rest_unseen h.stands.rest on.table refl e h.stands.rest.steps h.stands.rest.stopped };
+        log = h.log;
+      }
 
   -- the clock, and how many ticks have come and are held
-  pub with_ticks : (t : Timeline) (elapsed held : ℕ) → clock.StandsFor t (record s { elapsed = elapsed; held_ticks = held }) → At (record k { clock = t }) log (record s { elapsed = elapsed; held_ticks = held })
+  pub with_ticks : (t : Timeline) (elapsed held : ℕ) → clock.StandsFor t (record s { elapsed = elapsed; held_ticks = held })
+      → At (record k { clock = t }) log (record s { elapsed = elapsed; held_ticks = held })
   with_ticks t elapsed held on =
       let new : State = record s { elapsed = elapsed; held_ticks = held } in
       record {
         stands = record {
           sched = sched-same h.stands.sched on.table refl refl refl;
-          rest = rest_with_clock h.stands.rest on (λ _. refl) refl (same_parts s new refl refl refl) (bits_kept.same_parts s new refl refl);
+          rest =
+              rest_with_clock h.stands.rest on (λ _. refl) refl
+              (same_parts s new refl refl refl) (bits_kept.same_parts s new refl refl);
         };
         log = h.log;
       }
@@ -52,7 +61,8 @@ module _ (k : Machine) (log : List Event) (s : State) (h : At k log s) where
   released t on = with_ticks t (s.elapsed - 1) (s.held_ticks - 1) on
 
 -- and when it comes now, it is applied
-pub applied_now : (new : Machine) (log : List Event) (s : State) → s.suspensions ≡ 0 → 0 < s.elapsed → At new log (increment_tick (before_held s)) → At new log (apply_one s)
+pub applied_now : (new : Machine) (log : List Event) (s : State) → s.suspensions ≡ 0
+    → 0 < s.elapsed → At new log (increment_tick (before_held s)) → At new log (apply_one s)
 unfolding increment_tick apply_one
 applied_now new log s none some h =
     let off : is_scheduler_suspended s ≡ false = rw none refl in
@@ -75,7 +85,11 @@ module _ (k now : Machine) (can : CanApply k) (n : ℕ) (does : Moves k now (λ 
 
   -- of those that were held this many fewer are
   pub held_left : now.clock.held ≡ k.clock.held - n
-  held_left = let a = (applies n first).held in let b = there.stands.rest.clock.held in let c = can.agrees.1.rest.clock.held in omega arith
+  held_left =
+      let a = (applies n first).held in
+      let b = there.stands.rest.clock.held in
+      let c = can.agrees.1.rest.clock.held in
+      omega arith
 
   pub can_apply : CanApply now
   can_apply = record {
@@ -84,7 +98,12 @@ module _ (k now : Machine) (can : CanApply k) (n : ℕ) (does : Moves k now (λ 
         let same : (apply_held n first).locked ≡ first.locked = ap (λ (x : Hold). x.locked) (applies n first).hold in
         let none : locked_by k.queues.lock ≡ None = ap locked_by can.free in
         unlocked now.queues.lock (there.stands.rest.queues.locked ∙ same ∙ sym can.agrees.1.rest.queues.locked ∙ none);
-    age = let a = (applies n first).elapsed in let b = there.stands.rest.clock.age in let c = can.agrees.1.rest.clock.age in let d = can.age in omega arith;
+    age =
+        let a = (applies n first).elapsed in
+        let b = there.stands.rest.clock.age in
+        let c = can.agrees.1.rest.clock.age in
+        let d = can.age in
+        omega arith;
     awake = there.stands.rest.suspensions ∙ (applies n first).suspensions ∙ sym can.agrees.1.rest.suspensions ∙ can.awake;
   }
 
@@ -92,14 +111,16 @@ one_later : (n : ℕ) (s : State) → apply_one (apply_held n s) ≡ apply_held 
 one_later zero s = refl
 one_later (suc n) s = one_later n (apply_one s)
 
-pub applied_more : (now : Machine) (log : List Event) (n : ℕ) (s : State) → At now log (apply_one (apply_held n s)) → At now log (apply_held (n + 1) s)
+pub applied_more : (now : Machine) (log : List Event) (n : ℕ) (s : State)
+    → At now log (apply_one (apply_held n s)) → At now log (apply_held (n + 1) s)
 applied_more now log n s h = let same : n + 1 ≡ suc n = omega arith in rw same (subst (At now log) (one_later n s) h)
 
 -- ---- `resume_all`
 
 module _ (app : Application) (new : Machine) (log : List Event) (s : State) where
   -- after the last
-  pub last_resumed : s.suspensions ≡ 1 → At new log (apply_held s.held_ticks (record s { suspensions = s.suspensions - 1 })) → At new log (resume_scheduler s)
+  pub last_resumed : s.suspensions ≡ 1 → At new log (apply_held s.held_ticks (record s { suspensions = s.suspensions - 1 }))
+      → At new log (resume_scheduler s)
   unfolding resume_scheduler
   last_resumed e h = rw (eq-eqb s.suspensions 1 e) h
 
@@ -112,7 +133,8 @@ module _ (app : Application) (new : Machine) (log : List Event) (s : State) wher
     abbrev t : State
     t = answer app i (Some 0) (resume_scheduler s)
 
-    pub resumed_free : is_held t ≡ false → At new log (preempt (answer app i (Some 0) (resume_scheduler s))) → At new log (resume_all app i s)
+    pub resumed_free : is_held t ≡ false → At new log (preempt (answer app i (Some 0) (resume_scheduler s)))
+        → At new log (resume_all app i s)
     unfolding resume_all
     resumed_free free h = subst (At new log) (sym (when_free preempt t free)) h
 
@@ -121,11 +143,15 @@ module _ (app : Application) (new : Machine) (log : List Event) (s : State) wher
     resumed_held held h = subst (At new log) (sym (when_held preempt t held)) h
 
 -- where some are in force still, the scheduler is held
-pub still_held : (app : Application) (i : ℕ) (mid : Machine) (log : List Event) (u : State) → At mid log u → mid.suspensions ≢ 0 → is_held (answer app i (Some 0) u) ≡ true
+pub still_held : (app : Application) (i : ℕ) (mid : Machine) (log : List Event) (u : State)
+    → At mid log u → mid.suspensions ≢ 0 → is_held (answer app i (Some 0) u) ≡ true
 still_held app i mid log u h ne =
-    let kept : (answer app i (Some 0) u).suspensions ≡ u.suspensions = ap (λ (x : Suspension). x.suspensions) (keeps-answer app i (Some 0) u).suspension in
+    let kept : (answer app i (Some 0) u).suspensions ≡ u.suspensions =
+    ap (λ (x : Suspension). x.suspensions) (keeps-answer app i (Some 0) u).suspension in
     let n = h.stands.rest.suspensions in
     suspended_held (answer app i (Some 0) u) (lt-ltb 0 (answer app i (Some 0) u).suspensions (omega arith))
 
-pub runs_after_all : (k new : Machine) (i : ℕ) (s : State) → Runs k i → StandsFor k s → StandsFor new (resume_scheduler s) → Runs new i
-runs_after_all k new i s r h g = runs_by k new i s (resume_scheduler s) r h g (current-resumed s) (resumed_apart s i (ready_by k s i r h))
+pub runs_after_all : (k new : Machine) (i : ℕ) (s : State) → Runs k i
+    → StandsFor k s → StandsFor new (resume_scheduler s) → Runs new i
+runs_after_all k new i s r h g =
+    runs_by k new i s (resume_scheduler s) r h g (current-resumed s) (resumed_apart s i (ready_by k s i r h))

@@ -4,7 +4,8 @@ use Rattle.model.specs.declared.event.Event.{Event}
 use Rattle.model.specs.declared.event.Misuse.{Misuse}
 use Rattle.model.specs.State.{State, Task, task_at, progress_at, call_at, object_at, with_task, for_one, no_task, with_object}
 use Rattle.model.specs.Switching.{is_ready, to_back, preempt}
-use Rattle.model.specs.Mutexes.{set_priority, mutexes_held, lend, inherit_from, inherit, best_priority, fall_back, after_timeout, disinherit, give_mutex}
+use Rattle.model.specs.Mutexes.{set_priority, mutexes_held, lend, inherit_from, inherit, best_priority, fall_back, after_timeout}
+use Rattle.model.specs.Mutexes.{disinherit, give_mutex}
 use Rattle.model.proofs.Sorting.{by_test}
 use Rattle.model.proofs.Tables.{each-set}
 use Rattle.model.specs.declared.call.WaitList.TheVariants.{ToReceive}
@@ -40,7 +41,9 @@ progress-set_priority s i priority j =
     let u : Task = record (task_at s i) { priority = priority } in
     by_test (eqb (task_at s i).priority priority)
     (λ t. rw t refl)
-    (λ t. rw t (progress-to_back (with_task i u s) i j ∙ each-set no_task (λ k x. x.progress ≡ progress_at s k) s.tasks i u refl (λ k. refl) j))
+    (λ t.
+    rw t (progress-to_back (with_task i u s) i j
+    ∙ each-set no_task (λ k x. x.progress ≡ progress_at s k) s.tasks i u refl (λ k. refl) j))
 
 log-to_back : (s : State) (i : ℕ) → (to_back i s).log ≡ s.log
 unfolding to_back
@@ -56,22 +59,31 @@ kept-set_priority : (s : State) (i priority : ℕ) → kept_of (set_priority i p
 unfolding set_priority to_back
 kept-set_priority s i priority = by_test (eqb (task_at s i).priority priority)
     (λ t. rw t refl)
-    (λ t. rw t (by_test (is_ready (with_task i (record (task_at s i) { priority = priority }) s) i) (λ u. rw u refl) (λ u. rw u refl)))
+    (λ t.
+    rw t (by_test (is_ready (with_task i (record (task_at s i) { priority = priority }) s) i) (λ u. rw u refl) (λ u. rw u refl)))
 
 -- The scheduler has done its part.
-pub ranked_at : (k : Machine) (log : List Event) (s : State) → At k log s → (i priority : ℕ) (v : Schedule) → sched.StandsFor v (set_priority i priority s) → At (record k { sched = v }) log (set_priority i priority s)
+pub ranked_at : (k : Machine) (log : List Event) (s : State) → At k log s → (i priority : ℕ) (v : Schedule)
+    → sched.StandsFor v (set_priority i priority s) → At (record k { sched = v }) log (set_priority i priority s)
 ranked_at k log s h i priority v on =
     let c = stands_prioritised k.clock s i priority h.stands.rest.clock in
     let left = stands_ranked k.queues None s i priority h.stands.rest.queues in
     let locked = at_locked-ranked None s i priority h.stands.rest.awake in
     record {
-      stands = record { sched = on; rest = rest_with_queues h.stands.rest c (progress-set_priority s i priority) (kept-set_priority s i priority) left locked (bits_kept.same_set_priority i priority s) };
+      stands =
+          record {
+            sched = on;
+            rest =
+                rest_with_queues h.stands.rest c (progress-set_priority s i priority)
+                (kept-set_priority s i priority) left locked (bits_kept.same_set_priority i priority s);
+          };
       log = h.log ∙ sym (log-set_priority s i priority);
     }
 
 -- Who runs, runs on.
 pub still_running : (old new : Machine) (i : ℕ) → Reranks old new → Runs old i → Runs new i
-still_running old new i r h = record { current = r.current ∙ h.current; ready = r.ready i ∙ h.ready; op_index = rw (r.op_index i) h.op_index }
+still_running old new i r h =
+    record { current = r.current ∙ h.current; ready = r.ready i ∙ h.ready; op_index = rw (r.op_index i) h.op_index }
 
 -- and can decide, as the parts still agree
 pub still_decides : (old new : Machine) (i : ℕ) → Reranks old new → CanDecide old i → Agrees new → CanDecide new i
@@ -85,7 +97,8 @@ still_decides old new i r c agrees = record {
 -- ---- the changes of a priority
 
 module _ (P : State → Type 0) (s : State) where
-  pub lent : (priority holder : ℕ) → (task_at s holder).priority < priority → P (set_priority holder priority s) → P (lend priority holder s)
+  pub lent : (priority holder : ℕ) → (task_at s holder).priority < priority
+      → P (set_priority holder priority s) → P (lend priority holder s)
   lent priority holder l h = rw (lt-ltb (task_at s holder).priority priority l) h
 
   pub inherited : (i o holder : ℕ) → Some holder ≡ (object_at s o).holder → P (inherit_from i holder s) → P (inherit i o s)
@@ -96,7 +109,8 @@ module _ (P : State → Type 0) (s : State) where
   unfolding inherit
   inherited_nothing i o is h = subst (λ (x : Option ℕ). P (for_one (inherit_from i) x s)) is h
 
-  pub fell_back : (o holder : ℕ) → mutexes_held s holder ≡ 1 → P (set_priority holder (max (task_at s holder).base_priority (best_priority s (ToReceive o))) s) → P (fall_back o holder s)
+  pub fell_back : (o holder : ℕ) → mutexes_held s holder ≡ 1
+      → P (set_priority holder (max (task_at s holder).base_priority (best_priority s (ToReceive o))) s) → P (fall_back o holder s)
   fell_back o holder is h = rw (eq-eqb (mutexes_held s holder) 1 is) h
 
   pub fell_nowhere : (o holder : ℕ) → (mutexes_held s holder ≡ 1 → ⊥) → P s → P (fall_back o holder s)
@@ -106,7 +120,8 @@ module _ (P : State → Type 0) (s : State) where
   unfolding after_timeout
   timed_out_alone i o is h = rw is h
 
-  pub timed_out : (i o holder : ℕ) → (call_at s i).inherited ≡ true → Some holder ≡ (object_at s o).holder → P (fall_back o holder s) → P (after_timeout i o s)
+  pub timed_out : (i o holder : ℕ) → (call_at s i).inherited ≡ true
+      → Some holder ≡ (object_at s o).holder → P (fall_back o holder s) → P (after_timeout i o s)
   unfolding after_timeout
   timed_out i o holder is by h = rw is (subst (λ (x : Option ℕ). P (for_one (fall_back o) x s)) by h)
 
@@ -125,11 +140,18 @@ module _ (P : State → Type 0) (s : State) where
 -- ---- a mutex is given back
 
 -- an unlock by the holder, where no `suspend_all` is in force
-pub gave : (app : Application) (new : Machine) (log : List Event) (s : State) (i o : ℕ) → s.suspensions ≡ 0 → own_misuse s i (GiveMutex o) ≡ None
-    → At new log (preempt (answer app i (Some 1) (wake_best (ToReceive o) (disinherit i (with_object o (record (object_at s o) { holder = None }) s))))) → At new log (act_unless app i (misuse s i (GiveMutex o)) (GiveMutex o) s)
+pub gave : (app : Application) (new : Machine) (log : List Event) (s : State) (i o : ℕ)
+    → s.suspensions ≡ 0 → own_misuse s i (GiveMutex o) ≡ None
+    → At new log (preempt (answer app i (Some 1)
+    (wake_best (ToReceive o) (disinherit i (with_object o (record (object_at s o) { holder = None }) s)))))
+    → At new log (act_unless app i (misuse s i (GiveMutex o)) (GiveMutex o) s)
 unfolding give_mutex
 gave app new log s i o calm is h = subst (At new log) (sym (acts_calm app i (GiveMutex o) s calm is (λ e. absurd (cc)))) h
 
 -- or by another
-pub gave_nothing : (app : Application) (new : Machine) (log : List Event) (s : State) (i o : ℕ) (kind : Misuse) → s.suspensions ≡ 0 → own_misuse s i (GiveMutex o) ≡ Some kind → At new log (misused i (progress_at s i).op_index kind s) → At new log (act_unless app i (misuse s i (GiveMutex o)) (GiveMutex o) s)
-gave_nothing app new log s i o kind calm is h = let one : misuse s i (GiveMutex o) ≡ own_misuse s i (GiveMutex o) = rw calm refl in rw (one ∙ is) h
+pub gave_nothing : (app : Application) (new : Machine) (log : List Event) (s : State) (i o : ℕ) (kind : Misuse)
+    → s.suspensions ≡ 0 → own_misuse s i (GiveMutex o) ≡ Some kind → At new log (misused i (progress_at s i).op_index kind s)
+    → At new log (act_unless app i (misuse s i (GiveMutex o)) (GiveMutex o) s)
+gave_nothing app new log s i o kind calm is h =
+    let one : misuse s i (GiveMutex o) ≡ own_misuse s i (GiveMutex o) = rw calm refl in
+    rw (one ∙ is) h

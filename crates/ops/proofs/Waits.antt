@@ -1,5 +1,6 @@
 -- Calls that wait: what a wake and each phase make of the states that the kernel represents.
-use Rattle.std.proofs.Common.{◌≡◌, ◌≢◌, ◌<◌, ℕ, Bool, true, false, List, [], ◌∷◌, length, Option, Some, None, refl, ap, sym, subst, ◌∙◌}
+use Rattle.std.proofs.Common.{◌≡◌, ◌≢◌, ◌<◌, ℕ, Bool, true, false, List, [], ◌∷◌, length, Option, Some, None, refl, ap, sym, subst}
+use Rattle.std.proofs.Common.{◌∙◌}
 use Rattle.std.specs.Prelude.{if◌then◌else◌}
 use Rattle.std.specs.List.{AllByRecursion}
 use Rattle.std.specs.Option.{is_some, option_map, option_and_then}
@@ -8,7 +9,9 @@ use Rattle.model.specs.declared.call.WaitList.{WaitList}
 use Rattle.model.specs.declared.op.Access.{Access}
 use Rattle.model.specs.declared.event.Event.{Event}
 use Rattle.model.specs.Application.{Application}
-use Rattle.model.specs.State.{State, Task, Progress, Object, Status, Wait, Ready, Awake, Waiting, Asleep, WaitingForBits, Suspended, Ended, ticket_if_ready, wait_if_waiting, wait_if_awake, task_at, status_at, call_at, with_object, go_on, for_one}
+use Rattle.model.specs.State.{State, Task, Progress, Object, Status, Wait, Ready, Awake, Waiting, Asleep, WaitingForBits, Suspended}
+use Rattle.model.specs.State.{Ended, ticket_if_ready, wait_if_waiting, wait_if_awake, task_at, status_at, call_at, with_object}
+use Rattle.model.specs.State.{go_on, for_one}
 use Rattle.model.specs.Order.{Key, Entry, first, task_of}
 use Rattle.model.specs.Switching.{is_ready, make_ready, preempt, choose}
 use Rattle.model.specs.Ops.{answer}
@@ -90,20 +93,28 @@ awake_waits (WaitingForBits g m d) e = absurd (cc)
 awake_waits Suspended e = absurd (cc)
 awake_waits Ended e = absurd (cc)
 
-pub unready_waiting : (list : WaitList) (u : Status) (k : Key) → option_and_then (wait_key list) (wait_if_waiting u) ≡ Some k → is_some (ticket_if_ready u) ≡ false
+pub unready_waiting : (list : WaitList) (u : Status) (k : Key)
+    → option_and_then (wait_key list) (wait_if_waiting u) ≡ Some k → is_some (ticket_if_ready u) ≡ false
 unready_waiting list u k e = unready u (waiting_waits u (some_wait list (wait_if_waiting u) k e))
 
-pub unready_awake : (list : WaitList) (u : Status) (k : Key) → option_and_then (wait_key list) (wait_if_awake u) ≡ Some k → is_some (ticket_if_ready u) ≡ false
+pub unready_awake : (list : WaitList) (u : Status) (k : Key)
+    → option_and_then (wait_key list) (wait_if_awake u) ≡ Some k → is_some (ticket_if_ready u) ≡ false
 unready_awake list u k e = unready u (awake_waits u (some_wait list (wait_if_awake u) k e))
 
 pub best_waits : (s : State) (list : WaitList) (i : ℕ) → Some i ≡ best s list → WaitsThere s list i
 unfolding waits_key
 best_waits s list i is = by_entries (waiters s list) (list_has (waits_key list) s.tasks) is where
-  by_entries : (es : List Entry) → AllByRecursion (HasKey (waits_key list) s.tasks) es → Some i ≡ task_of (first es) → WaitsThere s list i
+  by_entries : (es : List Entry) → AllByRecursion (HasKey (waits_key list) s.tasks) es
+      → Some i ≡ task_of (first es) → WaitsThere s list i
   by_entries [] has e = absurd (cc)
   by_entries (x ∷ xs) has e =
       let same : i ≡ x.task = cc in
-      record { within = rw same has.0.within; unready = rw same (unready_waiting list (status_at s x.task) x.key has.0.key); key = x.key; there = rw same has.0.key }
+      record {
+        within = rw same has.0.within;
+        unready = rw same (unready_waiting list (status_at s x.task) x.key has.0.key);
+        key = x.key;
+        there = rw same has.0.key;
+      }
 
 waiting_unsuspended : (u : Status) → is_some (wait_of u) ≡ true → can_resume u ≡ false
 waiting_unsuspended (Ready n) e = refl
@@ -116,10 +127,13 @@ waiting_unsuspended Ended e = refl
 
 -- who waits there isn't suspended
 pub there_unsuspended : (s : State) (list : WaitList) (i : ℕ) → WaitsThere s list i → can_resume (status_at s i) ≡ false
-there_unsuspended s list i w = waiting_unsuspended (status_at s i) (waiting_waits (status_at s i) (some_wait list (wait_if_waiting (status_at s i)) w.key w.there))
+there_unsuspended s list i w =
+    waiting_unsuspended (status_at s i)
+    (waiting_waits (status_at s i) (some_wait list (wait_if_waiting (status_at s i)) w.key w.there))
 
 -- nor who was woken there
-pub awake_unsuspended : (list : WaitList) (u : Status) (k : Key) → option_and_then (wait_key list) (wait_if_awake u) ≡ Some k → can_resume u ≡ false
+pub awake_unsuspended : (list : WaitList) (u : Status) (k : Key)
+    → option_and_then (wait_key list) (wait_if_awake u) ≡ Some k → can_resume u ≡ false
 awake_unsuspended list u k e = waiting_unsuspended u (awake_waits u (some_wait list (wait_if_awake u) k e))
 
 -- the answer where someone becomes Ready
@@ -137,13 +151,18 @@ module _ (s : State) (list : WaitList) (i : ℕ) (is : Some i ≡ (if is_locked 
 
   pub wakes_it : wake_best list s ≡ make_ready i s
   unfolding wake_best
-  wakes_it = subst (λ (o : Option ℕ). for_one (λ task. wake_one task list) o s ≡ make_ready i s) (open_then (is_locked s.locked list) (best s list) i is).1 (rw opened refl)
+  wakes_it =
+      subst (λ (o : Option ℕ). for_one (λ task. wake_one task list) o s ≡ make_ready i s)
+      (open_then (is_locked s.locked list) (best s list) i is).1 (rw opened refl)
 
-module _ (k : Machine) (s : State) (h : StandsFor k s) (list : WaitList) (i : ℕ) (is : Some i ≡ (if is_locked s.locked list then None else best s list)) where
+module _ (k : Machine) (s : State) (h : StandsFor k s) (list : WaitList) (i : ℕ)
+    (is : Some i ≡ (if is_locked s.locked list then None else best s list)) where
   pub woken_free : schedule.is_ready k.sched i ≡ false
   woken_free = on_sched.ready_same k.sched s i h.sched ∙ (waits_there s list i is).unready
 
-  pub woken_at : (log : List Event) → log ≡ s.log → (v : Schedule) (t : Timeline) (q : Exchange) → (i < length s.tasks → sched.StandsFor v (make_ready i s)) → (i < length s.tasks → clock.StandsFor t (make_ready i s)) → queues.StandsFor q None (wake_best list s)
+  pub woken_at : (log : List Event) → log ≡ s.log → (v : Schedule) (t : Timeline) (q : Exchange)
+      → (i < length s.tasks → sched.StandsFor v (make_ready i s))
+      → (i < length s.tasks → clock.StandsFor t (make_ready i s)) → queues.StandsFor q None (wake_best list s)
       → At (record k { sched = v; clock = t; queues = q }) log (wake_best list s)
   woken_at log same v t q on awake left =
       let l = (waits_there s list i is).within in
@@ -206,15 +225,23 @@ awake_alike (WaitingForBits g m d) = record { key = refl; wake_time = refl }
 awake_alike Suspended = record { key = refl; wake_time = refl }
 awake_alike Ended = record { key = refl; wake_time = refl }
 
-module _ (k : Machine) (log : List Event) (s : State) (h : At k log s) (list : WaitList) (is : None ≡ (if is_locked s.locked list then None else best s list)) (q : Exchange) (left : queues.StandsFor q None (wake_best list s)) where
-  awakened_at : (i : ℕ) → i < length s.tasks → queues.StandsFor q None (awaken i s) → AtLocked None (awaken i s) → SameBitWaits s (awaken i s) → At (record k { queues = q }) log (awaken i s)
+module _ (k : Machine) (log : List Event) (s : State) (h : At k log s) (list : WaitList)
+    (is : None ≡ (if is_locked s.locked list then None else best s list)) (q : Exchange)
+    (left : queues.StandsFor q None (wake_best list s)) where
+  awakened_at : (i : ℕ) → i < length s.tasks → queues.StandsFor q None (awaken i s) → AtLocked None (awaken i s)
+      → SameBitWaits s (awaken i s) → At (record k { queues = q }) log (awaken i s)
   awakened_at i l there locked bits =
       let t : Task = record (task_at s i) { status = awake_status (status_at s i) } in
       let table : IsTable (awaken i s) = there.waiters.table in
-      let c = on_clock.stands_kept k.clock s (awaken i s) i t h.stands.rest.clock l refl refl refl (awake_alike (status_at s i)) table in
+      let c =
+      on_clock.stands_kept k.clock s (awaken i s) i t h.stands.rest.clock l refl refl refl (awake_alike (status_at s i)) table in
       record {
         stands = record {
-          sched = on_sched.stands_kept k.sched s (awaken i s) i t h.stands.sched l refl refl refl (ap (λ (o : Option ℕ). option_map (λ n. record { priority = (task_at s i).priority; ticket = n }) o) (awake_unready (status_at s i))) refl refl table (awake_resumes (status_at s i));
+          sched =
+              on_sched.stands_kept k.sched s (awaken i s) i t h.stands.sched l refl refl refl
+              (ap (λ (o : Option ℕ). option_map (λ n. record { priority = (task_at s i).priority; ticket = n }) o)
+              (awake_unready (status_at s i)))
+              refl refl table (awake_resumes (status_at s i));
           rest = rest_with_queues h.stands.rest c (progress-kept s.tasks i t refl) refl there locked bits;
         };
         log = h.log;
@@ -224,15 +251,25 @@ module _ (k : Machine) (log : List Event) (s : State) (h : At k log s) (list : W
   unwoken_at = by_case (unwoken s list is) where
     by_case : Unwoken s list → At (record k { queues = q }) log (wake_best list s)
     by_case (Nobody one) = subst (At (record k { queues = q }) log) (sym one) (record {
-      stands = record { sched = h.stands.sched; rest = rest_again h.stands.rest h.stands.rest.clock (subst (queues.StandsFor q None) one left) h.stands.rest.groups };
+      stands =
+          record {
+            sched = h.stands.sched;
+            rest = rest_again h.stands.rest h.stands.rest.clock (subst (queues.StandsFor q None) one left) h.stands.rest.groups;
+          };
       log = h.log;
     })
-    by_case (Counted i l one) = subst (At (record k { queues = q }) log) (sym one) (awakened_at i l (subst (queues.StandsFor q None) one left) (subst (AtLocked None) one (at_locked-wake_best None list s h.stands.rest.awake)) (subst (SameBitWaits s) one (bits_elsewhere.same_wake_best list s)))
+    by_case (Counted i l one) =
+        subst (At (record k { queues = q }) log) (sym one) (awakened_at i l (subst (queues.StandsFor q None) one left)
+        (subst (AtLocked None) one (at_locked-wake_best None list s h.stands.rest.awake))
+        (subst (SameBitWaits s) one (bits_elsewhere.same_wake_best list s)))
 
 -- one task more is Ready, and the running one is as before
-pub still_runs : (k new : Machine) (i j : ℕ) → Runs k j → schedule.is_ready k.sched i ≡ false → new.sched ≡ schedule.wake i k.sched → new.sched.current ≡ k.sched.current → new.progress ≡ k.progress → Runs new j
+pub still_runs : (k new : Machine) (i j : ℕ) → Runs k j → schedule.is_ready k.sched i ≡ false
+    → new.sched ≡ schedule.wake i k.sched → new.sched.current ≡ k.sched.current → new.progress ≡ k.progress → Runs new j
 still_runs k new i j r off on current same =
-    let apart : j ≢ i = (λ e. let f : schedule.is_ready k.sched i ≡ true = subst (λ (n : ℕ). schedule.is_ready k.sched n ≡ true) e r.ready in absurd (cc)) in
+    let apart : j ≢ i =
+    (λ e. let f : schedule.is_ready k.sched i ≡ true = subst (λ (n : ℕ). schedule.is_ready k.sched n ≡ true) e r.ready in
+    absurd (cc)) in
     record {
       current = current ∙ r.current;
       ready = ap (λ (v : Schedule). schedule.is_ready v j) on ∙ ready_woken k.sched i j apart ∙ r.ready;
@@ -242,7 +279,8 @@ still_runs k new i j r off on current same =
 -- ---- a call is done
 
 -- an object changes
-pub stored_at : (k : Machine) (log : List Event) (s : State) → At k log s → (o : ℕ) (x : Object) (q : Exchange) → queues.StandsFor q None (with_object o x s) → At (record k { queues = q }) log (with_object o x s)
+pub stored_at : (k : Machine) (log : List Event) (s : State) → At k log s → (o : ℕ) (x : Object) (q : Exchange)
+    → queues.StandsFor q None (with_object o x s) → At (record k { queues = q }) log (with_object o x s)
 stored_at k log s h o x q there =
     let new : State = with_object o x s in
     let table : IsTable new = there.waiters.table in
@@ -250,19 +288,23 @@ stored_at k log s h o x q there =
     record {
       stands = record {
         sched = sched-same h.stands.sched table refl refl refl;
-        rest = rest_with_queues h.stands.rest c (λ _. refl) refl there (at_locked-stored None o x s h.stands.rest.awake) (bits_kept.same_object o x s);
+        rest =
+            rest_with_queues h.stands.rest c (λ _. refl) refl there
+            (at_locked-stored None o x s h.stands.rest.awake) (bits_kept.same_object o x s);
       };
       log = h.log;
     }
 
 -- a try
 module _ (app : Application) (new : Machine) (log : List Event) (s : State) (i o : ℕ) (a : Access) where
-  pub tried : possible s o a ≡ true → At new log (preempt (answer app i (answer_to s o a) (fulfil (Some i) o a s))) → At new log (try app i o a s)
+  pub tried : possible s o a ≡ true → At new log (preempt (answer app i (answer_to s o a) (fulfil (Some i) o a s)))
+      → At new log (try app i o a s)
   unfolding try
   tried t h = rw t h
 
   module _ (not : possible s o a ≡ false) where
-    pub tried_late : is_expired s i ≡ true → At new log (answer app i (answer_to s o a) (after_timeout i o s)) → At new log (try app i o a s)
+    pub tried_late : is_expired s i ≡ true
+        → At new log (answer app i (answer_to s o a) (after_timeout i o s)) → At new log (try app i o a s)
     unfolding try
     tried_late t h = rw (not, t) h
 
@@ -276,10 +318,12 @@ module _ (app : Application) (new : Machine) (log : List Event) (s : State) (i o
   did h = h
 
 -- the hold ends
-pub left_after : (new : Machine) (log : List Event) (s : State) (i : ℕ) → (call_at s i).waits ≡ true → At new log (choose (end_hold i Try s)) → At new log (leave_call i s)
+pub left_after : (new : Machine) (log : List Event) (s : State) (i : ℕ) → (call_at s i).waits ≡ true
+    → At new log (choose (end_hold i Try s)) → At new log (leave_call i s)
 unfolding leave_call
 left_after new log s i t h = rw t h
 
-pub left_before : (new : Machine) (log : List Event) (s : State) (i : ℕ) → (call_at s i).waits ≡ false → At new log (preempt (end_hold i Try s)) → At new log (leave_call i s)
+pub left_before : (new : Machine) (log : List Event) (s : State) (i : ℕ) → (call_at s i).waits ≡ false
+    → At new log (preempt (end_hold i Try s)) → At new log (leave_call i s)
 unfolding leave_call
 left_before new log s i t h = rw t h

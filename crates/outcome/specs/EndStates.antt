@@ -4,11 +4,12 @@ use Rattle.std.specs.List.{cons_option, range_with_len}
 use Rattle.outcome.specs.declared.end_state.Situation.{Situation}
 use Rattle.outcome.specs.declared.end_state.Situation.TheVariants as situation
 use Rattle.outcome.specs.declared.end_state.HeldMutex.{HeldMutex}
-use Rattle.model.specs.State.{State, Object, Status, Ready, Awake, Waiting, WaitingForBits, Asleep, Suspended, Ended, progress_at, status_at, printed}
+use Rattle.model.specs.State.{State, Object, Status, Ready, Awake, Waiting, WaitingForBits, Asleep, Suspended, Ended, progress_at}
+use Rattle.model.specs.State.{status_at, printed}
 use Rattle.model.specs.Switching.{is_same}
 
--- What a task of this status is doing, at this op. Of a Ready task alone it matters whether it is the running one: a task that has begun
--- to wait waits, although it runs on until its call lets go of the scheduler.
+-- What a task of this status is doing, at this op. Of a Ready task alone it matters whether it is the running one: a task that has
+-- begun to wait waits, although it runs on until its call lets go of the scheduler.
 abbrev pub situation_by : (op_index : ℕ) → (is_running : Bool) → Status → Situation
 situation_by op_index is_running (Ready ticket) = if is_running then situation.Runs op_index else situation.Ready op_index
 situation_by op_index is_running (Awake wait) = situation.Awake op_index

@@ -6,8 +6,10 @@ use Rattle.byte_io.specs.Bytes.{Sent, SentFront}
 use Rattle.byte_io.proofs.Sending.{Sent_then, Sent_longer, SentFront_then, SentFront_longer}
 
 -- A part of the page went out, and the texts of some items were added to it.
-pub Sent_some : {A : Type 0} (f : A → List ℕ) (a b c : Option (List ℕ)) (text page mid kept : List ℕ) (rest some others : List A) → rest ≡ some ++ others
-    → Sent a b text (page ++ flat_map f rest) → Sent b c page mid → kept ≡ mid ++ flat_map f some → Sent a c text (kept ++ flat_map f others)
+pub Sent_some : {A : Type 0} (f : A → List ℕ) (a b c : Option (List ℕ)) (text page mid kept : List ℕ) (rest some others : List A)
+    → rest ≡ some ++ others
+    → Sent a b text (page ++ flat_map f rest) → Sent b c page mid
+    → kept ≡ mid ++ flat_map f some → Sent a c text (kept ++ flat_map f others)
 Sent_some f a b c text page mid kept rest some others is sent more put =
     let parts : mid ++ flat_map f rest ≡ kept ++ flat_map f others =
     rw (is, flat_map-append f some others, put) (sym (append_assoc mid (flat_map f some) (flat_map f others))) in
@@ -24,4 +26,5 @@ SentFront_some f a b c text page rest sent more =
 pub parts_of_run : {A : Type 0} (f : A → List ℕ) (head : List ℕ) (first own rest : List A)
     → head ++ flat_map f (first ++ (own ++ rest)) ≡ (head ++ flat_map f first) ++ (flat_map f own ++ flat_map f rest)
 parts_of_run f head first own rest =
-    rw (flat_map-append f first (own ++ rest), flat_map-append f own rest) (sym (append_assoc head (flat_map f first) (flat_map f own ++ flat_map f rest)))
+    rw (flat_map-append f first (own ++ rest), flat_map-append f own rest)
+    (sym (append_assoc head (flat_map f first) (flat_map f own ++ flat_map f rest)))

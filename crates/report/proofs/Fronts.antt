@@ -1,5 +1,6 @@
 -- Labels.
-use Rattle.std.proofs.Common.{◌≡◌, ◌≤◌, ◌++◌, ℕ, zero, suc, List, [], ◌∷◌, length, get_or, set, take, drop, ap, sym, ◌∙◌, inl, inr, arith, replicate, refl}
+use Rattle.std.proofs.Common.{◌≡◌, ◌≤◌, ◌++◌, ℕ, zero, suc, List, [], ◌∷◌, length, get_or, set, take, drop, ap, sym, ◌∙◌, inl, inr}
+use Rattle.std.proofs.Common.{arith, replicate, refl}
 use Rattle.std.proofs.Math.Seq.{drop-append_seam}
 use Rattle.std.proofs.lemmas.List.{get_or-replicate, get_or_past, length-replicate, length-take}
 use Rattle.std.proofs.lemmas.Bool.{cases_lt}
@@ -17,7 +18,8 @@ none_kept : (label : Label) (n i : ℕ) (front : List ℕ) → label.len ≡ 0 �
 none_kept label n i front is =
     elim (cases_lt i n) [
       | inl within ↦ rw (get_or-replicate n i label blank within) (none_fits label front is)
-      | inr past ↦ rw (get_or_past (replicate n label) i blank (omega (arith, past, length-replicate n label))) (none_fits blank front refl)
+      | inr past ↦
+          rw (get_or_past (replicate n label) i blank (omega (arith, past, length-replicate n label))) (none_fits blank front refl)
     ]
 
 none_of_op : (front : OpLabel → List ℕ) (op : OpLabel) (n i : ℕ) → op.label.len ≡ 0
@@ -25,11 +27,14 @@ none_of_op : (front : OpLabel → List ℕ) (op : OpLabel) (n i : ℕ) → op.la
 none_of_op front op n i is =
     elim (cases_lt i n) [
       | inl within ↦ rw (get_or-replicate n i op blank_op within) (none_fits op.label (front op) is)
-      | inr past ↦ rw (get_or_past (replicate n op) i blank_op (omega (arith, past, length-replicate n op))) (none_fits blank (front blank_op) refl)
+      | inr past ↦
+          rw (get_or_past (replicate n op) i blank_op (omega (arith, past, length-replicate n op)))
+          (none_fits blank (front blank_op) refl)
     ]
 
 -- Labels without text are right.
-pub labels_at_first : (app : Application) (run mark : Label) (call isr : OpLabel) (m n k : ℕ) → run.len ≡ 0 → mark.len ≡ 0 → call.label.len ≡ 0 → isr.label.len ≡ 0
+pub labels_at_first : (app : Application) (run mark : Label) (call isr : OpLabel) (m n k : ℕ)
+    → run.len ≡ 0 → mark.len ≡ 0 → call.label.len ≡ 0 → isr.label.len ≡ 0
     → AreLabels app (replicate m run) (replicate m mark) (replicate n call) (replicate k isr)
 labels_at_first app run mark call isr m n k run_is mark_is call_is isr_is = record {
   of_runs = λ task. none_kept run m task (run_front app task) run_is;
@@ -54,8 +59,10 @@ spelled before bytes front at within put =
     let begins : length (take at before) ≡ at = omega (arith, length-take at before, within) in
     ap (drop at) put ∙ ap (λ n. drop n (take at before ++ front)) (sym begins) ∙ drop-append_seam (take at before) front
 
-module _ (app : Application) (runs marks : List Label) (calls isrs : List OpLabel) (right : AreLabels app runs marks calls isrs) where
-  pub run_kept : (task : ℕ) (label : Label) → IsLabel label (run_front app task) → AreLabels app (set runs task label) marks calls isrs
+module _ (app : Application) (runs marks : List Label) (calls isrs : List OpLabel)
+    (right : AreLabels app runs marks calls isrs) where
+  pub run_kept : (task : ℕ) (label : Label) → IsLabel label (run_front app task)
+      → AreLabels app (set runs task label) marks calls isrs
   run_kept task label here = record {
     of_runs = set_kept (λ place l. IsLabel l (run_front app place)) blank label runs task here right.of_runs;
     of_marks = right.of_marks;
@@ -63,7 +70,8 @@ module _ (app : Application) (runs marks : List Label) (calls isrs : List OpLabe
     of_isrs = right.of_isrs;
   }
 
-  pub mark_kept : (task : ℕ) (label : Label) → IsLabel label (mark_front app task) → AreLabels app runs (set marks task label) calls isrs
+  pub mark_kept : (task : ℕ) (label : Label) → IsLabel label (mark_front app task)
+      → AreLabels app runs (set marks task label) calls isrs
   mark_kept task label here = record {
     of_runs = right.of_runs;
     of_marks = set_kept (λ place l. IsLabel l (mark_front app place)) blank label marks task here right.of_marks;

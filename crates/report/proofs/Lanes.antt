@@ -19,7 +19,8 @@ past k at byte (x ∷ xs) h =
     rw (ne_eqb k at other, past (k + 1) at byte xs (omega (arith, h))) refl
 
 from : (k j at byte : ℕ) (text : List ℕ) → at ≡ k + j
-    → sel_l (zip2 eqb (range_with_len k (length text)) (replicate (length text) at)) (replicate (length text) byte) text ≡ set text j byte
+    → sel_l (zip2 eqb (range_with_len k (length text)) (replicate (length text) at)) (replicate (length text) byte) text
+    ≡ set text j byte
 from k j at byte [] is = refl
 from k zero at byte (x ∷ xs) is =
     let same : k ≡ at = omega (arith, is) in
@@ -29,7 +30,8 @@ from k (suc j) at byte (x ∷ xs) is =
     rw (ne_eqb k at other, from (k + 1) j at byte xs (omega (arith, is))) refl
 
 pub replaced_lane : (n at byte : ℕ) (text : List ℕ) → length text ≡ n
-    → sel_l (map (top 7) (zip2 (λ a b. cond (eqb a b) 255 0) (range_with_len 0 n) (replicate n at))) (replicate n byte) text ≡ set text at byte
+    → sel_l (map (top 7) (zip2 (λ a b. cond (eqb a b) 255 0) (range_with_len 0 n) (replicate n at))) (replicate n byte) text
+    ≡ set text at byte
 replaced_lane n at byte text size =
     let P : ℕ → Type 0 = λ m. sel_l (zip2 eqb (range_with_len 0 m) (replicate m at)) (replicate m byte) text ≡ set text at byte in
     ap (λ ms. sel_l ms (replicate n byte) text) (tops_compared w8 eqb (range_with_len 0 n) (replicate n at))

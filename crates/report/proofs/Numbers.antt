@@ -1,5 +1,6 @@
 -- The digits of a number, by all but the last.
-use Rattle.std.proofs.Common.{◌≡◌, ℕ, ◌+◌, ◌-◌, ◌*◌, ◌/◌, ◌%◌, ◌^◌, ◌<◌, ◌≤◌, List, [], ◌∷◌, ◌++◌, length, take, drop, get_or, inl, inr, arith, eq-zero-or-pos, refl, sym, ap, ◌∙◌, take-append-drop, append_assoc, length-append}
+use Rattle.std.proofs.Common.{◌≡◌, ℕ, ◌+◌, ◌-◌, ◌*◌, ◌/◌, ◌%◌, ◌^◌, ◌<◌, ◌≤◌, List, [], ◌∷◌, ◌++◌, length, take, drop, get_or, inl}
+use Rattle.std.proofs.Common.{inr, arith, eq-zero-or-pos, refl, sym, ap, ◌∙◌, take-append-drop, append_assoc, length-append}
 use Rattle.std.proofs.Math.ListN.{set}
 use Rattle.std.proofs.Math.Seq.{get_or-append_seam, set-append_seam, take-append-add}
 use Rattle.std.proofs.lemmas.Bool.{cases_lt}
@@ -36,7 +37,9 @@ next_of number fits =
           record {
             front = [];
             here = rw last (decimal_digit number small);
-            next = λ h. let more : number + 1 < 10 = omega (arith, h, last) in rw (last, decimal_digit (number + 1) more) (ap (λ d. d ∷ []) (omega arith));
+            next = λ h.
+                let more : number + 1 < 10 = omega (arith, h, last) in
+                rw (last, decimal_digit (number + 1) more) (ap (λ d. d ∷ []) (omega arith));
           }
       | inr large ↦
           record {
@@ -50,21 +53,26 @@ next_of number fits =
     ]
 
 -- One digit is changed where nothing is carried.
-pub next_ten : (tens len : ℕ) (text : List ℕ) → tens + 1 < 2 ^ 64 → 0 < len → len ≤ length text → take len text ≡ decimal tens → get_or text (len - 1) 0 < 57
+pub next_ten : (tens len : ℕ) (text : List ℕ) → tens + 1 < 2 ^ 64 → 0 < len
+    → len ≤ length text → take len text ≡ decimal tens → get_or text (len - 1) 0 < 57
     → take len (set text (len - 1) (get_or text (len - 1) 0 + 1)) ≡ decimal (tens + 1)
 next_ten tens len text fits some within is low =
     let n = next_of tens fits in
     let whole : text ≡ n.front ++ (48 + tens % 10) ∷ drop len text =
-    sym (take-append-drop len text) ∙ ap (λ t. t ++ drop len text) (is ∙ n.here) ∙ append_assoc n.front ((48 + tens % 10) ∷ []) (drop len text) in
-    let size : len ≡ length n.front + 1 = omega (arith, within, length-take len text, ap length (is ∙ n.here), length-append n.front ((48 + tens % 10) ∷ [])) in
+    sym (take-append-drop len text) ∙ ap (λ t. t ++ drop len text) (is ∙ n.here)
+    ∙ append_assoc n.front ((48 + tens % 10) ∷ []) (drop len text) in
+    let size : len ≡ length n.front + 1 =
+    omega (arith, within, length-take len text, ap length (is ∙ n.here), length-append n.front ((48 + tens % 10) ∷ [])) in
     let at : len - 1 ≡ length n.front = omega (arith, size) in
-    let digit : get_or text (len - 1) 0 ≡ 48 + tens % 10 = rw (at, whole) (get_or-append_seam n.front (48 + tens % 10) (drop len text) 0) in
+    let digit : get_or text (len - 1) 0 ≡ 48 + tens % 10 =
+    rw (at, whole) (get_or-append_seam n.front (48 + tens % 10) (drop len text) 0) in
     let small : tens % 10 < 9 = omega (arith, digit, low) in
     rw (digit, at, n.next small, size, whole, set-append_seam n.front (48 + tens % 10) (drop len text) (48 + tens % 10 + 1))
     (take-append-add n.front ((48 + tens % 10 + 1) ∷ drop len text) 1)
 
 -- The tens go on by one.
-pub counted_up : (first len : ℕ) (text : List ℕ) → first + 10 < 2 ^ 32 → 0 < len → length text ≡ 16 → get_or text (len - 1) 0 < 57 → AreTens first len text
+pub counted_up : (first len : ℕ) (text : List ℕ) → first + 10 < 2 ^ 32 → 0 < len
+    → length text ≡ 16 → get_or text (len - 1) 0 < 57 → AreTens first len text
     → AreTens (first + 10) len (set text (len - 1) (get_or text (len - 1) 0 + 1))
 counted_up first len text fits some size low tens =
     let within : len ≤ length text = omega (arith, size, tens.few) in

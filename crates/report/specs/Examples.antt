@@ -4,7 +4,8 @@ use Rattle.model.specs.Application.{Application, Definition, Handler}
 use Rattle.model.specs.Run.{Run}
 use Rattle.model.specs.Campaign as campaign
 use Rattle.model.specs.declared.op.Op.{Op}
-use Rattle.model.specs.declared.op.Op.TheVariants.{Delay, DelayUntil, Mark, Await, Do, GiveMutex, SetBits, ClearBits, GetBits, WaitBits, Suspend, Resume, SuspendAll, ResumeAll}
+use Rattle.model.specs.declared.op.Op.TheVariants.{Delay, DelayUntil, Mark, Await, Do, GiveMutex, SetBits, ClearBits, GetBits}
+use Rattle.model.specs.declared.op.Op.TheVariants.{WaitBits, Suspend, Resume, SuspendAll, ResumeAll}
 use Rattle.model.specs.declared.op.Access.TheVariants.{SendFront, Take, Give, Lock}
 use Rattle.model.specs.declared.op.IsrOp.{IsrOp}
 use Rattle.model.specs.declared.op.IsrOp.TheVariants as isr_op
@@ -24,7 +25,19 @@ use Rattle.report.specs.declared.view.View.{View}
 
 -- an application of these tasks, from tick 0 and under no limits but the most
 abbrev pub app_of : List Definition → Application
-app_of tasks = record { start = 0; tickless = false; limits = record { ticks = 1000000; steps = 1000000 }; objects = []; group_count = 0; handlers = []; interrupts = []; tasks = tasks; daemon = None; points = [] }
+app_of tasks =
+    record {
+      start = 0;
+      tickless = false;
+      limits = record { ticks = 1000000; steps = 1000000 };
+      objects = [];
+      group_count = 0;
+      handlers = [];
+      interrupts = [];
+      tasks = tasks;
+      daemon = None;
+      points = [];
+    }
 
 -- a task of priority 1
 abbrev pub a_task : List ℕ → List Op → Definition
@@ -58,10 +71,12 @@ delay_one_run = record {
 
 -- a task that gives a mutex back twice, and a handler that gives a semaphore
 abbrev pub two_unlocks : Application
-two_unlocks = record (app_of (a_task (codes "a") (Do 0 Give ∷ Await 0 Take (Some 0) ∷ Await 1 Lock None ∷ GiveMutex 1 ∷ GiveMutex 1 ∷ []) ∷ [])) {
-  objects = kind.Semaphore 1 0 ∷ kind.Mutex ∷ [];
-  handlers = record { name = codes "h"; ops = isr_op.Do 0 Give ∷ [] } ∷ [];
-}
+two_unlocks =
+    record (app_of
+    (a_task (codes "a") (Do 0 Give ∷ Await 0 Take (Some 0) ∷ Await 1 Lock None ∷ GiveMutex 1 ∷ GiveMutex 1 ∷ []) ∷ [])) {
+      objects = kind.Semaphore 1 0 ∷ kind.Mutex ∷ [];
+      handlers = record { name = codes "h"; ops = isr_op.Do 0 Give ∷ [] } ∷ [];
+    }
 
 -- the row of the handler before step 0
 abbrev pub two_unlocks_row : Title
@@ -96,7 +111,8 @@ each_hold_run = record {
   events =
       event_at 1 0 (what.Call a 0 5) ∷ event_at 2 0 (what.Call a 1 5) ∷ event_at 3 0 (what.Call a 2 1)
       ∷ event_at 4 0 (what.Call a 3 0) ∷ event_at 5 0 (what.Call a 4 0) ∷ event_at 6 0 (what.Call a 5 1)
-      ∷ event_at 7 0 (what.Isr 0 0 0) ∷ event_at 7 0 (what.Isr 0 1 1) ∷ event_at 7 0 (what.Isr 0 2 1) ∷ event_at 7 0 (what.Isr 0 3 0)
+      ∷ event_at 7 0 (what.Isr 0 0 0) ∷ event_at 7 0 (what.Isr 0 1 1)
+      ∷ event_at 7 0 (what.Isr 0 2 1) ∷ event_at 7 0 (what.Isr 0 3 0)
       ∷ event_at 8 0 (what.Call a 6 0) ∷ event_at 9 0 (what.Call a 7 0) ∷ event_at 9 0 (what.Obeyed a false 1)
       ∷ event_at 9 0 (what.Obeyed a true 1) ∷ [];
   steps = 10;
@@ -139,7 +155,9 @@ longest_row reached = Row 1000000 (last_injection ∷ last_injection ∷ last_in
 
 -- a task and a handler that mark
 abbrev pub two_marks : Application
-two_marks = record (app_of (a_task (codes "a") (Mark 1 ∷ []) ∷ [])) { handlers = record { name = codes "h"; ops = isr_op.Mark 2 ∷ [] } ∷ [] }
+two_marks =
+    record (app_of (a_task (codes "a") (Mark 1 ∷ []) ∷ []))
+    { handlers = record { name = codes "h"; ops = isr_op.Mark 2 ∷ [] } ∷ [] }
 
 -- the events of the task's step
 abbrev pub one_mark : List Event

@@ -19,4 +19,5 @@ pub record Events : Type 0 where
 pub record IsSpelled (app : Application) (events : List Event) (text ends : List ℕ) : Type 0 where
   pub within : 8 * length ends ≤ length events
   pub is : text ≡ flat_map (event_text app) (take (8 * length ends) events)
-  pub ending : (group : ℕ) → group < length ends → slice_index_or ends group 0 ≡ length (flat_map (event_text app) (take (8 * (group + 1)) events))
+  pub ending : (group : ℕ) → group < length ends
+      → slice_index_or ends group 0 ≡ length (flat_map (event_text app) (take (8 * (group + 1)) events))

@@ -1,5 +1,6 @@
 -- The pending tasks, as the entries of the one list of a table.
-use Rattle.std.proofs.Common.{◌≡◌, ℕ, ◌<◌, inl, inr, Bool, false, Some, None, List, [], ◌∷◌, ◌++◌, drop, length, map, set, sym, ◌∙◌, ap, subst, arith, refl}
+use Rattle.std.proofs.Common.{◌≡◌, ℕ, ◌<◌, inl, inr, Bool, false, Some, None, List, [], ◌∷◌, ◌++◌, drop, length, map, set, sym, ◌∙◌}
+use Rattle.std.proofs.Common.{ap, subst, arith, refl}
 use Rattle.std.specs.Prelude.{◌==◌, ◌||◌}
 use Rattle.std.specs.Option.{is_some}
 use Rattle.std.proofs.lemmas.Bool.{cases_eq}
@@ -41,10 +42,12 @@ module _ {lists : List (List (ℕ × ℕ))} (sound : IsSound 1 32 lists) (i : �
   pub in_no_list : is_among i (tasks_in (entries_of lists 0)) ≡ false → place_of lists i ≡ None
   in_no_list free = only_list (sym (among-tasks_in i (entries_of lists 0)) ∙ free)
 
-  pub tasks_pushed : tasks_in (entries_of (set lists 0 (entries_of lists 0 ++ (i, 0) ∷ [])) 0) ≡ tasks_in (entries_of lists 0) ++ i ∷ []
+  pub tasks_pushed : tasks_in (entries_of (set lists 0 (entries_of lists 0 ++ (i, 0) ∷ [])) 0)
+      ≡ tasks_in (entries_of lists 0) ++ i ∷ []
   tasks_pushed =
       let below : 0 < length lists = let one = sound.as_many in omega (arith, one) in
-      ap tasks_in (entries_of-set_same lists 0 (entries_of lists 0 ++ (i, 0) ∷ []) below) ∙ tasks_in-append (entries_of lists 0) ((i, 0) ∷ [])
+      ap tasks_in (entries_of-set_same lists 0 (entries_of lists 0 ++ (i, 0) ∷ []) below)
+      ∙ tasks_in-append (entries_of lists 0) ((i, 0) ∷ [])
 
   pub tasks_without : tasks_in (entries_of (map (without i) lists) 0) ≡ without_task i (tasks_in (entries_of lists 0))
   tasks_without = ap tasks_in (entries_of-without i 0 lists) ∙ tasks_in-without i (entries_of lists 0)
@@ -55,7 +58,8 @@ module _ {lists : List (List (ℕ × ℕ))} (sound : IsSound 1 32 lists) (i : �
       ∙ has_node-without_it i (entries_of lists 0)
 
   -- the first one leaves
-  pub rest : Some i ≡ first_of (entries_of lists 0) → tasks_in (entries_of (map (without i) lists) 0) ≡ drop 1 (tasks_in (entries_of lists 0))
+  pub rest : Some i ≡ first_of (entries_of lists 0)
+      → tasks_in (entries_of (map (without i) lists) 0) ≡ drop 1 (tasks_in (entries_of lists 0))
   rest first =
       let split = first_split i (entries_of lists 0) first in
       ap tasks_in (without-first sound i split.0 0 split.1 split.2)

@@ -1,5 +1,6 @@
 -- Each change of the schedule is a deed of the definitions.
-use Rattle.std.proofs.Common.{◌≡◌, ◌≢◌, ◌+◌, ℕ, ◌<◌, ◌≤◌, inl, inr, Bool, true, false, not, Option, Some, None, List, [], ◌∷◌, get_or, set, length, sym, ◌∙◌, ap, ap₂, subst, arith, refl, eqb, ltb}
+use Rattle.std.proofs.Common.{◌≡◌, ◌≢◌, ◌+◌, ℕ, ◌<◌, ◌≤◌, inl, inr, Bool, true, false, not, Option, Some, None, List, [], ◌∷◌}
+use Rattle.std.proofs.Common.{get_or, set, length, sym, ◌∙◌, ap, ap₂, subst, arith, refl, eqb, ltb}
 use Rattle.std.specs.Prelude.{◌||◌, ◌&&◌, nat_lt, nat_eq, if◌then◌else◌}
 use Rattle.std.specs.List.{AllByRecursion, filter, list_any}
 use Rattle.std.specs.Option.{IfSome, is_some, option_map}
@@ -11,9 +12,11 @@ use Rattle.model.specs.declared.call.WaitList.{WaitList}
 use Rattle.model.specs.Waiting.{wait_in}
 use Rattle.model.specs.Groups.{wait_for_bits}
 use Rattle.model.specs.Suspension.{can_resume}
-use Rattle.model.specs.State.{State, Status, Task, Ready, Awake, Waiting, Asleep, WaitingForBits, Suspended, Ended, no_task, task_at, status_at, progress_at, call_at, with_task, with_call, take_ticket, ticket_if_ready, for_one}
+use Rattle.model.specs.State.{State, Status, Task, Ready, Awake, Waiting, Asleep, WaitingForBits, Suspended, Ended, no_task}
+use Rattle.model.specs.State.{task_at, status_at, progress_at, call_at, with_task, with_call, take_ticket, ticket_if_ready, for_one}
 use Rattle.model.specs.Order.{Entry, entry, first, key, keyed, list_by, put, task_of}
-use Rattle.model.specs.Switching.{choice, choose, dispatch, is_above, is_beside, is_held, is_outranked, is_ready, is_same, is_sharing, make_ready, preempt, ready_key, ready_list, slice, to_back, yield_now}
+use Rattle.model.specs.Switching.{choice, choose, dispatch, is_above, is_beside, is_held, is_outranked, is_ready, is_same}
+use Rattle.model.specs.Switching.{is_sharing, make_ready, preempt, ready_key, ready_list, slice, to_back, yield_now}
 use Rattle.model.specs.Mutexes.{set_priority}
 use Rattle.model.specs.Invariant.{HasTicketBelow, IsTable}
 use Rattle.model.proofs.Sorting.{All-filtered, Falls, Falls-in_order, IsAfter, before_false, before_true, by_test}
@@ -30,61 +33,86 @@ use Rattle.sched.specs.Schedule.{IsCalm, Schedule, is_suspended, lined_up, prior
 use Rattle.task_lists.specs.Tasks.{insert_by_priority}
 use Rattle.sched.specs.StandsFor.{DoesFree, StandsFor, StandsBefore, depth_of}
 use Rattle.sched.proofs.ReadyList.{none_of}
-use Rattle.sched.proofs.LinedUp.{IsFalling, has_node-added, line_up-append, line_up-falling, line_up-under, lined_up-block, lined_up_calm, without-added}
+use Rattle.sched.proofs.LinedUp.{IsFalling, has_node-added, line_up-append, line_up-falling, line_up-under, lined_up-block}
+use Rattle.sched.proofs.LinedUp.{lined_up_calm, without-added}
 
 -- the ready list, as tasks with their priorities
 
 -- an entry whose ticket is above all goes behind its equals
-with_priorities-put : (e : Entry) (xs : List Entry) → AllByRecursion (λ (x : Entry). x.key.ticket < e.key.ticket) xs → with_priorities (put e xs) ≡ insert_by_priority (e.task, e.key.priority) (with_priorities xs)
+with_priorities-put : (e : Entry) (xs : List Entry) → AllByRecursion (λ (x : Entry). x.key.ticket < e.key.ticket) xs
+    → with_priorities (put e xs) ≡ insert_by_priority (e.task, e.key.priority) (with_priorities xs)
 with_priorities-put e [] h = refl
 with_priorities-put e (x ∷ xs) h =
     let n = h.0 in
     by_test (ltb x.key.priority e.key.priority)
-    (λ t. let lt = ltb-true x.key.priority e.key.priority t in rw (before_true e.key x.key (record { high = omega arith; early = λ le. absurd (omega arith) }), t) refl)
-    (λ t. let le = ltb-false x.key.priority e.key.priority t in rw (before_false e.key x.key (record { low = le; late = λ ge. omega arith }), t) (ap (λ (l : List (ℕ × ℕ)). (x.task, x.key.priority) ∷ l) (with_priorities-put e xs h.1)))
+    (λ t. let lt = ltb-true x.key.priority e.key.priority t in
+    rw (before_true e.key x.key (record { high = omega arith; early = λ le. absurd (omega arith) }), t) refl)
+    (λ t. let le = ltb-false x.key.priority e.key.priority t in
+    rw (before_false e.key x.key (record { low = le; late = λ ge. omega arith }), t)
+    (ap (λ (l : List (ℕ × ℕ)). (x.task, x.key.priority) ∷ l) (with_priorities-put e xs h.1)))
 
 pub with_priorities-filter : (i : ℕ) (xs : List Entry) → with_priorities (filter (other i) xs) ≡ without i (with_priorities xs)
 with_priorities-filter i [] = refl
-with_priorities-filter i (x ∷ xs) = by_test (eqb x.task i) (λ t. rw t (with_priorities-filter i xs)) (λ t. rw t (ap (λ (l : List (ℕ × ℕ)). (x.task, x.key.priority) ∷ l) (with_priorities-filter i xs)))
+with_priorities-filter i (x ∷ xs) =
+    by_test (eqb x.task i) (λ t. rw t (with_priorities-filter i xs))
+    (λ t. rw t (ap (λ (l : List (ℕ × ℕ)). (x.task, x.key.priority) ∷ l) (with_priorities-filter i xs)))
 
 -- a task that becomes Ready with the next ticket goes behind its equals
-ready_list-entered : (s new : State) (i p : ℕ) (t : Task) → IsTable s → i < length s.tasks → new.tasks ≡ set s.tasks i t → ready_key t ≡ Some (key p s.next_ticket) → with_priorities (ready_list new) ≡ insert_by_priority (i, p) (without i (with_priorities (ready_list s)))
+ready_list-entered : (s new : State) (i p : ℕ) (t : Task) → IsTable s → i < length s.tasks
+    → new.tasks ≡ set s.tasks i t → ready_key t ≡ Some (key p s.next_ticket)
+    → with_priorities (ready_list new) ≡ insert_by_priority (i, p) (without i (with_priorities (ready_list s)))
 ready_list-entered s new i p t h l is ready =
     let b = below_ready s.next_ticket s.tasks h.tickets in
     let k = key p s.next_ticket in
     ap (λ ts. with_priorities (list_by ready_key ts)) is
     ∙ ap with_priorities (list-entered ready_key k i t s.tasks l ready b)
-    ∙ with_priorities-put (entry i k) (filter (other i) (ready_list s)) (All-filtered (λ (x : Entry). x.key.ticket < s.next_ticket) (other i) (ready_list s) (list_below ready_key s.next_ticket s.tasks b))
+    ∙ with_priorities-put (entry i k) (filter (other i) (ready_list s))
+    (All-filtered (λ (x : Entry). x.key.ticket < s.next_ticket) (other i)
+    (ready_list s) (list_below ready_key s.next_ticket s.tasks b))
     ∙ ap (insert_by_priority (i, p)) (with_priorities-filter i (ready_list s))
 
-ready_list-make_ready : (s : State) (i : ℕ) → IsTable s → i < length s.tasks → with_priorities (ready_list (make_ready i s)) ≡ insert_by_priority (i, (task_at s i).priority) (without i (with_priorities (ready_list s)))
-ready_list-make_ready s i h l = ready_list-entered s (make_ready i s) i (task_at s i).priority (record (task_at s i) { status = Ready s.next_ticket }) h l refl refl
+ready_list-make_ready : (s : State) (i : ℕ) → IsTable s → i < length s.tasks
+    → with_priorities (ready_list (make_ready i s))
+    ≡ insert_by_priority (i, (task_at s i).priority) (without i (with_priorities (ready_list s)))
+ready_list-make_ready s i h l =
+    ready_list-entered s (make_ready i s) i (task_at s i).priority
+    (record (task_at s i) { status = Ready s.next_ticket }) h l refl refl
 
 -- these are each task's numbers still, where the task that changes keeps its own
-pub numbers_kept : (number : Task → ℕ) (ns : List ℕ) (s new : State) (i : ℕ) (t : Task) → ((j : ℕ) → priority_in ns j ≡ number (task_at s j)) → new.tasks ≡ set s.tasks i t → number t ≡ number (task_at s i) → (j : ℕ) → priority_in ns j ≡ number (task_at new j)
+pub numbers_kept : (number : Task → ℕ) (ns : List ℕ) (s new : State) (i : ℕ) (t : Task)
+    → ((j : ℕ) → priority_in ns j ≡ number (task_at s j)) → new.tasks ≡ set s.tasks i t
+    → number t ≡ number (task_at s i) → (j : ℕ) → priority_in ns j ≡ number (task_at new j)
 numbers_kept number ns s new i t h is same =
     subst (λ (ts : List Task). (j : ℕ) → priority_in ns j ≡ number (get_or ts j no_task)) (sym is)
     (each-set no_task (λ j u. priority_in ns j ≡ number u) s.tasks i t (h i ∙ sym same) h)
 
 -- the same where a task becomes Ready
-numbers_readied : (number : Task → ℕ) (ns : List ℕ) (s : State) (i : ℕ) → ((j : ℕ) → priority_in ns j ≡ number (task_at s j)) → number (record (task_at s i) { status = Ready s.next_ticket }) ≡ number (task_at s i) → (j : ℕ) → priority_in ns j ≡ number (task_at (make_ready i s) j)
-numbers_readied number ns s i h same = numbers_kept number ns s (make_ready i s) i (record (task_at s i) { status = Ready s.next_ticket }) h refl same
+numbers_readied : (number : Task → ℕ) (ns : List ℕ) (s : State) (i : ℕ) → ((j : ℕ) → priority_in ns j ≡ number (task_at s j))
+    → number (record (task_at s i) { status = Ready s.next_ticket }) ≡ number (task_at s i) → (j : ℕ)
+    → priority_in ns j ≡ number (task_at (make_ready i s) j)
+numbers_readied number ns s i h same =
+    numbers_kept number ns s (make_ready i s) i (record (task_at s i) { status = Ready s.next_ticket }) h refl same
 
 -- these say still who is suspended, where the task that changes is it as before
-suspended_kept : (f : ℕ → Bool) (s new : State) (i : ℕ) (t : Task) → ((j : ℕ) → f j ≡ can_resume (status_at s j)) → new.tasks ≡ set s.tasks i t → can_resume t.status ≡ can_resume (status_at s i) → (j : ℕ) → f j ≡ can_resume (status_at new j)
+suspended_kept : (f : ℕ → Bool) (s new : State) (i : ℕ) (t : Task) → ((j : ℕ) → f j ≡ can_resume (status_at s j))
+    → new.tasks ≡ set s.tasks i t → can_resume t.status ≡ can_resume (status_at s i) → (j : ℕ) → f j ≡ can_resume (status_at new j)
 suspended_kept f s new i t h is same =
     subst (λ (ts : List Task). (j : ℕ) → f j ≡ can_resume (get_or ts j no_task).status) (sym is)
     (each-set no_task (λ j u. f j ≡ can_resume u.status) s.tasks i t (h i ∙ sym same) h)
 
 -- and these, where they are changed with it
-pub suspended_changed : (f g : ℕ → Bool) (s new : State) (i : ℕ) (t : Task) → ((j : ℕ) → f j ≡ can_resume (status_at s j)) → ((j : ℕ) → j ≢ i → g j ≡ f j) → g i ≡ can_resume t.status → i < length s.tasks → new.tasks ≡ set s.tasks i t → (j : ℕ) → g j ≡ can_resume (status_at new j)
+pub suspended_changed : (f g : ℕ → Bool) (s new : State) (i : ℕ) (t : Task)
+    → ((j : ℕ) → f j ≡ can_resume (status_at s j)) → ((j : ℕ) → j ≢ i → g j ≡ f j) → g i ≡ can_resume t.status
+    → i < length s.tasks → new.tasks ≡ set s.tasks i t → (j : ℕ) → g j ≡ can_resume (status_at new j)
 suspended_changed f g s new i t h others own l is j =
-    let at : can_resume (status_at new j) ≡ can_resume (get_or (set s.tasks i t) j no_task).status = ap (λ (ts : List Task). can_resume (get_or ts j no_task).status) is in
+    let at : can_resume (status_at new j) ≡ can_resume (get_or (set s.tasks i t) j no_task).status =
+    ap (λ (ts : List Task). can_resume (get_or ts j no_task).status) is in
     elim (cases_eq j i) [
       | inl here ↦
           ap g here ∙ own ∙ sym (ap (λ (u : Task). can_resume u.status) (get_or-set_same s.tasks i t no_task l))
           ∙ sym (at ∙ ap (λ (k : ℕ). can_resume (get_or (set s.tasks i t) k no_task).status) here)
-      | inr apart ↦ others j apart ∙ h j ∙ sym (at ∙ ap (λ (u : Task). can_resume u.status) (get_or-set_other s.tasks i j t no_task apart))
+      | inr apart ↦
+          others j apart ∙ h j ∙ sym (at ∙ ap (λ (u : Task). can_resume u.status) (get_or-set_other s.tasks i j t no_task apart))
     ]
 
 -- a Ready task isn't suspended
@@ -98,18 +126,22 @@ ready_unsuspended Suspended t = absurd cc
 ready_unsuspended Ended t = absurd cc
 
 -- a task goes to the back, from wherever it was, where nobody is pending and it isn't suspended
-stands_back : (v : Schedule) (s : State) (i : ℕ) → v.pending ≡ [] → StandsFor v s → i < length s.tasks → can_resume (status_at s i) ≡ false → StandsFor (mine.make_ready i (record v { ready = without i v.ready })) (make_ready i s)
+stands_back : (v : Schedule) (s : State) (i : ℕ) → v.pending ≡ [] → StandsFor v s → i < length s.tasks
+    → can_resume (status_at s i) ≡ false → StandsFor (mine.make_ready i (record v { ready = without i v.ready })) (make_ready i s)
 stands_back v s i none h l awake = record {
   ready =
       lined_up_calm (mine.make_ready i (record v { ready = without i v.ready })) none
       ∙ ap (λ (p : ℕ). insert_by_priority (i, p) (without i v.ready)) (h.priorities i)
-      ∙ ap (λ (r : List (ℕ × ℕ)). insert_by_priority (i, (task_at s i).priority) (without i r)) (sym (lined_up_calm v none) ∙ h.ready)
+      ∙ ap (λ (r : List (ℕ × ℕ)). insert_by_priority (i, (task_at s i).priority) (without i r))
+      (sym (lined_up_calm v none) ∙ h.ready)
       ∙ sym (ready_list-make_ready s i h.table l);
   current = h.current;
   priorities = numbers_readied (λ (t : Task). t.priority) v.priorities s i h.priorities refl;
   base_priorities = numbers_readied (λ (t : Task). t.base_priority) v.base_priorities s i h.base_priorities refl;
   depth = h.depth;
-  suspended = suspended_kept (is_suspended v) s (make_ready i s) i (record (task_at s i) { status = Ready s.next_ticket }) h.suspended refl (sym awake);
+  suspended =
+      suspended_kept (is_suspended v) s (make_ready i s) i
+      (record (task_at s i) { status = Ready s.next_ticket }) h.suspended refl (sym awake);
   table = table-make_ready s i h.table;
 }
 
@@ -127,7 +159,9 @@ pub record Adds (i : ℕ) (v w : Schedule) : Type 0 where
 
 pub adds_made_ready : (v : Schedule) (i : ℕ) → v.pending ≡ [] → is_suspended v i ≡ false → Adds i v (mine.make_ready i v)
 adds_made_ready v i none awake = record {
-  ready = lined_up_calm (mine.make_ready i v) none ∙ ap (insert_by_priority (i, priority_in v.priorities i)) (sym (lined_up_calm v none));
+  ready =
+      lined_up_calm (mine.make_ready i v) none
+      ∙ ap (insert_by_priority (i, priority_in v.priorities i)) (sym (lined_up_calm v none));
   current = refl;
   priorities = refl;
   base_priorities = refl;
@@ -147,64 +181,93 @@ adds_pended v i awake = record {
   awake = awake;
 }
 
-pub stands_added : (v w : Schedule) (s : State) (i : ℕ) → Adds i v w → StandsFor v s → i < length s.tasks → mine.is_ready v i ≡ false → StandsFor w (make_ready i s)
+pub stands_added : (v w : Schedule) (s : State) (i : ℕ) → Adds i v w → StandsFor v s
+    → i < length s.tasks → mine.is_ready v i ≡ false → StandsFor w (make_ready i s)
 stands_added v w s i adds h l free = record {
   ready =
       adds.ready
       ∙ ap (λ (p : ℕ). insert_by_priority (i, p) (lined_up v)) (h.priorities i)
-      ∙ ap (insert_by_priority (i, (task_at s i).priority)) (sym (without-apart i (lined_up v) (apart_from_test i (lined_up v) free)) ∙ ap (without i) h.ready)
+      ∙ ap (insert_by_priority (i, (task_at s i).priority))
+      (sym (without-apart i (lined_up v) (apart_from_test i (lined_up v) free)) ∙ ap (without i) h.ready)
       ∙ sym (ready_list-make_ready s i h.table l);
   current = adds.current ∙ h.current;
-  priorities = λ j. ap (λ (ps : List ℕ). priority_in ps j) adds.priorities ∙ numbers_readied (λ (t : Task). t.priority) v.priorities s i h.priorities refl j;
-  base_priorities = λ j. ap (λ (ps : List ℕ). priority_in ps j) adds.base_priorities ∙ numbers_readied (λ (t : Task). t.base_priority) v.base_priorities s i h.base_priorities refl j;
+  priorities = λ j.
+      ap (λ (ps : List ℕ). priority_in ps j) adds.priorities
+      ∙ numbers_readied (λ (t : Task). t.priority) v.priorities s i h.priorities refl j;
+  base_priorities = λ j.
+      ap (λ (ps : List ℕ). priority_in ps j) adds.base_priorities
+      ∙ numbers_readied (λ (t : Task). t.base_priority) v.base_priorities s i h.base_priorities refl j;
   depth = adds.depth ∙ h.depth;
-  suspended = suspended_changed (is_suspended v) (is_suspended w) s (make_ready i s) i (record (task_at s i) { status = Ready s.next_ticket }) h.suspended adds.others adds.awake l refl;
+  suspended =
+      suspended_changed (is_suspended v) (is_suspended w) s (make_ready i s) i
+      (record (task_at s i) { status = Ready s.next_ticket }) h.suspended adds.others adds.awake l refl;
   table = table-make_ready s i h.table;
 }
 
 -- while another is still to be placed
-pub placing_added : (v w : Schedule) (s : State) (decider i : ℕ) → Adds i v w → has_node decider w.ready ≡ true → IsFalling v.ready → StandsBefore decider v s → decider ≢ i → i < length s.tasks → mine.is_ready v i ≡ false → StandsBefore decider w (make_ready i s)
+pub placing_added : (v w : Schedule) (s : State) (decider i : ℕ) → Adds i v w
+    → has_node decider w.ready ≡ true → IsFalling v.ready → StandsBefore decider v s → decider ≢ i
+    → i < length s.tasks → mine.is_ready v i ≡ false → StandsBefore decider w (make_ready i s)
 placing_added v w s decider i adds still falling h ne l free =
     let left = without decider (lined_up v) in
     let out : has_node i left ≡ false = has_node-without_other decider i (lined_up v) (λ same. ne (sym same)) ∙ free in
     record {
       ready =
           ap (without decider) adds.ready
-          ∙ without-added decider (i, priority_in v.priorities i) (lined_up v) (λ same. ne (sym same)) (line_up-falling v.pending v.priorities v.ready falling)
+          ∙ without-added decider (i, priority_in v.priorities i) (lined_up v)
+          (λ same. ne (sym same)) (line_up-falling v.pending v.priorities v.ready falling)
           ∙ ap (λ (p : ℕ). insert_by_priority (i, p) left) (h.priorities i)
-          ∙ ap (insert_by_priority (i, (task_at s i).priority)) (sym (without-apart i left (apart_from_test i left out)) ∙ ap (without i) h.ready)
+          ∙ ap (insert_by_priority (i, (task_at s i).priority))
+          (sym (without-apart i left (apart_from_test i left out)) ∙ ap (without i) h.ready)
           ∙ sym (ready_list-make_ready s i h.table l);
       still = still;
       current = adds.current ∙ h.current;
-      priorities = λ j. ap (λ (ps : List ℕ). priority_in ps j) adds.priorities ∙ numbers_readied (λ (t : Task). t.priority) v.priorities s i h.priorities refl j;
-      base_priorities = λ j. ap (λ (ps : List ℕ). priority_in ps j) adds.base_priorities ∙ numbers_readied (λ (t : Task). t.base_priority) v.base_priorities s i h.base_priorities refl j;
+      priorities = λ j.
+          ap (λ (ps : List ℕ). priority_in ps j) adds.priorities
+          ∙ numbers_readied (λ (t : Task). t.priority) v.priorities s i h.priorities refl j;
+      base_priorities = λ j.
+          ap (λ (ps : List ℕ). priority_in ps j) adds.base_priorities
+          ∙ numbers_readied (λ (t : Task). t.base_priority) v.base_priorities s i h.base_priorities refl j;
       depth = adds.depth ∙ h.depth;
-      suspended = suspended_changed (is_suspended v) (is_suspended w) s (make_ready i s) i (record (task_at s i) { status = Ready s.next_ticket }) h.suspended adds.others adds.awake l refl;
+      suspended =
+          suspended_changed (is_suspended v) (is_suspended w) s (make_ready i s) i
+          (record (task_at s i) { status = Ready s.next_ticket }) h.suspended adds.others adds.awake l refl;
       table = table-make_ready s i h.table;
     }
 
 -- it goes to its ready list, where nobody is pending
-pub stands_made_ready : (v : Schedule) (s : State) (i : ℕ) → v.pending ≡ [] → StandsFor v s → i < length s.tasks → can_resume (status_at s i) ≡ false → mine.is_ready v i ≡ false → StandsFor (mine.make_ready i v) (make_ready i s)
-stands_made_ready v s i none h l awake free = stands_added v (mine.make_ready i v) s i (adds_made_ready v i none (h.suspended i ∙ awake)) h l free
+pub stands_made_ready : (v : Schedule) (s : State) (i : ℕ) → v.pending ≡ [] → StandsFor v s → i < length s.tasks
+    → can_resume (status_at s i) ≡ false → mine.is_ready v i ≡ false → StandsFor (mine.make_ready i v) (make_ready i s)
+stands_made_ready v s i none h l awake free =
+    stands_added v (mine.make_ready i v) s i (adds_made_ready v i none (h.suspended i ∙ awake)) h l free
 
-pub placing_made_ready : (v : Schedule) (s : State) (decider i : ℕ) → v.pending ≡ [] → IsFalling v.ready → StandsBefore decider v s → decider ≢ i → i < length s.tasks → can_resume (status_at s i) ≡ false → mine.is_ready v i ≡ false → StandsBefore decider (mine.make_ready i v) (make_ready i s)
+pub placing_made_ready : (v : Schedule) (s : State) (decider i : ℕ) → v.pending ≡ [] → IsFalling v.ready
+    → StandsBefore decider v s → decider ≢ i → i < length s.tasks → can_resume (status_at s i) ≡ false
+    → mine.is_ready v i ≡ false → StandsBefore decider (mine.make_ready i v) (make_ready i s)
 placing_made_ready v s decider i none falling h ne l awake free =
-    let still : has_node decider (mine.make_ready i v).ready ≡ true = has_node-added decider (i, priority_in v.priorities i) v.ready (λ same. ne (sym same)) ∙ h.still in
+    let still : has_node decider (mine.make_ready i v).ready ≡ true =
+    has_node-added decider (i, priority_in v.priorities i) v.ready (λ same. ne (sym same)) ∙ h.still in
     placing_added v (mine.make_ready i v) s decider i (adds_made_ready v i none (h.suspended i ∙ awake)) still falling h ne l free
 
 -- it is pending
-pub stands_pended : (v : Schedule) (s : State) (i : ℕ) → StandsFor v s → i < length s.tasks → can_resume (status_at s i) ≡ false → mine.is_ready v i ≡ false → StandsFor (mine.pend_ready i v) (make_ready i s)
+pub stands_pended : (v : Schedule) (s : State) (i : ℕ) → StandsFor v s → i < length s.tasks
+    → can_resume (status_at s i) ≡ false → mine.is_ready v i ≡ false → StandsFor (mine.pend_ready i v) (make_ready i s)
 stands_pended v s i h l awake free = stands_added v (mine.pend_ready i v) s i (adds_pended v i (h.suspended i ∙ awake)) h l free
 
-pub placing_pended : (v : Schedule) (s : State) (decider i : ℕ) → IsFalling v.ready → StandsBefore decider v s → decider ≢ i → i < length s.tasks → can_resume (status_at s i) ≡ false → mine.is_ready v i ≡ false → StandsBefore decider (mine.pend_ready i v) (make_ready i s)
-placing_pended v s decider i falling h ne l awake free = placing_added v (mine.pend_ready i v) s decider i (adds_pended v i (h.suspended i ∙ awake)) h.still falling h ne l free
+pub placing_pended : (v : Schedule) (s : State) (decider i : ℕ) → IsFalling v.ready
+    → StandsBefore decider v s → decider ≢ i → i < length s.tasks → can_resume (status_at s i) ≡ false
+    → mine.is_ready v i ≡ false → StandsBefore decider (mine.pend_ready i v) (make_ready i s)
+placing_pended v s decider i falling h ne l awake free =
+    placing_added v (mine.pend_ready i v) s decider i (adds_pended v i (h.suspended i ∙ awake)) h.still falling h ne l free
 
 -- whether a task is Ready
 
-ready_key_of : {p q : ℕ} {u w : Status} → p ≡ q → u ≡ w → option_map (key p) (ticket_if_ready u) ≡ option_map (key q) (ticket_if_ready w)
+ready_key_of : {p q : ℕ} {u w : Status} → p ≡ q → u ≡ w
+    → option_map (key p) (ticket_if_ready u) ≡ option_map (key q) (ticket_if_ready w)
 ready_key_of ep eu = ap₂ (λ (n : ℕ) (v : Status). option_map (key n) (ticket_if_ready v)) ep eu
 
-ready_at : (s : State) (i p : ℕ) (u : Status) → (task_at s i).priority ≡ p → (task_at s i).status ≡ u → has_task i (ready_list s) ≡ is_some (ticket_if_ready u)
+ready_at : (s : State) (i p : ℕ) (u : Status) → (task_at s i).priority ≡ p
+    → (task_at s i).status ≡ u → has_task i (ready_list s) ≡ is_some (ticket_if_ready u)
 ready_at s i p (Ready n) ep eu = has_task-key ready_key refl i (key p n) s.tasks (ready_key_of ep eu)
 ready_at s i p (Awake w) ep eu = has_task-none ready_key i s.tasks (ready_key_of ep eu)
 ready_at s i p (Waiting w) ep eu = has_task-none ready_key i s.tasks (ready_key_of ep eu)
@@ -223,27 +286,36 @@ ready_same v s i h =
 
 -- whether a Ready task is above the running one, or beside it, where nobody is pending
 
-any-with_priorities : (p : ℕ × ℕ → Bool) (q : Entry → Bool) (es : List Entry) → ((e : Entry) → p (e.task, e.key.priority) ≡ q e) → list_any p (with_priorities es) ≡ list_any q es
+any-with_priorities : (p : ℕ × ℕ → Bool) (q : Entry → Bool) (es : List Entry)
+    → ((e : Entry) → p (e.task, e.key.priority) ≡ q e) → list_any p (with_priorities es) ≡ list_any q es
 any-with_priorities p q [] h = refl
 any-with_priorities p q (e ∷ es) h = ap₂ (λ (a b : Bool). a || b) (h e) (any-with_priorities p q es h)
 
-above_same : (priorities : List ℕ) (s : State) (r : Option ℕ) → ((task : ℕ) → priority_in priorities task ≡ (task_at s task).priority) → (e : Entry) → mine.is_above priorities r (e.task, e.key.priority) ≡ is_above s r e
+above_same : (priorities : List ℕ) (s : State) (r : Option ℕ)
+    → ((task : ℕ) → priority_in priorities task ≡ (task_at s task).priority)
+    → (e : Entry) → mine.is_above priorities r (e.task, e.key.priority) ≡ is_above s r e
 above_same priorities s None h e = refl
 above_same priorities s (Some task) h e = ap (λ (p : ℕ). nat_lt p e.key.priority) (h task)
 
-beside_same : (priorities : List ℕ) (s : State) (r : Option ℕ) → ((task : ℕ) → priority_in priorities task ≡ (task_at s task).priority) → (e : Entry) → mine.is_beside priorities r (e.task, e.key.priority) ≡ is_beside s r e
+beside_same : (priorities : List ℕ) (s : State) (r : Option ℕ)
+    → ((task : ℕ) → priority_in priorities task ≡ (task_at s task).priority) → (e : Entry)
+    → mine.is_beside priorities r (e.task, e.key.priority) ≡ is_beside s r e
 beside_same priorities s None h e = refl
 beside_same priorities s (Some task) h e = ap (λ (p : ℕ). not (nat_eq e.task task) && nat_eq e.key.priority p) (h task)
 
 pub outranked_same : (v : Schedule) (s : State) → v.pending ≡ [] → StandsFor v s → mine.is_outranked v ≡ is_outranked s
 outranked_same v s none h =
-    ap₂ (λ (r : Option ℕ) (es : List (ℕ × ℕ)). list_any (mine.is_above v.priorities r) es) h.current (sym (lined_up_calm v none) ∙ h.ready)
-    ∙ any-with_priorities (mine.is_above v.priorities s.current) (is_above s s.current) (ready_list s) (above_same v.priorities s s.current h.priorities)
+    ap₂ (λ (r : Option ℕ) (es : List (ℕ × ℕ)). list_any (mine.is_above v.priorities r) es)
+    h.current (sym (lined_up_calm v none) ∙ h.ready)
+    ∙ any-with_priorities (mine.is_above v.priorities s.current) (is_above s s.current)
+    (ready_list s) (above_same v.priorities s s.current h.priorities)
 
 pub sharing_same : (v : Schedule) (s : State) → v.pending ≡ [] → StandsFor v s → mine.is_sharing v ≡ is_sharing s
 sharing_same v s none h =
-    ap₂ (λ (r : Option ℕ) (es : List (ℕ × ℕ)). list_any (mine.is_beside v.priorities r) es) h.current (sym (lined_up_calm v none) ∙ h.ready)
-    ∙ any-with_priorities (mine.is_beside v.priorities s.current) (is_beside s s.current) (ready_list s) (beside_same v.priorities s s.current h.priorities)
+    ap₂ (λ (r : Option ℕ) (es : List (ℕ × ℕ)). list_any (mine.is_beside v.priorities r) es)
+    h.current (sym (lined_up_calm v none) ∙ h.ready)
+    ∙ any-with_priorities (mine.is_beside v.priorities s.current) (is_beside s s.current)
+    (ready_list s) (beside_same v.priorities s s.current h.priorities)
 
 -- the choice, where nobody is pending
 
@@ -256,7 +328,16 @@ unfolding choose dispatch
 stands_chosen v s none h =
     let is : first_of v.ready ≡ choice s = ap first_of (sym (lined_up_calm v none) ∙ h.ready) ∙ first_task (ready_list s) in
     by_test (is_same (choice s) s.current)
-    (λ t. rw t (record { ready = h.ready; current = is ∙ same_eq (choice s) s.current t; priorities = h.priorities; base_priorities = h.base_priorities; depth = h.depth; suspended = h.suspended; table = h.table }))
+    (λ t.
+    rw t (record {
+      ready = h.ready;
+      current = is ∙ same_eq (choice s) s.current t;
+      priorities = h.priorities;
+      base_priorities = h.base_priorities;
+      depth = h.depth;
+      suspended = h.suspended;
+      table = h.table;
+    }))
     (λ t. rw t (record {
       ready = h.ready;
       current = is;
@@ -269,7 +350,8 @@ stands_chosen v s none h =
 
 -- the running task goes to the back, and the choice runs
 
-one_back : (v : Schedule) (s : State) (o : Option ℕ) → v.pending ≡ [] → StandsFor v s → IfSome o (λ task. task < length s.tasks) → StandsFor (mine.for_one mine.to_back o v) (for_one to_back o s)
+one_back : (v : Schedule) (s : State) (o : Option ℕ) → v.pending ≡ [] → StandsFor v s
+    → IfSome o (λ task. task < length s.tasks) → StandsFor (mine.for_one mine.to_back o v) (for_one to_back o s)
 unfolding to_back
 one_back v s None none h within = h
 one_back v s (Some task) none h within =
@@ -285,12 +367,15 @@ pending_kept v (Some task) = by_test (has_node task v.ready) (λ t. rw t refl) (
 stands_yielded : (v : Schedule) (s : State) → v.pending ≡ [] → StandsFor v s → StandsFor (mine.yield_now v) (yield_now s)
 unfolding yield_now
 stands_yielded v s none h =
-    let back : StandsFor (mine.for_one mine.to_back s.current v) (for_one to_back s.current s) = one_back v s s.current none h h.table.current in
-    let mine_back : StandsFor (mine.for_one mine.to_back v.current v) (for_one to_back s.current s) = subst (λ (o : Option ℕ). StandsFor (mine.for_one mine.to_back o v) (for_one to_back s.current s)) (sym h.current) back in
+    let back : StandsFor (mine.for_one mine.to_back s.current v) (for_one to_back s.current s) =
+    one_back v s s.current none h h.table.current in
+    let mine_back : StandsFor (mine.for_one mine.to_back v.current v) (for_one to_back s.current s) =
+    subst (λ (o : Option ℕ). StandsFor (mine.for_one mine.to_back o v) (for_one to_back s.current s)) (sym h.current) back in
     stands_chosen (mine.for_one mine.to_back v.current v) (for_one to_back s.current s) (pending_kept v v.current ∙ none) mine_back
 
 -- the same where a test says so
-yielded_if : (v : Schedule) (s : State) (b c : Bool) → b ≡ c → v.pending ≡ [] → StandsFor v s → StandsFor (if b then mine.yield_now v else v) (if c then yield_now s else s)
+yielded_if : (v : Schedule) (s : State) (b c : Bool) → b ≡ c → v.pending ≡ [] → StandsFor v s
+    → StandsFor (if b then mine.yield_now v else v) (if c then yield_now s else s)
 yielded_if v s b c same none h = by_test c
     (λ t. let u = same ∙ t in rw (t, u) (stands_yielded v s none h))
     (λ t. let u = same ∙ t in rw (t, u) h)
@@ -307,7 +392,9 @@ free_depth s free = let le = ltb-false 0 (depth_of s) (sym (held_by_depth s) ∙
 
 -- the deeds, as the contracts name them
 
-does : {old new : Schedule} {next : Schedule → Schedule} (deed : State → State) → ((v : Schedule) (s : State) → v.pending ≡ [] → StandsFor v s → StandsFor (next v) (deed s)) → IsCalm old → new ≡ next old → DoesFree old new deed
+does : {old new : Schedule} {next : Schedule → Schedule} (deed : State → State)
+    → ((v : Schedule) (s : State) → v.pending ≡ [] → StandsFor v s → StandsFor (next v) (deed s))
+    → IsCalm old → new ≡ next old → DoesFree old new deed
 does {old} {new} {next} deed stands calm is = λ s h free.
     let none : old.pending ≡ [] = calm (h.depth ∙ free_depth s free) in
     subst (λ (v : Schedule). StandsFor v (deed s)) (sym is) (stands old s none h)
@@ -320,11 +407,16 @@ does_yield_now calm is = does yield_now stands_yielded calm is
 
 pub does_preempt : {old new : Schedule} → IsCalm old → new ≡ mine.preempt old → DoesFree old new preempt
 unfolding preempt
-does_preempt calm is = does preempt (λ v s none h. yielded_if v s (mine.is_outranked v) (is_outranked s) (outranked_same v s none h) none h) calm is
+does_preempt calm is =
+    does preempt (λ v s none h. yielded_if v s (mine.is_outranked v) (is_outranked s) (outranked_same v s none h) none h) calm is
 
 pub does_slice : {old new : Schedule} → IsCalm old → new ≡ mine.slice old → DoesFree old new slice
 unfolding slice
-does_slice calm is = does slice (λ v s none h. yielded_if v s (mine.is_outranked v || mine.is_sharing v) (is_outranked s || is_sharing s) (ap₂ (λ (a b : Bool). a || b) (outranked_same v s none h) (sharing_same v s none h)) none h) calm is
+does_slice calm is =
+    does slice (λ v s none h.
+    yielded_if v s (mine.is_outranked v || mine.is_sharing v) (is_outranked s || is_sharing s)
+    (ap₂ (λ (a b : Bool). a || b) (outranked_same v s none h) (sharing_same v s none h)) none h)
+    calm is
 
 steady_apart : (a : Bool) → not a ≡ true → a ≡ false
 steady_apart true t = absurd (cc)
@@ -334,7 +426,9 @@ steady_apart false t = refl
 pub slice_none : (v : Schedule) (s : State) → v.pending ≡ [] → StandsFor v s → mine.is_steady v ≡ true → slice s ≡ s
 unfolding slice
 slice_none v s none h t =
-    let u : (is_outranked s || is_sharing s) ≡ false = ap₂ (λ (a b : Bool). a || b) (sym (outranked_same v s none h)) (sym (sharing_same v s none h)) ∙ steady_apart (mine.is_outranked v || mine.is_sharing v) t in
+    let u : (is_outranked s || is_sharing s) ≡ false =
+    ap₂ (λ (a b : Bool). a || b) (sym (outranked_same v s none h)) (sym (sharing_same v s none h))
+    ∙ steady_apart (mine.is_outranked v || mine.is_sharing v) t in
     rw u refl
 
 -- a task changes by itself
@@ -342,16 +436,22 @@ slice_none v s none h t =
 falling_with_priorities : (es : List Entry) → Falls es → IsFalling (with_priorities es)
 falling_with_priorities [] h = tt
 falling_with_priorities (e ∷ es) h = (each es h.0, falling_with_priorities es h.1) where
-  each : (fs : List Entry) → AllByRecursion (λ (f : Entry). IsAfter f.key e.key) fs → Each (λ f. f.1 ≤ e.key.priority) (with_priorities fs)
+  each : (fs : List Entry) → AllByRecursion (λ (f : Entry). IsAfter f.key e.key) fs
+      → Each (λ f. f.1 ≤ e.key.priority) (with_priorities fs)
   each [] k = tt
   each (f ∷ fs) k = (k.0.low, each fs k.1)
 
 -- the tasks in the ready lists are in order, as the lined up ones are
 pub falling_ready : (v : Schedule) (s : State) → StandsFor v s → IsFalling v.ready
-falling_ready v s h = line_up-under v.pending v.priorities v.ready (subst IsFalling (sym h.ready) (falling_with_priorities (ready_list s) (Falls-in_order (keyed ready_key 0 s.tasks))))
+falling_ready v s h =
+    line_up-under v.pending v.priorities v.ready
+    (subst IsFalling (sym h.ready) (falling_with_priorities (ready_list s) (Falls-in_order (keyed ready_key 0 s.tasks))))
 
 -- it is Ready no more
-pub stands_blocked : (v : Schedule) (s new : State) (i : ℕ) (t : Task) → StandsFor v s → i < length s.tasks → new.tasks ≡ set s.tasks i t → new.current ≡ s.current → depth_of new ≡ depth_of s → ready_key t ≡ None → t.priority ≡ (task_at s i).priority → t.base_priority ≡ (task_at s i).base_priority → IsTable new → can_resume t.status ≡ can_resume (status_at s i) → StandsFor (mine.block i v) new
+pub stands_blocked : (v : Schedule) (s new : State) (i : ℕ) (t : Task) → StandsFor v s → i < length s.tasks
+    → new.tasks ≡ set s.tasks i t → new.current ≡ s.current → depth_of new ≡ depth_of s → ready_key t ≡ None
+    → t.priority ≡ (task_at s i).priority → t.base_priority ≡ (task_at s i).base_priority → IsTable new
+    → can_resume t.status ≡ can_resume (status_at s i) → StandsFor (mine.block i v) new
 stands_blocked v s new i t h l is current held none same same_base table alike = record {
   ready =
       lined_up-block i v (falling_ready v s h) ∙ ap (without i) h.ready ∙ sym (with_priorities-filter i (ready_list s))
@@ -364,11 +464,15 @@ stands_blocked v s new i t h l is current held none same same_base table alike =
   table = table;
 }
 
-list_kept : (s new : State) (i : ℕ) (t : Task) → new.tasks ≡ set s.tasks i t → ready_key t ≡ ready_key (task_at s i) → with_priorities (ready_list s) ≡ with_priorities (ready_list new)
+list_kept : (s new : State) (i : ℕ) (t : Task) → new.tasks ≡ set s.tasks i t
+    → ready_key t ≡ ready_key (task_at s i) → with_priorities (ready_list s) ≡ with_priorities (ready_list new)
 list_kept s new i t is key_same = sym (ap with_priorities (ap (list_by ready_key) is ∙ list-kept ready_key i t s.tasks key_same))
 
 -- it keeps its key
-pub stands_kept : (v : Schedule) (s new : State) (i : ℕ) (t : Task) → StandsFor v s → i < length s.tasks → new.tasks ≡ set s.tasks i t → new.current ≡ s.current → depth_of new ≡ depth_of s → ready_key t ≡ ready_key (task_at s i) → t.priority ≡ (task_at s i).priority → t.base_priority ≡ (task_at s i).base_priority → IsTable new → can_resume t.status ≡ can_resume (status_at s i) → StandsFor v new
+pub stands_kept : (v : Schedule) (s new : State) (i : ℕ) (t : Task) → StandsFor v s → i < length s.tasks
+    → new.tasks ≡ set s.tasks i t → new.current ≡ s.current → depth_of new ≡ depth_of s → ready_key t ≡ ready_key (task_at s i)
+    → t.priority ≡ (task_at s i).priority → t.base_priority ≡ (task_at s i).base_priority → IsTable new
+    → can_resume t.status ≡ can_resume (status_at s i) → StandsFor v new
 stands_kept v s new i t h l is current held key_same same same_base table alike = record {
   ready = h.ready ∙ list_kept s new i t is key_same;
   current = h.current ∙ sym current;
@@ -381,15 +485,23 @@ stands_kept v s new i t h l is current held key_same same same_base table alike 
 
 -- its priority changes
 
-priority_changed : (ps : List ℕ) (s new : State) (i p : ℕ) (t : Task) → ((j : ℕ) → priority_in ps j ≡ (task_at s j).priority) → i < length ps → i < length s.tasks → new.tasks ≡ set s.tasks i t → t.priority ≡ p → (j : ℕ) → priority_in (set ps i p) j ≡ (task_at new j).priority
+priority_changed : (ps : List ℕ) (s new : State) (i p : ℕ) (t : Task)
+    → ((j : ℕ) → priority_in ps j ≡ (task_at s j).priority) → i < length ps → i < length s.tasks
+    → new.tasks ≡ set s.tasks i t → t.priority ≡ p → (j : ℕ) → priority_in (set ps i p) j ≡ (task_at new j).priority
 priority_changed ps s new i p t h lp ls is has j =
     sym (ap (λ (ts : List Task). (get_or ts j no_task).priority) is ∙ elim (cases_eq j i) [
-      | inl here ↦ rw here (ap (λ (u : Task). u.priority) (get_or-set_same s.tasks i t no_task ls) ∙ has ∙ sym (get_or-set_same ps i p 0 lp))
-      | inr apart ↦ ap (λ (u : Task). u.priority) (get_or-set_other s.tasks i j t no_task apart) ∙ sym (get_or-set_other ps i j p 0 apart ∙ h j)
+      | inl here ↦
+          rw here (ap (λ (u : Task). u.priority) (get_or-set_same s.tasks i t no_task ls) ∙ has ∙ sym (get_or-set_same ps i p 0 lp))
+      | inr apart ↦
+          ap (λ (u : Task). u.priority) (get_or-set_other s.tasks i j t no_task apart)
+          ∙ sym (get_or-set_other ps i j p 0 apart ∙ h j)
     ])
 
 -- a Ready one goes behind its new equals
-stands_moved : (v : Schedule) (s : State) (i p : ℕ) → v.pending ≡ [] → StandsFor v s → i < length s.tasks → i < length v.priorities → is_ready s i ≡ true → StandsFor (mine.make_ready i (record v { ready = without i v.ready; priorities = set v.priorities i p })) (make_ready i (with_task i (record (task_at s i) { priority = p }) s))
+stands_moved : (v : Schedule) (s : State) (i p : ℕ) → v.pending ≡ [] → StandsFor v s → i < length s.tasks → i < length v.priorities
+    → is_ready s i ≡ true
+    → StandsFor (mine.make_ready i (record v { ready = without i v.ready; priorities = set v.priorities i p }))
+    (make_ready i (with_task i (record (task_at s i) { priority = p }) s))
 stands_moved v s i p none h l known on =
     let u : Task = record (task_at s i) { priority = p } in
     let ranked : State = with_task i u s in
@@ -405,17 +517,22 @@ stands_moved v s i p none h l known on =
           ∙ sym (ready_list-entered s new i p w h.table l is (ap (λ (x : Task). Some (key x.priority s.next_ticket)) at));
       current = h.current;
       priorities = priority_changed v.priorities s new i p w h.priorities known l is (ap (λ (x : Task). x.priority) at);
-      base_priorities = numbers_kept (λ (x : Task). x.base_priority) v.base_priorities s new i w h.base_priorities is (ap (λ (x : Task). x.base_priority) at);
+      base_priorities =
+          numbers_kept (λ (x : Task). x.base_priority) v.base_priorities s new
+          i w h.base_priorities is (ap (λ (x : Task). x.base_priority) at);
       depth = h.depth;
       suspended = suspended_kept (is_suspended v) s new i w h.suspended is (sym (ready_unsuspended (status_at s i) on));
       table = table-make_ready ranked i (table-set s i u h.table (ticket_at s.next_ticket i s.tasks h.table.tickets));
     }
 
-unready_key : (p q : ℕ) (status : Status) → is_some (ticket_if_ready status) ≡ false → option_map (key p) (ticket_if_ready status) ≡ option_map (key q) (ticket_if_ready status)
+unready_key : (p q : ℕ) (status : Status) → is_some (ticket_if_ready status) ≡ false
+    → option_map (key p) (ticket_if_ready status) ≡ option_map (key q) (ticket_if_ready status)
 unready_key p q status off = rw (none_of (ticket_if_ready status) off) refl
 
 -- and another stays as it is
-stands_ranked : (v : Schedule) (s : State) (i p : ℕ) → v.pending ≡ [] → StandsFor v s → i < length s.tasks → i < length v.priorities → is_ready s i ≡ false → StandsFor (record v { priorities = set v.priorities i p }) (with_task i (record (task_at s i) { priority = p }) s)
+stands_ranked : (v : Schedule) (s : State) (i p : ℕ) → v.pending ≡ [] → StandsFor v s → i < length s.tasks
+    → i < length v.priorities → is_ready s i ≡ false
+    → StandsFor (record v { priorities = set v.priorities i p }) (with_task i (record (task_at s i) { priority = p }) s)
 stands_ranked v s i p none h l known off =
     let u : Task = record (task_at s i) { priority = p } in
     let new : State = with_task i u s in
@@ -431,12 +548,14 @@ stands_ranked v s i p none h l known off =
       table = table-set s i u h.table (ticket_at s.next_ticket i s.tasks h.table.tickets);
     }
 
-pub stands_prioritised : (v : Schedule) (s : State) (i p : ℕ) → v.pending ≡ [] → StandsFor v s → i < length s.tasks → i < length v.priorities → StandsFor (mine.set_priority i p v) (set_priority i p s)
+pub stands_prioritised : (v : Schedule) (s : State) (i p : ℕ) → v.pending ≡ [] → StandsFor v s
+    → i < length s.tasks → i < length v.priorities → StandsFor (mine.set_priority i p v) (set_priority i p s)
 unfolding set_priority to_back
 stands_prioritised v s i p none h l known =
     let u : Task = record (task_at s i) { priority = p } in
     let listed : has_node i v.ready ≡ is_ready s i = ap (has_node i) (sym (lined_up_calm v none)) ∙ ready_same v s i h in
-    let still : is_ready (with_task i u s) i ≡ is_ready s i = ap (λ (x : Task). is_some (ticket_if_ready x.status)) (get_or-set_same s.tasks i u no_task l) in
+    let still : is_ready (with_task i u s) i ≡ is_ready s i =
+    ap (λ (x : Task). is_some (ticket_if_ready x.status)) (get_or-set_same s.tasks i u no_task l) in
     by_test (eqb (task_at s i).priority p)
     (λ t. let e : eqb (priority_in v.priorities i) p ≡ true = ap (λ (n : ℕ). eqb n p) (h.priorities i) ∙ t in rw (t, e) h)
     (λ t. let e : eqb (priority_in v.priorities i) p ≡ false = ap (λ (n : ℕ). eqb n p) (h.priorities i) ∙ t in
@@ -444,21 +563,36 @@ stands_prioritised v s i p none h l known =
     (λ on. let a = listed ∙ on in let b = still ∙ on in rw (t, e, a, b) (stands_moved v s i p none h l known on))
     (λ off. let a = listed ∙ off in let b = still ∙ off in rw (t, e, a, b) (stands_ranked v s i p none h l known off)))
 
-pub does_set_priority : {old new : Schedule} (i p : ℕ) → IsCalm old → old.depth ≡ 0 → i < length old.priorities → new ≡ mine.set_priority i p old → (s : State) → StandsFor old s → i < length s.tasks → StandsFor new (set_priority i p s)
-does_set_priority {old} {new} i p calm free known is = λ s h l. subst (λ (v : Schedule). StandsFor v (set_priority i p s)) (sym is) (stands_prioritised old s i p (calm free) h l known)
+pub does_set_priority : {old new : Schedule} (i p : ℕ) → IsCalm old → old.depth ≡ 0 → i < length old.priorities
+    → new ≡ mine.set_priority i p old → (s : State) → StandsFor old s → i < length s.tasks → StandsFor new (set_priority i p s)
+does_set_priority {old} {new} i p calm free known is = λ s h l.
+    subst (λ (v : Schedule). StandsFor v (set_priority i p s)) (sym is) (stands_prioritised old s i p (calm free) h l known)
 
 -- a task that waits already leaves the Ready tasks
 pub stands_placed : (v : Schedule) (s : State) (i : ℕ) → IsFalling v.ready → StandsBefore i v s → StandsFor (mine.block i v) s
-stands_placed v s i falling h = record { ready = lined_up-block i v falling ∙ h.ready; current = h.current; priorities = h.priorities; base_priorities = h.base_priorities; depth = h.depth; suspended = h.suspended; table = h.table }
+stands_placed v s i falling h =
+    record {
+      ready = lined_up-block i v falling ∙ h.ready;
+      current = h.current;
+      priorities = h.priorities;
+      base_priorities = h.base_priorities;
+      depth = h.depth;
+      suspended = h.suspended;
+      table = h.table;
+    }
 
 -- A Ready task begins to wait while nobody is pending, and stays in its ready list until it is placed.
-stands_begun : (v : Schedule) (s : State) (i : ℕ) (status : ℕ → Status) → v.pending ≡ [] → StandsFor v s → i < length s.tasks → is_ready s i ≡ true → HasTicketBelow (s.next_ticket + 1) (status s.next_ticket)
-    → ticket_if_ready (status s.next_ticket) ≡ None → can_resume (status s.next_ticket) ≡ false → StandsBefore i v (take_ticket i status s)
+stands_begun : (v : Schedule) (s : State) (i : ℕ) (status : ℕ → Status) → v.pending ≡ [] → StandsFor v s
+    → i < length s.tasks → is_ready s i ≡ true → HasTicketBelow (s.next_ticket + 1) (status s.next_ticket)
+    → ticket_if_ready (status s.next_ticket) ≡ None → can_resume (status s.next_ticket) ≡ false
+    → StandsBefore i v (take_ticket i status s)
 stands_begun v s i status none h l ready below unready awake =
     let w : Task = record (task_at s i) { status = status s.next_ticket } in
     let table : IsTable (take_ticket i status s) = table-taken s i status h.table below in
     let keyless : ready_key w ≡ None = ap (λ (o : Option ℕ). option_map (key (task_at s i).priority) o) unready in
-    let b : StandsFor (mine.block i v) (take_ticket i status s) = stands_blocked v s (take_ticket i status s) i w h l refl refl refl keyless refl refl table (awake ∙ sym (ready_unsuspended (status_at s i) ready)) in
+    let b : StandsFor (mine.block i v) (take_ticket i status s) =
+    stands_blocked v s (take_ticket i status s) i w h l refl refl refl keyless
+    refl refl table (awake ∙ sym (ready_unsuspended (status_at s i) ready)) in
     record {
       ready = sym (lined_up-block i v (falling_ready v s h)) ∙ b.ready;
       still = ap (has_node i) (sym (lined_up_calm v none)) ∙ ready_same v s i h ∙ ready;
@@ -471,7 +605,8 @@ stands_begun v s i status none h l ready below unready awake =
     }
 
 -- at an object
-pub stands_waiting : (v : Schedule) (s : State) (i : ℕ) (list : WaitList) → v.pending ≡ [] → StandsFor v s → i < length s.tasks → is_ready s i ≡ true → StandsBefore i v (wait_in i list s)
+pub stands_waiting : (v : Schedule) (s : State) (i : ℕ) (list : WaitList) → v.pending ≡ []
+    → StandsFor v s → i < length s.tasks → is_ready s i ≡ true → StandsBefore i v (wait_in i list s)
 unfolding wait_in
 stands_waiting v s i list none h l ready =
     let call : CallProgress = record (call_at s i) { waits = true } in
@@ -479,20 +614,26 @@ stands_waiting v s i list none h l ready =
     let s1 : State = with_call i call s in
     let table : IsTable s1 = table-set s i u h.table (ticket_at s.next_ticket i s.tasks h.table.tickets) in
     let h1 : StandsFor v s1 = stands_kept v s s1 i u h l refl refl refl refl refl refl table refl in
-    let ready1 : is_ready s1 i ≡ true = ap (λ (x : Task). is_some (ticket_if_ready x.status)) (get_or-set_same s.tasks i u no_task l) ∙ ready in
+    let ready1 : is_ready s1 i ≡ true =
+    ap (λ (x : Task). is_some (ticket_if_ready x.status)) (get_or-set_same s.tasks i u no_task l) ∙ ready in
     let priority : ℕ = (task_at s i).priority in
     let deadline : Option ℕ = (call_at s i).deadline in
-    stands_begun v s1 i (λ ticket. Waiting (record { list = list; priority = priority; ticket = ticket; deadline = deadline })) none h1 (rw length-set l) ready1 (omega arith) refl refl
+    stands_begun v s1 i (λ ticket. Waiting (record { list = list; priority = priority; ticket = ticket; deadline = deadline }))
+    none h1 (rw length-set l) ready1 (omega arith) refl refl
 
 -- and for bits
-pub stands_waiting_bits : (v : Schedule) (s : State) (i group : ℕ) → v.pending ≡ [] → StandsFor v s → i < length s.tasks → is_ready s i ≡ true → StandsBefore i v (wait_for_bits i group s)
+pub stands_waiting_bits : (v : Schedule) (s : State) (i group : ℕ) → v.pending ≡ [] → StandsFor v s
+    → i < length s.tasks → is_ready s i ≡ true → StandsBefore i v (wait_for_bits i group s)
 unfolding wait_for_bits
 stands_waiting_bits v s i group none h l ready =
     let deadline : Option ℕ = (call_at s i).deadline in
     stands_begun v s i (λ ticket. WaitingForBits group ticket deadline) none h l ready (omega arith) refl refl
 
 -- A task that is still to be placed, or another, keeps its key.
-pub stands_before_kept : (v : Schedule) (s new : State) (i j : ℕ) (t : Task) → StandsBefore i v s → j < length s.tasks → new.tasks ≡ set s.tasks j t → new.current ≡ s.current → depth_of new ≡ depth_of s → ready_key t ≡ ready_key (task_at s j) → t.priority ≡ (task_at s j).priority → t.base_priority ≡ (task_at s j).base_priority → IsTable new → can_resume t.status ≡ can_resume (status_at s j) → StandsBefore i v new
+pub stands_before_kept : (v : Schedule) (s new : State) (i j : ℕ) (t : Task) → StandsBefore i v s → j < length s.tasks
+    → new.tasks ≡ set s.tasks j t → new.current ≡ s.current → depth_of new ≡ depth_of s → ready_key t ≡ ready_key (task_at s j)
+    → t.priority ≡ (task_at s j).priority → t.base_priority ≡ (task_at s j).base_priority → IsTable new
+    → can_resume t.status ≡ can_resume (status_at s j) → StandsBefore i v new
 stands_before_kept v s new i j t h l is current held key_same same same_base table alike = record {
   ready = h.ready ∙ list_kept s new j t is key_same;
   still = h.still;
@@ -509,7 +650,9 @@ abbrev pub holds_of : State → ℕ × Bool
 holds_of s = (s.suspensions, s.call_hold)
 
 -- A call holds the scheduler, where none did.
-pub stands_before_held : (v : Schedule) (s new : State) (i : ℕ) → StandsBefore i v s → s.call_hold ≡ false → new.tasks ≡ s.tasks → new.current ≡ s.current → holds_of new ≡ (s.suspensions, true) → IsTable new → StandsBefore i (record v { depth = v.depth + 1 }) new
+pub stands_before_held : (v : Schedule) (s new : State) (i : ℕ) → StandsBefore i v s → s.call_hold ≡ false
+    → new.tasks ≡ s.tasks → new.current ≡ s.current → holds_of new ≡ (s.suspensions, true) → IsTable new
+    → StandsBefore i (record v { depth = v.depth + 1 }) new
 stands_before_held v s new i h free tasks current held table =
     let before : v.depth ≡ s.suspensions + 0 = h.depth ∙ ap (λ (b : Bool). s.suspensions + (if b then 1 else 0)) free in
     let after : depth_of new ≡ s.suspensions + 1 = ap (λ (p : ℕ × Bool). p.0 + (if p.1 then 1 else 0)) held in

@@ -1,5 +1,6 @@
 -- What callers see of the scheduler, and what each call makes of it: the definitions' words for who runs, without tickets.
-use Rattle.std.specs.Prelude.{◌≡◌, ℕ, ◌+◌, ◌-◌, ◌==◌, ◌&&◌, ◌||◌, Bool, true, false, not, nat_lt, if◌then◌else◌, List, [], ◌∷◌, ◌++◌, Option, Some, None, slice_index_or, slice_set, fold}
+use Rattle.std.specs.Prelude.{◌≡◌, ℕ, ◌+◌, ◌-◌, ◌==◌, ◌&&◌, ◌||◌, Bool, true, false, not, nat_lt, if◌then◌else◌, List, [], ◌∷◌}
+use Rattle.std.specs.Prelude.{◌++◌, Option, Some, None, slice_index_or, slice_set, fold}
 use Rattle.std.specs.List.{list_any}
 use Rattle.lists.specs.Lists.{first_of, has_node, without}
 use Rattle.task_lists.specs.Tasks.{insert_by_priority, without_task}
@@ -91,7 +92,8 @@ to_back task s = if has_node task s.ready then make_ready task (record s { ready
 -- The task has this priority from now on; where that is a change it goes behind its new equals, if it is in a ready list.
 abbrev pub set_priority : ℕ → ℕ → Schedule → Schedule
 set_priority task priority s =
-    if priority_in s.priorities task == priority then s else to_back task (record s { priorities = slice_set s.priorities task priority })
+    if priority_in s.priorities task == priority then s
+    else to_back task (record s { priorities = slice_set s.priorities task priority })
 
 -- A deed is done with this task, if there is one.
 abbrev pub for_one : (ℕ → Schedule → Schedule) → Option ℕ → Schedule → Schedule

@@ -1,5 +1,6 @@
 -- The daemon of an application of some entries, and the tasks of its file.
-use Rattle.std.proofs.Common.{◌≡◌, ◌+◌, ◌++◌, ◌≤◌, ℕ, true, false, List, [], ◌∷◌, length, map, take, Option, Some, None, refl, ap, sym, subst, ◌∙◌, append-nil, length-append, arith}
+use Rattle.std.proofs.Common.{◌≡◌, ◌+◌, ◌++◌, ◌≤◌, ℕ, true, false, List, [], ◌∷◌, length, map, take, Option, Some, None, refl, ap}
+use Rattle.std.proofs.Common.{sym, subst, ◌∙◌, append-nil, length-append, arith}
 use Rattle.std.specs.Prelude.{IfSome}
 use Rattle.std.specs.List.{slice_get}
 use Rattle.std.specs.Option.{option_map, unwrap_or, is_some}
@@ -21,7 +22,8 @@ at_end (y ∷ ys) x = at_end ys x
 
 -- ---- the daemon behind these objects and tasks
 
-module _ (app : Application) (kinds : List ObjectKind) (tasks : List Definition) (commands : ℕ) (d : DaemonEntry) (same : commands ≡ length kinds)
+module _ (app : Application) (kinds : List ObjectKind) (tasks : List Definition)
+    (commands : ℕ) (d : DaemonEntry) (same : commands ≡ length kinds)
     (objects : app.objects ≡ kinds ++ command_queue (Some d)) (all : app.tasks ≡ tasks ++ daemon_task commands (Some d)) where
   queue_number : commands_of app ≡ length kinds
   queue_number =
@@ -64,7 +66,8 @@ same_presence n (Some d) = refl
 
 -- ---- an application of these entries
 
-module _ (app : Application) (entries : Entries) (objects : app.objects ≡ all_objects entries) (tasks : app.tasks ≡ all_tasks entries)
+module _ (app : Application) (entries : Entries)
+    (objects : app.objects ≡ all_objects entries) (tasks : app.tasks ≡ all_tasks entries)
     (daemon : app.daemon ≡ daemon_of entries) where
   pub tasks_of_file : of_file app.daemon app.tasks ≡ map (with_script entries) entries.tasks
   tasks_of_file =

@@ -1,5 +1,6 @@
 -- What is said of a key or an array where a check finds a fault or none.
-use Rattle.std.proofs.Common.{◌≡◌, ◌+◌, ◌-◌, ◌<◌, ◌≤◌, ℕ, Bool, true, List, [], ◌∷◌, length, Option, Some, None, ap, sym, ◌∙◌, arith}
+use Rattle.std.proofs.Common.{◌≡◌, ◌+◌, ◌-◌, ◌<◌, ◌≤◌, ℕ, Bool, true, List, [], ◌∷◌, length, Option, Some, None, ap, sym, ◌∙◌}
+use Rattle.std.proofs.Common.{arith}
 use Rattle.std.specs.Prelude.{nat_lt, nat_le, not}
 use Rattle.std.specs.List.{list_any}
 use Rattle.std.specs.Str.{bytes_eq}
@@ -18,7 +19,8 @@ use Rattle.script.specs.Arrays.{Elements, each_fault, array_of, array_fault}
 use Rattle.script.proofs.Steps.{alone, passed}
 
 -- a key, which is at this place
-module _ (place : Place) (key : Key) (check : Place → Data → Option Fault) (ms : Members) (here : Place) (is : here ≡ at_key place key) where
+module _ (place : Place) (key : Key) (check : Place → Data → Option Fault)
+    (ms : Members) (here : Place) (is : here ≡ at_key place key) where
   pub missing : (fault : Fault) → None ≡ get_member (key_word key) ms → fault ≡ fault_at Missing here
       → required place key check ms ≡ Some fault
   missing fault none told =
@@ -40,13 +42,15 @@ module _ {S : Type 0} (most : ℕ) (elements : Elements S Data) (s : S) (p : Pla
       ap (λ o. need (fault_at WrongKind p) o (λ ds.
       first_fault (fails_if (nat_lt most (length ds)) (fault_at TooMany p) ∷ each_fault elements s 0 ds ∷ []))) (sym none)
 
-  pub too_many : (ds : List Data) → Some ds ≡ array_of d → most < length ds → array_fault most elements s p d ≡ Some (fault_at TooMany p)
+  pub too_many : (ds : List Data) → Some ds ≡ array_of d → most < length ds
+      → array_fault most elements s p d ≡ Some (fault_at TooMany p)
   too_many ds some many =
       ap (λ o. need (fault_at WrongKind p) o (λ ds.
       first_fault (fails_if (nat_lt most (length ds)) (fault_at TooMany p) ∷ each_fault elements s 0 ds ∷ []))) (sym some)
       ∙ ap (λ b. first_fault (fails_if b (fault_at TooMany p) ∷ each_fault elements s 0 ds ∷ [])) (lt-ltb most (length ds) many)
 
-  pub few_enough : (ds : List Data) (found : Option Fault) → Some ds ≡ array_of d → length ds ≤ most → each_fault elements s 0 ds ≡ found
+  pub few_enough : (ds : List Data) (found : Option Fault) → Some ds ≡ array_of d
+      → length ds ≤ most → each_fault elements s 0 ds ≡ found
       → array_fault most elements s p d ≡ found
   few_enough ds found some few finds =
       ap (λ o. need (fault_at WrongKind p) o (λ ds.
@@ -65,13 +69,17 @@ module _ (names : List (List ℕ)) (p : Place) (d : Data) where
       ∷ []))) (sym none)
 
   pub text : (name : List ℕ) (is double : Bool) → Some name ≡ as_str d → is_name name ≡ is → list_any (bytes_eq name) names ≡ double
-      → name_fault names p d ≡ first_fault (fails_if (not is) (fault_at OutOfRange p) ∷ fails_if double (fault_at DoubleName p) ∷ [])
+      → name_fault names p d
+      ≡ first_fault (fails_if (not is) (fault_at OutOfRange p) ∷ fails_if double (fault_at DoubleName p) ∷ [])
   text name is double some named found =
       ap (λ o. need (fault_at WrongKind p) o (λ name. first_fault (
       fails_if (not (is_name name)) (fault_at OutOfRange p)
       ∷ fails_if (list_any (bytes_eq name) names) (fault_at DoubleName p)
       ∷ []))) (sym some)
-      ∙ ap (λ b. first_fault (fails_if (not b) (fault_at OutOfRange p) ∷ fails_if (list_any (bytes_eq name) names) (fault_at DoubleName p) ∷ [])) named
+      ∙ ap (λ b.
+      first_fault
+      (fails_if (not b) (fault_at OutOfRange p) ∷ fails_if (list_any (bytes_eq name) names) (fault_at DoubleName p) ∷ []))
+      named
       ∙ ap (λ b. first_fault (fails_if (not is) (fault_at OutOfRange p) ∷ fails_if b (fault_at DoubleName p) ∷ [])) found
 
 -- ---- how many fit

@@ -1,5 +1,6 @@
 -- An entry that a name finds is what the op asks for.
-use Rattle.std.proofs.Common.{◌≡◌, ◌+◌, ◌++◌, ◌<◌, ℕ, zero, suc, Bool, true, false, List, [], ◌∷◌, length, map, Option, Some, None, refl, sym, subst, inl, inr, arith, ◌∙◌}
+use Rattle.std.proofs.Common.{◌≡◌, ◌+◌, ◌++◌, ◌<◌, ℕ, zero, suc, Bool, true, false, List, [], ◌∷◌, length, map, Option, Some, None}
+use Rattle.std.proofs.Common.{refl, sym, subst, inl, inr, arith, ◌∙◌}
 use Rattle.std.specs.Prelude.{is_some, is_none, nat_lt}
 use Rattle.std.specs.List.{slice_get, position_from}
 use Rattle.std.specs.Option.{option_map, unwrap_or}
@@ -33,7 +34,8 @@ IsAt entries (OfObject sort) n = IsObject entries.objects sort n
 IsAt entries OfGroup n = nat_lt n (length entries.groups) ≡ true
 IsAt entries OfTask n = nat_lt n (length entries.tasks) ≡ true
 
-found_from : (i : ℕ) (sort : ObjectSort) (w : Word) (objects : List ObjectEntry) (n : ℕ) → position_from (is_called sort w) i objects ≡ Some n
+found_from : (i : ℕ) (sort : ObjectSort) (w : Word) (objects : List ObjectEntry) (n : ℕ)
+    → position_from (is_called sort w) i objects ≡ Some n
     → (k : ℕ) × (i + k ≡ n) × IsObject objects sort k
 found_from i sort w [] n e = cc
 found_from i sort w (o ∷ os) n e = elim (chosen (is_called sort w o) _ _ _ e) [
@@ -46,7 +48,8 @@ found_from i sort w (o ∷ os) n e = elim (chosen (is_called sort w o) _ _ _ e) 
       (suc found.0, omega arith, found.2)
 ]
 
-pub below_from : (i : ℕ) (w : Word) (names : List Word) (n : ℕ) → position_from (λ name. bytes_eq name w) i names ≡ Some n → n < i + length names
+pub below_from : (i : ℕ) (w : Word) (names : List Word) (n : ℕ)
+    → position_from (λ name. bytes_eq name w) i names ≡ Some n → n < i + length names
 below_from i w [] n e = cc
 below_from i w (name ∷ names) n e = elim (chosen (bytes_eq name w) _ _ _ e) [
   | inl here ↦ let same : i ≡ n = cc in omega arith
@@ -78,7 +81,8 @@ Fit Queue access = (size : ℕ) → fits (kind.Queue size) access ≡ true
 Fit Semaphore access = is_of_semaphore access ≡ true
 Fit Mutex access = is_of_mutex access ≡ true
 
-kind_fits : (sort : ObjectSort) (access : Access) → Fit sort access → (k : ObjectKind) → is_of_sort sort k ≡ true → fits k access ≡ true
+kind_fits : (sort : ObjectSort) (access : Access) → Fit sort access
+    → (k : ObjectKind) → is_of_sort sort k ≡ true → fits k access ≡ true
 kind_fits Queue access fit (kind.Queue size) is = fit size
 kind_fits Queue access fit (kind.Semaphore max_count initial_count) is = cc
 kind_fits Queue access fit kind.Mutex is = cc
@@ -100,7 +104,8 @@ sort_fits sort access fit (o ∷ os) zero at = kind_fits sort access fit o.kind 
 sort_fits sort access fit (o ∷ os) (suc n) at = sort_fits sort access fit os n at
 
 -- the same of these objects and others behind them
-fits_before : (kinds others : List ObjectKind) (n : ℕ) (access : Access) → fits_at kinds n access ≡ true → fits_at (kinds ++ others) n access ≡ true
+fits_before : (kinds others : List ObjectKind) (n : ℕ) (access : Access)
+    → fits_at kinds n access ≡ true → fits_at (kinds ++ others) n access ≡ true
 fits_before [] others n access at = cc
 fits_before (k ∷ ks) others zero access at = at
 fits_before (k ∷ ks) others (suc n) access at = fits_before ks others n access at

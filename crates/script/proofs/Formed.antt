@@ -1,5 +1,6 @@
 -- The base interrupts and the points that are taken are those of a well formed application.
-use Rattle.std.proofs.Common.{◌≡◌, ◌+◌, ◌<◌, ◌≤◌, ◌++◌, ℕ, ℤ, pos, negsuc, List, [], ◌∷◌, length, map, Option, Some, None, refl, ap, subst, sym, ◌∙◌, arith}
+use Rattle.std.proofs.Common.{◌≡◌, ◌+◌, ◌<◌, ◌≤◌, ◌++◌, ℕ, ℤ, pos, negsuc, List, [], ◌∷◌, length, map, Option, Some, None, refl, ap}
+use Rattle.std.proofs.Common.{subst, sym, ◌∙◌, arith}
 use Rattle.std.specs.Prelude.{◌==◌, ◌||◌, codes, nat_lt, nat_le, is_none, option_and_then, unwrap_or}
 use Rattle.std.specs.List.{filter, filter_map, cons_option, AllByRecursion}
 use Rattle.std.proofs.lemmas.Bool.{eqb-true, ltb-false, leb-false, or_parts}
@@ -21,7 +22,8 @@ use Rattle.script.specs.declared.place.Key.TheVariants as key
 use Rattle.script.specs.declared.place.Section.TheVariants as section
 use Rattle.script.specs.Faults.{at_section, at_entry, at_key, key_word, fault_at, fails_if, first_fault, need, required}
 use Rattle.grammar.specs.Names.{index_of}
-use Rattle.script.specs.Values.{integer_fault, number_fault, integer_named, number_or, number_named, known_fault, known_named, member_of}
+use Rattle.script.specs.Values.{integer_fault, number_fault, integer_named, number_or, number_named, known_fault, known_named}
+use Rattle.script.specs.Values.{member_of}
 use Rattle.script.specs.Arrays.{array_of, elements_of, tables, each_fault, section_fault}
 use Rattle.script.specs.Sections.{data_at}
 use Rattle.grammar.specs.Grammar.{Word, words_of}
@@ -38,7 +40,8 @@ integer_in : (least most : ℕ) (p : Place) (z : Option ℤ) → need (fault_at 
     → (least ≤ integer_named z) × (integer_named z ≤ most)
 integer_in least most p None none = cc
 integer_in least most p (Some (pos n)) none =
-    let within = or_parts (nat_lt n least) (nat_lt most n) (passes (nat_lt n least || nat_lt most n) (fault_at OutOfRange p) none) in
+    let within =
+    or_parts (nat_lt n least) (nat_lt most n) (passes (nat_lt n least || nat_lt most n) (fault_at OutOfRange p) none) in
     (ltb-false n least within.0, ltb-false most n within.1)
 integer_in least most p (Some (negsuc n)) none = cc
 
@@ -62,7 +65,8 @@ text_known : (names : List (List ℕ)) (p : Place) (text : Option (List ℕ))
 text_known names p None none = cc
 text_known names p (Some name) none = index_known names p name (index_of name names) refl none
 
-value_known : (names : List (List ℕ)) (p : Place) (value : Option Data) → need (fault_at Missing p) value (known_fault names p) ≡ None
+value_known : (names : List (List ℕ)) (p : Place) (value : Option Data)
+    → need (fault_at Missing p) value (known_fault names p) ≡ None
     → known_named names value < length names
 value_known names p None none = cc
 value_known names p (Some d) none = text_known names p (as_str d) none
@@ -95,7 +99,8 @@ table_comes : (names : List (List ℕ)) (before : List Interrupt) (p : Place) (t
 table_comes names before p None none = cc
 table_comes names before p (Some ms) none = keys_come names before p ms none
 
-count_last : (tick : ℕ) (i : Interrupt) (is : List Interrupt) → count_at tick (is ++ i ∷ []) ≡ count_at tick is + count_at tick (i ∷ [])
+count_last : (tick : ℕ) (i : Interrupt) (is : List Interrupt)
+    → count_at tick (is ++ i ∷ []) ≡ count_at tick is + count_at tick (i ∷ [])
 count_last tick i is =
     let test = λ (j : Interrupt). j.tick == tick in
     ap length (filter-append test is (i ∷ [])) ∙ length-append (filter test is) (filter test (i ∷ []))
@@ -163,7 +168,8 @@ array_comes : (names : List (List ℕ)) (array : Option (List Data))
     → AreInterrupts (length names) (map (λ d. interrupt_named names (as_table d)) (unwrap_or array []))
 array_comes names None none = cc
 array_comes names (Some ds) none =
-    let here = none_fails (fails_if (nat_lt most_interrupts (length ds)) (fault_at TooMany (at_section section.Interrupt))) _ none in
+    let here =
+    none_fails (fails_if (nat_lt most_interrupts (length ds)) (fault_at TooMany (at_section section.Interrupt))) _ none in
     let few = ltb-false most_interrupts (length ds) (passes (nat_lt most_interrupts (length ds)) _ here.0) in
     each_comes names [] 0 ds (none_fails _ [] here.1).0 (omega arith) (none_yet (length names))
 
@@ -179,7 +185,8 @@ unfolding interrupts_fault interrupts_named
 taken_interrupts names document none = section_comes names (data_at section.Interrupt document) none
 
 pub are_interrupts : (app : Application) (is : List Interrupt) → AllByRecursion (λ (i : Interrupt). 1 ≤ i.tick) is
-    → AllByRecursion (λ (i : Interrupt). i.tick ≤ last_interrupt) is → AllByRecursion (λ (i : Interrupt). i.handler < length app.handlers) is
+    → AllByRecursion (λ (i : Interrupt). i.tick ≤ last_interrupt) is
+    → AllByRecursion (λ (i : Interrupt). i.handler < length app.handlers) is
     → AllByRecursion (IsInterrupt app) is
 are_interrupts app [] first last known = tt
 are_interrupts app (i ∷ is) first last known =
@@ -194,7 +201,8 @@ few_come app tick few =
 
 -- an entry of an application of this many handlers
 abbrev IsEntry : (handlers : ℕ) → PointEntry → Type 0
-IsEntry handlers (One point) = IsPoint point × AllByRecursion (λ (i : Injection). (i.step ≤ last_point) × (i.handler < handlers)) point
+IsEntry handlers (One point) =
+    IsPoint point × AllByRecursion (λ (i : Injection). (i.step ≤ last_point) × (i.handler < handlers)) point
 IsEntry handlers (Every handler) = handler < handlers
 
 spelled_injections : (names ws : List Word) (is : List Injection) → SpellsInjections names is ws

@@ -15,20 +15,27 @@ use Rattle.model.proofs.Sorting.{by_test}
 use Rattle.grammar.specs.declared.object_sort.ObjectSort.TheVariants.{Queue, Semaphore, Mutex}
 use Rattle.script.specs.declared.place.Place.{Place}
 use Rattle.script.specs.Arrays.{each_fault}
-use Rattle.grammar.specs.Grammar.{Word, Form, forms, block_forms, object_forms, semaphore_forms, group_forms, suspension_forms, CommandForm, isr_forms, read_by, if_in_range, is_isr_in_range, if_isr_in_range, op_of, isr_op_of, words_of}
+use Rattle.grammar.specs.Grammar.{Word, Form, forms, block_forms, object_forms, semaphore_forms, group_forms, suspension_forms}
+use Rattle.grammar.specs.Grammar.{CommandForm, isr_forms, read_by, if_in_range, is_isr_in_range, if_isr_in_range, op_of, isr_op_of}
+use Rattle.grammar.specs.Grammar.{words_of}
 use Rattle.script.specs.Entries.{RawIsr, Raw, Entries, HasEntries}
 use Rattle.script.specs.Finding.{among}
-use Rattle.script.specs.Ops.{Ops, task_ops, handler_ops, is_allowed, is_isr_allowed, is_command, op_in, blocks_with, op_elements, op_fault, script_fault, ops_named, handler_scripts, task_scripts, scripts_fault, handler_ops_fault, with_script, with_isr_ops}
+use Rattle.script.specs.Ops.{Ops, task_ops, handler_ops, is_allowed, is_isr_allowed, is_command, op_in, blocks_with, op_elements}
+use Rattle.script.specs.Ops.{op_fault, script_fault, ops_named, handler_scripts, task_scripts, scripts_fault, handler_ops_fault}
+use Rattle.script.specs.Ops.{with_script, with_isr_ops}
 use Rattle.script.proofs.Checks.{none_fails}
 use Rattle.grammar.proofs.Forms.{Makes, read_by_holds}
 use Rattle.script.proofs.Fitting.{IsAt, found_at, at_fits, allowed_fits, at_group, at_task, has_daemon}
 use Rattle.script.proofs.Scripts.{taken_stands, handler_nests}
 
--- ---- the ops of any kind, where those that its texts spell are known wherever their object allows them and there is a daemon for them
+-- ---- the ops of any kind, where those that its texts spell are known wherever their object allows them and there is a daemon for
+-- them
 
 module _ {O : Type 0} (ops : Ops O) (entries : Entries) (Knows : O → Type 0) where
   abbrev pub Known : Option O → Type 0
-  Known o = IfSome o (λ (op : O). ops.is_allowed entries.objects op ≡ true → (ops.is_command op && is_none entries.daemon) ≡ false → Knows op)
+  Known o =
+      IfSome o
+      (λ (op : O). ops.is_allowed entries.objects op ≡ true → (ops.is_command op && is_none entries.daemon) ≡ false → Knows op)
 
   module _ (known : (ws : List Word) → Known (ops.of_words (among entries) ws)) where
     text_known : (text : Option (List ℕ)) → Known (option_and_then (λ text. ops.of_words (among entries) (words_of text)) text)
@@ -36,19 +43,22 @@ module _ {O : Type 0} (ops : Ops O) (entries : Entries) (Knows : O → Type 0) w
     text_known (Some text) = known (words_of text)
 
     one_more : (blocks : List Block) (p : Place) (d : Data) (o : Option O) (others : List O) → op_in ops (among entries) d ≡ o
-        → op_fault ops entries blocks p d ≡ None → Known o → AllByRecursion Knows others → AllByRecursion Knows (cons_option o others)
+        → op_fault ops entries blocks p d ≡ None → Known o
+        → AllByRecursion Knows others → AllByRecursion Knows (cons_option o others)
     one_more blocks p d None others is none spelt h = h
     one_more blocks p d (Some op) others is none spelt h =
         let taken = taken_stands ops entries blocks p d op none is in
         (spelt taken.allowed taken.served, h)
 
-    each_known : (p : Place) (blocks : List Block) (i : ℕ) (ds : List Data) → each_fault (op_elements ops entries p) blocks i ds ≡ None
+    each_known : (p : Place) (blocks : List Block) (i : ℕ) (ds : List Data)
+        → each_fault (op_elements ops entries p) blocks i ds ≡ None
         → AllByRecursion Knows (ops_named ops entries ds)
     each_known p blocks i [] none = tt
     each_known p blocks i (d ∷ ds) none =
         let elements = op_elements ops entries p in
         let here = none_fails (op_fault ops entries blocks (elements.at i) d) _ none in
-        one_more blocks (elements.at i) d (op_in ops (among entries) d) (ops_named ops entries ds) refl here.0 (text_known (as_str d))
+        one_more blocks (elements.at i) d (op_in ops (among entries) d)
+        (ops_named ops entries ds) refl here.0 (text_known (as_str d))
         (each_known p (blocks_with ops entries blocks d) (i + 1) ds (none_fails _ [] here.1).0)
 
     pub script_known : (p : Place) (ds : List Data) → script_fault ops entries p ds ≡ None
@@ -181,7 +191,8 @@ module _ (app : Application) (entries : Entries) (has : HasEntries app entries) 
   -- ---- of handlers
 
   abbrev IsIsrKnown : IsrOp → Type 0
-  IsIsrKnown op = is_isr_in_range op ≡ true → is_isr_allowed entries.objects op ≡ true → (is_command op && is_none entries.daemon) ≡ false
+  IsIsrKnown op =
+      is_isr_in_range op ≡ true → is_isr_allowed entries.objects op ≡ true → (is_command op && is_none entries.daemon) ≡ false
       → knows_isr app op ≡ true
 
   command_known : (clear : Bool) → Makes IsIsrKnown (IsAt entries) (CommandForm clear)
@@ -236,7 +247,8 @@ module _ (app : Application) (entries : Entries) (has : HasEntries app entries) 
       isr_range_known (read_by (among entries) isr_forms w ws) holds
 
   handlers_known : (i : ℕ) (hs : List RawIsr) → each_fault (handler_scripts entries) tt i (map (λ (h : RawIsr). h.ops) hs) ≡ None
-      → AllByRecursion (λ (h : Handler). (length h.name ≤ most_name_bytes) × (length h.ops ≤ most_handler_ops)) (map (with_isr_ops entries) hs)
+      → AllByRecursion (λ (h : Handler). (length h.name ≤ most_name_bytes) × (length h.ops ≤ most_handler_ops))
+      (map (with_isr_ops entries) hs)
       → AllByRecursion (IsHandler app) (map (with_isr_ops entries) hs)
   handlers_known i [] none formed = tt
   handlers_known i (h ∷ hs) none formed =
@@ -246,7 +258,8 @@ module _ (app : Application) (entries : Entries) (has : HasEntries app entries) 
           name = formed.0.0;
           few = formed.0.1;
           nests = handler_nests entries (elements.at i) h.ops here.0;
-          known = script_known handler_ops entries (λ (op : IsrOp). knows_isr app op ≡ true) isr_op_known (elements.at i) h.ops here.0;
+          known =
+              script_known handler_ops entries (λ (op : IsrOp). knows_isr app op ≡ true) isr_op_known (elements.at i) h.ops here.0;
         },
         handlers_known (i + 1) hs (none_fails _ [] here.1).0 formed.1,
       )

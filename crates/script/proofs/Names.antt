@@ -1,5 +1,6 @@
 -- The objects, event groups, handlers and tasks of a document that is taken have names of their own.
-use Rattle.std.proofs.Common.{◌≡◌, ◌≢◌, ◌<◌, ◌+◌, ◌-◌, ◌++◌, ℕ, false, not, List, [], ◌∷◌, length, map, get_or, Option, Some, None, option_map, nat_lt, nat_le, refl, sym, ap, subst, ◌∙◌, append_assoc, append-nil, arith}
+use Rattle.std.proofs.Common.{◌≡◌, ◌≢◌, ◌<◌, ◌+◌, ◌-◌, ◌++◌, ℕ, false, not, List, [], ◌∷◌, length, map, get_or, Option, Some, None}
+use Rattle.std.proofs.Common.{option_map, nat_lt, nat_le, refl, sym, ap, subst, ◌∙◌, append_assoc, append-nil, arith}
 use Rattle.std.specs.Prelude.{◌==◌, ◌||◌, unwrap_or, option_and_then, codes}
 use Rattle.std.specs.List.{list_any, fold}
 use Rattle.std.specs.Str.{bytes_eq}
@@ -24,9 +25,14 @@ use Rattle.script.specs.Names.{task_names, AreDistinct}
 use Rattle.script.specs.Values.{name_fault, name_named, text_named}
 use Rattle.script.specs.Arrays.{array_of, tables, each_fault, section_fault, section_named}
 use Rattle.script.specs.Entries.{ObjectEntry, GroupEntry, RawIsr, Raw, DaemonEntry, Entries, names_of}
-use Rattle.script.specs.Sections.{data_at, no_entries, section_of, object_keys, object_named, object_sections, with_objects, more_objects_fault, each_objects_fault, objects_fault, objects_named, group_keys, group_named, groups_fault, groups_named, handler_keys, handler_named, handlers_fault, handlers_named, task_keys, task_named, tasks_fault, tasks_named, daemon_keys, daemon_entry, daemon_fault, daemon_named}
+use Rattle.script.specs.Sections.{data_at, no_entries, section_of, object_keys, object_named, object_sections, with_objects}
+use Rattle.script.specs.Sections.{more_objects_fault, each_objects_fault, objects_fault, objects_named, group_keys, group_named}
+use Rattle.script.specs.Sections.{groups_fault, groups_named, handler_keys, handler_named, handlers_fault, handlers_named}
+use Rattle.script.specs.Sections.{task_keys, task_named, tasks_fault, tasks_named, daemon_keys, daemon_entry, daemon_fault}
+use Rattle.script.specs.Sections.{daemon_named}
 use Rattle.script.specs.Ops.{with_script, with_isr_ops, daemon_task, all_tasks}
-use Rattle.script.specs.Load.{with_no_groups, with_no_handlers, with_no_tasks, with_no_daemon, entries_of, entries_fault, load_fault, app_named, document_names}
+use Rattle.script.specs.Load.{with_no_groups, with_no_handlers, with_no_tasks, with_no_daemon, entries_of, entries_fault}
+use Rattle.script.specs.Load.{load_fault, app_named, document_names}
 use Rattle.script.proofs.Checks.{none_fails, passes}
 use Rattle.script.proofs.Passing.{passed}
 
@@ -52,7 +58,9 @@ abbrev IsNew : List (List ℕ) → List ℕ → Type 0
 IsNew names name = list_any (bytes_eq name) names ≡ false
 
 text_is_new : (p : Place) (names : List (List ℕ)) (name : List ℕ)
-    → first_fault (fails_if (not (is_name name)) (fault_at OutOfRange p) ∷ fails_if (list_any (bytes_eq name) names) (fault_at DoubleName p) ∷ []) ≡ None
+    → first_fault (fails_if (not (is_name name)) (fault_at OutOfRange p)
+    ∷ fails_if (list_any (bytes_eq name) names) (fault_at DoubleName p) ∷ [])
+    ≡ None
     → IsNew names name
 text_is_new p names name none =
     let later = (none_fails (fails_if (not (is_name name)) (fault_at OutOfRange p)) _ none).1 in
@@ -104,7 +112,8 @@ module _ {X : Type 0} (name : X → List ℕ) (value : Option Members → X) (ke
   one_more : (before : List X) (x : X) → Distinct before → IsNew (earlier ++ map name before) (name x) → Distinct (before ++ x ∷ [])
   one_more before x distinct new =
       let both : (earlier ++ map name before) ++ name x ∷ [] ≡ earlier ++ map name (before ++ x ∷ []) =
-      append_assoc earlier (map name before) (name x ∷ []) ∙ ap (λ names. earlier ++ names) (sym (map-append name before (x ∷ []))) in
+      append_assoc earlier (map name before) (name x ∷ [])
+      ∙ ap (λ names. earlier ++ names) (sym (map-append name before (x ∷ []))) in
       subst AreDistinct both (longer (earlier ++ map name before) (name x) distinct new)
 
   each_differs : (s : Section) (before : List X) (i : ℕ) (ds : List Data) → each_fault (tables s value keys) before i ds ≡ None
@@ -120,7 +129,8 @@ module _ {X : Type 0} (name : X → List ℕ) (value : Option Members → X) (ke
 
   array_differs : (most : ℕ) (s : Section) (before : List X) (array : Option (List Data))
       → need (fault_at WrongKind (at_section s)) array (λ ds. first_fault (
-      fails_if (nat_lt most (length ds)) (fault_at TooMany (at_section s)) ∷ each_fault (tables s value keys) before 0 ds ∷ [])) ≡ None
+      fails_if (nat_lt most (length ds)) (fault_at TooMany (at_section s)) ∷ each_fault (tables s value keys) before 0 ds ∷ []))
+      ≡ None
       → Distinct before → Distinct (before ++ map (λ d. value (as_table d)) (unwrap_or array []))
   array_differs most s before None none distinct = cc
   array_differs most s before (Some ds) none distinct =
@@ -158,7 +168,8 @@ unfolding groups_fault groups_named
 groups_differ earlier document none distinct =
     section_differs (λ (g : GroupEntry). g.name) group_named (group_keys earlier) (names_of earlier)
     (λ before p ms none. name_is_new p _ ms none)
-    most_groups section.Group [] (data_at section.Group document) none (subst AreDistinct (sym (append-nil (names_of earlier))) distinct)
+    most_groups section.Group [] (data_at section.Group document) none
+    (subst AreDistinct (sym (append-nil (names_of earlier))) distinct)
 
 handlers_differ : (earlier : Entries) (document : Members) → handlers_fault earlier document ≡ None → AreDistinct (names_of earlier)
     → AreDistinct (names_of earlier ++ map (λ (h : RawIsr). h.name) (handlers_named document))
@@ -166,7 +177,8 @@ unfolding handlers_fault handlers_named
 handlers_differ earlier document none distinct =
     section_differs (λ (h : RawIsr). h.name) handler_named (handler_keys earlier) (names_of earlier)
     (λ before p ms none. name_is_new p _ ms (none_fails (required p key.Name (name_fault _) ms) _ none).0)
-    most_handlers section.Handler [] (data_at section.Handler document) none (subst AreDistinct (sym (append-nil (names_of earlier))) distinct)
+    most_handlers section.Handler [] (data_at section.Handler document) none
+    (subst AreDistinct (sym (append-nil (names_of earlier))) distinct)
 
 tasks_differ : (earlier : Entries) (document : Members) → tasks_fault earlier document ≡ None → AreDistinct (names_of earlier)
     → AreDistinct (names_of earlier ++ map (λ (t : Raw). t.name) (tasks_named document))
@@ -174,7 +186,8 @@ unfolding tasks_fault tasks_named
 tasks_differ earlier document none distinct =
     section_differs (λ (t : Raw). t.name) task_named (task_keys earlier) (names_of earlier)
     (λ before p ms none. name_is_new p _ ms (none_fails (required p key.Name (name_fault _) ms) _ none).0)
-    most_tasks section.Task [] (data_at section.Task document) none (subst AreDistinct (sym (append-nil (names_of earlier))) distinct)
+    most_tasks section.Task [] (data_at section.Task document) none
+    (subst AreDistinct (sym (append-nil (names_of earlier))) distinct)
 
 -- ---- the daemon
 
@@ -197,10 +210,12 @@ section_is_new : (earlier : Entries) (d : Option Data)
     → option_and_then (λ d. need (fault_at WrongKind (at_section section.Daemon)) (as_table d) (λ ms. first_fault (
     fails_if (nat_le most_tasks (length earlier.tasks)) (fault_at TooMany (at_section section.Daemon))
     ∷ daemon_keys earlier (at_section section.Daemon) ms ∷ []))) d ≡ None
-    → AreDistinct (names_of earlier) → AreDistinct (names_of earlier ++ daemon_names (option_map (λ d. daemon_entry (as_table d)) d))
+    → AreDistinct (names_of earlier)
+    → AreDistinct (names_of earlier ++ daemon_names (option_map (λ d. daemon_entry (as_table d)) d))
 section_is_new earlier None none distinct = subst AreDistinct (sym (append-nil (names_of earlier))) distinct
 section_is_new earlier (Some d) none distinct =
-    longer (names_of earlier) (name_named (as_table d)) distinct (daemon_is_new earlier (at_section section.Daemon) (as_table d) none)
+    longer (names_of earlier) (name_named (as_table d)) distinct
+    (daemon_is_new earlier (at_section section.Daemon) (as_table d) none)
 
 daemon_differs : (earlier : Entries) (document : Members) → daemon_fault earlier document ≡ None → AreDistinct (names_of earlier)
     → AreDistinct (names_of earlier ++ daemon_names (daemon_named document))
@@ -214,15 +229,18 @@ with_ops_names : (entries : Entries) (tasks : List Raw)
 with_ops_names entries [] = refl
 with_ops_names entries (t ∷ ts) = ap (λ names. t.name ∷ names) (with_ops_names entries ts)
 
-daemon_task_names : (commands : ℕ) (o : Option DaemonEntry) → map (λ (d : Definition). d.name) (daemon_task commands o) ≡ daemon_names o
+daemon_task_names : (commands : ℕ) (o : Option DaemonEntry)
+    → map (λ (d : Definition). d.name) (daemon_task commands o) ≡ daemon_names o
 daemon_task_names commands None = refl
 daemon_task_names commands (Some d) = refl
 
 all_tasks_names : (entries : Entries)
     → map (λ (d : Definition). d.name) (all_tasks entries) ≡ map (λ (t : Raw). t.name) entries.tasks ++ daemon_names entries.daemon
 all_tasks_names entries =
-    map-append (λ (d : Definition). d.name) (map (with_script entries) entries.tasks) (daemon_task (length entries.objects) entries.daemon)
-    ∙ ap (λ names. names ++ map (λ (d : Definition). d.name) (daemon_task (length entries.objects) entries.daemon)) (with_ops_names entries entries.tasks)
+    map-append (λ (d : Definition). d.name) (map (with_script entries) entries.tasks)
+    (daemon_task (length entries.objects) entries.daemon)
+    ∙ ap (λ names. names ++ map (λ (d : Definition). d.name) (daemon_task (length entries.objects) entries.daemon))
+    (with_ops_names entries entries.tasks)
     ∙ ap (λ names. map (λ (t : Raw). t.name) entries.tasks ++ names) (daemon_task_names (length entries.objects) entries.daemon)
 
 with_isr_ops_names : (entries : Entries) (handlers : List RawIsr)
@@ -241,19 +259,24 @@ entries_differ document none =
     let tasks = none_fails (tasks_fault (with_no_tasks document) document) _ handlers.1 in
     let first = subst AreDistinct (sym (append-nil _)) (all_objects_differ document objects.0) in
     let second = groups_differ (with_no_groups document) document groups.0 first in
-    let grouped : names_of (with_no_groups document) ++ map (λ (g : GroupEntry). g.name) (groups_named document) ≡ names_of (with_no_handlers document) =
+    let grouped : names_of (with_no_groups document) ++ map (λ (g : GroupEntry). g.name) (groups_named document)
+    ≡ names_of (with_no_handlers document) =
     simp append-nil in
     let third = handlers_differ (with_no_handlers document) document handlers.0 (subst AreDistinct grouped second) in
-    let handled : names_of (with_no_handlers document) ++ map (λ (h : RawIsr). h.name) (handlers_named document) ≡ names_of (with_no_tasks document) =
+    let handled : names_of (with_no_handlers document) ++ map (λ (h : RawIsr). h.name) (handlers_named document)
+    ≡ names_of (with_no_tasks document) =
     simp (append_assoc, append-nil) in
     let fourth = tasks_differ (with_no_tasks document) document tasks.0 (subst AreDistinct handled third) in
-    let all : names_of (with_no_tasks document) ++ map (λ (t : Raw). t.name) (tasks_named document) ≡ names_of (with_no_daemon document) =
+    let all : names_of (with_no_tasks document) ++ map (λ (t : Raw). t.name) (tasks_named document)
+    ≡ names_of (with_no_daemon document) =
     simp (append_assoc, append-nil) in
     let some = none_fails (fails_if (length (tasks_named document) == 0) (fault_at Missing (at_section section.Task)))
     (daemon_fault (with_no_daemon document) document ∷ []) tasks.1 in
     let daemon = none_fails (daemon_fault (with_no_daemon document) document) [] some.1 in
     let fifth = daemon_differs (with_no_daemon document) document daemon.0 (subst AreDistinct all fourth) in
-    subst (λ names. AreDistinct (names ++ (map (λ (t : Raw). t.name) (tasks_named document) ++ daemon_names (daemon_named document)))) (sym handled)
+    subst
+    (λ names. AreDistinct (names ++ (map (λ (t : Raw). t.name) (tasks_named document) ++ daemon_names (daemon_named document))))
+    (sym handled)
     (subst AreDistinct (append_assoc (names_of (with_no_tasks document)) (map (λ (t : Raw). t.name) (tasks_named document))
     (daemon_names (daemon_named document)))
     (subst (λ names. AreDistinct (names ++ daemon_names (daemon_named document))) (sym all) fifth))
@@ -264,5 +287,6 @@ names_differ document none =
     let entries = (passed document none).entries in
     subst (λ isr_names. AreDistinct ((names_of (with_no_handlers document) ++ isr_names) ++ task_names (app_named document)))
     (sym (with_isr_ops_names (entries_of document) (handlers_named document)))
-    (subst (λ others. AreDistinct ((names_of (with_no_handlers document) ++ map (λ (h : RawIsr). h.name) (handlers_named document)) ++ others))
+    (subst (λ others.
+    AreDistinct ((names_of (with_no_handlers document) ++ map (λ (h : RawIsr). h.name) (handlers_named document)) ++ others))
     (sym (all_tasks_names (entries_of document))) (entries_differ document entries))

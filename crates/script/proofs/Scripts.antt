@@ -1,5 +1,6 @@
 -- What the checks of a script give, where none finds a fault.
-use Rattle.std.proofs.Common.{◌≡◌, ◌+◌, ℕ, true, false, Bool, List, [], ◌∷◌, length, map, Option, Some, None, refl, ap, sym, subst, ◌∙◌, ◌++◌, append_assoc}
+use Rattle.std.proofs.Common.{◌≡◌, ◌+◌, ℕ, true, false, Bool, List, [], ◌∷◌, length, map, Option, Some, None, refl, ap, sym, subst}
+use Rattle.std.proofs.Common.{◌∙◌, ◌++◌, append_assoc}
 use Rattle.std.specs.Prelude.{◌&&◌, not, is_none, nat_lt}
 use Rattle.std.specs.List.{AllByRecursion, cons_option, fold}
 use Rattle.std.specs.Option.{option_map_or, option_and_then}
@@ -9,7 +10,8 @@ use Rattle.model.specs.declared.op.IsrOp.{IsrOp}
 use Rattle.model.specs.Application.{Definition}
 use Rattle.model.specs.declared.block.Block.{Block}
 use Rattle.model.specs.declared.block.Edge.{Edge}
-use Rattle.model.specs.Blocks.{Nests, blocks_past, edge_of, edges_of, isr_edges_of, ending, may_come, may_stand, open_behind, with_ends}
+use Rattle.model.specs.Blocks.{Nests, blocks_past, edge_of, edges_of, isr_edges_of, ending, may_come, may_stand, open_behind}
+use Rattle.model.specs.Blocks.{with_ends}
 use Rattle.model.specs.Scripts.{InRange}
 use Rattle.model.proofs.Nesting.{nothing_open, open_behind-append}
 use Rattle.script.specs.Arrays.{each_fault}
@@ -20,7 +22,8 @@ use Rattle.script.specs.Entries.{Raw, Entries}
 use Rattle.grammar.specs.Grammar.{Word, Naming, Spells, words_of, op_of}
 use Rattle.grammar.specs.Finding.{any_name}
 use Rattle.script.specs.Finding.{among}
-use Rattle.script.specs.Ops.{Ops, task_ops, handler_ops, op_in, edge_in, standing_fault, op_fault, op_elements, blocks_with, script_fault, ops_named, script_named, task_scripts, scripts_fault, with_script}
+use Rattle.script.specs.Ops.{Ops, task_ops, handler_ops, op_in, edge_in, standing_fault, op_fault, op_elements, blocks_with}
+use Rattle.script.specs.Ops.{script_fault, ops_named, script_named, task_scripts, scripts_fault, with_script}
 use Rattle.grammar.proofs.Reading.{sound}
 use Rattle.script.proofs.Checks.{none_fails, passes}
 
@@ -35,7 +38,8 @@ pub record Stands {O : Type 0} (ops : Ops O) (entries : Entries) (blocks : List 
   pub stands : may_stand (edge_in ops blocks op) blocks ≡ true
 
 module _ {O : Type 0} (ops : Ops O) (entries : Entries) where
-  standing : (blocks : List Block) (p : Place) (op : O) → standing_fault ops entries blocks p op ≡ None → Stands ops entries blocks op
+  standing : (blocks : List Block) (p : Place) (op : O)
+      → standing_fault ops entries blocks p op ≡ None → Stands ops entries blocks op
   standing blocks p op none =
       let first = none_fails (fails_if (ops.is_command op && is_none entries.daemon) (fault_at NoDaemon p)) _ none in
       let here = none_fails (fails_if (not (ops.is_allowed entries.objects op)) (fault_at OverwriteLength p)) _ first.1 in
@@ -50,7 +54,8 @@ module _ {O : Type 0} (ops : Ops O) (entries : Entries) where
       → op_in ops (among entries) d ≡ Some op → Stands ops entries blocks op
   taken_stands blocks p d op none is =
       let spelt = none_fails (fails_if (is_none (op_in ops any_name d)) (fault_at BadOp p)) _ none in
-      let found = none_fails (need (fault_at UnknownName p) (op_in ops (among entries) d) (standing_fault ops entries blocks p)) [] spelt.1 in
+      let found =
+      none_fails (need (fault_at UnknownName p) (op_in ops (among entries) d) (standing_fault ops entries blocks p)) [] spelt.1 in
       standing blocks p op
       (subst (λ (o : Option O). need (fault_at UnknownName p) o (standing_fault ops entries blocks p) ≡ None) is found.0)
 
@@ -65,12 +70,14 @@ module _ {O : Type 0} (ops : Ops O) where
   module _ (entries : Entries) where
     next_nests : (blocks : List Block) (p : Place) (d : Data) (o : Option O) (others : List O) → op_in ops (among entries) d ≡ o
         → op_fault ops entries blocks p d ≡ None
-        → (let past = option_map_or (λ op. blocks_past (edge_in ops blocks op) blocks) o blocks in Nests past (edges_in past others))
+        → (let past = option_map_or (λ op. blocks_past (edge_in ops blocks op) blocks) o blocks in
+        Nests past (edges_in past others))
         → Nests blocks (edges_in blocks (cons_option o others))
     next_nests blocks p d None others is none h = h
     next_nests blocks p d (Some op) others is none h = ((taken_stands ops entries blocks p d op none is).stands, h)
 
-    each_nests : (p : Place) (blocks : List Block) (i : ℕ) (ds : List Data) → each_fault (op_elements ops entries p) blocks i ds ≡ None
+    each_nests : (p : Place) (blocks : List Block) (i : ℕ) (ds : List Data)
+        → each_fault (op_elements ops entries p) blocks i ds ≡ None
         → fold (blocks_with ops entries) blocks ds ≡ [] → Nests blocks (edges_in blocks (ops_named ops entries ds))
     each_nests p blocks i [] none closed = closed
     each_nests p blocks i (d ∷ ds) none closed =
@@ -79,7 +86,8 @@ module _ {O : Type 0} (ops : Ops O) where
         next_nests blocks (elements.at i) d (op_in ops (among entries) d) (ops_named ops entries ds) refl here.0
         (each_nests p (blocks_with ops entries blocks d) (i + 1) ds (none_fails _ [] here.1).0 closed)
 
-    script_nests : (p : Place) (ds : List Data) → script_fault ops entries p ds ≡ None → Nests [] (edges_in [] (ops_named ops entries ds))
+    script_nests : (p : Place) (ds : List Data) → script_fault ops entries p ds ≡ None
+        → Nests [] (edges_in [] (ops_named ops entries ds))
     script_nests p ds none =
         let open_blocks = fold (blocks_with ops entries) [] ds in
         let here = none_fails (each_fault (op_elements ops entries p) [] 0 ds) _ none in
@@ -108,7 +116,8 @@ module _ (entries : Entries) where
   handler_nests p ds none =
       subst (Nests []) (isr_edges [] (ops_named handler_ops entries ds)) (script_nests handler_ops entries p ds none)
 
-  task_nests : (p : Place) (ds : List Data) → script_fault task_ops entries p ds ≡ None → Nests [] (edges_of (script_named entries ds))
+  task_nests : (p : Place) (ds : List Data) → script_fault task_ops entries p ds ≡ None
+      → Nests [] (edges_of (script_named entries ds))
   task_nests p ds none =
       subst (Nests []) (task_edges [] (ops_named task_ops entries ds)) (script_nests task_ops entries p ds none)
 

@@ -1,5 +1,7 @@
 -- One more turn of a loop over a list.
-use Rattle.std.proofs.Common.{◌≡◌, ◌+◌, ◌<◌, ◌≤◌, ◌++◌, ℕ, suc, Bool, true, false, List, [], ◌∷◌, length, get_or, map, drop, Option, Some, None, Result, Ok, Err, refl, ap, sym, subst, ◌∙◌, append_assoc, add-one, arith, length-append, drop-cons}
+use Rattle.std.proofs.Common.{◌≡◌, ◌+◌, ◌<◌, ◌≤◌, ◌++◌, ℕ, suc, Bool, true, false, List, [], ◌∷◌, length, get_or, map, drop, Option}
+use Rattle.std.proofs.Common.{Some, None, Result, Ok, Err, refl, ap, sym, subst, ◌∙◌, append_assoc, add-one, arith, length-append}
+use Rattle.std.proofs.Common.{drop-cons}
 use Rattle.std.specs.List.{AllByRecursion, filter_map, cons_option, list_any, position_from}
 use Rattle.std.specs.Prelude.{◌||◌, if◌then◌else◌, OnOk}
 use Rattle.std.specs.Result.{IsErrAnd, IfOk}
@@ -102,7 +104,8 @@ alone None = refl
 alone (Some fault) = refl
 
 -- a check that finds a fault, and what follows
-pub found : (check : Option Fault) (checks : List (Option Fault)) (fault : Fault) → check ≡ Some fault → first_fault (check ∷ checks) ≡ Some fault
+pub found : (check : Option Fault) (checks : List (Option Fault)) (fault : Fault)
+    → check ≡ Some fault → first_fault (check ∷ checks) ≡ Some fault
 found check checks fault is = ap (λ o. first_fault (o ∷ checks)) is
 
 -- Elements are checked one after the other.
@@ -158,7 +161,8 @@ pub further : (n i : ℕ) → (n + i) + 1 ≡ n + (i + 1)
 further n i = omega arith
 
 -- what is judged where a check finds a fault
-pub refused : {X : Type 0} (result : Result X Fault) (check : Option Fault) (value : X) (fault : Fault) → IsErrAnd result (λ e. e ≡ fault)
+pub refused : {X : Type 0} (result : Result X Fault) (check : Option Fault) (value : X) (fault : Fault)
+    → IsErrAnd result (λ e. e ≡ fault)
     → check ≡ Some fault → Judges result check value
 refused (Ok x) check value fault is finds = absurd is
 refused (Err e) check value fault is finds = finds ∙ ap (λ f. Some f) (sym is)
@@ -170,15 +174,18 @@ refused_seen view (Ok x) check value fault is finds = absurd is
 refused_seen view (Err e) check value fault is finds = finds ∙ ap (λ f. Some f) (sym is)
 
 -- Nothing is said of what there isn't.
-pub of_none : {X : Type 0} (result : Result X Fault) (fault : Fault) (P : X → Type 0) → IsErrAnd result (λ e. e ≡ fault) → IfOk result P
+pub of_none : {X : Type 0} (result : Result X Fault) (fault : Fault) (P : X → Type 0)
+    → IsErrAnd result (λ e. e ≡ fault) → IfOk result P
 of_none (Ok x) fault P is = absurd is
 of_none (Err e) fault P is = tt
 
 -- A check that finds nothing is passed over.
-pub passed : (check : Option Fault) (checks : List (Option Fault)) → check ≡ None → first_fault (check ∷ checks) ≡ first_fault checks
+pub passed : (check : Option Fault) (checks : List (Option Fault))
+    → check ≡ None → first_fault (check ∷ checks) ≡ first_fault checks
 passed check checks none = ap (λ o. first_fault (o ∷ checks)) none
 
 -- Nothing is said of what was not done.
-pub not_done : {X : Type 0} (result : Result X Fault) (fault : Fault) (P : Type 0) → IsErrAnd result (λ e. e ≡ fault) → OnOk result P
+pub not_done : {X : Type 0} (result : Result X Fault) (fault : Fault) (P : Type 0)
+    → IsErrAnd result (λ e. e ≡ fault) → OnOk result P
 not_done (Ok x) fault P is = absurd is
 not_done (Err e) fault P is = tt

@@ -1,5 +1,6 @@
 -- Arrays of a document, whose elements are checked one after the other.
-use Rattle.std.specs.Prelude.{ℕ, nat_lt, ◌+◌, ◌-◌, List, [], ◌∷◌, ◌++◌, length, map, Option, None, option_map, option_and_then, unwrap_or}
+use Rattle.std.specs.Prelude.{ℕ, nat_lt, ◌+◌, ◌-◌, List, [], ◌∷◌, ◌++◌, length, map, Option, None, option_map, option_and_then}
+use Rattle.std.specs.Prelude.{unwrap_or}
 use Rattle.toml.specs.Data.{Data, Items, no_items, item, Members, as_table, as_array}
 use Rattle.script.specs.declared.fault.Fault.{Fault}
 use Rattle.script.specs.declared.fault.FaultKind.TheVariants.{WrongKind, TooMany}

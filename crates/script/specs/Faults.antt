@@ -1,9 +1,11 @@
 -- Where one looks in a file, the checks of what is there, and which of them fails first.
-use Rattle.std.specs.Prelude.{◌≡◌, ℕ, Bool, List, [], ◌∷◌, Option, Some, None, Result, Ok, Err, codes, ◌++◌, option_map, option_and_then, option_to_list, if◌then◌else◌}
+use Rattle.std.specs.Prelude.{◌≡◌, ℕ, Bool, List, [], ◌∷◌, Option, Some, None, Result, Ok, Err, codes, ◌++◌, option_map}
+use Rattle.std.specs.Prelude.{option_and_then, option_to_list, if◌then◌else◌}
 use Rattle.std.specs.Fmt.{decimal}
 use Rattle.toml.specs.Data.{Data, Members, get_member}
 use Rattle.script.specs.declared.fault.FaultKind.{FaultKind}
-use Rattle.script.specs.declared.fault.FaultKind.TheVariants.{Missing, WrongKind, OutOfRange, BadOp, UnknownName, DoubleName, BadNesting, OverwriteLength, TooMany, NoDaemon}
+use Rattle.script.specs.declared.fault.FaultKind.TheVariants.{Missing, WrongKind, OutOfRange, BadOp, UnknownName, DoubleName}
+use Rattle.script.specs.declared.fault.FaultKind.TheVariants.{BadNesting, OverwriteLength, TooMany, NoDaemon}
 use Rattle.script.specs.declared.fault.Fault.{Fault}
 use Rattle.script.specs.declared.fault.LoadError.{LoadError}
 use Rattle.script.specs.declared.fault.LoadError.TheVariants as error

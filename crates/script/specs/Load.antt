@@ -11,12 +11,14 @@ use Rattle.script.specs.Faults.{at_section, fault_at, first_fault, fails_if, nee
 use Rattle.script.specs.Names.{handler_names, task_names}
 use Rattle.script.specs.Values.{member_of, number_fault, number_or, boolean_fault, boolean_named}
 use Rattle.script.specs.Entries.{Entries, all_objects, daemon_of, isr_names, names_of}
-use Rattle.script.specs.Sections.{data_at, no_entries, objects_fault, objects_named, groups_fault, groups_named, handlers_fault, handlers_named, tasks_fault, tasks_named, daemon_fault, daemon_named}
+use Rattle.script.specs.Sections.{data_at, no_entries, objects_fault, objects_named, groups_fault, groups_named, handlers_fault}
+use Rattle.script.specs.Sections.{handlers_named, tasks_fault, tasks_named, daemon_fault, daemon_named}
 use Rattle.script.specs.Ops.{handler_ops_fault, scripts_fault, with_isr_ops, all_tasks}
 use Rattle.script.specs.Interrupts.{interrupts_fault, interrupts_named}
 use Rattle.script.specs.Points.{campaign_fault, campaign_named}
 
--- the most ticks and steps that a file may ask for, except for the ticks of one that is tickless, and where it says nothing (profile)
+-- the most ticks and steps that a file may ask for, except for the ticks of one that is tickless,
+-- and where it says nothing (profile)
 abbrev pub most_limit : ℕ
 most_limit = 1000000
 

@@ -1,5 +1,6 @@
 -- Pass two: the ops of handlers and of tasks.
-use Rattle.std.specs.Prelude.{ℕ, Bool, true, false, ◌&&◌, not, nat_lt, List, [], ◌∷◌, length, map, fold, filter_map, ◌++◌, Option, Some, None, is_none, slice_get, option_and_then}
+use Rattle.std.specs.Prelude.{ℕ, Bool, true, false, ◌&&◌, not, nat_lt, List, [], ◌∷◌, length, map, fold, filter_map, ◌++◌, Option}
+use Rattle.std.specs.Prelude.{Some, None, is_none, slice_get, option_and_then}
 use Rattle.std.specs.Option.{option_map_or}
 use Rattle.toml.specs.Data.{Data, as_str}
 use Rattle.model.specs.declared.op.Access.{Access}
@@ -28,8 +29,8 @@ use Rattle.script.specs.Finding.{among}
 abbrev pub allows : List ObjectEntry → ℕ → Access → Bool
 allows objects object access = option_map_or (λ (o : ObjectEntry). fits o.kind access) (slice_get objects object) false
 
--- What distinguishes the ops of tasks from those of handlers: which words spell which op, whether the daemon has to do it, and whether an
--- object allows it; what it is to the blocks of its script; and which op its text is where these blocks are open.
+-- What distinguishes the ops of tasks from those of handlers: which words spell which op, whether the daemon has to do it, and
+-- whether an object allows it; what it is to the blocks of its script; and which op its text is where these blocks are open.
 pub record Ops (O : Type 0) : Type 0 where
   pub of_words : Naming → List Word → Option O
   pub is_command : O → Bool

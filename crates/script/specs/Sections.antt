@@ -4,7 +4,8 @@ use Rattle.std.specs.Prelude.{◌-◌, nat_le, List, [], ◌∷◌, ◌++◌, le
 use Rattle.toml.specs.Data.{Data, Members, as_table, get_member}
 use Rattle.model.specs.declared.object.ObjectKind.{ObjectKind}
 use Rattle.model.specs.declared.object.ObjectKind.TheVariants as kind
-use Rattle.model.specs.Scripts.{most_objects, most_groups, most_handlers, most_tasks, most_items, most_count, most_handler_ops, most_ops, priorities}
+use Rattle.model.specs.Scripts.{most_objects, most_groups, most_handlers, most_tasks, most_items, most_count, most_handler_ops}
+use Rattle.model.specs.Scripts.{most_ops, priorities}
 use Rattle.script.specs.declared.fault.Fault.{Fault}
 use Rattle.script.specs.declared.fault.FaultKind.TheVariants.{WrongKind, TooMany}
 use Rattle.script.specs.declared.place.Place.{Place}
@@ -14,7 +15,8 @@ use Rattle.script.specs.declared.place.Key.TheVariants as key
 use Rattle.script.specs.declared.object_section.ObjectSection.{ObjectSection}
 use Rattle.script.specs.declared.object_section.ObjectSection.TheVariants.{Queue, Binary, Counting, Mutex}
 use Rattle.script.specs.Faults.{at_section, fault_at, section_word, first_fault, fails_if, need, required, optional}
-use Rattle.script.specs.Values.{member_of, number_fault, number_named, boolean_fault, boolean_named, name_fault, name_named, texts_fault, texts_named}
+use Rattle.script.specs.Values.{member_of, number_fault, number_named, boolean_fault, boolean_named, name_fault, name_named}
+use Rattle.script.specs.Values.{texts_fault, texts_named}
 use Rattle.script.specs.Arrays.{section_fault, section_named}
 use Rattle.script.specs.Entries.{ObjectEntry, GroupEntry, RawIsr, Raw, DaemonEntry, Entries, names_of}
 

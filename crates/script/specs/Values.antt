@@ -1,6 +1,7 @@
 -- What is at the keys of a document, with its checks: numbers, booleans, names and texts.
 -- Where a check fails the value is a default, which no one sees.
-use Rattle.std.specs.Prelude.{ℕ, ℤ, pos, negsuc, Bool, false, not, ◌||◌, nat_lt, List, [], ◌∷◌, Option, Some, None, is_none, option_map, option_and_then, unwrap_or}
+use Rattle.std.specs.Prelude.{ℕ, ℤ, pos, negsuc, Bool, false, not, ◌||◌, nat_lt, List, [], ◌∷◌, Option, Some, None, is_none}
+use Rattle.std.specs.Prelude.{option_map, option_and_then, unwrap_or}
 use Rattle.std.specs.List.{list_any}
 use Rattle.std.specs.Str.{bytes_eq}
 use Rattle.std.specs.Borrow.{Bor}

@@ -1,5 +1,6 @@
 -- Stops along a base run, and rows from them on.
-use Rattle.std.proofs.Common.{◌≡◌, ◌+◌, ◌*◌, ◌/◌, ◌%◌, ◌<◌, ◌≤◌, ℕ, suc, inl, inr, List, [], ◌∷◌, ◌++◌, None, get_or, take, length, length-append, ap, sym, subst, ◌∙◌, ap₂, arith, false, Bool, Result, Ok, Err}
+use Rattle.std.proofs.Common.{◌≡◌, ◌+◌, ◌*◌, ◌/◌, ◌%◌, ◌<◌, ◌≤◌, ℕ, suc, inl, inr, List, [], ◌∷◌, ◌++◌, None, get_or, take, length}
+use Rattle.std.proofs.Common.{length-append, ap, sym, subst, ◌∙◌, ap₂, arith, false, Bool, Result, Ok, Err}
 use Rattle.std.specs.Prelude.{IfSome, OnErr, nat_lt}
 use Rattle.std.proofs.lemmas.List.{length-take}
 use Rattle.std.proofs.lemmas.Bool.{cases_lt}
@@ -20,12 +21,15 @@ use Rattle.shelf.specs.Shelves.{IsStop, AreStops, Shelved, IsShelf, cost_of}
 
 -- ---- putting stops
 
-pub one_more : (app : Application) (limits : Limits) (stride : ℕ) (stops more : List Stop) (stop : Stop) → AreStops app limits stride stops
+pub one_more : (app : Application) (limits : Limits) (stride : ℕ) (stops more : List Stop) (stop : Stop)
+    → AreStops app limits stride stops
     → more ≡ stops ++ stop ∷ [] → IsStop app limits (length stops * stride) stop → AreStops app limits stride more
-one_more app limits stride stops more stop h is last = subst (AreStops app limits stride) (sym is) (each_more (λ n. IsStop app limits (n * stride)) stops stop h last)
+one_more app limits stride stops more stop h is last =
+    subst (AreStops app limits stride) (sym is) (each_more (λ n. IsStop app limits (n * stride)) stops stop h last)
 
 -- how many stops there are
-pub put_more : (stops more : List Stop) (stop : Stop) (stride next : ℕ) → more ≡ stops ++ stop ∷ [] → next ≡ length stops * stride → next + stride ≡ length more * stride
+pub put_more : (stops more : List Stop) (stop : Stop) (stride next : ℕ) → more ≡ stops ++ stop ∷ []
+    → next ≡ length stops * stride → next + stride ≡ length more * stride
 put_more stops more stop stride next is e =
     let one : length more ≡ suc (length stops) = omega (arith, ap length is, length-append stops (stop ∷ [])) in
     rw one (ap (λ (n : ℕ). n + stride) e ∙ sym (suc-mul (length stops) stride))
@@ -43,7 +47,9 @@ module _ (app : Application) (shelf : Shelved) (h : IsShelf app shelf) (step : �
   stop_below = (div-lt_iff_lt-mul h.apart).1 (let enough = h.enough in omega (arith, enough, l))
 
   pub stop_is : (d : Stop) → IsStop app shelf.limits (number * shelf.stride) (get_or shelf.stops number d)
-  stop_is d = subst (λ o. IfSome o (IsStop app shelf.limits (number * shelf.stride))) (slice_get-get_or shelf.stops number d stop_below) (h.are_stops number)
+  stop_is d =
+      subst (λ o. IfSome o (IsStop app shelf.limits (number * shelf.stride)))
+      (slice_get-get_or shelf.stops number d stop_below) (h.are_stops number)
 
   -- the base run goes on there, and before
   pub goes_on : (n : ℕ) → n ≤ step → end_of app shelf.limits (state_after app shelf.limits [] n) ≡ None
@@ -58,7 +64,8 @@ module _ (app : Application) (shelf : Shelved) (h : IsShelf app shelf) (step : �
       omega (arith, front, cut, all)
 
   -- which it begins with
-  pub shared_is : (count : ℕ) → count ≡ length (events_after app shelf.limits [] step) → take count shelf.base.events ≡ events_after app shelf.limits [] step
+  pub shared_is : (count : ℕ) → count ≡ length (events_after app shelf.limits [] step)
+      → take count shelf.base.events ≡ events_after app shelf.limits [] step
   shared_is count is = rw (is, h.is_base.trace) (begins_with app shelf.limits [] step shelf.base.steps (omega (arith, l)))
 
 -- ---- a run is the only one
@@ -82,17 +89,21 @@ module _ (app : Application) (plan : List Injection) (limits : Limits) where
 -- ---- the row of a point that is reached
 
 -- from a shelf, as it is kept inside, and the stop that is read there
-module _ (app : Application) (inside now : Shelved) (same : inside ≡ now) (kept : IsShelf app now) (point : List Injection) (reached : first_step point < now.base.steps) where
+module _ (app : Application) (inside now : Shelved) (same : inside ≡ now) (kept : IsShelf app now)
+    (point : List Injection) (reached : first_step point < now.base.steps) where
   h : IsShelf app inside
   h = subst (IsShelf app) (sym same) kept
 
   l : first_step point < inside.base.steps
   l = subst (λ (s : Shelved). first_step point < s.base.steps) (sym same) reached
 
-  pub read_is : (step : ℕ) → step ≡ first_step point → (stop d : Stop) → stop ≡ get_or inside.stops (step / inside.stride) d → IsStop app inside.limits (first_step point / inside.stride * inside.stride) stop
+  pub read_is : (step : ℕ) → step ≡ first_step point → (stop d : Stop) → stop ≡ get_or inside.stops (step / inside.stride) d
+      → IsStop app inside.limits (first_step point / inside.stride * inside.stride) stop
   read_is step first stop d read =
-      let there : stop ≡ get_or inside.stops (first_step point / inside.stride) d = read ∙ ap (λ (n : ℕ). get_or inside.stops (n / inside.stride) d) first in
-      subst (IsStop app inside.limits (first_step point / inside.stride * inside.stride)) (sym there) (stop_is app inside h (first_step point) l d)
+      let there : stop ≡ get_or inside.stops (first_step point / inside.stride) d =
+      read ∙ ap (λ (n : ℕ). get_or inside.stops (n / inside.stride) d) first in
+      subst (IsStop app inside.limits (first_step point / inside.stride * inside.stride))
+      (sym there) (stop_is app inside h (first_step point) l d)
 
   -- the step, by the stops before it
   pub parts_of : first_step point % now.stride + first_step point / inside.stride * inside.stride ≡ first_step point
@@ -103,7 +114,8 @@ module _ (app : Application) (inside now : Shelved) (same : inside ≡ now) (kep
 
 -- ---- a row with all its events, from those that came into an empty trail
 
-module _ (app : Application) (shelf : Shelved) (h : IsShelf app shelf) (point : List Injection) (reached : first_step point < shelf.base.steps)
+module _ (app : Application) (shelf : Shelved) (h : IsShelf app shelf)
+    (point : List Injection) (reached : first_step point < shelf.base.steps)
     (old new : List Event) (none : old ≡ []) (ending : RowEnding) (row : IsRowFrom app point shelf.limits old new ending)
     (before : ending.before ≡ length (events_after app shelf.limits [] (first_step point))) where
   is_own : new ≡ row.own
@@ -112,8 +124,12 @@ module _ (app : Application) (shelf : Shelved) (h : IsShelf app shelf) (point : 
   pub whole_row : (events : List Event) → events ≡ take ending.before shelf.base.events ++ new
       → IsRun app point shelf.limits (record { events = events; steps = ending.steps; ticks = ending.ticks; end = ending.end })
   whole_row events e =
-      subst (λ (events : List Event). IsRun app point shelf.limits (record { events = events; steps = ending.steps; ticks = ending.ticks; end = ending.end }))
-      (sym (e ∙ ap₂ (λ (front own : List Event). front ++ own) (shared_is app shelf h (first_step point) reached ending.before before) is_own)) row.run
+      subst (λ (events : List Event).
+      IsRun app point shelf.limits (record { events = events; steps = ending.steps; ticks = ending.ticks; end = ending.end }))
+      (sym (e
+      ∙ ap₂ (λ (front own : List Event). front ++ own)
+      (shared_is app shelf h (first_step point) reached ending.before before) is_own))
+      row.run
 
   -- where there was no memory for them, the meter has risen by the row's steps all the same
   pub whole_refused : (from to : ℕ) → to ≡ from + cost_of shelf point ending.steps → 0 < ending.before + length new
@@ -128,11 +144,14 @@ module _ (app : Application) (shelf : Shelved) (h : IsShelf app shelf) (point : 
 -- ---- a point that the base run doesn't reach
 
 -- Its row is the base run.
-pub missed_few : {X E : Type 0} (app : Application) (shelf : Shelved) (point : List Injection) (from : ℕ) → IsShelf app shelf → false ≡ nat_lt (first_step point) shelf.base.steps
+pub missed_few : {X E : Type 0} (app : Application) (shelf : Shelved) (point : List Injection) (from : ℕ)
+    → IsShelf app shelf → false ≡ nat_lt (first_step point) shelf.base.steps
     → (r : Result X E) → OnErr r (0 < length shelf.base.events)
-    → OnErr r ((reached : Bool) (run : Run) → IsRow app shelf.limits point reached run → (from ≤ from + cost_of shelf point run.steps) × (0 < length run.events))
+    → OnErr r ((reached : Bool) (run : Run) → IsRow app shelf.limits point reached run
+    → (from ≤ from + cost_of shelf point run.steps) × (0 < length run.events))
 missed_few app shelf point from h missed (Ok x) some = tt
 missed_few app shelf point from h missed (Err e) some = λ reached run is.
-    let row : IsRow app shelf.limits point false shelf.base = record { base = shelf.base; is_base = h.is_base; is_reached = missed; is_row = h.is_base } in
+    let row : IsRow app shelf.limits point false shelf.base =
+    record { base = shelf.base; is_base = h.is_base; is_reached = missed; is_row = h.is_base } in
     let same = (one_row app shelf.limits point reached false run shelf.base is row).1 in
     (omega arith, rw same some)

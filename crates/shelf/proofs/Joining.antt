@@ -1,5 +1,6 @@
 -- Where other runs join the base run, as stops are put along it.
-use Rattle.std.proofs.Common.{◌≡◌, ◌<◌, ◌≤◌, ℕ, zero, suc, List, [], ◌∷◌, ◌++◌, Option, None, Some, length, length-append, slice_index_or, drop, refl, sym, ap, subst, ◌∙◌, append-nil, arith}
+use Rattle.std.proofs.Common.{◌≡◌, ◌<◌, ◌≤◌, ℕ, zero, suc, List, [], ◌∷◌, ◌++◌, Option, None, Some, length, length-append}
+use Rattle.std.proofs.Common.{slice_index_or, drop, refl, sym, ap, subst, ◌∙◌, append-nil, arith}
 use Rattle.std.specs.Prelude.{IfSome, slice_get}
 use Rattle.std.proofs.lemmas.List.{drop-append-le}
 use Rattle.std.proofs.lemmas.Option.{slice_get_read}
@@ -31,7 +32,8 @@ each : {X : Type 0} (P Q : X → Type 0) → ((x : X) → P x → Q x) → (o : 
 each P Q f None is = tt
 each P Q f (Some x) is = f x is
 
-pub each_more : {X : Type 0} (P : ℕ → X → Type 0) (xs : List X) (x : X) → ((n : ℕ) → IfSome (slice_get xs n) (P n)) → P (length xs) x → (n : ℕ) → IfSome (slice_get (xs ++ x ∷ []) n) (P n)
+pub each_more : {X : Type 0} (P : ℕ → X → Type 0) (xs : List X) (x : X) → ((n : ℕ) → IfSome (slice_get xs n) (P n))
+    → P (length xs) x → (n : ℕ) → IfSome (slice_get (xs ++ x ∷ []) n) (P n)
 each_more P [] x h is zero = is
 each_more P [] x h is (suc n) = tt
 each_more P (y ∷ ys) x h is zero = h zero
@@ -40,24 +42,31 @@ each_more P (y ∷ ys) x h is (suc n) = each_more (λ n. P (suc n)) ys x (λ n. 
 module _ (app : Application) (limits : Limits) where
   -- ---- stops behind the kernel
 
-  one_on : (trail after : List Event) (old new : Machine) → IsLed app limits old new trail after → (s : Stop) → IsBehind app limits old trail s → IsBehind app limits new after s
+  one_on : (trail after : List Event) (old new : Machine) → IsLed app limits old new trail after
+      → (s : Stop) → IsBehind app limits old trail s → IsBehind app limits new after s
   one_on trail after old new led s is =
       let within = is.within in
-      let more : drop s.before after ≡ drop s.before trail ++ led.own = rw led.kept (drop-append-le s.before trail led.own within) in
+      let more : drop s.before after ≡ drop s.before trail ++ led.own =
+      rw led.kept (drop-append-le s.before trail led.own within) in
       record {
         within = rw led.kept (omega (arith, length-append trail led.own));
         leads = rw more (leads_then app limits s.kernel old new (drop s.before trail) led.own is.leads led.leads);
       }
 
   -- They stay behind it.
-  pub all_on : (trail after : List Event) (old new : Machine) → IsLed app limits old new trail after → (stops : List Stop) → AreBehind app limits old trail stops → AreBehind app limits new after stops
-  all_on trail after old new led stops are number = each (IsBehind app limits old trail) (IsBehind app limits new after) (one_on trail after old new led) (slice_get stops number) (are number)
+  pub all_on : (trail after : List Event) (old new : Machine) → IsLed app limits old new trail after
+      → (stops : List Stop) → AreBehind app limits old trail stops → AreBehind app limits new after stops
+  all_on trail after old new led stops are number =
+      each (IsBehind app limits old trail) (IsBehind app limits new after)
+      (one_on trail after old new led) (slice_get stops number) (are number)
 
   -- One more, where the kernel stands.
-  pub put_behind : (now : Machine) (trail : List Event) (stops more : List Stop) (s : Stop) → more ≡ stops ++ s ∷ [] → s.kernel ≡ now → s.before ≡ length trail → AreBehind app limits now trail stops → AreBehind app limits now trail more
+  pub put_behind : (now : Machine) (trail : List Event) (stops more : List Stop) (s : Stop) → more ≡ stops ++ s ∷ []
+      → s.kernel ≡ now → s.before ≡ length trail → AreBehind app limits now trail stops → AreBehind app limits now trail more
   put_behind now trail stops more s pushed same at are =
       let none : drop s.before trail ≡ [] = ap (λ n. drop n trail) at ∙ drop-length trail in
-      let here : IsBehind app limits now trail s = record { within = omega arith; leads = rw (none, same) (leads_here app limits now) } in
+      let here : IsBehind app limits now trail s =
+      record { within = omega arith; leads = rw (none, same) (leads_here app limits now) } in
       subst (AreBehind app limits now trail) (sym pushed) (each_more (λ _. IsBehind app limits now trail) stops s are here)
 
   -- ---- the base run, as far as the kernel has come along it
@@ -65,37 +74,49 @@ module _ (app : Application) (limits : Limits) where
   pub past_none : (k : Machine) → IsUnderWay app [] limits k → IsPast app limits k []
   past_none k way = record { way = way; past = λ n from. refl }
 
-  pub told_on : (old new : Machine) (before after : List Event) → IsLed app limits old new before after → IsUnderWay app [] limits old → before ≡ events_after app limits [] old.steps → after ≡ events_after app limits [] new.steps
-  told_on old new before after led way told = led.kept ∙ ap (λ (es : List Event). es ++ led.own) told ∙ sym (led.leads.events [] (past_none old way))
+  pub told_on : (old new : Machine) (before after : List Event) → IsLed app limits old new before after
+      → IsUnderWay app [] limits old → before ≡ events_after app limits [] old.steps → after ≡ events_after app limits [] new.steps
+  told_on old new before after led way told =
+      led.kept ∙ ap (λ (es : List Event). es ++ led.own) told ∙ sym (led.leads.events [] (past_none old way))
 
   -- ---- at its end
 
-  module _ (now : Machine) (ending : RestEnding) (end : IsEnd app limits now ending) (trail events : List Event) (same : events ≡ trail) where
+  module _ (now : Machine) (ending : RestEnding) (end : IsEnd app limits now ending)
+      (trail events : List Event) (same : events ≡ trail) where
     abbrev base : List Event → Run
     base events = record { events = events; steps = ending.steps; ticks = ending.ticks; end = ending.end }
 
     pub base_is : IsUnderWay app [] limits now → trail ≡ events_after app limits [] now.steps → IsRun app [] limits (base events)
     base_is way told =
         let run = end.rest.of_each [] way (λ n from. refl) in
-        subst (λ (es : List Event). IsRun app [] limits (base es)) (append-nil (events_after app limits [] now.steps) ∙ sym told ∙ sym same) run
+        subst (λ (es : List Event). IsRun app [] limits (base es))
+        (append-nil (events_after app limits [] now.steps) ∙ sym told ∙ sym same) run
 
     one_joins : (s : Stop) → IsBehind app limits now trail s → JoinsBase app limits (base events) s.kernel s.before
     one_joins s is =
         let rest = rest_before app limits s.kernel now (drop s.before trail) (base []) is.leads end.rest in
         record {
           within = rw same is.within;
-          rest = subst (λ (es : List Event). IsRest app limits s.kernel (base es)) (append-nil (drop s.before trail) ∙ ap (drop s.before) (sym same)) rest;
+          rest =
+              subst (λ (es : List Event). IsRest app limits s.kernel (base es))
+              (append-nil (drop s.before trail) ∙ ap (drop s.before) (sym same)) rest;
         }
 
     pub all_join : (stops : List Stop) → AreBehind app limits now trail stops → AreRests app limits (base events) stops
-    all_join stops are number = each (IsBehind app limits now trail) (λ (s : Stop). JoinsBase app limits (base events) s.kernel s.before) one_joins (slice_get stops number) (are number)
+    all_join stops are number =
+        each (IsBehind app limits now trail) (λ (s : Stop). JoinsBase app limits (base events) s.kernel s.before)
+        one_joins (slice_get stops number) (are number)
 
 -- ---- a stop that is looked at
 
-pub joins_at : (inside now : Shelved) → inside ≡ now → (number : ℕ) (s : Stop) → number < length inside.stops → s ≡ slice_index_or inside.stops number s → (k : Machine) → k ≡ s.kernel
+pub joins_at : (inside now : Shelved) → inside ≡ now → (number : ℕ) (s : Stop)
+    → number < length inside.stops → s ≡ slice_index_or inside.stops number s → (k : Machine) → k ≡ s.kernel
     → (app : Application) → IsShelf app now → JoinsBase app now.limits now.base k s.before
 joins_at inside now same number s within read k at app h =
-    let found : slice_get inside.stops number ≡ Some s = slice_get_read inside.stops (length inside.stops) number s refl within read in
+    let found : slice_get inside.stops number ≡ Some s =
+    slice_get_read inside.stops (length inside.stops) number s refl within read in
     let there : slice_get now.stops number ≡ Some s = ap (λ (shelf : Shelved). slice_get shelf.stops number) (sym same) ∙ found in
-    let joins : JoinsBase app now.limits now.base s.kernel s.before = subst (λ (o : Option Stop). IfSome o (λ (stop : Stop). JoinsBase app now.limits now.base stop.kernel stop.before)) there (h.rests number) in
+    let joins : JoinsBase app now.limits now.base s.kernel s.before =
+    subst (λ (o : Option Stop). IfSome o (λ (stop : Stop). JoinsBase app now.limits now.base stop.kernel stop.before))
+    there (h.rests number) in
     subst (λ (m : Machine). JoinsBase app now.limits now.base m s.before) (sym at) joins

@@ -9,9 +9,10 @@ use Rattle.machine.specs.declared.machine.Machine.{Machine}
 use Rattle.machine.specs.Can.{IsUnderWay}
 use Rattle.kernel.specs.declared.rows.RowBeginning.{RowBeginning}
 
--- The kernel has come along the row of this point beyond its first injection, and where the row goes on, beyond its last one. The row's
--- events from the first one on came behind the others that were kept; those before it are the base run's.
-pub record HasBegun (app : Application) (point : List Injection) (limits : Limits) (k : Machine) (old new : List Event) (beginning : RowBeginning) : Type 0 where
+-- The kernel has come along the row of this point beyond its first injection, and where the row goes on, beyond its last one. The
+-- row's events from the first one on came behind the others that were kept; those before it are the base run's.
+pub record HasBegun (app : Application) (point : List Injection) (limits : Limits)
+    (k : Machine) (old new : List Event) (beginning : RowBeginning) : Type 0 where
   pub way : IsUnderWay app point limits k
   pub past : first_step point < k.steps
   pub beyond : beginning.end ≡ None → last_step point < k.steps

@@ -33,8 +33,8 @@ pub record IsShelf (app : Application) (shelf : Shelved) : Type 0 where
   pub rests : AreRests app shelf.limits shelf.base shelf.stops
   pub enough : shelf.base.steps ≤ length shelf.stops * shelf.stride
 
--- How many steps are done for the row of a point, which ends after this many: those from the stop before its first injection on; none
--- where the base run doesn't reach that.
+-- How many steps are done for the row of a point, which ends after this many: those from the stop before its first injection on;
+-- none where the base run doesn't reach that.
 abbrev pub cost_of : Shelved → List Injection → ℕ → ℕ
 cost_of shelf point steps =
     if nat_lt (first_step point) shelf.base.steps then first_step point % shelf.stride + (steps - first_step point) else 0

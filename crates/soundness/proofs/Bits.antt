@@ -1,5 +1,6 @@
 -- What the calls on event groups keep.
-use Rattle.std.proofs.Common.{◌≡◌, ◌<◌, ◌≤◌, ◌+◌, ℕ, Bool, true, false, List, [], ◌∷◌, length, Option, Some, None, refl, ap, sym, subst, ◌∙◌, arith, get_or-set_same}
+use Rattle.std.proofs.Common.{◌≡◌, ◌<◌, ◌≤◌, ◌+◌, ℕ, Bool, true, false, List, [], ◌∷◌, length, Option, Some, None, refl, ap, sym}
+use Rattle.std.proofs.Common.{subst, ◌∙◌, arith, get_or-set_same}
 use Rattle.std.specs.List.{AllByRecursion, filter}
 use Rattle.std.specs.Option.{IfSome, option_map, is_some}
 use Rattle.std.proofs.Math.ListN.{length-set}
@@ -10,26 +11,33 @@ use Rattle.model.specs.declared.call.Condition.{Condition}
 use Rattle.model.specs.declared.call.Phase.TheVariants.{Start, Leave, Try}
 use Rattle.model.specs.Application.{Application, op_at}
 use Rattle.model.specs.Scripts.{IsWellFormed, is_wait}
-use Rattle.model.specs.State.{State, Task, Status, Ready, Awake, Waiting, WaitingForBits, Asleep, Suspended, Ended, Wait, ticket_if_ready, ticket_if_for_bits, task_at, status_at, progress_at, call_at, bits_at, with_task, with_bits, go_on, take_ticket, for_each, no_task}
+use Rattle.model.specs.State.{State, Task, Status, Ready, Awake, Waiting, WaitingForBits, Asleep, Suspended, Ended, Wait}
+use Rattle.model.specs.State.{ticket_if_ready, ticket_if_for_bits, task_at, status_at, progress_at, call_at, bits_at, with_task}
+use Rattle.model.specs.State.{with_bits, go_on, take_ticket, for_each, no_task}
 use Rattle.model.specs.Order.{Key, Entry, key, tasks_of}
 use Rattle.model.specs.Switching.{make_ready, is_ready, choose}
 use Rattle.model.specs.Waiting.{set_deadline, end_hold}
 use Rattle.model.specs.Ops.{answer}
-use Rattle.model.specs.Groups.{is_met, bits_without, bits_left, want, keep_answer, bits_key, waiters_for_bits, is_met_for, met_by, wake_with_bits, bits_set, bits_after_set, set, begin_set, clear, answer_bits, wait_for_bits, begin_bits_wait, final_bits}
-use Rattle.model.specs.Invariant.{IsReckoned, Hold, hold_of, ForBits, ToSetBits, course, IsPhaseOf, IsWaitOf, list_of_op, IsSound, holds, suspension_of, IsState, wait_of}
+use Rattle.model.specs.Groups.{is_met, bits_without, bits_left, want, keep_answer, bits_key, waiters_for_bits, is_met_for, met_by}
+use Rattle.model.specs.Groups.{wake_with_bits, bits_set, bits_after_set, set, begin_set, clear, answer_bits, wait_for_bits}
+use Rattle.model.specs.Groups.{begin_bits_wait, final_bits}
+use Rattle.model.specs.Invariant.{IsReckoned, Hold, hold_of, ForBits, ToSetBits, course, IsPhaseOf, IsWaitOf, list_of_op, IsSound}
+use Rattle.model.specs.Invariant.{holds, suspension_of, IsState, wait_of}
 use Rattle.model.proofs.Sorting.{by_test}
 use Rattle.model.proofs.Lists.{HasKey, list_has}
 use Rattle.model.proofs.Tables.{ticket_at, each-set}
 use Rattle.model.proofs.Statuses.{ready_free}
 use Rattle.soundness.proofs.InScripts.{nesting_past}
 use Rattle.soundness.proofs.Frames.{Keeps, keeps_both, keeps-set, keeps-with_call, keeps-take_ticket, keeps-set_deadline}
-use Rattle.soundness.proofs.Sound.{CanBeReady, can_still, framed, otherwise, changed, taken, kept_free, made_ready, answered, chosen, ready_reckoned}
+use Rattle.soundness.proofs.Sound.{CanBeReady, can_still, framed, otherwise, changed, taken, kept_free, made_ready, answered}
+use Rattle.soundness.proofs.Sound.{chosen, ready_reckoned}
 use Rattle.soundness.proofs.Called.{went_on, dated}
 use Rattle.soundness.proofs.Phases.{free, unsuspended, in_hold, others_free, held_by_all, hold_ended}
 
 -- ---- who may be woken
 
-bits_reckoned : (now previous group : ℕ) (u : Status) (k : Key) → option_map (key 0) (ticket_if_for_bits group u) ≡ Some k → IsReckoned now previous u → previous ≤ now
+bits_reckoned : (now previous group : ℕ) (u : Status) (k : Key)
+    → option_map (key 0) (ticket_if_for_bits group u) ≡ Some k → IsReckoned now previous u → previous ≤ now
 bits_reckoned now p group (Ready n) k e r = r
 bits_reckoned now p group (Awake w) k e r = r
 bits_reckoned now p group (Waiting w) k e r = r
@@ -39,14 +47,28 @@ bits_reckoned now p group Suspended k e r = absurd (cc)
 bits_reckoned now p group Ended k e r = absurd (cc)
 
 -- those whom a set meets may be Ready
-met_can : (s : State) (group : ℕ) (p : ℕ → Bool) → ((i : ℕ) → IsReckoned s.time (progress_at s i).previous_wake (status_at s i)) → (es : List Entry) → AllByRecursion (HasKey (bits_key group) s.tasks) es → AllByRecursion (CanBeReady s) (filter p (tasks_of es))
+met_can : (s : State) (group : ℕ) (p : ℕ → Bool)
+    → ((i : ℕ) → IsReckoned s.time (progress_at s i).previous_wake (status_at s i)) → (es : List Entry)
+    → AllByRecursion (HasKey (bits_key group) s.tasks) es → AllByRecursion (CanBeReady s) (filter p (tasks_of es))
 met_can s group p r [] has = tt
 met_can s group p r (e ∷ es) has = by_test (p e.task)
-    (λ t. rw t ((has.0.within, bits_reckoned s.time (progress_at s e.task).previous_wake group (status_at s e.task) e.key has.0.key (r e.task)), met_can s group p r es has.1))
+    (λ t.
+    rw t (
+      (
+        has.0.within,
+        bits_reckoned s.time (progress_at s e.task).previous_wake group (status_at s e.task) e.key has.0.key (r e.task),
+      ),
+      met_can s group p r es has.1,
+    ))
     (λ t. rw t (met_can s group p r es has.1))
 
 kept_can : (s : State) (i bits j : ℕ) → CanBeReady s j → CanBeReady (keep_answer i bits s) j
-kept_can s i bits j c = (rw length-set c.0, each-set no_task (λ k (t : Task). (progress_at s k).previous_wake ≤ s.time → t.progress.previous_wake ≤ s.time) s.tasks i (record (task_at s i) { progress = record (progress_at s i) { call = record (call_at s i) { kept = Some bits } } }) (λ l. l) (λ k l. l) j c.1)
+kept_can s i bits j c = (
+  rw length-set c.0,
+  each-set no_task (λ k (t : Task). (progress_at s k).previous_wake ≤ s.time → t.progress.previous_wake ≤ s.time) s.tasks i
+      (record (task_at s i) { progress = record (progress_at s i) { call = record (call_at s i) { kept = Some bits } } })
+      (λ l. l) (λ k l. l) j c.1,
+)
 
 -- the task runs on, and each task is at its op, in its phase
 pub record Stays (old new : State) : Type 0 where
@@ -59,9 +81,16 @@ stays : (s : State) → Stays s s
 stays s = record { current = refl; tasks = refl; op_index = λ i. refl; phase = λ i. refl }
 
 stays_both : (a b c : State) → Stays a b → Stays b c → Stays a c
-stays_both a b c h k = record { current = k.current ∙ h.current; tasks = k.tasks ∙ h.tasks; op_index = λ i. k.op_index i ∙ h.op_index i; phase = λ i. k.phase i ∙ h.phase i }
+stays_both a b c h k =
+    record {
+      current = k.current ∙ h.current;
+      tasks = k.tasks ∙ h.tasks;
+      op_index = λ i. k.op_index i ∙ h.op_index i;
+      phase = λ i. k.phase i ∙ h.phase i;
+    }
 
-stays-with_task : (i : ℕ) (t : Task) (s : State) → t.progress.op_index ≡ (progress_at s i).op_index → t.progress.call.phase ≡ (call_at s i).phase → Stays s (with_task i t s)
+stays-with_task : (i : ℕ) (t : Task) (s : State) → t.progress.op_index ≡ (progress_at s i).op_index
+    → t.progress.call.phase ≡ (call_at s i).phase → Stays s (with_task i t s)
 stays-with_task i t s index phase = record {
   current = refl;
   tasks = length-set s.tasks i t;
@@ -77,7 +106,11 @@ stays-take_ticket i f s =
 stays-wake_with_bits : (i bits : ℕ) (s : State) → Stays s (wake_with_bits i bits s)
 stays-wake_with_bits i bits s =
     let t : State = keep_answer i bits s in
-    stays_both s t (make_ready i t) (stays-with_task i (record (task_at s i) { progress = record (progress_at s i) { call = record (call_at s i) { kept = Some bits } } }) s refl refl) (stays-take_ticket i Ready t)
+    stays_both s t (make_ready i t)
+    (stays-with_task i
+    (record (task_at s i) { progress = record (progress_at s i) { call = record (call_at s i) { kept = Some bits } } })
+    s refl refl)
+    (stays-take_ticket i Ready t)
 
 stays-all_with_bits : (bits : ℕ) (is : List ℕ) (s : State) → Stays s (for_each (λ i. wake_with_bits i bits) is s)
 stays-all_with_bits bits [] s = stays s
@@ -87,7 +120,9 @@ stays-all_with_bits bits (i ∷ is) s =
 
 pub stays-set : (group mask : ℕ) (s : State) → Stays s (set group mask s)
 unfolding set
-stays-set group mask s = let k = stays-all_with_bits (bits_set group mask s) (met_by group (bits_set group mask s) s) s in record { current = k.current; tasks = k.tasks; op_index = k.op_index; phase = k.phase }
+stays-set group mask s =
+    let k = stays-all_with_bits (bits_set group mask s) (met_by group (bits_set group mask s) s) s in
+    record { current = k.current; tasks = k.tasks; op_index = k.op_index; phase = k.phase }
 
 -- who is Ready stays so when others are woken
 module _ (i : ℕ) where
@@ -100,15 +135,20 @@ module _ (i : ℕ) where
 
   pub ready-keep_answer : (j bits : ℕ) (s : State) → is_ready s i ≡ true → is_ready (keep_answer j bits s) i ≡ true
   unfolding Still
-  ready-keep_answer j bits s r = each-set no_task Still s.tasks j (record (task_at s j) { progress = record (progress_at s j) { call = record (call_at s j) { kept = Some bits } } }) (still_in s r j) (still_in s r) i refl
+  ready-keep_answer j bits s r =
+      each-set no_task Still s.tasks j
+      (record (task_at s j) { progress = record (progress_at s j) { call = record (call_at s j) { kept = Some bits } } })
+      (still_in s r j) (still_in s r) i refl
 
   ready-wake_with_bits : (j bits : ℕ) (s : State) → is_ready s i ≡ true → is_ready (wake_with_bits j bits s) i ≡ true
   unfolding Still
   ready-wake_with_bits j bits s r =
       let t : State = keep_answer j bits s in
-      each-set no_task Still t.tasks j (record (task_at t j) { status = Ready t.next_ticket }) (λ _. refl) (still_in t (ready-keep_answer j bits s r)) i refl
+      each-set no_task Still t.tasks j (record (task_at t j) { status = Ready t.next_ticket })
+      (λ _. refl) (still_in t (ready-keep_answer j bits s r)) i refl
 
-  ready-all_with_bits : (bits : ℕ) (js : List ℕ) (s : State) → is_ready s i ≡ true → is_ready (for_each (λ j. wake_with_bits j bits) js s) i ≡ true
+  ready-all_with_bits : (bits : ℕ) (js : List ℕ) (s : State) → is_ready s i ≡ true
+      → is_ready (for_each (λ j. wake_with_bits j bits) js s) i ≡ true
   ready-all_with_bits bits [] s r = r
   ready-all_with_bits bits (j ∷ js) s r = ready-all_with_bits bits js (wake_with_bits j bits s) (ready-wake_with_bits j bits s r)
 
@@ -127,37 +167,54 @@ module _ (app : Application) (formed : IsWellFormed app) (hold : Hold) where
   answer_kept s i bits h =
       let a = h.progress i in
       let c = h.calls i in
-      changed app formed hold s i (record (task_at s i) { progress = record (progress_at s i) { call = record (call_at s i) { kept = Some bits } } }) h (ticket_at s.next_ticket i s.tasks h.table.tickets)
-      (record { nests = a.nests; loops = a.loops; used = a.used; reckoned = a.reckoned; stamped = a.stamped }, record { phase = c.phase; wait = c.wait; awake = c.awake; near = c.near }, h.priorities i)
+      changed app formed hold s i
+      (record (task_at s i) { progress = record (progress_at s i) { call = record (call_at s i) { kept = Some bits } } })
+      h (ticket_at s.next_ticket i s.tasks h.table.tickets) (
+        record { nests = a.nests; loops = a.loops; used = a.used; reckoned = a.reckoned; stamped = a.stamped },
+        record { phase = c.phase; wait = c.wait; awake = c.awake; near = c.near },
+        h.priorities i,
+      )
 
   wanted : (s : State) (i : ℕ) (w : Condition) → IsSound app hold s → IsSound app hold (want i w s)
   wanted s i w h =
       let a = h.progress i in
       let c = h.calls i in
-      changed app formed hold s i (record (task_at s i) { progress = record (progress_at s i) { call = record (call_at s i) { wants = Some w } } }) h (ticket_at s.next_ticket i s.tasks h.table.tickets)
-      (record { nests = a.nests; loops = a.loops; used = a.used; reckoned = a.reckoned; stamped = a.stamped }, record { phase = c.phase; wait = c.wait; awake = c.awake; near = c.near }, h.priorities i)
+      changed app formed hold s i
+      (record (task_at s i) { progress = record (progress_at s i) { call = record (call_at s i) { wants = Some w } } })
+      h (ticket_at s.next_ticket i s.tasks h.table.tickets) (
+        record { nests = a.nests; loops = a.loops; used = a.used; reckoned = a.reckoned; stamped = a.stamped },
+        record { phase = c.phase; wait = c.wait; awake = c.awake; near = c.near },
+        h.priorities i,
+      )
 
-  still_can_all : (s : State) (i bits : ℕ) (js : List ℕ) → CanBeReady s i → AllByRecursion (CanBeReady s) js → AllByRecursion (CanBeReady (wake_with_bits i bits s)) js
+  still_can_all : (s : State) (i bits : ℕ) (js : List ℕ) → CanBeReady s i
+      → AllByRecursion (CanBeReady s) js → AllByRecursion (CanBeReady (wake_with_bits i bits s)) js
   still_can_all s i bits [] c a = tt
-  still_can_all s i bits (j ∷ js) c a = (can_still (keep_answer i bits s) i j (kept_can s i bits i c) (kept_can s i bits j a.0), still_can_all s i bits js c a.1)
+  still_can_all s i bits (j ∷ js) c a =
+      (can_still (keep_answer i bits s) i j (kept_can s i bits i c) (kept_can s i bits j a.0), still_can_all s i bits js c a.1)
 
-  all_woken : (bits : ℕ) (is : List ℕ) (s : State) → IsSound app hold s → AllByRecursion (CanBeReady s) is → IsSound app hold (for_each (λ i. wake_with_bits i bits) is s)
+  all_woken : (bits : ℕ) (is : List ℕ) (s : State) → IsSound app hold s
+      → AllByRecursion (CanBeReady s) is → IsSound app hold (for_each (λ i. wake_with_bits i bits) is s)
   all_woken bits [] s h can = h
   all_woken bits (i ∷ is) s h can =
       let t : State = wake_with_bits i bits s in
-      all_woken bits is t (made_ready app formed hold (keep_answer i bits s) i (answer_kept s i bits h) (kept_can s i bits i can.0)) (still_can_all s i bits is can.0 can.1)
+      all_woken bits is t (made_ready app formed hold (keep_answer i bits s) i (answer_kept s i bits h) (kept_can s i bits i can.0))
+      (still_can_all s i bits is can.0 can.1)
 
   pub set_done : (s : State) (group mask : ℕ) → IsSound app hold s → IsSound app hold (set group mask s)
   unfolding set
   set_done s group mask h =
       let bits : ℕ = bits_set group mask s in
       bits_put _ group (bits_after_set group mask s) (all_woken bits (met_by group bits s) s h
-      (met_can s group (is_met_for bits s) (λ i. (h.progress i).reckoned) (waiters_for_bits s group) (list_has (bits_key group) s.tasks)))
+      (met_can s group (is_met_for bits s) (λ i. (h.progress i).reckoned)
+      (waiters_for_bits s group) (list_has (bits_key group) s.tasks)))
 
-  module _ (s : State) (i : ℕ) (op : Op) (h : IsSound app hold s) (free : wait_of (status_at s i) ≡ None) (is : op_at app i (progress_at s i).op_index ≡ Some op) (flat : (nesting : ℕ) → nesting_past nesting op ≡ nesting) where
+  module _ (s : State) (i : ℕ) (op : Op) (h : IsSound app hold s) (free : wait_of (status_at s i) ≡ None)
+      (is : op_at app i (progress_at s i).op_index ≡ Some op) (flat : (nesting : ℕ) → nesting_past nesting op ≡ nesting) where
     pub cleared : (group mask : ℕ) → IsSound app hold (clear app i group mask s)
     unfolding clear
-    cleared group mask = answered app formed hold _ i op (bits_put s group (bits_without (bits_at s group) mask) h) free is _ (flat _)
+    cleared group mask =
+        answered app formed hold _ i op (bits_put s group (bits_without (bits_at s group) mask) h) free is _ (flat _)
 
     pub answered_bits : (group : ℕ) (c : Condition) → IsSound app hold (answer_bits app i group c s)
     unfolding answer_bits
@@ -173,15 +230,18 @@ module _ (app : Application) (formed : IsWellFormed app) (hold : Hold) where
   waited : (s : State) (i group : ℕ) → IsSound app hold s → is_ready s i ≡ true → IsSound app hold (wait_for_bits i group s)
   unfolding wait_for_bits
   waited s i group h r =
-      let past : (progress_at s i).previous_wake ≤ s.time = ready_reckoned s.time (progress_at s i).previous_wake (status_at s i) (h.progress i).reckoned r in
+      let past : (progress_at s i).previous_wake ≤ s.time =
+      ready_reckoned s.time (progress_at s i).previous_wake (status_at s i) (h.progress i).reckoned r in
       taken app formed hold s i (λ ticket. WaitingForBits group ticket (call_at s i).deadline) h (omega arith)
       (kept_free app formed hold s i (WaitingForBits group s.next_ticket (call_at s i).deadline) h refl past)
 
 -- ---- a call that holds the scheduler
 
 module _ (app : Application) (formed : IsWellFormed app) where
-  module _ (s : State) (i : ℕ) (op : Op) (h : IsSound app (hold_of s) s) (none : s.call_hold ≡ false) (unlocked : s.locked ≡ None) (calm : suspension_of s ≡ unsuspended)
-      (runs : s.current ≡ Some i) (l : i < length s.tasks) (r : is_ready s i ≡ true) (is : op_at app i (progress_at s i).op_index ≡ Some op) where
+  module _ (s : State) (i : ℕ) (op : Op) (h : IsSound app (hold_of s) s) (none : s.call_hold ≡ false)
+      (unlocked : s.locked ≡ None) (calm : suspension_of s ≡ unsuspended)
+      (runs : s.current ≡ Some i) (l : i < length s.tasks) (r : is_ready s i ≡ true)
+      (is : op_at app i (progress_at s i).op_index ≡ Some op) where
     -- the scheduler is held, and nothing locked
     holding : Hold
     holding = record { held = true; locked = None }
@@ -195,18 +255,22 @@ module _ (app : Application) (formed : IsWellFormed app) where
 
     begun_sound : IsSound app holding begun
     unfolding begun holding
-    begun_sound = framed app formed holding s s.log s.steps s.stopped s.locked true (held_by_all app formed s holding h none unlocked)
+    begun_sound =
+        framed app formed holding s s.log s.steps s.stopped s.locked true (held_by_all app formed s holding h none unlocked)
 
     -- from here on the call is in its phase Leave
-    leaving : (t : State) → IsSound app holding t → Keeps begun t → Stays begun t → IsPhaseOf holding (course (Some op)) Leave → (course (Some op) ≡ ToSetBits → is_ready t i ≡ true) → IsState app (go_on i Leave t)
+    leaving : (t : State) → IsSound app holding t → Keeps begun t → Stays begun t → IsPhaseOf holding (course (Some op)) Leave
+        → (course (Some op) ≡ ToSetBits → is_ready t i ≡ true) → IsState app (go_on i Leave t)
     unfolding begun holding
     leaving t sound k st fits setting =
         let same : hold_of t ≡ holding = k.hold ∙ begun_hold in
         let P : Option Op → Type 0 = λ o. IsPhaseOf holding (course o) Leave in
         let op_is : op_at app i (progress_at t i).op_index ≡ Some op = ap (op_at app i) (st.op_index i) ∙ is in
         let after : IsSound app holding (go_on i Leave t) = went_on app formed holding t i Leave sound (subst P (sym op_is) fits) in
-        in_hold app formed t i (record (task_at t i) { progress = record (progress_at t i) { call = record (call_at t i) { phase = Leave } } })
-        (subst (λ x. IsSound app x (go_on i Leave t)) (sym same) after) (st.current ∙ runs) (rw st.tasks l) (ap (λ (x : Hold). x.held) same) refl (λ e. absurd (cc)) (λ e. setting (ap course (sym op_is) ∙ e))
+        in_hold app formed t i
+        (record (task_at t i) { progress = record (progress_at t i) { call = record (call_at t i) { phase = Leave } } })
+        (subst (λ x. IsSound app x (go_on i Leave t)) (sym same) after) (st.current ∙ runs) (rw st.tasks l)
+        (ap (λ (x : Hold). x.held) same) refl (λ e. absurd (cc)) (λ e. setting (ap course (sym op_is) ∙ e))
         (λ j ne. ap holds (st.phase j) ∙ others_free app formed s h none j) (k.suspension ∙ calm)
 
     pub set_begun : (group mask : ℕ) → course (Some op) ≡ ToSetBits → IsState app (begin_set i group mask s)
@@ -217,27 +281,38 @@ module _ (app : Application) (formed : IsWellFormed app) where
         let v : State = keep_answer i bits u in
         leaving v (answer_kept app formed holding u i bits (set_done app formed holding begun group mask begun_sound))
         (keeps_both begun u v (keeps-set group mask begun) (keeps-with_call i (record (call_at u i) { kept = Some bits }) u))
-        (stays_both begun u v (stays-set group mask begun) (stays-with_task i (record (task_at u i) { progress = record (progress_at u i) { call = record (call_at u i) { kept = Some bits } } }) u refl refl))
+        (stays_both begun u v (stays-set group mask begun) (stays-with_task i
+        (record (task_at u i) { progress = record (progress_at u i) { call = record (call_at u i) { kept = Some bits } } })
+        u refl refl))
         (rw e (refl, refl))
         (λ _. ready-keep_answer i i bits u (ready-set i group mask begun r))
 
-    pub wait_begun : (group : ℕ) (c : Condition) (ticks : Option ℕ) → op ≡ WaitBits group c ticks → is_wait ticks ≡ true → IsState app (begin_bits_wait i group c ticks s)
+    pub wait_begun : (group : ℕ) (c : Condition) (ticks : Option ℕ) → op ≡ WaitBits group c ticks
+        → is_wait ticks ≡ true → IsState app (begin_bits_wait i group c ticks s)
     unfolding begin_bits_wait begun holding wait_for_bits set_deadline
     wait_begun group c ticks e range =
         let t : State = set_deadline i ticks begun in
         let u : State = want i c t in
         let v : State = wait_for_bits i group u in
-        let dated_ : IsSound app holding t = dated app formed holding begun i ticks begun_sound (ready_free (status_at s i) r) range in
+        let dated_ : IsSound app holding t =
+        dated app formed holding begun i ticks begun_sound (ready_free (status_at s i) r) range in
         let wanted_ : IsSound app holding u = wanted app formed holding t i c dated_ in
         let call1 : CallProgress = record (call_at s i) { deadline = option_map (λ n. s.time + n) ticks } in
         let t1 : Task = record (task_at s i) { progress = record (progress_at s i) { call = call1 } } in
         let at1 : task_at t i ≡ t1 = get_or-set_same s.tasks i t1 no_task l in
-        let t2 : Task = record (task_at t i) { progress = record (progress_at t i) { call = record (call_at t i) { wants = Some c } } } in
+        let t2 : Task =
+        record (task_at t i) { progress = record (progress_at t i) { call = record (call_at t i) { wants = Some c } } } in
         let at2 : task_at u i ≡ t2 = get_or-set_same t.tasks i t2 no_task (rw length-set l) in
-        let still : is_ready u i ≡ true = ap (λ (x : Task). is_some (ticket_if_ready x.status)) (at2 ∙ ap (λ (x : Task). record x { progress = record x.progress { call = record x.progress.call { wants = Some c } } }) at1) ∙ r in
+        let still : is_ready u i ≡ true =
+        ap (λ (x : Task). is_some (ticket_if_ready x.status)) (at2
+        ∙ ap (λ (x : Task). record x { progress = record x.progress { call = record x.progress.call { wants = Some c } } }) at1)
+        ∙ r in
         leaving v (waited app formed holding u i group wanted_ still)
-        (keeps_both begun t v (keeps-set_deadline i ticks begun) (keeps_both t u v (keeps-with_call i (record (call_at t i) { wants = Some c }) t) (keeps-take_ticket i (λ ticket. WaitingForBits group ticket (call_at u i).deadline) u)))
-        (stays_both begun t v (stays-with_task i t1 begun refl refl) (stays_both t u v (stays-with_task i t2 t refl refl) (stays-take_ticket i (λ ticket. WaitingForBits group ticket (call_at u i).deadline) u)))
+        (keeps_both begun t v (keeps-set_deadline i ticks begun) (keeps_both t u v
+        (keeps-with_call i (record (call_at t i) { wants = Some c }) t)
+        (keeps-take_ticket i (λ ticket. WaitingForBits group ticket (call_at u i).deadline) u)))
+        (stays_both begun t v (stays-with_task i t1 begun refl refl) (stays_both t u v (stays-with_task i t2 t refl refl)
+        (stays-take_ticket i (λ ticket. WaitingForBits group ticket (call_at u i).deadline) u)))
         (rw e (refl, refl))
         (λ x. let f : ForBits ≡ ToSetBits = ap (λ o. course (Some o)) (sym e) ∙ x in absurd (cc))
 
@@ -252,19 +327,28 @@ module _ (app : Application) (formed : IsWellFormed app) where
 -- ---- the phase Leave
 
 -- a task whose op waits in no list waits in none
-pub listless : (op : Option Op) (until : Option ℕ) (o : Option Wait) → list_of_op op ≡ None → IfSome o (λ w. IsWaitOf op until w) → o ≡ None
+pub listless : (op : Option Op) (until : Option ℕ) (o : Option Wait)
+    → list_of_op op ≡ None → IfSome o (λ w. IsWaitOf op until w) → o ≡ None
 listless op until None e h = refl
 listless op until (Some w) e h = let f = h.list in absurd (cc)
 
-module _ (app : Application) (formed : IsWellFormed app) (s : State) (i : ℕ) (h : IsState app s) (runs : s.current ≡ Some i) (l : i < length s.tasks) (unlocked : s.locked ≡ None) where
-  pub set_ended : (group mask : ℕ) → op_at app i (progress_at s i).op_index ≡ Some (SetBits group mask) → IsSound app free (answer app i (call_at s i).kept (end_hold i Start s))
+module _ (app : Application) (formed : IsWellFormed app) (s : State) (i : ℕ) (h : IsState app s)
+    (runs : s.current ≡ Some i) (l : i < length s.tasks) (unlocked : s.locked ≡ None) where
+  pub set_ended : (group mask : ℕ) → op_at app i (progress_at s i).op_index ≡ Some (SetBits group mask)
+      → IsSound app free (answer app i (call_at s i).kept (end_hold i Start s))
   set_ended group mask is =
       let ended : State = end_hold i Start s in
-      let t : Task = record (task_at s i) { progress = record (progress_at s i) { call = record (call_at s i) { phase = Start; waits = false } } } in
+      let t : Task =
+      record (task_at s i)
+      { progress = record (progress_at s i) { call = record (call_at s i) { phase = Start; waits = false } } } in
       let at : task_at ended i ≡ t = get_or-set_same s.tasks i t no_task l in
-      let none : wait_of (status_at s i) ≡ None = listless (op_at app i (progress_at s i).op_index) (call_at s i).deadline (wait_of (status_at s i)) (ap list_of_op is) (h.sound.calls i).wait in
+      let none : wait_of (status_at s i) ≡ None =
+      listless (op_at app i (progress_at s i).op_index) (call_at s i).deadline
+      (wait_of (status_at s i)) (ap list_of_op is) (h.sound.calls i).wait in
       answered app formed free ended i (SetBits group mask) (hold_ended app formed s i h runs l unlocked Start tt)
-      (ap (λ (u : Task). wait_of u.status) at ∙ none) (ap (λ (u : Task). op_at app i u.progress.op_index) at ∙ is) (call_at s i).kept refl
+      (ap (λ (u : Task). wait_of u.status) at ∙ none)
+      (ap (λ (u : Task). op_at app i u.progress.op_index) at ∙ is) (call_at s i).kept refl
 
-  pub wait_left : IsPhaseOf free (course (op_at app i (progress_at s i).op_index)) Try → IsSound app free (choose (end_hold i Try s))
+  pub wait_left : IsPhaseOf free (course (op_at app i (progress_at s i).op_index)) Try
+      → IsSound app free (choose (end_hold i Try s))
   wait_left fits = chosen app formed free (end_hold i Try s) (hold_ended app formed s i h runs l unlocked Try fits)

@@ -1,5 +1,6 @@
 -- What a deed leaves as it was, as one record for each deed: a field more of the state is a field more here.
-use Rattle.std.proofs.Common.{max, ◌≡◌, ◌+◌, ◌-◌, ◌||◌, ℕ, Bool, true, eqb, leb, ltb, List, [], ◌∷◌, Option, Some, None, refl, sym, subst, ◌∙◌, length, drop, zero, suc, min}
+use Rattle.std.proofs.Common.{max, ◌≡◌, ◌+◌, ◌-◌, ◌||◌, ℕ, Bool, true, eqb, leb, ltb, List, [], ◌∷◌, Option, Some, None, refl, sym}
+use Rattle.std.proofs.Common.{subst, ◌∙◌, length, drop, zero, suc, min}
 use Rattle.std.specs.Option.{option_map}
 use Rattle.std.proofs.Math.ListN.{length-set}
 use Rattle.model.specs.declared.op.Access.{Access}
@@ -19,19 +20,25 @@ use Rattle.model.specs.declared.event.End.TheVariants.{HandlerCheck}
 use Rattle.model.specs.Answers.{holds}
 use Rattle.model.specs.Blocks.{jump_from}
 use Rattle.model.specs.Application.{Application, commands_of, op_count, ops_of, interrupts_at, script_of}
-use Rattle.model.specs.State.{State, Task, Object, Progress, Status, Ready, Asleep, Suspended, task_at, status_at, progress_at, call_at, object_at, with_task, with_progress, with_call, with_object, bits_at, with_bits, take_ticket, for_one, for_each}
+use Rattle.model.specs.State.{State, Task, Object, Progress, Status, Ready, Asleep, Suspended, task_at, status_at, progress_at}
+use Rattle.model.specs.State.{call_at, object_at, with_task, with_progress, with_call, with_object, bits_at, with_bits, take_ticket}
+use Rattle.model.specs.State.{for_one, for_each}
 use Rattle.model.specs.Order.{tasks_of, task_of, first}
-use Rattle.model.specs.Switching.{make_ready, to_back, dispatch, choose, choice, is_same, is_ready, yield_now, is_outranked, is_sharing, preempt, slice, settle, is_held, unless_held, is_off, write}
+use Rattle.model.specs.Switching.{make_ready, to_back, dispatch, choose, choice, is_same, is_ready, yield_now, is_outranked}
+use Rattle.model.specs.Switching.{is_sharing, preempt, slice, settle, is_held, unless_held, is_off, write}
 use Rattle.model.specs.Time.{wake_due, due, sleep, set_previous_wake}
 use Rattle.model.specs.Waiting.{waiters, awake_status, is_locked, wake_one, wake_best, set_deadline, is_expired}
 use Rattle.model.specs.Objects.{possible, answer_to, object_after, list_woken, fulfil, attempt}
 use Rattle.model.specs.Calls.{try, do_now}
-use Rattle.model.specs.Ops.{one_if, go_to, moved_to, called, answer, use_up, delay, delay_until, open_loop, next_turn, turn, close_turn, branch, skip_branch, leave_loop, stamp, since, fail}
+use Rattle.model.specs.Ops.{one_if, go_to, moved_to, called, answer, use_up, delay, delay_until, open_loop, next_turn, turn}
+use Rattle.model.specs.Ops.{close_turn, branch, skip_branch, leave_loop, stamp, since, fail}
 use Rattle.model.specs.declared.call.Condition.{Condition}
-use Rattle.model.specs.Groups.{is_met, bits_without, bits_left, keep_answer, met_by, wake_with_bits, bits_set, bits_after_set, set, clear, answer_bits}
+use Rattle.model.specs.Groups.{is_met, bits_without, bits_left, keep_answer, met_by, wake_with_bits, bits_set, bits_after_set, set}
+use Rattle.model.specs.Groups.{clear, answer_bits}
 use Rattle.model.specs.Suspension.{can_suspend, can_resume, suspend, resumed, resume, call_suspend, call_resume}
 use Rattle.model.specs.Daemon.{item_of, received, take_command, obeyed, clear_by_daemon}
-use Rattle.model.specs.Mutexes.{set_priority, mutexes_held, lend, inherits, inherit_from, inherit, best_priority, fall_back, after_timeout, disinherit, give_mutex}
+use Rattle.model.specs.Mutexes.{set_priority, mutexes_held, lend, inherits, inherit_from, inherit, best_priority, fall_back}
+use Rattle.model.specs.Mutexes.{after_timeout, disinherit, give_mutex}
 use Rattle.model.specs.Invariant.{hold_of, suspension_of}
 use Rattle.model.specs.Handlers.{isr_told, isr, isr_answer, isr_jump, is_failed, isr_each, handle, inject, interrupt}
 use Rattle.model.specs.Step.{before_step}
@@ -53,15 +60,32 @@ keeps s = record { time = refl; elapsed = refl; steps = refl; tasks = refl; hold
 
 -- one deed, and then another
 pub keeps_both : (a b c : State) → Keeps a b → Keeps b c → Keeps a c
-keeps_both a b c h k = record { time = k.time ∙ h.time; elapsed = k.elapsed ∙ h.elapsed; steps = k.steps ∙ h.steps; tasks = k.tasks ∙ h.tasks; hold = k.hold ∙ h.hold; suspension = k.suspension ∙ h.suspension }
+keeps_both a b c h k =
+    record {
+      time = k.time ∙ h.time;
+      elapsed = k.elapsed ∙ h.elapsed;
+      steps = k.steps ∙ h.steps;
+      tasks = k.tasks ∙ h.tasks;
+      hold = k.hold ∙ h.hold;
+      suspension = k.suspension ∙ h.suspension;
+    }
 
 -- ---- who runs
 
 pub keeps-with_task : (i : ℕ) (t : Task) (s : State) → Keeps s (with_task i t s)
-keeps-with_task i t s = record { time = refl; elapsed = refl; steps = refl; tasks = length-set s.tasks i t; hold = refl; suspension = refl }
+keeps-with_task i t s =
+    record { time = refl; elapsed = refl; steps = refl; tasks = length-set s.tasks i t; hold = refl; suspension = refl }
 
 pub keeps-take_ticket : (i : ℕ) (f : ℕ → Status) (s : State) → Keeps s (take_ticket i f s)
-keeps-take_ticket i f s = record { time = refl; elapsed = refl; steps = refl; tasks = length-set s.tasks i (record (task_at s i) { status = f s.next_ticket }); hold = refl; suspension = refl }
+keeps-take_ticket i f s =
+    record {
+      time = refl;
+      elapsed = refl;
+      steps = refl;
+      tasks = length-set s.tasks i (record (task_at s i) { status = f s.next_ticket });
+      hold = refl;
+      suspension = refl;
+    }
 
 pub keeps-to_back : (i : ℕ) (s : State) → Keeps s (to_back i s)
 unfolding to_back
@@ -73,11 +97,15 @@ keeps-one_back (Some i) s = keeps-to_back i s
 
 pub keeps-choose : (s : State) → Keeps s (choose s)
 unfolding choose dispatch
-keeps-choose s = by_test (is_same (choice s) s.current) (λ t. rw t (keeps s)) (λ t. rw t (record { time = refl; elapsed = refl; steps = refl; tasks = refl; hold = refl; suspension = refl }))
+keeps-choose s =
+    by_test (is_same (choice s) s.current) (λ t. rw t (keeps s))
+    (λ t. rw t (record { time = refl; elapsed = refl; steps = refl; tasks = refl; hold = refl; suspension = refl }))
 
 pub keeps-yield_now : (s : State) → Keeps s (yield_now s)
 unfolding yield_now
-keeps-yield_now s = let b : State = for_one to_back s.current s in keeps_both s b (choose b) (keeps-one_back s.current s) (keeps-choose b)
+keeps-yield_now s =
+    let b : State = for_one to_back s.current s in
+    keeps_both s b (choose b) (keeps-one_back s.current s) (keeps-choose b)
 
 pub keeps-preempt : (s : State) → Keeps s (preempt s)
 unfolding preempt
@@ -97,13 +125,16 @@ keeps-unless_held deed s k = by_test (is_held s)
     (λ t. subst (Keeps s) (sym (when_free deed s t)) (k s))
 
 -- for each of these, one after another
-keeps-each : {A : Type 0} (deed : A → State → State) (k : (a : A) (s : State) → Keeps s (deed a s)) (ones : List A) (s : State) → Keeps s (for_each deed ones s)
+keeps-each : {A : Type 0} (deed : A → State → State) (k : (a : A) (s : State) → Keeps s (deed a s)) (ones : List A) (s : State)
+    → Keeps s (for_each deed ones s)
 keeps-each deed k [] s = keeps s
 keeps-each deed k (a ∷ ones) s = keeps_both s (deed a s) (for_each deed ones (deed a s)) (k a s) (keeps-each deed k ones (deed a s))
 
 pub keeps-all_ready : (is : List ℕ) (s : State) → Keeps s (for_each make_ready is s)
 keeps-all_ready [] s = keeps s
-keeps-all_ready (i ∷ is) s = keeps_both s (make_ready i s) (for_each make_ready is (make_ready i s)) (keeps-take_ticket i Ready s) (keeps-all_ready is (make_ready i s))
+keeps-all_ready (i ∷ is) s =
+    keeps_both s (make_ready i s) (for_each make_ready is (make_ready i s))
+    (keeps-take_ticket i Ready s) (keeps-all_ready is (make_ready i s))
 
 pub keeps-wake_due : (s : State) → Keeps s (wake_due s)
 unfolding wake_due
@@ -126,7 +157,8 @@ pub keeps-use_up : (app : Application) (i n : ℕ) (s : State) → Keeps s (use_
 unfolding use_up
 keeps-use_up app i n s = by_test (eqb ((progress_at s i).used + 1) n)
     (λ t. rw t (keeps-go_to app i ((progress_at s i).op_index + 1) (progress_at s i) s))
-    (λ t. rw t (keeps-with_task i (record (task_at s i) { progress = record (progress_at s i) { used = (progress_at s i).used + 1 } }) s))
+    (λ t.
+    rw t (keeps-with_task i (record (task_at s i) { progress = record (progress_at s i) { used = (progress_at s i).used + 1 } }) s))
 
 pub keeps-sleep : (i wake_time : ℕ) (s : State) → Keeps s (sleep i wake_time s)
 unfolding sleep
@@ -134,7 +166,8 @@ keeps-sleep i wake_time s = by_test (is_ready s i) (λ t. rw t (keeps-take_ticke
 
 pub keeps-set_previous_wake : (i time : ℕ) (s : State) → Keeps s (set_previous_wake i time s)
 unfolding set_previous_wake
-keeps-set_previous_wake i time s = keeps-with_task i (record (task_at s i) { progress = record (progress_at s i) { previous_wake = time } }) s
+keeps-set_previous_wake i time s =
+    keeps-with_task i (record (task_at s i) { progress = record (progress_at s i) { previous_wake = time } }) s
 
 pub keeps-delay : (app : Application) (i n : ℕ) (s : State) → Keeps s (delay app i n s)
 unfolding delay
@@ -153,8 +186,11 @@ keeps-delay_until app i wake_time s =
     let none : State = answer app i (Some 0) s in
     by_test (ltb s.time wake_time)
     (λ t. rw t (keeps_both s one (set_previous_wake i wake_time slept) (keeps-answer app i (Some 1) s)
-    (keeps_both one slept (set_previous_wake i wake_time slept) (keeps-sleep i wake_time one) (keeps-set_previous_wake i wake_time slept))))
-    (λ t. rw t (keeps_both s none (set_previous_wake i wake_time none) (keeps-answer app i (Some 0) s) (keeps-set_previous_wake i wake_time none)))
+    (keeps_both one slept (set_previous_wake i wake_time slept)
+    (keeps-sleep i wake_time one) (keeps-set_previous_wake i wake_time slept))))
+    (λ t.
+    rw t (keeps_both s none (set_previous_wake i wake_time none)
+    (keeps-answer app i (Some 0) s) (keeps-set_previous_wake i wake_time none)))
 
 pub keeps-open_loop : (app : Application) (i : ℕ) (n : Option ℕ) (s : State) → Keeps s (open_loop app i n s)
 unfolding open_loop
@@ -162,7 +198,8 @@ keeps-open_loop app i n s =
     let p : Progress = progress_at s i in
     keeps-go_to app i (p.op_index + 1) (record p { loops = record { start = p.op_index + 1; left = n } ∷ p.loops }) s
 
-keeps-next_turn : (app : Application) (i : ℕ) (p : Progress) (l : Loop) (ls : List Loop) (left : Option ℕ) (s : State) → Keeps s (next_turn app i p l ls left s)
+keeps-next_turn : (app : Application) (i : ℕ) (p : Progress) (l : Loop) (ls : List Loop) (left : Option ℕ) (s : State)
+    → Keeps s (next_turn app i p l ls left s)
 keeps-next_turn app i p l ls None s = keeps-go_to app i l.start p s
 keeps-next_turn app i p l ls (Some left) s = by_test (leb left 1)
     (λ q. rw q (keeps-go_to app i (p.op_index + 1) (record p { loops = ls }) s))
@@ -204,7 +241,8 @@ keeps-leave_loop app i s =
 
 -- ---- calls on objects
 
-pub keeps-for_one : {A : Type 0} (deed : A → State → State) (o : Option A) (s : State) → ((a : A) → Keeps s (deed a s)) → Keeps s (for_one deed o s)
+pub keeps-for_one : {A : Type 0} (deed : A → State → State) (o : Option A) (s : State)
+    → ((a : A) → Keeps s (deed a s)) → Keeps s (for_one deed o s)
 keeps-for_one deed None s k = keeps s
 keeps-for_one deed (Some a) s k = k a
 
@@ -221,7 +259,8 @@ pub keeps-fulfil : (caller : Option ℕ) (o : ℕ) (a : Access) (s : State) → 
 unfolding fulfil
 keeps-fulfil caller o a s =
     let t : State = with_object o (object_after caller a (object_at s o)) s in
-    let k : Keeps t (for_one wake_best (list_woken caller o a) t) = keeps-for_one wake_best (list_woken caller o a) t (λ list. keeps-wake_best list t) in
+    let k : Keeps t (for_one wake_best (list_woken caller o a) t) =
+    keeps-for_one wake_best (list_woken caller o a) t (λ list. keeps-wake_best list t) in
     record { time = k.time; elapsed = k.elapsed; steps = k.steps; tasks = k.tasks; hold = k.hold; suspension = k.suspension }
 
 pub keeps-attempt : (caller : Option ℕ) (o : ℕ) (a : Access) (s : State) → Keeps s (attempt caller o a s)
@@ -243,7 +282,8 @@ keeps-set_priority i priority s =
     let t : State = with_task i (record (task_at s i) { priority = priority }) s in
     by_test (eqb (task_at s i).priority priority)
     (λ e. rw e (keeps s))
-    (λ e. rw e (keeps_both s t (to_back i t) (keeps-with_task i (record (task_at s i) { priority = priority }) s) (keeps-to_back i t)))
+    (λ e.
+    rw e (keeps_both s t (to_back i t) (keeps-with_task i (record (task_at s i) { priority = priority }) s) (keeps-to_back i t)))
 
 pub keeps-lend : (priority holder : ℕ) (s : State) → Keeps s (lend priority holder s)
 keeps-lend priority holder s = by_test (ltb (task_at s holder).priority priority)
@@ -253,7 +293,9 @@ keeps-lend priority holder s = by_test (ltb (task_at s holder).priority priority
 keeps-inherit_from : (i holder : ℕ) (s : State) → Keeps s (inherit_from i holder s)
 keeps-inherit_from i holder s =
     let t : State = with_call i (record (call_at s i) { inherited = inherits i holder s }) s in
-    keeps_both s t (lend (task_at s i).priority holder t) (keeps-with_call i (record (call_at s i) { inherited = inherits i holder s }) s) (keeps-lend (task_at s i).priority holder t)
+    keeps_both s t (lend (task_at s i).priority holder t)
+    (keeps-with_call i (record (call_at s i) { inherited = inherits i holder s }) s)
+    (keeps-lend (task_at s i).priority holder t)
 
 pub keeps-inherit : (i o : ℕ) (s : State) → Keeps s (inherit i o s)
 unfolding inherit
@@ -288,7 +330,8 @@ keeps-give_mutex app i o s =
     let c : State = wake_best (ToReceive o) b in
     let d : State = answer app i (Some 1) c in
     keeps_both s a (preempt d) (keeps-with_object o x s) (keeps_both a b (preempt d) (keeps-disinherit i a)
-    (keeps_both b c (preempt d) (keeps-wake_best (ToReceive o) b) (keeps_both c d (preempt d) (keeps-answer app i (Some 1) c) (keeps-preempt d))))
+    (keeps_both b c (preempt d) (keeps-wake_best (ToReceive o) b)
+    (keeps_both c d (preempt d) (keeps-answer app i (Some 1) c) (keeps-preempt d))))
 
 -- ---- calls that may wait, and those that don't
 
@@ -298,9 +341,13 @@ keeps-try app i o a s =
     let t : State = fulfil (Some i) o a s in
     let u : State = answer app i (answer_to s o a) t in
     by_test (possible s o a)
-    (λ p. rw p (keeps_both s t (preempt u) (keeps-fulfil (Some i) o a s) (keeps_both t u (preempt u) (keeps-answer app i (answer_to s o a) t) (keeps-preempt u))))
+    (λ p.
+    rw p (keeps_both s t (preempt u) (keeps-fulfil (Some i) o a s)
+    (keeps_both t u (preempt u) (keeps-answer app i (answer_to s o a) t) (keeps-preempt u))))
     (λ p. rw p (by_test (is_expired s i)
-    (λ q. rw q (keeps_both s (after_timeout i o s) (answer app i (answer_to s o a) (after_timeout i o s)) (keeps-after_timeout i o s) (keeps-answer app i (answer_to s o a) (after_timeout i o s))))
+    (λ q.
+    rw q (keeps_both s (after_timeout i o s) (answer app i (answer_to s o a) (after_timeout i o s))
+    (keeps-after_timeout i o s) (keeps-answer app i (answer_to s o a) (after_timeout i o s))))
     (λ q. rw q (keeps-with_call i (record (call_at s i) { phase = Decide }) s))))
 
 pub keeps-do_now : (app : Application) (i o : ℕ) (a : Access) (s : State) → Keeps s (do_now app i o a s)
@@ -308,7 +355,8 @@ unfolding do_now
 keeps-do_now app i o a s =
     let t : State = attempt (Some i) o a s in
     let u : State = answer app i (answer_to s o a) t in
-    keeps_both s t (preempt u) (keeps-attempt (Some i) o a s) (keeps_both t u (preempt u) (keeps-answer app i (answer_to s o a) t) (keeps-preempt u))
+    keeps_both s t (preempt u) (keeps-attempt (Some i) o a s)
+    (keeps_both t u (preempt u) (keeps-answer app i (answer_to s o a) t) (keeps-preempt u))
 
 -- ---- event groups, and tasks suspended and resumed
 
@@ -328,13 +376,15 @@ unfolding set
 keeps-set group mask s =
     let bits : ℕ = bits_set group mask s in
     let t : State = for_each (λ i. wake_with_bits i bits) (met_by group bits s) s in
-    keeps_both s t (with_bits group (bits_after_set group mask s) t) (keeps-all_with_bits bits (met_by group bits s) s) (keeps-with_bits group (bits_after_set group mask s) t)
+    keeps_both s t (with_bits group (bits_after_set group mask s) t)
+    (keeps-all_with_bits bits (met_by group bits s) s) (keeps-with_bits group (bits_after_set group mask s) t)
 
 pub keeps-clear : (app : Application) (i group mask : ℕ) (s : State) → Keeps s (clear app i group mask s)
 unfolding clear
 keeps-clear app i group mask s =
     let t : State = with_bits group (bits_without (bits_at s group) mask) s in
-    keeps_both s t (answer app i (Some (bits_at s group)) t) (keeps-with_bits group (bits_without (bits_at s group) mask) s) (keeps-answer app i (Some (bits_at s group)) t)
+    keeps_both s t (answer app i (Some (bits_at s group)) t)
+    (keeps-with_bits group (bits_without (bits_at s group) mask) s) (keeps-answer app i (Some (bits_at s group)) t)
 
 pub keeps-answer_bits : (app : Application) (i group : ℕ) (c : Condition) (s : State) → Keeps s (answer_bits app i group c s)
 unfolding answer_bits
@@ -342,7 +392,9 @@ keeps-answer_bits app i group c s =
     let bits : ℕ = bits_at s group in
     let t : State = with_bits group (bits_left bits c) s in
     by_test (is_met bits c)
-    (λ q. rw q (keeps_both s t (answer app i (Some bits) t) (keeps-with_bits group (bits_left bits c) s) (keeps-answer app i (Some bits) t)))
+    (λ q.
+    rw q (keeps_both s t (answer app i (Some bits) t)
+    (keeps-with_bits group (bits_left bits c) s) (keeps-answer app i (Some bits) t)))
     (λ q. rw q (keeps-answer app i (Some bits) s))
 
 pub keeps-suspend : (i : ℕ) (s : State) → Keeps s (suspend i s)
@@ -357,19 +409,25 @@ keeps-resume i s =
     let p : Progress = resumed s.time (progress_at s i) in
     let t : State = with_progress i p s in
     by_test (can_resume (status_at s i))
-    (λ q. rw q (keeps_both s t (make_ready i t) (keeps-with_task i (record (task_at s i) { progress = p }) s) (keeps-take_ticket i Ready t)))
+    (λ q.
+    rw q (keeps_both s t (make_ready i t)
+    (keeps-with_task i (record (task_at s i) { progress = p }) s) (keeps-take_ticket i Ready t)))
     (λ q. rw q (keeps s))
 
 keeps-replied : (app : Application) (i : ℕ) (a : Option ℕ) (s t : State) → Keeps s t → Keeps s (preempt (answer app i a t))
-keeps-replied app i a s t k = let u : State = answer app i a t in keeps_both s t (preempt u) k (keeps_both t u (preempt u) (keeps-answer app i a t) (keeps-preempt u))
+keeps-replied app i a s t k =
+    let u : State = answer app i a t in
+    keeps_both s t (preempt u) k (keeps_both t u (preempt u) (keeps-answer app i a t) (keeps-preempt u))
 
 pub keeps-call_suspend : (app : Application) (i other : ℕ) (s : State) → Keeps s (call_suspend app i other s)
 unfolding call_suspend
-keeps-call_suspend app i other s = keeps-replied app i (one_if (can_suspend (status_at s other))) s (suspend other s) (keeps-suspend other s)
+keeps-call_suspend app i other s =
+    keeps-replied app i (one_if (can_suspend (status_at s other))) s (suspend other s) (keeps-suspend other s)
 
 pub keeps-call_resume : (app : Application) (i other : ℕ) (s : State) → Keeps s (call_resume app i other s)
 unfolding call_resume
-keeps-call_resume app i other s = keeps-replied app i (one_if (can_resume (status_at s other))) s (resume other s) (keeps-resume other s)
+keeps-call_resume app i other s =
+    keeps-replied app i (one_if (can_resume (status_at s other))) s (resume other s) (keeps-resume other s)
 
 -- ---- the daemon
 
@@ -383,7 +441,9 @@ keeps-take_command app i o s =
     let t : State = fulfil (Some i) o Receive s in
     let u : State = received app i (answer_to s o Receive) t in
     by_test (possible s o Receive)
-    (λ p. rw p (keeps_both s t (preempt u) (keeps-fulfil (Some i) o Receive s) (keeps_both t u (preempt u) (keeps-received app i (answer_to s o Receive) t) (keeps-preempt u))))
+    (λ p.
+    rw p (keeps_both s t (preempt u) (keeps-fulfil (Some i) o Receive s)
+    (keeps_both t u (preempt u) (keeps-received app i (answer_to s o Receive) t) (keeps-preempt u))))
     (λ p. rw p (keeps-with_call i (record (call_at s i) { phase = Decide }) s))
 
 pub keeps-obeyed : (app : Application) (i : ℕ) (clear : Bool) (bits : ℕ) (s : State) → Keeps s (obeyed app i clear bits s)
@@ -397,7 +457,8 @@ unfolding clear_by_daemon
 keeps-clear_by_daemon app i group mask s =
     let bits : ℕ = bits_without (bits_at s group) mask in
     let t : State = with_bits group bits s in
-    keeps_both s t (obeyed app i true (bits_at s group) t) (keeps-with_bits group bits s) (keeps-obeyed app i true (bits_at s group) t)
+    keeps_both s t (obeyed app i true (bits_at s group) t)
+    (keeps-with_bits group bits s) (keeps-obeyed app i true (bits_at s group) t)
 
 -- ---- handlers
 
@@ -428,7 +489,8 @@ keeps-isr app handler op_index isr_op.EndIf s = keeps s
 pub keeps-fail : (check : End) (s : State) → Keeps s (fail check s)
 keeps-fail check s = record { time = refl; elapsed = refl; steps = refl; tasks = refl; hold = refl; suspension = refl }
 
-keeps-isr_each : (app : Application) (handler op_index over : ℕ) (answer : Option ℕ) (ops : List IsrOp) (s : State) → Keeps s (isr_each app handler op_index over answer ops s)
+keeps-isr_each : (app : Application) (handler op_index over : ℕ) (answer : Option ℕ) (ops : List IsrOp) (s : State)
+    → Keeps s (isr_each app handler op_index over answer ops s)
 keeps-isr_each app handler op_index over answer [] s = keeps s
 keeps-isr_each app handler op_index (suc over) answer (op ∷ ops) s = keeps-isr_each app handler (op_index + 1) over answer ops s
 keeps-isr_each app handler op_index zero answer (op ∷ ops) s =
@@ -437,7 +499,9 @@ keeps-isr_each app handler op_index zero answer (op ∷ ops) s =
     let over : ℕ = isr_jump op answer ops in
     by_test (is_failed op answer)
     (λ f. rw f (keeps-fail (HandlerCheck handler op_index) s))
-    (λ f. rw f (keeps_both s t (isr_each app handler (op_index + 1) over next ops t) (keeps-isr app handler op_index op s) (keeps-isr_each app handler (op_index + 1) over next ops t)))
+    (λ f.
+    rw f (keeps_both s t (isr_each app handler (op_index + 1) over next ops t)
+    (keeps-isr app handler op_index op s) (keeps-isr_each app handler (op_index + 1) over next ops t)))
 
 pub keeps-handle : (app : Application) (handler : ℕ) (s : State) → Keeps s (handle app handler s)
 unfolding handle
@@ -457,5 +521,6 @@ keeps-interrupt app s = keeps-each (handle app) (keeps-handle app) (interrupts_a
 pub keeps-before_step : (app : Application) (handlers : List ℕ) (s : State) → Keeps s (before_step app handlers s)
 unfolding before_step
 keeps-before_step app handlers s =
-    let k : Keeps (record s { log = [] }) (for_each (inject app) handlers (record s { log = [] })) = keeps-each (inject app) (keeps-inject app) handlers (record s { log = [] }) in
+    let k : Keeps (record s { log = [] }) (for_each (inject app) handlers (record s { log = [] })) =
+    keeps-each (inject app) (keeps-inject app) handlers (record s { log = [] }) in
     record { time = k.time; elapsed = k.elapsed; steps = k.steps; tasks = k.tasks; hold = k.hold; suspension = k.suspension }

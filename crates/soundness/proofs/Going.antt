@@ -1,21 +1,29 @@
 -- While a `suspend_all` is in force the running task goes on, also when its script is done.
-use Rattle.std.proofs.Common.{◌≡◌, ◌≢◌, ◌<◌, ◌+◌, ◌-◌, ◌||◌, ◌⊎◌, inl, inr, ℕ, zero, suc, Bool, true, false, eqb, leb, ltb, List, [], ◌∷◌, length, Option, Some, None, refl, ap, ap₂, sym, subst, ◌∙◌, arith, get_or-set_same, get_or-set_other, drop}
+use Rattle.std.proofs.Common.{◌≡◌, ◌≢◌, ◌<◌, ◌+◌, ◌-◌, ◌||◌, ◌⊎◌, inl, inr, ℕ, zero, suc, Bool, true, false, eqb, leb, ltb, List}
+use Rattle.std.proofs.Common.{[], ◌∷◌, length, Option, Some, None, refl, ap, ap₂, sym, subst, ◌∙◌, arith, get_or-set_same}
+use Rattle.std.proofs.Common.{get_or-set_other, drop}
 use Rattle.std.specs.List.{AllByRecursion, filter}
 use Rattle.std.specs.Option.{is_some, option_eq}
 use Rattle.std.proofs.lemmas.Option.{slice_get_past}
 use Rattle.model.specs.declared.op.Op.{Op}
-use Rattle.model.specs.declared.op.Op.TheVariants.{Work, Delay, DelayUntil, Yield, Time, Mark, Expect, Repeat, End, If, Else, EndIf, Break, Stamp, Since, Await, Do, GiveMutex, MessagesWaiting, SpacesAvailable, SetBits, ClearBits, GetBits, WaitBits, Suspend, Resume, SuspendAll, ResumeAll, NextCommand, Obey}
+use Rattle.model.specs.declared.op.Op.TheVariants.{Work, Delay, DelayUntil, Yield, Time, Mark, Expect, Repeat, End, If, Else, EndIf}
+use Rattle.model.specs.declared.op.Op.TheVariants.{Break, Stamp, Since, Await, Do, GiveMutex, MessagesWaiting, SpacesAvailable}
+use Rattle.model.specs.declared.op.Op.TheVariants.{SetBits, ClearBits, GetBits, WaitBits, Suspend, Resume, SuspendAll, ResumeAll}
+use Rattle.model.specs.declared.op.Op.TheVariants.{NextCommand, Obey}
 use Rattle.model.specs.declared.loops.Loop.{Loop}
 use Rattle.model.specs.declared.event.What.TheVariants as what
 use Rattle.model.specs.declared.answer.AnswerCondition.{AnswerCondition}
 use Rattle.model.specs.Answers.{holds}
 use Rattle.model.specs.Blocks.{jump_from}
 use Rattle.model.specs.Application.{Application, script_of, op_at, op_count, interrupts_at}
-use Rattle.model.specs.State.{State, Task, Progress, Status, Ready, Awake, Waiting, Asleep, WaitingForBits, Suspended, Ended, ticket_if_ready, wake_time_of, task_at, status_at, progress_at, object_at, bits_at, with_bits, for_each, printed, no_task}
+use Rattle.model.specs.State.{State, Task, Progress, Status, Ready, Awake, Waiting, Asleep, WaitingForBits, Suspended, Ended}
+use Rattle.model.specs.State.{ticket_if_ready, wake_time_of, task_at, status_at, progress_at, object_at, bits_at, with_bits}
+use Rattle.model.specs.State.{for_each, printed, no_task}
 use Rattle.model.specs.Order.{Entry, tasks_of}
 use Rattle.model.specs.Switching.{make_ready, is_ready, slice, preempt, is_scheduler_suspended, is_held, unless_held, write}
 use Rattle.model.specs.Time.{wake_due, due, is_due, delayed_list, advance, increment_tick, apply_one, apply_held}
-use Rattle.model.specs.Ops.{go_to, moved_to, answer, use_up, expect, open_loop, next_turn, turn, close_turn, branch, skip_branch, leave_loop, stamp, since}
+use Rattle.model.specs.Ops.{go_to, moved_to, answer, use_up, expect, open_loop, next_turn, turn, close_turn, branch, skip_branch}
+use Rattle.model.specs.Ops.{leave_loop, stamp, since}
 use Rattle.model.specs.Groups.{bits_without, clear}
 use Rattle.model.specs.Suspension.{suspend_all, resume_scheduler, resume_all}
 use Rattle.model.specs.Handlers.{handle, interrupt, tick_interrupt}
@@ -39,7 +47,8 @@ suspended_held s on = either s.call_hold (is_scheduler_suspended s) on where
 still_held : (app : Application) (i : ℕ) (a : Option ℕ) (s : State) → is_held (answer app i a s) ≡ is_held s
 still_held app i a s =
     let k = keeps-answer app i a s in
-    ap₂ (λ (b : Bool) (n : ℕ). b || ltb 0 n) (ap (λ (x : Hold). x.held) k.hold) (ap (λ (x : Suspension). x.suspensions) k.suspension)
+    ap₂ (λ (b : Bool) (n : ℕ). b || ltb 0 n) (ap (λ (x : Hold). x.held) k.hold)
+    (ap (λ (x : Suspension). x.suspensions) k.suspension)
 
 -- The task goes on: it is Ready, or its script is done.
 abbrev pub GoesOn : Application → ℕ → Task → Type 0
@@ -54,27 +63,35 @@ past_the_last : (app : Application) (i n : ℕ) → n ≡ op_count app i → op_
 past_the_last app i n e = slice_get_past (script_of app i) n (omega arith)
 
 module _ (app : Application) (i : ℕ) where
-  moved_on : (op_index : ℕ) (p : Progress) (t : Task) → is_some (ticket_if_ready t.status) ≡ true → GoesOn app i (moved_to (op_count app i) op_index p t)
+  moved_on : (op_index : ℕ) (p : Progress) (t : Task) → is_some (ticket_if_ready t.status) ≡ true
+      → GoesOn app i (moved_to (op_count app i) op_index p t)
   moved_on op_index p t r = by_test (eqb op_index (op_count app i))
       (λ e. rw e (inr (past_the_last app i op_index (eqb-same op_index (op_count app i) e))))
       (λ e. rw e (inl r))
 
-  pub gone_to : (op_index : ℕ) (p : Progress) (s : State) → i < length s.tasks → is_ready s i ≡ true → Continues app i s (go_to app i op_index p s)
+  pub gone_to : (op_index : ℕ) (p : Progress) (s : State) → i < length s.tasks
+      → is_ready s i ≡ true → Continues app i s (go_to app i op_index p s)
   unfolding go_to
   gone_to op_index p s l r = record {
     current = refl;
-    goes = subst (GoesOn app i) (sym (get_or-set_same s.tasks i (moved_to (op_count app i) op_index p (task_at s i)) no_task l)) (moved_on op_index p (task_at s i) r);
+    goes =
+        subst (GoesOn app i) (sym (get_or-set_same s.tasks i (moved_to (op_count app i) op_index p (task_at s i)) no_task l))
+        (moved_on op_index p (task_at s i) r);
   }
 
   pub answering_on : (a : Option ℕ) (s : State) → i < length s.tasks → is_ready s i ≡ true → Continues app i s (answer app i a s)
   unfolding answer
-  answering_on a s l r = let k = gone_to ((progress_at s i).op_index + 1) (record (progress_at s i) { answer = a }) (write _ s) l r in record { current = k.current; goes = k.goes }
+  answering_on a s l r =
+      let k = gone_to ((progress_at s i).op_index + 1) (record (progress_at s i) { answer = a }) (write _ s) l r in
+      record { current = k.current; goes = k.goes }
 
   -- ---- a tick that is held
 
   spares-each : (handlers : List ℕ) (s : State) → Spares s (for_each (handle app) handlers s)
   spares-each [] s = spares s
-  spares-each (handler ∷ handlers) s = let t : State = handle app handler s in spares_both s t (for_each (handle app) handlers t) (spares-handle app handler s) (spares-each handlers t)
+  spares-each (handler ∷ handlers) s =
+      let t : State = handle app handler s in
+      spares_both s t (for_each (handle app) handlers t) (spares-handle app handler s) (spares-each handlers t)
 
   pub spares-interrupt : (s : State) → Spares s (interrupt app s)
   unfolding interrupt
@@ -94,16 +111,25 @@ module _ (app : Application) (i : ℕ) where
       let told : State = interrupt app come in
       let sp : Spares come told = spares-interrupt come in
       let held : is_held (interrupt app (increment_tick s)) ≡ true = held-told app s ∙ suspended_held s on in
-      let stays : unless_held slice (interrupt app (increment_tick s)) ≡ told = when_held slice (interrupt app (increment_tick s)) held ∙ ap (interrupt app) same in
+      let stays : unless_held slice (interrupt app (increment_tick s)) ≡ told =
+      when_held slice (interrupt app (increment_tick s)) held ∙ ap (interrupt app) same in
       subst (Continues app i s) (sym stays) (record { current = sp.current; goes = spared_on come told sp g })
 
   used_on : (n : ℕ) (s : State) → i < length s.tasks → is_ready s i ≡ true → Continues app i s (use_up app i n s)
   unfolding use_up
   used_on n s l r = by_test (eqb ((progress_at s i).used + 1) n)
       (λ t. rw t (gone_to ((progress_at s i).op_index + 1) (progress_at s i) s l r))
-      (λ t. rw t (record { current = refl; goes = inl (ap (λ (u : Task). is_some (ticket_if_ready u.status)) (get_or-set_same s.tasks i (record (task_at s i) { progress = record (progress_at s i) { used = (progress_at s i).used + 1 } }) no_task l) ∙ r) }))
+      (λ t.
+      rw t (record {
+        current = refl;
+        goes =
+            inl (ap (λ (u : Task). is_some (ticket_if_ready u.status)) (get_or-set_same s.tasks i
+            (record (task_at s i) { progress = record (progress_at s i) { used = (progress_at s i).used + 1 } }) no_task l)
+            ∙ r);
+      }))
 
-  worked_on : (n : ℕ) (s : State) → is_scheduler_suspended s ≡ true → is_scheduler_suspended (use_up app i n s) ≡ true → i < length s.tasks → is_ready s i ≡ true → Continues app i s (tick_interrupt app (use_up app i n s))
+  worked_on : (n : ℕ) (s : State) → is_scheduler_suspended s ≡ true → is_scheduler_suspended (use_up app i n s) ≡ true
+      → i < length s.tasks → is_ready s i ≡ true → Continues app i s (tick_interrupt app (use_up app i n s))
   worked_on n s on on1 l r =
       let u = used_on n s l r in
       let t = ticked_on (use_up app i n s) on1 u.goes in
@@ -111,31 +137,38 @@ module _ (app : Application) (i : ℕ) where
 
   -- ---- the ops that may be done then
 
-  expected_on : (condition : AnswerCondition) (s : State) → i < length s.tasks → is_ready s i ≡ true → Continues app i s (expect app i condition s)
+  expected_on : (condition : AnswerCondition) (s : State) → i < length s.tasks
+      → is_ready s i ≡ true → Continues app i s (expect app i condition s)
   unfolding expect
   expected_on condition s l r = by_test (holds condition (progress_at s i).answer)
       (λ t. rw t (gone_to ((progress_at s i).op_index + 1) (progress_at s i) s l r))
       (λ t. rw t (record { current = refl; goes = inl r }))
 
-  next_on : (p : Progress) (x : Loop) (xs : List Loop) (left : Option ℕ) (s : State) → i < length s.tasks → is_ready s i ≡ true → Continues app i s (next_turn app i p x xs left s)
+  next_on : (p : Progress) (x : Loop) (xs : List Loop) (left : Option ℕ) (s : State)
+      → i < length s.tasks → is_ready s i ≡ true → Continues app i s (next_turn app i p x xs left s)
   next_on p x xs None s l r = gone_to x.start p s l r
   next_on p x xs (Some left) s l r = by_test (leb left 1)
       (λ q. rw q (gone_to (p.op_index + 1) (record p { loops = xs }) s l r))
       (λ q. rw q (gone_to x.start (record p { loops = record x { left = Some (left - 1) } ∷ xs }) s l r))
 
-  turned_on : (p : Progress) (ls : List Loop) (s : State) → i < length s.tasks → is_ready s i ≡ true → Continues app i s (turn app i p ls s)
+  turned_on : (p : Progress) (ls : List Loop) (s : State) → i < length s.tasks
+      → is_ready s i ≡ true → Continues app i s (turn app i p ls s)
   turned_on p [] s l r = gone_to (p.op_index + 1) p s l r
   turned_on p (x ∷ xs) s l r = next_on p x xs x.left s l r
 
   opened_on : (n : Option ℕ) (s : State) → i < length s.tasks → is_ready s i ≡ true → Continues app i s (open_loop app i n s)
   unfolding open_loop
-  opened_on n s l r = gone_to ((progress_at s i).op_index + 1) (record (progress_at s i) { loops = record { start = (progress_at s i).op_index + 1; left = n } ∷ (progress_at s i).loops }) s l r
+  opened_on n s l r =
+      gone_to ((progress_at s i).op_index + 1)
+      (record (progress_at s i) { loops = record { start = (progress_at s i).op_index + 1; left = n } ∷ (progress_at s i).loops })
+      s l r
 
   closed_on : (s : State) → i < length s.tasks → is_ready s i ≡ true → Continues app i s (close_turn app i s)
   unfolding close_turn
   closed_on s l r = turned_on (progress_at s i) (progress_at s i).loops s l r
 
-  branched_on : (condition : AnswerCondition) (s : State) → i < length s.tasks → is_ready s i ≡ true → Continues app i s (branch app i condition s)
+  branched_on : (condition : AnswerCondition) (s : State) → i < length s.tasks
+      → is_ready s i ≡ true → Continues app i s (branch app i condition s)
   unfolding branch
   branched_on condition s l r = by_test (holds condition (progress_at s i).answer)
       (λ t. rw t (gone_to ((progress_at s i).op_index + 1) (progress_at s i) s l r))
@@ -147,7 +180,9 @@ module _ (app : Application) (i : ℕ) where
 
   left_on : (s : State) → i < length s.tasks → is_ready s i ≡ true → Continues app i s (leave_loop app i s)
   unfolding leave_loop
-  left_on s l r = gone_to (jump_from (script_of app i) (progress_at s i).op_index) (record (progress_at s i) { loops = drop 1 (progress_at s i).loops }) s l r
+  left_on s l r =
+      gone_to (jump_from (script_of app i) (progress_at s i).op_index)
+      (record (progress_at s i) { loops = drop 1 (progress_at s i).loops }) s l r
 
   stamped_on : (s : State) → i < length s.tasks → is_ready s i ≡ true → Continues app i s (stamp app i s)
   unfolding stamp
@@ -157,22 +192,31 @@ module _ (app : Application) (i : ℕ) where
   unfolding since
   since_on s l r = answering_on _ s l r
 
-  cleared_on : (group mask : ℕ) (s : State) → i < length s.tasks → is_ready s i ≡ true → Continues app i s (clear app i group mask s)
+  cleared_on : (group mask : ℕ) (s : State) → i < length s.tasks
+      → is_ready s i ≡ true → Continues app i s (clear app i group mask s)
   unfolding clear
-  cleared_on group mask s l r = let k = answering_on (Some (bits_at s group)) (with_bits group (bits_without (bits_at s group) mask) s) l r in record { current = k.current; goes = k.goes }
+  cleared_on group mask s l r =
+      let k = answering_on (Some (bits_at s group)) (with_bits group (bits_without (bits_at s group) mask) s) l r in
+      record { current = k.current; goes = k.goes }
 
   pub suspended_on : (s : State) → i < length s.tasks → is_ready s i ≡ true → Continues app i s (suspend_all app i s)
   unfolding suspend_all
-  suspended_on s l r = let k = answering_on (Some 0) (record s { suspensions = s.suspensions + 1 }) l r in record { current = k.current; goes = k.goes }
+  suspended_on s l r =
+      let k = answering_on (Some 0) (record s { suspensions = s.suspensions + 1 }) l r in
+      record { current = k.current; goes = k.goes }
 
   -- an op that doesn't switch, and doesn't take a `suspend_all` back
-  pub acted_on : (op : Op) (s : State) → may_switch op ≡ false → op ≢ ResumeAll → is_scheduler_suspended s ≡ true → ((n : ℕ) → is_scheduler_suspended (use_up app i n s) ≡ true) → i < length s.tasks → is_ready s i ≡ true → Continues app i s (act app i op s)
+  pub acted_on : (op : Op) (s : State) → may_switch op ≡ false → op ≢ ResumeAll
+      → is_scheduler_suspended s ≡ true → ((n : ℕ) → is_scheduler_suspended (use_up app i n s) ≡ true)
+      → i < length s.tasks → is_ready s i ≡ true → Continues app i s (act app i op s)
   acted_on (Work n) s q ne on used l r = worked_on n s on (used n) l r
   acted_on (Delay n) s q ne on used l r = absurd (cc)
   acted_on (DelayUntil n) s q ne on used l r = absurd (cc)
   acted_on Yield s q ne on used l r = absurd (cc)
   acted_on Time s q ne on used l r = answering_on (Some (printed s.time)) s l r
-  acted_on (Mark n) s q ne on used l r = let k = gone_to ((progress_at s i).op_index + 1) (progress_at s i) (write (what.Mark i n) s) l r in record { current = k.current; goes = k.goes }
+  acted_on (Mark n) s q ne on used l r =
+      let k = gone_to ((progress_at s i).op_index + 1) (progress_at s i) (write (what.Mark i n) s) l r in
+      record { current = k.current; goes = k.goes }
   acted_on (Expect c) s q ne on used l r = expected_on c s l r
   acted_on (Repeat n) s q ne on used l r = opened_on n s l r
   acted_on End s q ne on used l r = closed_on s l r
@@ -209,19 +253,30 @@ ready_not_due now (WaitingForBits g m d) r t = absurd (cc)
 ready_not_due now Suspended r t = absurd (cc)
 ready_not_due now Ended r t = absurd (cc)
 
-due_apart : (s : State) (i : ℕ) → is_ready s i ≡ true → (es : List Entry) → AllByRecursion (λ j. j ≢ i) (tasks_of (filter (is_due s) es))
+due_apart : (s : State) (i : ℕ) → is_ready s i ≡ true → (es : List Entry)
+    → AllByRecursion (λ j. j ≢ i) (tasks_of (filter (is_due s) es))
 due_apart s i r [] = tt
 due_apart s i r (e ∷ es) = by_test (is_due s e)
-    (λ t. rw t ((λ same. ready_not_due s.time (status_at s i) r (subst (λ k. option_eq eqb (wake_time_of (status_at s k)) (Some s.time) ≡ true) same t)), due_apart s i r es))
+    (λ t.
+    rw t (
+      (λ same.
+          ready_not_due s.time (status_at s i) r
+          (subst (λ k. option_eq eqb (wake_time_of (status_at s k)) (Some s.time) ≡ true) same t)),
+      due_apart s i r es,
+    ))
     (λ t. rw t (due_apart s i r es))
 
 all_but : (js : List ℕ) (i : ℕ) (s : State) → AllByRecursion (λ j. j ≢ i) js → task_at (for_each make_ready js s) i ≡ task_at s i
 all_but [] i s h = refl
-all_but (j ∷ js) i s h = all_but js i (make_ready j s) h.1 ∙ get_or-set_other s.tasks j i (record (task_at s j) { status = Ready s.next_ticket }) no_task (λ e. h.0 (sym e))
+all_but (j ∷ js) i s h =
+    all_but js i (make_ready j s) h.1
+    ∙ get_or-set_other s.tasks j i (record (task_at s j) { status = Ready s.next_ticket }) no_task (λ e. h.0 (sym e))
 
 one_apart : (s : State) (i : ℕ) → is_ready s i ≡ true → task_at (apply_one s) i ≡ task_at s i
 unfolding apply_one advance wake_due
-one_apart s i r = let t : State = record s { time = s.time + 1; held_ticks = s.held_ticks - 1 } in all_but (tasks_of (due t)) i t (due_apart t i r (delayed_list t))
+one_apart s i r =
+    let t : State = record s { time = s.time + 1; held_ticks = s.held_ticks - 1 } in
+    all_but (tasks_of (due t)) i t (due_apart t i r (delayed_list t))
 
 -- ticks that were held leave a Ready task as it is
 pub applied_apart : (n : ℕ) (s : State) (i : ℕ) → is_ready s i ≡ true → task_at (apply_held n s) i ≡ task_at s i
@@ -251,7 +306,9 @@ current-resumed s = by_test (eqb s.suspensions 1)
     (λ t. rw t refl)
 
 -- where others are in force still
-pub resumed_on : (app : Application) (i : ℕ) (s : State) → eqb s.suspensions 1 ≡ false → is_held (record s { suspensions = s.suspensions - 1 }) ≡ true → i < length s.tasks → is_ready s i ≡ true → Continues app i s (resume_all app i s)
+pub resumed_on : (app : Application) (i : ℕ) (s : State) → eqb s.suspensions 1 ≡ false
+    → is_held (record s { suspensions = s.suspensions - 1 }) ≡ true
+    → i < length s.tasks → is_ready s i ≡ true → Continues app i s (resume_all app i s)
 unfolding resume_all resume_scheduler
 resumed_on app i s more held l r =
     let t : State = record s { suspensions = s.suspensions - 1 } in
@@ -259,5 +316,6 @@ resumed_on app i s more held l r =
     let u : State = answer app i (Some 0) t in
     let k = answering_on app i (Some 0) t l r in
     let still : is_held u ≡ true = still_held app i (Some 0) t ∙ held in
-    let whole : resume_all app i s ≡ u = ap (λ (x : State). unless_held preempt (answer app i (Some 0) x)) same ∙ when_held preempt u still in
+    let whole : resume_all app i s ≡ u =
+    ap (λ (x : State). unless_held preempt (answer app i (Some 0) x)) same ∙ when_held preempt u still in
     subst (Continues app i s) (sym whole) (record { current = k.current; goes = k.goes })

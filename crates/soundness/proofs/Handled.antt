@@ -1,11 +1,15 @@
 -- What a handler keeps of a state, and what it spares.
-use Rattle.std.proofs.Common.{◌⊎◌, ◌≡◌, ◌<◌, ◌+◌, ◌&&◌, ◌||◌, ℕ, Bool, true, false, ltb, ap₂, inl, inr, get_or, set, List, [], ◌∷◌, Option, Some, None, refl, ap, sym, subst, ◌∙◌, suc, zero}
+use Rattle.std.proofs.Common.{◌⊎◌, ◌≡◌, ◌<◌, ◌+◌, ◌&&◌, ◌||◌, ℕ, Bool, true, false, ltb, ap₂, inl, inr, get_or, set, List, [], ◌∷◌}
+use Rattle.std.proofs.Common.{Option, Some, None, refl, ap, sym, subst, ◌∙◌, suc, zero}
 use Rattle.std.specs.List.{AllByRecursion, slice_get}
 use Rattle.std.specs.Option.{IfSome, is_some, option_map, unwrap_or}
 use Rattle.model.specs.declared.object.ObjectKind.{ObjectKind}
 use Rattle.model.specs.declared.object.ObjectKind.TheVariants.{Queue, Semaphore, Mutex}
 use Rattle.model.specs.declared.op.Op.{Op}
-use Rattle.model.specs.declared.op.Op.TheVariants.{Work, Delay, DelayUntil, Yield, Time, Mark, Expect, Repeat, End, If, Else, EndIf, Break, Stamp, Since, Await, Do, GiveMutex, MessagesWaiting, SpacesAvailable, SetBits, ClearBits, GetBits, WaitBits, Suspend, Resume, SuspendAll, ResumeAll, NextCommand, Obey}
+use Rattle.model.specs.declared.op.Op.TheVariants.{Work, Delay, DelayUntil, Yield, Time, Mark, Expect, Repeat, End, If, Else, EndIf}
+use Rattle.model.specs.declared.op.Op.TheVariants.{Break, Stamp, Since, Await, Do, GiveMutex, MessagesWaiting, SpacesAvailable}
+use Rattle.model.specs.declared.op.Op.TheVariants.{SetBits, ClearBits, GetBits, WaitBits, Suspend, Resume, SuspendAll, ResumeAll}
+use Rattle.model.specs.declared.op.Op.TheVariants.{NextCommand, Obey}
 use Rattle.model.specs.declared.op.IsrOp.{IsrOp}
 use Rattle.model.specs.declared.op.IsrOp.TheVariants as isr_op
 use Rattle.model.specs.declared.op.Access.{Access}
@@ -19,7 +23,9 @@ use Rattle.model.specs.declared.event.What.TheVariants as what
 use Rattle.model.specs.Application.{Application, Limits, commands_of, op_at, ops_of, interrupts_at}
 use Rattle.model.specs.Scripts.{IsDaemon, IsWellFormed, fits, fits_object, has_group, is_mask, knows_isr}
 use Rattle.model.specs.Daemon.{item_of}
-use Rattle.model.specs.State.{State, Task, Progress, Object, Status, Wait, Ready, Awake, Waiting, Asleep, WaitingForBits, Suspended, Ended, ticket_if_ready, wake_time_of, task_at, status_at, progress_at, call_at, object_at, bits_at, with_object, with_progress, for_one, for_each, no_task}
+use Rattle.model.specs.State.{State, Task, Progress, Object, Status, Wait, Ready, Awake, Waiting, Asleep, WaitingForBits, Suspended}
+use Rattle.model.specs.State.{Ended, ticket_if_ready, wake_time_of, task_at, status_at, progress_at, call_at, object_at, bits_at}
+use Rattle.model.specs.State.{with_object, with_progress, for_one, for_each, no_task}
 use Rattle.model.specs.Order.{Entry, first, task_of}
 use Rattle.model.specs.Ops.{one_if, fail}
 use Rattle.model.specs.Suspension.{can_resume, phase_resumed, resumed, resume}
@@ -29,15 +35,18 @@ use Rattle.model.specs.Time.{advance, increment_tick, jump}
 use Rattle.model.specs.Objects.{possible, answer_to, object_after, list_woken, list_for, fulfil, attempt}
 use Rattle.model.specs.declared.event.End.{End as RunEnd}
 use Rattle.model.specs.declared.event.End.TheVariants.{HandlerCheck}
-use Rattle.model.specs.Handlers.{isr_told, isr, isr_answer, isr_jump, is_failed, isr_each, handle, interrupt, tick_interrupt, idle, ticks_ahead}
-use Rattle.model.specs.Invariant.{Hold, hold_of, course, list_of_op, IsPhaseOf, IsWaitOf, IsSound, Suspension, holds, IsPlacing, IsStranded, RunsIn, IsState, wait_of}
+use Rattle.model.specs.Handlers.{isr_told, isr, isr_answer, isr_jump, is_failed, isr_each, handle, interrupt, tick_interrupt, idle}
+use Rattle.model.specs.Handlers.{ticks_ahead}
+use Rattle.model.specs.Invariant.{Hold, hold_of, course, list_of_op, IsPhaseOf, IsWaitOf, IsSound, Suspension, holds, IsPlacing}
+use Rattle.model.specs.Invariant.{IsStranded, RunsIn, IsState, wait_of}
 use Rattle.model.proofs.Sorting.{by_test}
 use Rattle.model.proofs.Lists.{HasKey, list_has}
 use Rattle.model.proofs.Tables.{each-set}
 use Rattle.model.proofs.Unlocking.{is_locked-own}
 use Rattle.soundness.proofs.Settled.{when_held, when_free}
 use Rattle.soundness.proofs.InScripts.{isr_known}
-use Rattle.soundness.proofs.Frames.{Keeps, keeps, keeps_both, keeps-with_task, keeps-take_ticket, keeps-with_object, keeps-wake_one, keeps-fail, keeps-isr, keeps-handle, keeps-write}
+use Rattle.soundness.proofs.Frames.{Keeps, keeps, keeps_both, keeps-with_task, keeps-take_ticket, keeps-with_object, keeps-wake_one}
+use Rattle.soundness.proofs.Frames.{keeps-fail, keeps-isr, keeps-handle, keeps-write}
 use Rattle.soundness.proofs.Passing.{either_way, hold-increment, hold-jump}
 use Rattle.soundness.proofs.Suspending.{suspended_free, each_resumed, resumed_task}
 use Rattle.soundness.proofs.Sound.{logged, sliced, woken, later, held_up}
@@ -64,7 +73,8 @@ sends_where_receives app o n fit = by_kind (slice_get app.objects o) fit where
   by_kind (Some Mutex) fit = fit
 
 -- a command may be sent to the daemon's queue, where there is a daemon
-pub commands_fit : (app : Application) → IsWellFormed app → (n : ℕ) → is_some app.daemon ≡ true → fits_object app (commands_of app) (Send n) ≡ true
+pub commands_fit : (app : Application) → IsWellFormed app → (n : ℕ)
+    → is_some app.daemon ≡ true → fits_object app (commands_of app) (Send n) ≡ true
 commands_fit app formed n some = by_daemon app.daemon some formed.daemon where
   by_daemon : (o : Option ℕ) → is_some o ≡ true → IfSome o (IsDaemon app) → fits_object app (commands_of app) (Send n) ≡ true
   by_daemon None t d = absurd (cc)
@@ -73,14 +83,21 @@ commands_fit app formed n some = by_daemon app.daemon some formed.daemon where
 -- ---- what is kept, while this is held and locked
 
 module _ (app : Application) (formed : IsWellFormed app) (hold : Hold) where
-  isr_done : (s : State) (handler op_index : ℕ) (op : IsrOp) → knows_isr app op ≡ true → IsSound app hold s → s.locked ≡ hold.locked → IsSound app hold (isr app handler op_index op s)
-  isr_done s handler op_index (isr_op.Do o a) known h same = let t : State = attempt None o a s in logged app formed hold t _ t.steps t.stopped (attempted app formed hold s None o a h same (and_left (fits_object app o a) _ known) tt)
+  isr_done : (s : State) (handler op_index : ℕ) (op : IsrOp) → knows_isr app op ≡ true
+      → IsSound app hold s → s.locked ≡ hold.locked → IsSound app hold (isr app handler op_index op s)
+  isr_done s handler op_index (isr_op.Do o a) known h same =
+      let t : State = attempt None o a s in
+      logged app formed hold t _ t.steps t.stopped
+      (attempted app formed hold s None o a h same (and_left (fits_object app o a) _ known) tt)
   isr_done s handler op_index (isr_op.Command c) known h same =
       let send : Access = Send (item_of c) in
       let t : State = attempt None (commands_of app) send s in
       let some : is_some app.daemon ≡ true = and_left (is_some app.daemon) (has_group app c.group && is_mask c.mask) known in
-      logged app formed hold t _ t.steps t.stopped (attempted app formed hold s None (commands_of app) send h same (commands_fit app formed (item_of c) some) tt)
-  isr_done s handler op_index (isr_op.Resume task) known h same = let t : State = resume task s in logged app formed hold t _ t.steps t.stopped (resumed_task app formed hold s task h)
+      logged app formed hold t _ t.steps t.stopped
+      (attempted app formed hold s None (commands_of app) send h same (commands_fit app formed (item_of c) some) tt)
+  isr_done s handler op_index (isr_op.Resume task) known h same =
+      let t : State = resume task s in
+      logged app formed hold t _ t.steps t.stopped (resumed_task app formed hold s task h)
   isr_done s handler op_index (isr_op.GetBits group) known h same = logged app formed hold s _ s.steps s.stopped h
   isr_done s handler op_index (isr_op.Mark n) known h same = logged app formed hold s _ s.steps s.stopped h
   isr_done s handler op_index (isr_op.Expect condition) known h same = h
@@ -88,22 +105,31 @@ module _ (app : Application) (formed : IsWellFormed app) (hold : Hold) where
   isr_done s handler op_index isr_op.Else known h same = h
   isr_done s handler op_index isr_op.EndIf known h same = h
 
-  each_done : (ops : List IsrOp) (s : State) (handler op_index over : ℕ) (answer : Option ℕ) → AllByRecursion (λ (op : IsrOp). knows_isr app op ≡ true) ops → IsSound app hold s → s.locked ≡ hold.locked → IsSound app hold (isr_each app handler op_index over answer ops s)
+  each_done : (ops : List IsrOp) (s : State) (handler op_index over : ℕ) (answer : Option ℕ)
+      → AllByRecursion (λ (op : IsrOp). knows_isr app op ≡ true) ops → IsSound app hold s
+      → s.locked ≡ hold.locked → IsSound app hold (isr_each app handler op_index over answer ops s)
   each_done [] s handler op_index over answer known h same = h
-  each_done (op ∷ ops) s handler op_index (suc over) answer known h same = each_done ops s handler (op_index + 1) over answer known.1 h same
+  each_done (op ∷ ops) s handler op_index (suc over) answer known h same =
+      each_done ops s handler (op_index + 1) over answer known.1 h same
   each_done (op ∷ ops) s handler op_index zero answer known h same =
       let t : State = isr app handler op_index op s in
       by_test (is_failed op answer)
       (λ f. rw f (logged app formed hold s s.log s.steps _ h))
-      (λ f. rw f (each_done ops t handler (op_index + 1) (isr_jump op answer ops) (isr_answer app s op answer) known.1 (isr_done s handler op_index op known.0 h same) (ap (λ (x : Hold). x.locked) (keeps-isr app handler op_index op s).hold ∙ same)))
+      (λ f.
+      rw f (each_done ops t handler (op_index + 1) (isr_jump op answer ops)
+      (isr_answer app s op answer) known.1 (isr_done s handler op_index op known.0 h same)
+      (ap (λ (x : Hold). x.locked) (keeps-isr app handler op_index op s).hold ∙ same)))
 
   pub handled : (s : State) (handler : ℕ) → IsSound app hold s → s.locked ≡ hold.locked → IsSound app hold (handle app handler s)
   unfolding handle
   handled s handler h same = each_done (ops_of app handler) s handler 0 0 None (isr_known app formed handler) h same
 
-  all_handled : (handlers : List ℕ) (s : State) → IsSound app hold s → s.locked ≡ hold.locked → IsSound app hold (for_each (handle app) handlers s)
+  all_handled : (handlers : List ℕ) (s : State) → IsSound app hold s
+      → s.locked ≡ hold.locked → IsSound app hold (for_each (handle app) handlers s)
   all_handled [] s h same = h
-  all_handled (handler ∷ handlers) s h same = all_handled handlers (handle app handler s) (handled s handler h same) (ap (λ (x : Hold). x.locked) (keeps-handle app handler s).hold ∙ same)
+  all_handled (handler ∷ handlers) s h same =
+      all_handled handlers (handle app handler s) (handled s handler h same)
+      (ap (λ (x : Hold). x.locked) (keeps-handle app handler s).hold ∙ same)
 
   interrupted : (s : State) → IsSound app hold s → s.locked ≡ hold.locked → IsSound app hold (interrupt app s)
   unfolding interrupt
@@ -131,7 +157,8 @@ module _ (app : Application) (formed : IsWellFormed app) (hold : Hold) where
   unfolding jump
   jumped_sound n s h = woken app formed hold (record s { time = s.time + n; elapsed = s.elapsed + n }) (later app formed hold n s h)
 
-  pub jumped_there : (n : ℕ) (s : State) → IsSound app hold s → s.locked ≡ hold.locked → IsSound app hold (unless_held slice (interrupt app (jump n s)))
+  pub jumped_there : (n : ℕ) (s : State) → IsSound app hold s → s.locked ≡ hold.locked
+      → IsSound app hold (unless_held slice (interrupt app (jump n s)))
   jumped_there n s h same =
       let come : State = jump n s in
       let still : come.locked ≡ hold.locked = ap (λ (x : Hold). x.locked) (hold-jump n s) ∙ same in
@@ -143,14 +170,16 @@ module _ (app : Application) (formed : IsWellFormed app) (hold : Hold) where
 
   pub idled : (limits : Limits) (s : State) → IsSound app hold s → s.locked ≡ hold.locked → IsSound app hold (idle app limits s)
   unfolding idle
-  idled limits s h same = either_way (IsSound app hold) app.tickless (unless_held slice (interrupt app (jump (ticks_ahead app limits s) s))) (tick_interrupt app s)
+  idled limits s h same =
+      either_way (IsSound app hold) app.tickless
+      (unless_held slice (interrupt app (jump (ticks_ahead app limits s) s))) (tick_interrupt app s)
       (jumped_there (ticks_ahead app limits s) s h same) (ticked s h same)
 
 -- ---- what is spared
 
--- The same task runs. Each task is at its op, and where it was in it, except for one that is resumed. One who was Ready still is, and
--- one who waited for the locked object has the same wait, though it may be Awake by now. Where none is locked, one who was to wake by
--- itself is still to wake then, or is Ready.
+-- The same task runs. Each task is at its op, and where it was in it, except for one that is resumed. One who was Ready still is,
+-- and one who waited for the locked object has the same wait, though it may be Awake by now. Where none is locked, one who was to
+-- wake by itself is still to wake then, or is Ready.
 pub record Spares (old new : State) : Type 0 where
   pub kept : Keeps old new
   pub current : new.current ≡ old.current
@@ -160,11 +189,25 @@ pub record Spares (old new : State) : Type 0 where
   pub unsuspended : (i : ℕ) → can_resume (status_at old i) ≡ false → can_resume (status_at new i) ≡ false
   pub at : (i : ℕ) → can_resume (status_at old i) ≡ false → task_at new i ≡ record (task_at old i) { status = status_at new i }
   pub ready : (i : ℕ) → is_ready old i ≡ true → task_at new i ≡ task_at old i
-  pub waits : (i : ℕ) (w : Wait) → wait_of (status_at old i) ≡ Some w → is_locked old.locked w.list ≡ true → wait_of (status_at new i) ≡ Some w
-  pub sleeps : old.locked ≡ None → (i : ℕ) → (is_ready new i ≡ true) ⊎ (wake_time_of (status_at new i) ≡ wake_time_of (status_at old i))
+  pub waits : (i : ℕ) (w : Wait) → wait_of (status_at old i) ≡ Some w
+      → is_locked old.locked w.list ≡ true → wait_of (status_at new i) ≡ Some w
+  pub sleeps : old.locked ≡ None → (i : ℕ)
+      → (is_ready new i ≡ true) ⊎ (wake_time_of (status_at new i) ≡ wake_time_of (status_at old i))
 
 pub spares : (s : State) → Spares s s
-spares s = record { kept = keeps s; current = refl; op_index = λ i. refl; holding = λ i. refl; place = λ i e. e; unsuspended = λ i e. e; at = λ i e. refl; ready = λ i r. refl; waits = λ i w e l. e; sleeps = λ n i. inr refl }
+spares s =
+    record {
+      kept = keeps s;
+      current = refl;
+      op_index = λ i. refl;
+      holding = λ i. refl;
+      place = λ i e. e;
+      unsuspended = λ i e. e;
+      at = λ i e. refl;
+      ready = λ i r. refl;
+      waits = λ i w e l. e;
+      sleeps = λ n i. inr refl;
+    }
 
 pub spares_both : (a b c : State) → Spares a b → Spares b c → Spares a c
 spares_both a b c h k = record {
@@ -176,20 +219,30 @@ spares_both a b c h k = record {
   unsuspended = λ i e. k.unsuspended i (h.unsuspended i e);
   at = λ i e. k.at i (h.unsuspended i e) ∙ ap (λ (t : Task). record t { status = status_at c i }) (h.at i e);
   ready = λ i r. k.ready i (subst (λ (t : Task). is_some (ticket_if_ready t.status) ≡ true) (sym (h.ready i r)) r) ∙ h.ready i r;
-  waits = λ i w e l. k.waits i w (h.waits i w e l) (subst (λ (o : Option ℕ). is_locked o w.list ≡ true) (sym (ap (λ (x : Hold). x.locked) h.kept.hold)) l);
+  waits = λ i w e l.
+      k.waits i w (h.waits i w e l)
+      (subst (λ (o : Option ℕ). is_locked o w.list ≡ true) (sym (ap (λ (x : Hold). x.locked) h.kept.hold)) l);
   sleeps = λ n i.
       let m : b.locked ≡ None = ap (λ (x : Hold). x.locked) h.kept.hold ∙ n in
       slept_both i (h.sleeps n i) (k.sleeps m i) (k.ready i);
 } where
-  slept_both : (i : ℕ) → (is_ready b i ≡ true) ⊎ (wake_time_of (status_at b i) ≡ wake_time_of (status_at a i)) → (is_ready c i ≡ true) ⊎ (wake_time_of (status_at c i) ≡ wake_time_of (status_at b i)) → (is_ready b i ≡ true → task_at c i ≡ task_at b i) → (is_ready c i ≡ true) ⊎ (wake_time_of (status_at c i) ≡ wake_time_of (status_at a i))
+  slept_both : (i : ℕ) → (is_ready b i ≡ true) ⊎ (wake_time_of (status_at b i) ≡ wake_time_of (status_at a i))
+      → (is_ready c i ≡ true) ⊎ (wake_time_of (status_at c i) ≡ wake_time_of (status_at b i))
+      → (is_ready b i ≡ true → task_at c i ≡ task_at b i)
+      → (is_ready c i ≡ true) ⊎ (wake_time_of (status_at c i) ≡ wake_time_of (status_at a i))
   slept_both i x (inl r) stays = inl r
   slept_both i (inl r) (inr e) stays = inl (ap (λ (t : Task). is_some (ticket_if_ready t.status)) (stays r) ∙ r)
   slept_both i (inr d) (inr e) stays = inr (e ∙ d)
 
 -- where each task is where it was in its script
-pub spared_by : (old new : State) → Keeps old new → new.current ≡ old.current → ((i : ℕ) → task_at new i ≡ record (task_at old i) { status = status_at new i }) → ((i : ℕ) → can_resume (status_at old i) ≡ false → can_resume (status_at new i) ≡ false)
-    → ((i : ℕ) → is_ready old i ≡ true → task_at new i ≡ task_at old i) → ((i : ℕ) (w : Wait) → wait_of (status_at old i) ≡ Some w → is_locked old.locked w.list ≡ true → wait_of (status_at new i) ≡ Some w)
-    → (old.locked ≡ None → (i : ℕ) → (is_ready new i ≡ true) ⊎ (wake_time_of (status_at new i) ≡ wake_time_of (status_at old i))) → Spares old new
+pub spared_by : (old new : State) → Keeps old new → new.current ≡ old.current
+    → ((i : ℕ) → task_at new i ≡ record (task_at old i) { status = status_at new i })
+    → ((i : ℕ) → can_resume (status_at old i) ≡ false → can_resume (status_at new i) ≡ false)
+    → ((i : ℕ) → is_ready old i ≡ true → task_at new i ≡ task_at old i)
+    → ((i : ℕ) (w : Wait) → wait_of (status_at old i) ≡ Some w
+    → is_locked old.locked w.list ≡ true → wait_of (status_at new i) ≡ Some w)
+    → (old.locked ≡ None → (i : ℕ) → (is_ready new i ≡ true) ⊎ (wake_time_of (status_at new i) ≡ wake_time_of (status_at old i)))
+    → Spares old new
 spared_by old new kept current at unsuspended ready waits sleeps =
     let call : (i : ℕ) → progress_at new i ≡ progress_at old i = λ i. ap (λ (t : Task). t.progress) (at i) in
     record {
@@ -207,7 +260,8 @@ spared_by old new kept current at unsuspended ready waits sleeps =
 
 -- an event more
 spares-write : (w : What) (s : State) → Spares s (write w s)
-spares-write w s = spared_by s (write w s) (keeps-write w s) refl (λ i. refl) (λ i e. e) (λ i r. refl) (λ i v e l. e) (λ n i. inr refl)
+spares-write w s =
+    spared_by s (write w s) (keeps-write w s) refl (λ i. refl) (λ i e. e) (λ i r. refl) (λ i v e l. e) (λ n i. inr refl)
 
 -- ---- a wake spares
 
@@ -221,7 +275,9 @@ same_wait Suspended = refl
 same_wait Ended = refl
 
 -- a task that gets a status, and no other
-at_status : (s : State) (j : ℕ) (u : Status) (i : ℕ) → get_or (set s.tasks j (record (task_at s j) { status = u })) i no_task ≡ record (task_at s i) { status = (get_or (set s.tasks j (record (task_at s j) { status = u })) i no_task).status }
+at_status : (s : State) (j : ℕ) (u : Status) (i : ℕ)
+    → get_or (set s.tasks j (record (task_at s j) { status = u })) i no_task
+    ≡ record (task_at s i) { status = (get_or (set s.tasks j (record (task_at s j) { status = u })) i no_task).status }
 at_status s j u i =
     let P : ℕ → Task → Type 0 = λ k t. k ≡ i → t ≡ record (task_at s i) { status = t.status } in
     each-set no_task P s.tasks j (record (task_at s j) { status = u })
@@ -229,12 +285,15 @@ at_status s j u i =
     (λ k e. ap (λ (m : ℕ). record (task_at s m) { status = status_at s k }) e) i refl
 
 -- one who waits for the locked object is woken in one way only
-one_waits : (s : State) (j : ℕ) (list : WaitList) (i : ℕ) (w : Wait) → WaitsIn list (status_at s j) → wait_of (status_at s i) ≡ Some w → is_locked s.locked w.list ≡ true → wait_of (status_at (wake_one j list s) i) ≡ Some w
+one_waits : (s : State) (j : ℕ) (list : WaitList) (i : ℕ) (w : Wait) → WaitsIn list (status_at s j)
+    → wait_of (status_at s i) ≡ Some w → is_locked s.locked w.list ≡ true → wait_of (status_at (wake_one j list s) i) ≡ Some w
 one_waits s j list i w in_list e l =
     let P : ℕ → Task → Type 0 = λ k t. k ≡ i → wait_of t.status ≡ Some w in
     let others : (k : ℕ) → k ≡ i → wait_of (status_at s k) ≡ Some w = λ k q. ap (λ (m : ℕ). wait_of (status_at s m)) q ∙ e in
     by_test (is_locked s.locked list)
-    (λ t. rw t (each-set no_task P s.tasks j (record (task_at s j) { status = awake_status (status_at s j) }) (λ q. same_wait (status_at s j) ∙ others j q) others i refl))
+    (λ t.
+    rw t (each-set no_task P s.tasks j (record (task_at s j) { status = awake_status (status_at s j) })
+    (λ q. same_wait (status_at s j) ∙ others j q) others i refl))
     (λ t. rw t (each-set no_task P s.tasks j (record (task_at s j) { status = Ready s.next_ticket }) (λ q.
     let waiting : wait_of (status_at s j) ≡ Some in_list.wait = ap wait_of in_list.is in
     let f : Some in_list.wait ≡ Some w = sym waiting ∙ others j q in
@@ -253,17 +312,22 @@ awake_unsuspended Suspended e = absurd (cc)
 awake_unsuspended Ended e = refl
 
 -- a status that nobody who is Suspended has spares who isn't
-unsuspended_but : (s : State) (j : ℕ) (u : Status) → can_resume u ≡ false → (i : ℕ) → can_resume (status_at s i) ≡ false → can_resume (get_or (set s.tasks j (record (task_at s j) { status = u })) i no_task).status ≡ false
-unsuspended_but s j u e = each-set no_task (λ i t. can_resume (status_at s i) ≡ false → can_resume t.status ≡ false) s.tasks j (record (task_at s j) { status = u }) (λ _. e) (λ i f. f)
+unsuspended_but : (s : State) (j : ℕ) (u : Status) → can_resume u ≡ false → (i : ℕ) → can_resume (status_at s i) ≡ false
+    → can_resume (get_or (set s.tasks j (record (task_at s j) { status = u })) i no_task).status ≡ false
+unsuspended_but s j u e =
+    each-set no_task (λ i t. can_resume (status_at s i) ≡ false → can_resume t.status ≡ false)
+    s.tasks j (record (task_at s j) { status = u }) (λ _. e) (λ i f. f)
 
 none_locked : (list : WaitList) → is_locked None list ≡ false
 none_locked (ToReceive object) = refl
 none_locked (ToSend object) = refl
 
 -- where none is locked, who is woken is Ready
-one_sleeps : (s : State) (j : ℕ) (list : WaitList) (i : ℕ) → s.locked ≡ None → (is_ready (wake_one j list s) i ≡ true) ⊎ (wake_time_of (status_at (wake_one j list s) i) ≡ wake_time_of (status_at s i))
+one_sleeps : (s : State) (j : ℕ) (list : WaitList) (i : ℕ) → s.locked ≡ None
+    → (is_ready (wake_one j list s) i ≡ true) ⊎ (wake_time_of (status_at (wake_one j list s) i) ≡ wake_time_of (status_at s i))
 one_sleeps s j list i none =
-    let P : ℕ → Task → Type 0 = λ k t. (is_some (ticket_if_ready t.status) ≡ true) ⊎ (wake_time_of t.status ≡ wake_time_of (status_at s k)) in
+    let P : ℕ → Task → Type 0 = λ k t.
+    (is_some (ticket_if_ready t.status) ≡ true) ⊎ (wake_time_of t.status ≡ wake_time_of (status_at s k)) in
     let free : is_locked s.locked list ≡ false = ap (λ (o : Option ℕ). is_locked o list) none ∙ none_locked list in
     rw free (each-set no_task P s.tasks j (record (task_at s j) { status = Ready s.next_ticket }) (inl refl) (λ k. inr refl) i)
 
@@ -281,7 +345,8 @@ spares-wake_one s j list in_list = spared_by s (wake_one j list s)
     (λ i w. one_waits s j list i w in_list)
     (λ n i. one_sleeps s j list i n)
 
-first_spares : (s : State) (list : WaitList) (es : List Entry) → AllByRecursion (HasKey (waits_key list) s.tasks) es → Spares s (for_one (λ j. wake_one j list) (task_of (first es)) s)
+first_spares : (s : State) (list : WaitList) (es : List Entry) → AllByRecursion (HasKey (waits_key list) s.tasks) es
+    → Spares s (for_one (λ j. wake_one j list) (task_of (first es)) s)
 unfolding waits_key
 first_spares s list [] has = spares s
 first_spares s list (e ∷ es) has = spares-wake_one s e.task list (waits_in list (status_at s e.task) e.key has.0.key)
@@ -295,14 +360,18 @@ spares-for None s = spares s
 spares-for (Some list) s = spares-wake_best list s
 
 spares-object : (o : ℕ) (x : Object) (s : State) → Spares s (with_object o x s)
-spares-object o x s = spared_by s (with_object o x s) (keeps-with_object o x s) refl (λ i. refl) (λ i e. e) (λ i r. refl) (λ i w e l. e) (λ n i. inr refl)
+spares-object o x s =
+    spared_by s (with_object o x s) (keeps-with_object o x s) refl
+    (λ i. refl) (λ i e. e) (λ i r. refl) (λ i w e l. e) (λ n i. inr refl)
 
 spares-attempt : (caller : Option ℕ) (o : ℕ) (a : Access) (s : State) → Spares s (attempt caller o a s)
 unfolding attempt fulfil
 spares-attempt caller o a s =
     let t : State = with_object o (object_after caller a (object_at s o)) s in
     by_test (possible s o a)
-    (λ p. rw p (spares_both s t (for_one wake_best (list_woken caller o a) t) (spares-object o (object_after caller a (object_at s o)) s) (spares-for (list_woken caller o a) t)))
+    (λ p.
+    rw p (spares_both s t (for_one wake_best (list_woken caller o a) t)
+    (spares-object o (object_after caller a (object_at s o)) s) (spares-for (list_woken caller o a) t)))
     (λ p. rw p (spares s))
 
 -- ---- a resume spares who isn't Suspended
@@ -332,22 +401,35 @@ ready_unsuspended (WaitingForBits g m d) t = absurd (cc)
 ready_unsuspended Suspended t = absurd (cc)
 ready_unsuspended Ended t = absurd (cc)
 
-spares-resumed : (s : State) (j : ℕ) → can_resume (status_at s j) ≡ true → Spares s (make_ready j (with_progress j (resumed s.time (progress_at s j)) s))
+spares-resumed : (s : State) (j : ℕ) → can_resume (status_at s j) ≡ true
+    → Spares s (make_ready j (with_progress j (resumed s.time (progress_at s j)) s))
 spares-resumed s j suspended =
     let p : Progress = resumed s.time (progress_at s j) in
     let t : State = with_progress j p s in
     let each = each_resumed s j suspended in
     record {
-      kept = keeps_both s t (make_ready j t) (keeps-with_task j (record (task_at s j) { progress = p }) s) (keeps-take_ticket j Ready t);
+      kept =
+          keeps_both s t (make_ready j t) (keeps-with_task j (record (task_at s j) { progress = p }) s)
+          (keeps-take_ticket j Ready t);
       current = refl;
       op_index = each (λ i u. u.progress.op_index ≡ (progress_at s i).op_index) refl (λ i. refl);
-      holding = each (λ i u. holds u.progress.call.phase ≡ holds (call_at s i).phase) (holds_resumed (call_at s j).phase) (λ i. refl);
-      place = each (λ i u. u.progress.call.phase ≡ Place → (call_at s i).phase ≡ Place) (place_resumed (call_at s j).phase) (λ i e. e);
+      holding =
+          each (λ i u. holds u.progress.call.phase ≡ holds (call_at s i).phase) (holds_resumed (call_at s j).phase) (λ i. refl);
+      place =
+          each (λ i u. u.progress.call.phase ≡ Place → (call_at s i).phase ≡ Place) (place_resumed (call_at s j).phase) (λ i e. e);
       unsuspended = each (λ i u. can_resume (status_at s i) ≡ false → can_resume u.status ≡ false) (λ e. refl) (λ i e. e);
-      at = each (λ i u. can_resume (status_at s i) ≡ false → u ≡ record (task_at s i) { status = u.status }) (λ e. absurd (cc)) (λ i e. refl);
-      ready = each (λ i u. is_ready s i ≡ true → u ≡ task_at s i) (λ r. let f = ready_unsuspended (status_at s j) r in absurd (cc)) (λ i r. refl);
-      waits = each (λ i u. (w : Wait) → wait_of (status_at s i) ≡ Some w → is_locked s.locked w.list ≡ true → wait_of u.status ≡ Some w) (λ w e l. let f = suspended_free (status_at s j) suspended in absurd (cc)) (λ i w e l. e);
-      sleeps = λ n. each (λ i u. (is_some (ticket_if_ready u.status) ≡ true) ⊎ (wake_time_of u.status ≡ wake_time_of (status_at s i))) (inl refl) (λ i. inr refl);
+      at =
+          each (λ i u. can_resume (status_at s i) ≡ false → u ≡ record (task_at s i) { status = u.status })
+          (λ e. absurd (cc)) (λ i e. refl);
+      ready =
+          each (λ i u. is_ready s i ≡ true → u ≡ task_at s i)
+          (λ r. let f = ready_unsuspended (status_at s j) r in absurd (cc)) (λ i r. refl);
+      waits =
+          each (λ i u. (w : Wait) → wait_of (status_at s i) ≡ Some w → is_locked s.locked w.list ≡ true → wait_of u.status ≡ Some w)
+          (λ w e l. let f = suspended_free (status_at s j) suspended in absurd (cc)) (λ i w e l. e);
+      sleeps = λ n.
+          each (λ i u. (is_some (ticket_if_ready u.status) ≡ true) ⊎ (wake_time_of u.status ≡ wake_time_of (status_at s i)))
+          (inl refl) (λ i. inr refl);
     }
 
 pub spares-resume : (j : ℕ) (s : State) → Spares s (resume j s)
@@ -380,9 +462,21 @@ spares-isr app handler op_index isr_op.EndIf s = spares s
 spares-fail : (check : RunEnd) (s : State) → Spares s (fail check s)
 spares-fail check s =
     let k = spares s in
-    record { kept = keeps-fail check s; current = k.current; op_index = k.op_index; holding = k.holding; place = k.place; unsuspended = k.unsuspended; at = k.at; ready = k.ready; waits = k.waits; sleeps = k.sleeps }
+    record {
+      kept = keeps-fail check s;
+      current = k.current;
+      op_index = k.op_index;
+      holding = k.holding;
+      place = k.place;
+      unsuspended = k.unsuspended;
+      at = k.at;
+      ready = k.ready;
+      waits = k.waits;
+      sleeps = k.sleeps;
+    }
 
-spares-isr_each : (app : Application) (handler op_index over : ℕ) (answer : Option ℕ) (ops : List IsrOp) (s : State) → Spares s (isr_each app handler op_index over answer ops s)
+spares-isr_each : (app : Application) (handler op_index over : ℕ) (answer : Option ℕ) (ops : List IsrOp) (s : State)
+    → Spares s (isr_each app handler op_index over answer ops s)
 spares-isr_each app handler op_index over answer [] s = spares s
 spares-isr_each app handler op_index (suc over) answer (op ∷ ops) s = spares-isr_each app handler (op_index + 1) over answer ops s
 spares-isr_each app handler op_index zero answer (op ∷ ops) s =
@@ -391,7 +485,9 @@ spares-isr_each app handler op_index zero answer (op ∷ ops) s =
     let over : ℕ = isr_jump op answer ops in
     by_test (is_failed op answer)
     (λ f. rw f (spares-fail (HandlerCheck handler op_index) s))
-    (λ f. rw f (spares_both s t (isr_each app handler (op_index + 1) over next ops t) (spares-isr app handler op_index op s) (spares-isr_each app handler (op_index + 1) over next ops t)))
+    (λ f.
+    rw f (spares_both s t (isr_each app handler (op_index + 1) over next ops t)
+    (spares-isr app handler op_index op s) (spares-isr_each app handler (op_index + 1) over next ops t)))
 
 pub spares-handle : (app : Application) (handler : ℕ) (s : State) → Spares s (handle app handler s)
 unfolding handle
@@ -400,7 +496,8 @@ spares-handle app handler s = spares-isr_each app handler 0 0 None (ops_of app h
 -- ---- so every state stays one of a run
 
 -- who is to be placed waits for the locked object
-place_locked : (hold : Hold) (op : Option Op) (list : WaitList) → IsPhaseOf hold (course op) Place → list_of_op op ≡ Some list → is_locked hold.locked list ≡ true
+place_locked : (hold : Hold) (op : Option Op) (list : WaitList) → IsPhaseOf hold (course op) Place
+    → list_of_op op ≡ Some list → is_locked hold.locked list ≡ true
 place_locked hold None list p e = absurd p
 place_locked hold (Some (Await o a ticks)) list p e =
     let same : list_for o a ≡ list = cc in
@@ -439,7 +536,8 @@ place_locked hold (Some (NextCommand o)) list p e =
     subst (P hold.locked) same (subst (λ l. P l (list_for o Receive)) (sym p.1) (is_locked-own o Receive))
 place_locked hold (Some Obey) list p e = absurd p
 
-module _ (app : Application) (formed : IsWellFormed app) (s t : State) (h : IsState app s) (sound : IsSound app (hold_of s) t) (sp : Spares s t) where
+module _ (app : Application) (formed : IsWellFormed app) (s t : State)
+    (h : IsState app s) (sound : IsSound app (hold_of s) t) (sp : Spares s t) where
   same_held : t.call_hold ≡ s.call_hold
   same_held = ap (λ (x : Hold). x.held) sp.kept.hold
 
@@ -455,17 +553,21 @@ module _ (app : Application) (formed : IsWellFormed app) (s t : State) (h : IsSt
   waiting_unsuspended Suspended w e = absurd (cc)
   waiting_unsuspended Ended w e = refl
 
-  placing_still : (i : ℕ) → (call_at s i).phase ≡ Place → IsPlacing s.time (task_at s i) (wait_of (status_at s i)) → IsPlacing t.time (task_at t i) (wait_of (status_at t i))
+  placing_still : (i : ℕ) → (call_at s i).phase ≡ Place → IsPlacing s.time (task_at s i) (wait_of (status_at s i))
+      → IsPlacing t.time (task_at t i) (wait_of (status_at t i))
   placing_still i is placing = by_wait (wait_of (status_at s i)) refl placing where
     phase : IsPhaseOf (hold_of s) (course (op_at app i (progress_at s i).op_index)) Place
     phase = subst (IsPhaseOf (hold_of s) (course (op_at app i (progress_at s i).op_index))) is (h.sound.calls i).phase
 
-    by_wait : (o : Option Wait) → wait_of (status_at s i) ≡ o → IsPlacing s.time (task_at s i) o → IsPlacing t.time (task_at t i) (wait_of (status_at t i))
+    by_wait : (o : Option Wait) → wait_of (status_at s i) ≡ o → IsPlacing s.time (task_at s i) o
+        → IsPlacing t.time (task_at t i) (wait_of (status_at t i))
     by_wait None e p = absurd p
     by_wait (Some w) e p =
-        let W : Option Wait → Type 0 = λ o. IfSome o (λ x. IsWaitOf (op_at app i (progress_at s i).op_index) (call_at s i).deadline x) in
+        let W : Option Wait → Type 0 = λ o.
+        IfSome o (λ x. IsWaitOf (op_at app i (progress_at s i).op_index) (call_at s i).deadline x) in
         let of_op : IsWaitOf (op_at app i (progress_at s i).op_index) (call_at s i).deadline w = subst W e (h.sound.calls i).wait in
-        let locked : is_locked s.locked w.list ≡ true = place_locked (hold_of s) (op_at app i (progress_at s i).op_index) w.list phase of_op.list in
+        let locked : is_locked s.locked w.list ≡ true =
+        place_locked (hold_of s) (op_at app i (progress_at s i).op_index) w.list phase of_op.list in
         let L : Task → Type 0 = λ u. w.priority ≡ u.priority in
         let there : L (task_at t i) = subst L (sym (sp.at i (waiting_unsuspended (status_at s i) w e))) p.0 in
         let D : ℕ → Type 0 = λ now. IfSome w.deadline (λ deadline. now < deadline) in
@@ -484,7 +586,8 @@ module _ (app : Application) (formed : IsWellFormed app) (s t : State) (h : IsSt
   runs_still (Some i) r = record {
     holding = sp.holding i ∙ r.holding ∙ sym same_held;
     ready = λ none. elim (r.ready (sym same_held ∙ none)) [ inl was ↦ inl (ready_still i was) | inr x ↦ inr (stranded_still i x) ];
-    setting = λ held way. ready_still i (r.setting (sym same_held ∙ held) (sym (ap (λ n. course (op_at app i n)) (sp.op_index i)) ∙ way));
+    setting = λ held way.
+        ready_still i (r.setting (sym same_held ∙ held) (sym (ap (λ n. course (op_at app i n)) (sp.op_index i)) ∙ way));
     placing = λ is. let was : (call_at s i).phase ≡ Place = sp.place i is in placing_still i was (r.placing was);
   }
 
@@ -499,8 +602,11 @@ module _ (app : Application) (formed : IsWellFormed app) (s t : State) (h : IsSt
   }
 
 -- a handler that comes between two steps
-pub handled_between : (app : Application) → IsWellFormed app → (handler : ℕ) (s : State) → IsState app s → IsState app (handle app handler s)
-handled_between app formed handler s h = state_still app formed s (handle app handler s) h (handled app formed (hold_of s) s handler h.sound refl) (spares-handle app handler s)
+pub handled_between : (app : Application) → IsWellFormed app
+    → (handler : ℕ) (s : State) → IsState app s → IsState app (handle app handler s)
+handled_between app formed handler s h =
+    state_still app formed s (handle app handler s) h
+    (handled app formed (hold_of s) s handler h.sound refl) (spares-handle app handler s)
 
 -- ---- without base interrupts
 

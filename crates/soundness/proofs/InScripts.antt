@@ -1,10 +1,14 @@
 -- The op at an index of a well formed script.
-use Rattle.std.proofs.Common.{◌≡◌, ◌≢◌, ◌<◌, ◌≤◌, ◌+◌, ◌-◌, ℕ, zero, suc, true, eqb, ltb, List, [], ◌∷◌, drop, take, length, Option, Some, None, refl, ap, sym, subst, ◌∙◌, arith, add-one}
+use Rattle.std.proofs.Common.{◌≡◌, ◌≢◌, ◌<◌, ◌≤◌, ◌+◌, ◌-◌, ℕ, zero, suc, true, eqb, ltb, List, [], ◌∷◌, drop, take, length, Option}
+use Rattle.std.proofs.Common.{Some, None, refl, ap, sym, subst, ◌∙◌, arith, add-one}
 use Rattle.std.specs.List.{AllByRecursion, slice_get}
 use Rattle.std.specs.Option.{IfSome, option_map, unwrap_or}
 use Rattle.std.proofs.lemmas.Bool.{ltb-true, ltb-false}
 use Rattle.model.specs.declared.op.Op.{Op}
-use Rattle.model.specs.declared.op.Op.TheVariants.{Work, Delay, DelayUntil, Yield, Time, Mark, Expect, Repeat, End, If, Else, EndIf, Break, Stamp, Since, Await, Do, GiveMutex, MessagesWaiting, SpacesAvailable, SetBits, ClearBits, GetBits, WaitBits, Suspend, Resume, SuspendAll, ResumeAll, NextCommand, Obey}
+use Rattle.model.specs.declared.op.Op.TheVariants.{Work, Delay, DelayUntil, Yield, Time, Mark, Expect, Repeat, End, If, Else, EndIf}
+use Rattle.model.specs.declared.op.Op.TheVariants.{Break, Stamp, Since, Await, Do, GiveMutex, MessagesWaiting, SpacesAvailable}
+use Rattle.model.specs.declared.op.Op.TheVariants.{SetBits, ClearBits, GetBits, WaitBits, Suspend, Resume, SuspendAll, ResumeAll}
+use Rattle.model.specs.declared.op.Op.TheVariants.{NextCommand, Obey}
 use Rattle.model.specs.declared.op.Access.TheVariants.{Receive}
 use Rattle.model.specs.declared.op.IsrOp.{IsrOp}
 use Rattle.model.specs.Application.{Application, Handler, Definition, of_file, commands_of, script_of, op_at, ops_of}
@@ -13,7 +17,8 @@ use Rattle.model.specs.declared.block.Block.TheVariants as block
 use Rattle.model.specs.declared.block.Edge.{Edge}
 use Rattle.model.specs.declared.block.Edge.TheVariants.{OpensLoop, EndsLoop, OpensIf, OpensElse, EndsIf, Breaks, Inside}
 use Rattle.model.specs.Blocks.{edge_of, edges_of, loops_in, blocks_past, may_stand, Nests}
-use Rattle.model.specs.Scripts.{InRange, IsScript, IsDefinition, IsHandler, IsDaemon, IsWellFormed, fits_object, knows, KnowsAll, knows_isr}
+use Rattle.model.specs.Scripts.{InRange, IsScript, IsDefinition, IsHandler, IsDaemon, IsWellFormed, fits_object, knows, KnowsAll}
+use Rattle.model.specs.Scripts.{knows_isr}
 use Rattle.model.specs.declared.loops.Loop.{Loop}
 use Rattle.model.specs.Invariant.{AreOpenAt, LoopsNest, IsUsedBy}
 use Rattle.model.proofs.Sorting.{by_test}
@@ -23,7 +28,8 @@ use Rattle.model.proofs.Nesting.{least_work}
 none_formed : IsScript []
 none_formed = record { ranges = tt; nests = refl; few = omega arith }
 
-formed_at : (i : ℕ) (ds : List Definition) → AllByRecursion IsDefinition ds → IsScript (unwrap_or (option_map (λ (d : Definition). d.script) (slice_get ds i)) [])
+formed_at : (i : ℕ) (ds : List Definition) → AllByRecursion IsDefinition ds
+    → IsScript (unwrap_or (option_map (λ (d : Definition). d.script) (slice_get ds i)) [])
 formed_at i [] h = none_formed
 formed_at zero (d ∷ ds) h = h.0.script
 formed_at (suc i) (d ∷ ds) h = formed_at i ds h.1
@@ -32,7 +38,8 @@ pub script_formed : (app : Application) → IsWellFormed app → (i : ℕ) → I
 script_formed app h i = formed_at i app.tasks h.tasks
 
 -- the edge of the op of an index, and those behind it
-pub edges_at : (p : ℕ) (ops : List Op) (op : Op) → slice_get ops p ≡ Some op → drop p (edges_of ops) ≡ edge_of op ∷ drop (suc p) (edges_of ops)
+pub edges_at : (p : ℕ) (ops : List Op) (op : Op) → slice_get ops p ≡ Some op
+    → drop p (edges_of ops) ≡ edge_of op ∷ drop (suc p) (edges_of ops)
 edges_at p [] op e = absurd (cc)
 edges_at zero (o ∷ ops) op e = let same : o ≡ op = cc in ap (λ x. edge_of x ∷ edges_of ops) same
 edges_at (suc p) (o ∷ ops) op e = edges_at p ops op e
@@ -79,7 +86,8 @@ counted_past Breaks bs m = refl
 counted_past Inside bs m = refl
 
 -- behind an op that doesn't jump
-pub nests_past : (loops p : ℕ) (ops : List Op) (op : Op) → AreOpenAt ops p loops → slice_get ops p ≡ Some op → AreOpenAt ops (p + 1) (nesting_past loops op)
+pub nests_past : (loops p : ℕ) (ops : List Op) (op : Op) → AreOpenAt ops p loops
+    → slice_get ops p ≡ Some op → AreOpenAt ops (p + 1) (nesting_past loops op)
 nests_past loops p ops op h e =
     let t = stands_at loops p ops op h e in
     record {
@@ -151,17 +159,20 @@ range_at p [] op h e = absurd (cc)
 range_at zero (o ∷ ops) op h e = let same : o ≡ op = cc in rw (← same) h.0
 range_at (suc p) (o ∷ ops) op h e = range_at p ops op h.1 e
 
-known_in : (app : Application) (p : ℕ) (ops : List Op) (op : Op) → AllByRecursion (λ o. knows app o ≡ true) ops → slice_get ops p ≡ Some op → knows app op ≡ true
+known_in : (app : Application) (p : ℕ) (ops : List Op) (op : Op)
+    → AllByRecursion (λ o. knows app o ≡ true) ops → slice_get ops p ≡ Some op → knows app op ≡ true
 known_in app p [] op h e = absurd (cc)
 known_in app zero (o ∷ ops) op h e = let same : o ≡ op = cc in rw (← same) h.0
 known_in app (suc p) (o ∷ ops) op h e = known_in app p ops op h.1 e
 
-known_of : (app : Application) (i p : ℕ) (ds : List Definition) (op : Op) → AllByRecursion (KnowsAll app) ds → slice_get (unwrap_or (option_map (λ (d : Definition). d.script) (slice_get ds i)) []) p ≡ Some op → knows app op ≡ true
+known_of : (app : Application) (i p : ℕ) (ds : List Definition) (op : Op) → AllByRecursion (KnowsAll app) ds
+    → slice_get (unwrap_or (option_map (λ (d : Definition). d.script) (slice_get ds i)) []) p ≡ Some op → knows app op ≡ true
 known_of app i p [] op h e = absurd (cc)
 known_of app zero p (d ∷ ds) op h e = known_in app p d.script op h.0 e
 known_of app (suc i) p (d ∷ ds) op h e = known_of app i p ds op h.1 e
 
--- What is known of an op of a task: of one of the file, that the application has what it speaks of; of one of the daemon, where it is.
+-- What is known of an op of a task: of one of the file, that the application has what it speaks of;
+-- of one of the daemon, where it is.
 abbrev pub Known : Application → (task op_index : ℕ) → Op → Type 0
 Known app task op_index (NextCommand object) = (app.daemon ≡ Some task) × (op_index ≡ 0) × (fits_object app object Receive ≡ true)
 Known app task op_index Obey = (app.daemon ≡ Some task) × (op_index ≡ 1)
@@ -215,12 +226,14 @@ known_at app formed i p op is = by_daemon app.daemon refl formed.daemon formed.k
   Has : Option Definition → Type 0
   Has o = slice_get (unwrap_or (option_map (λ (d : Definition). d.script) o) []) p ≡ Some op
 
-  in_daemon : app.daemon ≡ Some i → fits_object app (commands_of app) Receive ≡ true → (q : ℕ) → slice_get (NextCommand (commands_of app) ∷ Obey ∷ []) q ≡ Some op → Known app i q op
+  in_daemon : app.daemon ≡ Some i → fits_object app (commands_of app) Receive ≡ true → (q : ℕ)
+      → slice_get (NextCommand (commands_of app) ∷ Obey ∷ []) q ≡ Some op → Known app i q op
   in_daemon e fits zero at = let same : NextCommand (commands_of app) ≡ op = cc in subst (Known app i 0) same (e, refl, fits)
   in_daemon e fits (suc zero) at = let same : Obey ≡ op = cc in subst (Known app i 1) same (e, refl)
   in_daemon e fits (suc (suc q)) at = absurd (cc)
 
-  by_daemon : (o : Option ℕ) → app.daemon ≡ o → IfSome o (IsDaemon app) → AllByRecursion (KnowsAll app) (of_file o app.tasks) → Known app i p op
+  by_daemon : (o : Option ℕ) → app.daemon ≡ o → IfSome o (IsDaemon app)
+      → AllByRecursion (KnowsAll app) (of_file o app.tasks) → Known app i p op
   by_daemon None e d known = known_if app i p op (known_of app i p app.tasks op known is)
   by_daemon (Some n) e d known = by_test (ltb i n)
       (λ t.
@@ -229,7 +242,8 @@ known_at app formed i p op is = by_daemon app.daemon refl formed.daemon formed.k
       (λ t. by_test (eqb i n)
       (λ u.
       let same : i ≡ n = eqb-same i n u in
-      let at : script_of app i ≡ NextCommand (commands_of app) ∷ Obey ∷ [] = subst (λ j. script_of app j ≡ NextCommand (commands_of app) ∷ Obey ∷ []) (sym same) d.script in
+      let at : script_of app i ≡ NextCommand (commands_of app) ∷ Obey ∷ [] =
+      subst (λ j. script_of app j ≡ NextCommand (commands_of app) ∷ Obey ∷ []) (sym same) d.script in
       in_daemon (e ∙ ap Some (sym same)) d.queue p (subst (λ ops. slice_get ops p ≡ Some op) at is))
       (λ u.
       let le : n ≤ i = ltb-false i n t in
@@ -238,11 +252,13 @@ known_at app formed i p op is = by_daemon app.daemon refl formed.daemon formed.k
       let none : slice_get app.tasks i ≡ None = none_past i app.tasks (omega arith) in
       let f : Has None = subst Has none is in absurd (cc)))
 
-isr_known_of : (app : Application) (i : ℕ) (hs : List Handler) → AllByRecursion (IsHandler app) hs → AllByRecursion (λ (op : IsrOp). knows_isr app op ≡ true) (unwrap_or (option_map (λ (h : Handler). h.ops) (slice_get hs i)) [])
+isr_known_of : (app : Application) (i : ℕ) (hs : List Handler) → AllByRecursion (IsHandler app) hs
+    → AllByRecursion (λ (op : IsrOp). knows_isr app op ≡ true) (unwrap_or (option_map (λ (h : Handler). h.ops) (slice_get hs i)) [])
 isr_known_of app i [] a = tt
 isr_known_of app zero (h ∷ hs) a = a.0.known
 isr_known_of app (suc i) (h ∷ hs) a = isr_known_of app i hs a.1
 
 -- the same of the ops of a handler
-pub isr_known : (app : Application) → IsWellFormed app → (handler : ℕ) → AllByRecursion (λ (op : IsrOp). knows_isr app op ≡ true) (ops_of app handler)
+pub isr_known : (app : Application) → IsWellFormed app → (handler : ℕ)
+    → AllByRecursion (λ (op : IsrOp). knows_isr app op ≡ true) (ops_of app handler)
 isr_known app formed handler = isr_known_of app handler app.handlers formed.handlers

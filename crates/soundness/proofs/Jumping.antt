@@ -1,5 +1,6 @@
 -- Where a jump in a script goes, as many loops are open as the op that jumps says.
-use Rattle.std.proofs.Common.{◌≡◌, ◌<◌, ◌+◌, ◌-◌, ℕ, suc, eqb, true, false, List, [], ◌∷◌, ◌++◌, drop, Some, refl, ap, subst, ◌∙◌, arith, add-one, ltb}
+use Rattle.std.proofs.Common.{◌≡◌, ◌<◌, ◌+◌, ◌-◌, ℕ, suc, eqb, true, false, List, [], ◌∷◌, ◌++◌, drop, Some, refl, ap, subst, ◌∙◌}
+use Rattle.std.proofs.Common.{arith, add-one, ltb}
 use Rattle.std.proofs.Math.Seq.{drop-drop}
 use Rattle.std.specs.Prelude.{if◌then◌else◌}
 use Rattle.std.specs.List.{slice_get}
@@ -9,7 +10,8 @@ use Rattle.model.specs.declared.block.Block.TheVariants.{Loop, If, Else}
 use Rattle.model.specs.declared.block.Edge.{Edge}
 use Rattle.model.specs.declared.block.Edge.TheVariants.{OpensLoop, EndsLoop, OpensIf, OpensElse, EndsIf, Breaks, Inside}
 use Rattle.model.specs.declared.op.Op.{Op}
-use Rattle.model.specs.Blocks.{edge_of, edges_of, is_loop, is_if, is_innermost, loops_in, blocks_past, may_stand, Nests, past_branch, past_loop, jumped_over, jump_from}
+use Rattle.model.specs.Blocks.{edge_of, edges_of, is_loop, is_if, is_innermost, loops_in, blocks_past, may_stand, Nests}
+use Rattle.model.specs.Blocks.{past_branch, past_loop, jumped_over, jump_from}
 use Rattle.model.specs.Invariant.{AreOpen, AreOpenAt}
 use Rattle.model.proofs.Sorting.{by_test}
 use Rattle.model.proofs.Lists.{eqb-same}
@@ -32,16 +34,19 @@ not_last n x y = by_test (eqb (suc n) 0)
 behind : {loops : ℕ} (n : ℕ) (e : Edge) (es : List Edge) → AreOpen loops (drop n es) → AreOpen loops (drop (n + 1) (e ∷ es))
 behind n e es h = rw add-one h
 
-behind_inner : {loops : ℕ} (n x : ℕ) (e : Edge) (es : List Edge) → AreOpen loops (drop n es) → AreOpen loops (drop (if eqb (suc x) 0 then 1 else n + 1) (e ∷ es))
+behind_inner : {loops : ℕ} (n x : ℕ) (e : Edge) (es : List Edge) → AreOpen loops (drop n es)
+    → AreOpen loops (drop (if eqb (suc x) 0 then 1 else n + 1) (e ∷ es))
 behind_inner n x e es h = rw (not_last x 1 (n + 1)) (behind n e es h)
 
-behind_end : {loops : ℕ} (past : ℕ → ℕ) (x : ℕ) (e : Edge) (es : List Edge) → AreOpen loops (drop (past x) es) → AreOpen loops (drop (if eqb (suc x) 0 then 1 else past (suc x - 1) + 1) (e ∷ es))
+behind_end : {loops : ℕ} (past : ℕ → ℕ) (x : ℕ) (e : Edge) (es : List Edge) → AreOpen loops (drop (past x) es)
+    → AreOpen loops (drop (if eqb (suc x) 0 then 1 else past (suc x - 1) + 1) (e ∷ es))
 behind_end past x e es h =
     let less : suc x - 1 ≡ x = omega arith in
     rw (not_last x 1 (past (suc x - 1) + 1), less) (behind (past x) e es h)
 
 -- Behind the branch there are as many loops open as around it.
-pub past_a_branch : (inner : List Block) (b : Block) (bs : List Block) (es : List Edge) → is_loop b ≡ false → Nests (inner ++ b ∷ bs) es
+pub past_a_branch : (inner : List Block) (b : Block) (bs : List Block) (es : List Edge)
+    → is_loop b ≡ false → Nests (inner ++ b ∷ bs) es
     → AreOpen (loops_in bs) (drop (past_branch (branches_in inner) es) es)
 past_a_branch [] b bs [] is n = absurd (cc)
 past_a_branch (x ∷ inner) b bs [] is n = absurd (cc)
@@ -51,7 +56,8 @@ past_a_branch (Loop ∷ inner) b bs (EndsLoop ∷ es) is n = behind _ EndsLoop e
 past_a_branch (If ∷ inner) b bs (EndsLoop ∷ es) is n = absurd (cc)
 past_a_branch (Else ∷ inner) b bs (EndsLoop ∷ es) is n = absurd (cc)
 past_a_branch inner b bs (OpensIf ∷ es) is n =
-    let h : AreOpen (loops_in bs) (drop (past_branch (suc (branches_in inner)) es) es) = past_a_branch (If ∷ inner) b bs es is n.1 in
+    let h : AreOpen (loops_in bs) (drop (past_branch (suc (branches_in inner)) es) es) =
+    past_a_branch (If ∷ inner) b bs es is n.1 in
     let same : suc (branches_in inner) ≡ branches_in inner + 1 = omega arith in
     behind _ OpensIf es (subst (λ k. AreOpen (loops_in bs) (drop (past_branch k es) es)) same h)
 past_a_branch [] b bs (OpensElse ∷ es) is n = record { blocks = Else ∷ bs; count = refl; nests = n.1 }
@@ -145,7 +151,8 @@ module _ (loops i : ℕ) (ops : List Op) (op : Op) (h : AreOpenAt ops i loops) (
   after_if e =
       let n : Nests (If ∷ stands.blocks) rest = subst (λ x. Nests (blocks_past x stands.blocks) rest) e stands.nests in
       let l = past_a_branch [] If stands.blocks rest refl n in
-      lands loops (past_branch 0 rest) (jump_is OpensIf e) (record { blocks = l.blocks; count = l.count ∙ stands.count; nests = l.nests })
+      lands loops (past_branch 0 rest) (jump_is OpensIf e)
+      (record { blocks = l.blocks; count = l.count ∙ stands.count; nests = l.nests })
 
   pub after_else : edge_of op ≡ OpensElse → AreOpenAt ops (jump_from ops i) loops
   after_else e =
@@ -167,5 +174,7 @@ module _ (loops i : ℕ) (ops : List Op) (op : Op) (h : AreOpenAt ops i loops) (
       subst (λ k. AreOpen (loops_in split.outer) (drop (past_loop k rest) rest)) none l in
       let count = stands.count in
       let whole = split.count in
-      let less : loops_in split.outer ≡ loops - 1 = omega arith in
-      (omega arith, lands (loops - 1) (past_loop 0 rest) (jump_is Breaks e) (subst (λ k. AreOpen k (drop (past_loop 0 rest) rest)) less from))
+      let less : loops_in split.outer ≡ loops - 1 = omega arith in (
+        omega arith,
+        lands (loops - 1) (past_loop 0 rest) (jump_is Breaks e) (subst (λ k. AreOpen k (drop (past_loop 0 rest) rest)) less from),
+      )

@@ -6,7 +6,8 @@ use Rattle.model.specs.Scripts.{IsWellFormed}
 use Rattle.model.specs.State.{State, Task, Suspended, task_at, status_at, progress_at, no_task}
 use Rattle.model.specs.Switching.{is_ready, preempt, is_held}
 use Rattle.model.specs.Ops.{answer}
-use Rattle.model.specs.Suspension.{can_suspend, suspend, resume, call_suspend, call_resume, suspend_all, resume_scheduler, resume_all}
+use Rattle.model.specs.Suspension.{can_suspend, suspend, resume, call_suspend, call_resume, suspend_all, resume_scheduler}
+use Rattle.model.specs.Suspension.{resume_all}
 use Rattle.model.specs.Invariant.{Hold, IsSound, wait_of}
 use Rattle.model.proofs.Sorting.{by_test}
 use Rattle.model.proofs.Tables.{each-set}
@@ -21,20 +22,26 @@ use Rattle.soundness.proofs.Going.{resumed_apart}
 suspended_free : (s : State) (j i : ℕ) → wait_of (status_at s i) ≡ None → wait_of (status_at (suspend j s) i) ≡ None
 unfolding suspend
 suspended_free s j i f = by_test (can_suspend (status_at s j))
-    (λ t. rw t (each-set no_task (λ k (u : Task). wait_of (status_at s k) ≡ None → wait_of u.status ≡ None) s.tasks j (record (task_at s j) { status = Suspended }) (λ _. refl) (λ k e. e) i f))
+    (λ t.
+    rw t (each-set no_task (λ k (u : Task). wait_of (status_at s k) ≡ None → wait_of u.status ≡ None)
+    s.tasks j (record (task_at s j) { status = Suspended }) (λ _. refl) (λ k e. e) i f))
     (λ t. rw t f)
 
 suspended_at : (s : State) (j i : ℕ) → (progress_at (suspend j s) i).op_index ≡ (progress_at s i).op_index
 unfolding suspend
 suspended_at s j i = by_test (can_suspend (status_at s j))
-    (λ t. rw t (each-set no_task (λ k (u : Task). u.progress.op_index ≡ (progress_at s k).op_index) s.tasks j (record (task_at s j) { status = Suspended }) refl (λ k. refl) i))
+    (λ t.
+    rw t (each-set no_task (λ k (u : Task). u.progress.op_index ≡ (progress_at s k).op_index)
+    s.tasks j (record (task_at s j) { status = Suspended }) refl (λ k. refl) i))
     (λ t. rw t refl)
 
 module _ (app : Application) (formed : IsWellFormed app) (hold : Hold) where
   module _ (s : State) (i : ℕ) (h : IsSound app hold s) (l : i < length s.tasks) (r : is_ready s i ≡ true) where
-    pub call_suspended : (j : ℕ) → op_at app i (progress_at s i).op_index ≡ Some (Suspend j) → IsSound app hold (call_suspend app i j s)
+    pub call_suspended : (j : ℕ) → op_at app i (progress_at s i).op_index ≡ Some (Suspend j)
+        → IsSound app hold (call_suspend app i j s)
     unfolding call_suspend
-    call_suspended j is = preempted app formed hold _ (answered app formed hold (suspend j s) i (Suspend j) (suspended_task app formed hold s j h)
+    call_suspended j is =
+        preempted app formed hold _ (answered app formed hold (suspend j s) i (Suspend j) (suspended_task app formed hold s j h)
         (suspended_free s j i (ready_free (status_at s i) r)) (ap (op_at app i) (suspended_at s j i) ∙ is) _ refl)
 
     pub call_resumed : (j : ℕ) → op_at app i (progress_at s i).op_index ≡ Some (Resume j) → IsSound app hold (call_resume app i j s)
@@ -42,19 +49,24 @@ module _ (app : Application) (formed : IsWellFormed app) (hold : Hold) where
     call_resumed j is =
         let sp = spares-resume j s in
         preempted app formed hold _ (answered app formed hold (resume j s) i (Resume j) (resumed_task app formed hold s j h)
-        (ap (λ (u : Task). wait_of u.status) (sp.ready i r) ∙ ready_free (status_at s i) r) (ap (op_at app i) (sp.op_index i) ∙ is) _ refl)
+        (ap (λ (u : Task). wait_of u.status) (sp.ready i r) ∙ ready_free (status_at s i) r)
+        (ap (op_at app i) (sp.op_index i) ∙ is) _ refl)
 
     pub all_suspended : op_at app i (progress_at s i).op_index ≡ Some SuspendAll → IsSound app hold (suspend_all app i s)
     unfolding suspend_all
-    all_suspended is = answered app formed hold _ i SuspendAll (otherwise app formed hold s s.group_bits _ h) (ready_free (status_at s i) r) is (Some 0) refl
+    all_suspended is =
+        answered app formed hold _ i SuspendAll (otherwise app formed hold s s.group_bits _ h)
+        (ready_free (status_at s i) r) is (Some 0) refl
 
     pub all_resumed : op_at app i (progress_at s i).op_index ≡ Some ResumeAll → IsSound app hold (resume_all app i s)
     unfolding resume_all
     all_resumed is =
         let same = resumed_apart s i r in
         let t : State = answer app i (Some 0) (resume_scheduler s) in
-        let k : IsSound app hold t = answered app formed hold (resume_scheduler s) i ResumeAll (resumed_scheduler app formed hold s h)
-        (ap (λ (u : Task). wait_of u.status) same ∙ ready_free (status_at s i) r) (ap (λ (u : Task). op_at app i u.progress.op_index) same ∙ is) (Some 0) refl in
+        let k : IsSound app hold t =
+        answered app formed hold (resume_scheduler s) i ResumeAll (resumed_scheduler app formed hold s h)
+        (ap (λ (u : Task). wait_of u.status) same ∙ ready_free (status_at s i) r)
+        (ap (λ (u : Task). op_at app i u.progress.op_index) same ∙ is) (Some 0) refl in
         by_test (is_held t)
         (λ q. subst (IsSound app hold) (sym (when_held preempt t q)) k)
         (λ q. subst (IsSound app hold) (sym (when_free preempt t q)) (preempted app formed hold t k))

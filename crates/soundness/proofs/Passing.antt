@@ -1,9 +1,13 @@
 -- What each op makes of the ticks and of the suspension of the scheduler: most leave both as they were.
-use Rattle.std.proofs.Common.{ap₂, Bool, ap, ◌≡◌, ◌≢◌, ◌≤◌, ◌+◌, ◌-◌, ◌<◌, ◌||◌, ◌&&◌, ℕ, zero, suc, true, false, eqb, ltb, min, fold, List, [], ◌∷◌, ◌++◌, Option, Some, None, refl, ◌∙◌, arith, length}
+use Rattle.std.proofs.Common.{ap₂, Bool, ap, ◌≡◌, ◌≢◌, ◌≤◌, ◌+◌, ◌-◌, ◌<◌, ◌||◌, ◌&&◌, ℕ, zero, suc, true, false, eqb, ltb, min}
+use Rattle.std.proofs.Common.{fold, List, [], ◌∷◌, ◌++◌, Option, Some, None, refl, ◌∙◌, arith, length}
 use Rattle.std.specs.Prelude.{if◌then◌else◌}
 use Rattle.std.specs.Option.{option_eq}
 use Rattle.model.specs.declared.op.Op.{Op}
-use Rattle.model.specs.declared.op.Op.TheVariants.{Work, Delay, DelayUntil, Yield, Time, Mark, Expect, Repeat, End, If, Else, EndIf, Break, Stamp, Since, Await, Do, GiveMutex, MessagesWaiting, SpacesAvailable, SetBits, ClearBits, GetBits, WaitBits, Suspend, Resume, SuspendAll, ResumeAll, NextCommand, Obey}
+use Rattle.model.specs.declared.op.Op.TheVariants.{Work, Delay, DelayUntil, Yield, Time, Mark, Expect, Repeat, End, If, Else, EndIf}
+use Rattle.model.specs.declared.op.Op.TheVariants.{Break, Stamp, Since, Await, Do, GiveMutex, MessagesWaiting, SpacesAvailable}
+use Rattle.model.specs.declared.op.Op.TheVariants.{SetBits, ClearBits, GetBits, WaitBits, Suspend, Resume, SuspendAll, ResumeAll}
+use Rattle.model.specs.declared.op.Op.TheVariants.{NextCommand, Obey}
 use Rattle.model.specs.declared.op.Access.{Access}
 use Rattle.model.specs.declared.op.Access.TheVariants.{Receive}
 use Rattle.model.specs.declared.op.Command.{Command}
@@ -29,10 +33,17 @@ use Rattle.model.specs.Groups.{is_met, begin_set, set_bits, wait_for_bits, begin
 use Rattle.model.specs.Suspension.{suspend_all, resume_scheduler, resume_all}
 use Rattle.model.specs.Daemon.{next_command, obeyed, end_set_by_daemon, obey, command_at}
 use Rattle.model.specs.Handlers.{interrupt, tick_interrupt, idle, ticks_ahead, ticks_to_wake, ticks_to_interrupt}
-use Rattle.model.specs.Step.{is_ended, judge, act, act_unless, own_misuse, misuse, act_if, act_current, before_step, step, reset, nobody_ready, ready_at_reset, with_ops}
+use Rattle.model.specs.Step.{is_ended, judge, act, act_unless, own_misuse, misuse, act_if, act_current, before_step, step, reset}
+use Rattle.model.specs.Step.{nobody_ready, ready_at_reset, with_ops}
 use Rattle.model.specs.Invariant.{Hold, hold_of, InOne, course, Suspension, suspension_of}
 use Rattle.model.proofs.Sorting.{by_test}
-use Rattle.soundness.proofs.Frames.{Keeps, keeps, keeps_both, keeps-choose, keeps-yield_now, keeps-preempt, keeps-slice, keeps-settle, keeps-unless_held, keeps-all_ready, keeps-wake_due, keeps-go_to, keeps-answer, keeps-use_up, keeps-delay, keeps-delay_until, keeps-open_loop, keeps-close_turn, keeps-branch, keeps-skip_branch, keeps-leave_loop, keeps-stamp, keeps-since, keeps-set_deadline, keeps-inherit, keeps-give_mutex, keeps-try, keeps-do_now, keeps-set, keeps-clear, keeps-answer_bits, keeps-call_suspend, keeps-call_resume, keeps-take_command, keeps-obeyed, keeps-clear_by_daemon, keeps-interrupt, keeps-before_step}
+use Rattle.soundness.proofs.Frames.{Keeps, keeps, keeps_both, keeps-choose, keeps-yield_now, keeps-preempt, keeps-slice}
+use Rattle.soundness.proofs.Frames.{keeps-settle, keeps-unless_held, keeps-all_ready, keeps-wake_due, keeps-go_to, keeps-answer}
+use Rattle.soundness.proofs.Frames.{keeps-use_up, keeps-delay, keeps-delay_until, keeps-open_loop, keeps-close_turn, keeps-branch}
+use Rattle.soundness.proofs.Frames.{keeps-skip_branch, keeps-leave_loop, keeps-stamp, keeps-since, keeps-set_deadline}
+use Rattle.soundness.proofs.Frames.{keeps-inherit, keeps-give_mutex, keeps-try, keeps-do_now, keeps-set, keeps-clear}
+use Rattle.soundness.proofs.Frames.{keeps-answer_bits, keeps-call_suspend, keeps-call_resume, keeps-take_command, keeps-obeyed}
+use Rattle.soundness.proofs.Frames.{keeps-clear_by_daemon, keeps-interrupt, keeps-before_step}
 
 -- ---- a call in its phases lets no time pass
 
@@ -53,7 +64,8 @@ lasts-unlock s = by_locked s.locked where
   by_locked : (o : Option ℕ) → Lasts s (for_one unlock_object o s)
   by_locked None = lasts s s (keeps s)
   by_locked (Some o) =
-      let k = keeps-all_ready (tasks_of (awakened s (ToReceive o)) ++ tasks_of (awakened s (ToSend o))) (record s { locked = None }) in
+      let k =
+      keeps-all_ready (tasks_of (awakened s (ToReceive o)) ++ tasks_of (awakened s (ToSend o))) (record s { locked = None }) in
       record { elapsed = k.elapsed; suspension = k.suspension }
 
 pub lasts-decide : (i o : ℕ) (a : Access) (s : State) → Lasts s (decide i o a s)
@@ -71,8 +83,11 @@ lasts-leave_call i s =
     (λ t. rw t (lasts_both s free (choose free) ended (keeps-choose free)))
     (λ t. rw t (lasts_both s free (preempt free) ended (keeps-preempt free)))
 
-pub lasts-await : (app : Application) (i o : ℕ) (a : Access) (ticks : Option ℕ) (phase : Phase) (s : State) → Lasts s (await app i o a ticks phase s)
-lasts-await app i o a ticks Start s = let t : State = set_deadline i ticks s in lasts s _ (keeps_both s t _ (keeps-set_deadline i ticks s) (keeps-try app i o a t))
+pub lasts-await : (app : Application) (i o : ℕ) (a : Access) (ticks : Option ℕ) (phase : Phase) (s : State)
+    → Lasts s (await app i o a ticks phase s)
+lasts-await app i o a ticks Start s =
+    let t : State = set_deadline i ticks s in
+    lasts s _ (keeps_both s t _ (keeps-set_deadline i ticks s) (keeps-try app i o a t))
 lasts-await app i o a ticks Try s = lasts s _ (keeps-try app i o a s)
 lasts-await app i o a ticks Decide s = lasts-decide i o a s
 lasts-await app i o a ticks Place s = record { elapsed = refl; suspension = refl }
@@ -81,13 +96,17 @@ lasts-await app i o a ticks Leave s = lasts-leave_call i s
 
 pub lasts-begin_set : (i group mask : ℕ) (s : State) → Lasts s (begin_set i group mask s)
 unfolding begin_set
-lasts-begin_set i group mask s = let k = keeps-set group mask (record s { call_hold = true }) in record { elapsed = k.elapsed; suspension = k.suspension }
+lasts-begin_set i group mask s =
+    let k = keeps-set group mask (record s { call_hold = true }) in
+    record { elapsed = k.elapsed; suspension = k.suspension }
 
-pub lasts-end_set : (app : Application) (i : ℕ) (s : State) → Lasts s (preempt (answer app i (call_at s i).kept (end_hold i Start s)))
+pub lasts-end_set : (app : Application) (i : ℕ) (s : State)
+    → Lasts s (preempt (answer app i (call_at s i).kept (end_hold i Start s)))
 lasts-end_set app i s =
     let free : State = end_hold i Start s in
     let told : State = answer app i (call_at s i).kept free in
-    lasts_both s free (preempt told) (record { elapsed = refl; suspension = refl }) (keeps_both free told (preempt told) (keeps-answer app i (call_at s i).kept free) (keeps-preempt told))
+    lasts_both s free (preempt told) (record { elapsed = refl; suspension = refl })
+    (keeps_both free told (preempt told) (keeps-answer app i (call_at s i).kept free) (keeps-preempt told))
 
 lasts-set_bits : (app : Application) (i group mask : ℕ) (phase : Phase) (s : State) → Lasts s (set_bits app i group mask phase s)
 lasts-set_bits app i group mask Start s = lasts-begin_set i group mask s
@@ -97,19 +116,24 @@ lasts-set_bits app i group mask Place s = lasts-end_set app i s
 lasts-set_bits app i group mask Unlock s = lasts-end_set app i s
 lasts-set_bits app i group mask Leave s = lasts-end_set app i s
 
-pub lasts-check : (app : Application) (i group : ℕ) (c : Condition) (ticks : Option ℕ) (s : State) → Lasts s (check app i group c ticks s)
+pub lasts-check : (app : Application) (i group : ℕ) (c : Condition) (ticks : Option ℕ) (s : State)
+    → Lasts s (check app i group c ticks s)
 unfolding check begin_bits_wait wait_for_bits set_deadline
 lasts-check app i group c ticks s = by_test (is_met (bits_at s group) c || option_eq eqb ticks (Some 0))
     (λ t. rw t (lasts s _ (keeps-answer_bits app i group c s)))
     (λ t. rw t (record { elapsed = refl; suspension = refl }))
 
-pub lasts-final_bits : (app : Application) (i group : ℕ) (c : Condition) (kept : Option ℕ) (s : State) → Keeps s (final_bits app i group c kept s)
+pub lasts-final_bits : (app : Application) (i group : ℕ) (c : Condition) (kept : Option ℕ) (s : State)
+    → Keeps s (final_bits app i group c kept s)
 lasts-final_bits app i group c None s = keeps-answer_bits app i group c s
 lasts-final_bits app i group c (Some bits) s = keeps-answer app i (Some bits) s
 
-lasts-wait_bits : (app : Application) (i group : ℕ) (c : Condition) (ticks : Option ℕ) (phase : Phase) (s : State) → Lasts s (wait_bits app i group c ticks phase s)
+lasts-wait_bits : (app : Application) (i group : ℕ) (c : Condition) (ticks : Option ℕ) (phase : Phase) (s : State)
+    → Lasts s (wait_bits app i group c ticks phase s)
 lasts-wait_bits app i group c ticks Start s = lasts-check app i group c ticks s
-lasts-wait_bits app i group c ticks Leave s = let k = keeps-choose (end_hold i Try s) in record { elapsed = k.elapsed; suspension = k.suspension }
+lasts-wait_bits app i group c ticks Leave s =
+    let k = keeps-choose (end_hold i Try s) in
+    record { elapsed = k.elapsed; suspension = k.suspension }
 lasts-wait_bits app i group c ticks Try s = lasts s _ (lasts-final_bits app i group c (call_at s i).kept s)
 lasts-wait_bits app i group c ticks Decide s = lasts s _ (lasts-final_bits app i group c (call_at s i).kept s)
 lasts-wait_bits app i group c ticks Place s = lasts s _ (lasts-final_bits app i group c (call_at s i).kept s)
@@ -127,7 +151,8 @@ pub lasts-end_command : (app : Application) (i group : ℕ) (s : State) → Last
 lasts-end_command app i group s =
     let free : State = end_hold i Start s in
     let told : State = obeyed app i false (bits_at s group) free in
-    lasts_both s free (preempt told) (record { elapsed = refl; suspension = refl }) (keeps_both free told (preempt told) (keeps-obeyed app i false (bits_at s group) free) (keeps-preempt told))
+    lasts_both s free (preempt told) (record { elapsed = refl; suspension = refl })
+    (keeps_both free told (preempt told) (keeps-obeyed app i false (bits_at s group) free) (keeps-preempt told))
 
 lasts-obey : (app : Application) (i : ℕ) (c : Command) (phase : Phase) (s : State) → Lasts s (obey app i c phase s)
 lasts-obey app i c Start s = by_test c.clear
@@ -186,8 +211,10 @@ held-told app s =
     let come : State = increment_tick s in
     let told : State = interrupt app come in
     let k : Keeps (tick_come s) told = keeps_both (tick_come s) come told (keeps-increment s) (keeps-interrupt app come) in
-    let hold : told.call_hold ≡ s.call_hold = ap (λ (x : Hold). x.held) k.hold ∙ by_test (is_scheduler_suspended s) (λ t. rw t refl) (λ t. rw t refl) in
-    let count : told.suspensions ≡ s.suspensions = ap (λ (x : Suspension). x.suspensions) k.suspension ∙ by_test (is_scheduler_suspended s) (λ t. rw t refl) (λ t. rw t refl) in
+    let hold : told.call_hold ≡ s.call_hold =
+    ap (λ (x : Hold). x.held) k.hold ∙ by_test (is_scheduler_suspended s) (λ t. rw t refl) (λ t. rw t refl) in
+    let count : told.suspensions ≡ s.suspensions =
+    ap (λ (x : Suspension). x.suspensions) k.suspension ∙ by_test (is_scheduler_suspended s) (λ t. rw t refl) (λ t. rw t refl) in
     ap₂ (λ (b : Bool) (n : ℕ). b || ltb 0 n) hold count
 
 pub elapsed-tick : (app : Application) (s : State) → (tick_interrupt app s).elapsed ≡ s.elapsed + 1
@@ -201,12 +228,16 @@ suspension-tick app s none = (keeps-tick app s).suspension ∙ rw none refl
 
 pub held-tick : (app : Application) (s : State) → (tick_interrupt app s).held_ticks ≤ s.held_ticks + 1
 held-tick app s =
-    let e : (tick_interrupt app s).held_ticks ≡ (tick_come s).held_ticks = ap (λ (x : Suspension). x.held_ticks) (keeps-tick app s).suspension in
-    let come : (tick_come s).held_ticks ≤ s.held_ticks + 1 = by_test (is_scheduler_suspended s) (λ t. rw t (omega arith)) (λ t. rw t (omega arith)) in
+    let e : (tick_interrupt app s).held_ticks ≡ (tick_come s).held_ticks =
+    ap (λ (x : Suspension). x.held_ticks) (keeps-tick app s).suspension in
+    let come : (tick_come s).held_ticks ≤ s.held_ticks + 1 =
+    by_test (is_scheduler_suspended s) (λ t. rw t (omega arith)) (λ t. rw t (omega arith)) in
     omega arith
 
 pub suspensions-tick : (app : Application) (s : State) → (tick_interrupt app s).suspensions ≡ s.suspensions
-suspensions-tick app s = ap (λ (x : Suspension). x.suspensions) (keeps-tick app s).suspension ∙ by_test (is_scheduler_suspended s) (λ t. rw t refl) (λ t. rw t refl)
+suspensions-tick app s =
+    ap (λ (x : Suspension). x.suspensions) (keeps-tick app s).suspension
+    ∙ by_test (is_scheduler_suspended s) (λ t. rw t refl) (λ t. rw t refl)
 
 -- ---- a jump: idle lets several ticks pass
 
@@ -248,7 +279,8 @@ when_on true x y e = refl
 when_on false x y e = absurd (cc)
 
 -- Where it may jump, it does.
-pub idle_jumps : (app : Application) (limits : Limits) (s : State) → app.tickless ≡ true → idle app limits s ≡ jumped app (ticks_ahead app limits s) s
+pub idle_jumps : (app : Application) (limits : Limits) (s : State)
+    → app.tickless ≡ true → idle app limits s ≡ jumped app (ticks_ahead app limits s) s
 unfolding idle
 idle_jumps app limits s on = when_on app.tickless (jumped app (ticks_ahead app limits s) s) (tick_interrupt app s) on
 
@@ -257,12 +289,15 @@ pub idle_ticks : (app : Application) (limits : Limits) (s : State) → app.tickl
 unfolding idle
 idle_ticks app limits s off = when_off app.tickless (jumped app (ticks_ahead app limits s) s) (tick_interrupt app s) off
 
-pub elapsed-idle : (app : Application) (limits : Limits) (s : State) → app.tickless ≡ false → (idle app limits s).elapsed ≡ s.elapsed + 1
+pub elapsed-idle : (app : Application) (limits : Limits) (s : State)
+    → app.tickless ≡ false → (idle app limits s).elapsed ≡ s.elapsed + 1
 elapsed-idle app limits s off = ap (λ (t : State). t.elapsed) (idle_ticks app limits s off) ∙ elapsed-tick app s
 
-pub most-idle : (app : Application) (limits : Limits) (s : State) → s.elapsed < limits.ticks → (idle app limits s).elapsed ≤ limits.ticks
+pub most-idle : (app : Application) (limits : Limits) (s : State)
+    → s.elapsed < limits.ticks → (idle app limits s).elapsed ≤ limits.ticks
 unfolding idle
-most-idle app limits s l = either_way (λ t. t.elapsed ≤ limits.ticks) app.tickless (jumped app (ticks_ahead app limits s) s) (tick_interrupt app s)
+most-idle app limits s l =
+    either_way (λ t. t.elapsed ≤ limits.ticks) app.tickless (jumped app (ticks_ahead app limits s) s) (tick_interrupt app s)
     (let n : ℕ = ticks_ahead app limits s in
     let most : n ≤ limits.ticks - s.elapsed = least (limits.ticks - s.elapsed) (ticks_to_wake s ++ ticks_to_interrupt app s) in
     let e : (jumped app n s).elapsed ≡ s.elapsed + n = (keeps-jumped app n s).elapsed in
@@ -271,23 +306,31 @@ most-idle app limits s l = either_way (λ t. t.elapsed ≤ limits.ticks) app.tic
 
 pub hold-idle : (app : Application) (limits : Limits) (s : State) → hold_of (idle app limits s) ≡ hold_of s
 unfolding idle
-hold-idle app limits s = either_way (λ t. hold_of t ≡ hold_of s) app.tickless (jumped app (ticks_ahead app limits s) s) (tick_interrupt app s)
+hold-idle app limits s =
+    either_way (λ t. hold_of t ≡ hold_of s) app.tickless (jumped app (ticks_ahead app limits s) s) (tick_interrupt app s)
     (keeps-jumped app (ticks_ahead app limits s) s).hold (hold-tick app s)
 
-pub suspension-idle : (app : Application) (limits : Limits) (s : State) → s.suspensions ≡ 0 → suspension_of (idle app limits s) ≡ suspension_of s
+pub suspension-idle : (app : Application) (limits : Limits) (s : State)
+    → s.suspensions ≡ 0 → suspension_of (idle app limits s) ≡ suspension_of s
 unfolding idle
-suspension-idle app limits s none = either_way (λ t. suspension_of t ≡ suspension_of s) app.tickless (jumped app (ticks_ahead app limits s) s) (tick_interrupt app s)
+suspension-idle app limits s none =
+    either_way (λ t. suspension_of t ≡ suspension_of s) app.tickless
+    (jumped app (ticks_ahead app limits s) s) (tick_interrupt app s)
     (keeps-jumped app (ticks_ahead app limits s) s).suspension (suspension-tick app s none)
 
 suspensions-idle : (app : Application) (limits : Limits) (s : State) → (idle app limits s).suspensions ≡ s.suspensions
 unfolding idle
-suspensions-idle app limits s = either_way (λ t. t.suspensions ≡ s.suspensions) app.tickless (jumped app (ticks_ahead app limits s) s) (tick_interrupt app s)
+suspensions-idle app limits s =
+    either_way (λ t. t.suspensions ≡ s.suspensions) app.tickless (jumped app (ticks_ahead app limits s) s) (tick_interrupt app s)
     (ap (λ (x : Suspension). x.suspensions) (keeps-jumped app (ticks_ahead app limits s) s).suspension) (suspensions-tick app s)
 
 held-idle : (app : Application) (limits : Limits) (s : State) → (idle app limits s).held_ticks ≤ s.held_ticks + 1
 unfolding idle
-held-idle app limits s = either_way (λ t. t.held_ticks ≤ s.held_ticks + 1) app.tickless (jumped app (ticks_ahead app limits s) s) (tick_interrupt app s)
-    (let e : (jumped app (ticks_ahead app limits s) s).held_ticks ≡ s.held_ticks = ap (λ (x : Suspension). x.held_ticks) (keeps-jumped app (ticks_ahead app limits s) s).suspension in omega arith)
+held-idle app limits s =
+    either_way (λ t. t.held_ticks ≤ s.held_ticks + 1) app.tickless (jumped app (ticks_ahead app limits s) s) (tick_interrupt app s)
+    (let e : (jumped app (ticks_ahead app limits s) s).held_ticks ≡ s.held_ticks =
+    ap (λ (x : Suspension). x.held_ticks) (keeps-jumped app (ticks_ahead app limits s) s).suspension in
+    omega arith)
     (held-tick app s)
 
 -- ---- the scheduler suspended and resumed
@@ -331,8 +374,21 @@ pub resumes : (s : State) → Resumes s (resume_scheduler s)
 unfolding resume_scheduler
 resumes s = by_test (eqb s.suspensions 1)
     (λ t. rw t (let k = applies s.held_ticks (record s { suspensions = s.suspensions - 1 }) in
-    record { elapsed = k.elapsed; hold = k.hold; suspensions = k.suspensions; held = λ _. let e = k.held in omega arith; no_more = let e = k.held in omega arith }))
-    (λ t. rw t (record { elapsed = refl; hold = refl; suspensions = refl; held = λ e. let u : eqb s.suspensions 1 ≡ true = rw e refl in absurd (cc); no_more = omega arith }))
+    record {
+      elapsed = k.elapsed;
+      hold = k.hold;
+      suspensions = k.suspensions;
+      held = λ _. let e = k.held in omega arith;
+      no_more = let e = k.held in omega arith;
+    }))
+    (λ t.
+    rw t (record {
+      elapsed = refl;
+      hold = refl;
+      suspensions = refl;
+      held = λ e. let u : eqb s.suspensions 1 ≡ true = rw e refl in absurd (cc);
+      no_more = omega arith;
+    }))
 
 pub resumes-all : (app : Application) (i : ℕ) (s : State) → Resumes s (resume_all app i s)
 unfolding resume_all
@@ -340,13 +396,17 @@ resumes-all app i s =
     let t : State = resume_scheduler s in
     let r = resumes s in
     let u : State = answer app i (Some 0) t in
-    let k : Keeps t (unless_held preempt u) = keeps_both t u (unless_held preempt u) (keeps-answer app i (Some 0) t) (keeps-unless_held preempt u keeps-preempt) in
+    let k : Keeps t (unless_held preempt u) =
+    keeps_both t u (unless_held preempt u) (keeps-answer app i (Some 0) t) (keeps-unless_held preempt u keeps-preempt) in
     record {
       elapsed = k.elapsed ∙ r.elapsed;
       hold = k.hold ∙ r.hold;
       suspensions = ap (λ (x : Suspension). x.suspensions) k.suspension ∙ r.suspensions;
       held = λ e. ap (λ (x : Suspension). x.held_ticks) k.suspension ∙ r.held e;
-      no_more = (let e : (unless_held preempt u).held_ticks ≡ t.held_ticks = ap (λ (x : Suspension). x.held_ticks) k.suspension in let less = r.no_more in omega arith);
+      no_more =
+          (let e : (unless_held preempt u).held_ticks ≡ t.held_ticks = ap (λ (x : Suspension). x.held_ticks) k.suspension in
+          let less = r.no_more in
+          omega arith);
     }
 
 pub record Suspends (old new : State) : Type 0 where
@@ -359,7 +419,12 @@ pub suspends-all : (app : Application) (i : ℕ) (s : State) → Suspends s (sus
 unfolding suspend_all
 suspends-all app i s =
     let k = keeps-answer app i (Some 0) (record s { suspensions = s.suspensions + 1 }) in
-    record { elapsed = k.elapsed; hold = k.hold; suspensions = ap (λ (x : Suspension). x.suspensions) k.suspension; held = ap (λ (x : Suspension). x.held_ticks) k.suspension }
+    record {
+      elapsed = k.elapsed;
+      hold = k.hold;
+      suspensions = ap (λ (x : Suspension). x.suspensions) k.suspension;
+      held = ap (λ (x : Suspension). x.held_ticks) k.suspension;
+    }
 
 -- ---- the ops
 
@@ -371,7 +436,8 @@ is_instant ResumeAll = false
 is_instant _ = true
 
 -- what is true of those three, and of all others, is true of every op
-pub by_op : (P : Op → Type 0) → ((n : ℕ) → P (Work n)) → P SuspendAll → P ResumeAll → ((op : Op) → is_instant op ≡ true → P op) → (op : Op) → P op
+pub by_op : (P : Op → Type 0) → ((n : ℕ) → P (Work n)) → P SuspendAll
+    → P ResumeAll → ((op : Op) → is_instant op ≡ true → P op) → (op : Op) → P op
 by_op P w s r f (Work n) = w n
 by_op P w s r f (Delay n) = f (Delay n) refl
 by_op P w s r f (DelayUntil n) = f (DelayUntil n) refl
@@ -404,13 +470,16 @@ by_op P w s r f (NextCommand o) = f (NextCommand o) refl
 by_op P w s r f Obey = f Obey refl
 
 -- an instant op in one phase
-ends-act : (app : Application) (i : ℕ) (op : Op) (s : State) → is_instant op ≡ true → course (Some op) ≡ InOne → Ends s (act app i op s)
+ends-act : (app : Application) (i : ℕ) (op : Op) (s : State)
+    → is_instant op ≡ true → course (Some op) ≡ InOne → Ends s (act app i op s)
 ends-act app i (Work n) s t w = absurd (cc)
 ends-act app i (Delay n) s t w = ends s _ (keeps-delay app i n s)
 ends-act app i (DelayUntil n) s t w = ends s _ (keeps-delay_until app i ((progress_at s i).previous_wake + n) s)
 ends-act app i Yield s t w = ends s _ (keeps_both s _ _ (keeps-answer app i (Some 0) s) (keeps-yield_now (answer app i (Some 0) s)))
 ends-act app i Time s t w = ends s _ (keeps-answer app i (Some (printed s.time)) s)
-ends-act app i (Mark n) s t w = let k = keeps-go_to app i ((progress_at s i).op_index + 1) (progress_at s i) (write (what.Mark i n) s) in record { lasts = record { elapsed = k.elapsed; suspension = k.suspension }; hold = k.hold }
+ends-act app i (Mark n) s t w =
+    let k = keeps-go_to app i ((progress_at s i).op_index + 1) (progress_at s i) (write (what.Mark i n) s) in
+    record { lasts = record { elapsed = k.elapsed; suspension = k.suspension }; hold = k.hold }
 ends-act app i (Expect c) s t w = ends-expect app i c s
 ends-act app i (Repeat n) s t w = ends s _ (keeps-open_loop app i n s)
 ends-act app i End s t w = ends s _ (keeps-close_turn app i s)
@@ -424,7 +493,8 @@ ends-act app i (Await o a ticks) s t w = absurd (cc)
 ends-act app i (Do o a) s t w = ends s _ (keeps-do_now app i o a s)
 ends-act app i (GiveMutex o) s t w = ends s _ (keeps-give_mutex app i o s)
 ends-act app i (MessagesWaiting o) s t w = ends s _ (keeps-answer app i (Some (length (object_at s o).items)) s)
-ends-act app i (SpacesAvailable o) s t w = ends s _ (keeps-answer app i (Some ((object_at s o).size - length (object_at s o).items)) s)
+ends-act app i (SpacesAvailable o) s t w =
+    ends s _ (keeps-answer app i (Some ((object_at s o).size - length (object_at s o).items)) s)
 ends-act app i (SetBits g m) s t w = absurd (cc)
 ends-act app i (ClearBits g m) s t w = ends s _ (keeps-clear app i g m s)
 ends-act app i (GetBits g) s t w = ends s _ (keeps-answer app i (Some (bits_at s g)) s)
@@ -486,18 +556,32 @@ elapsed-act app i op s = by_op (λ op. (act app i op s).elapsed ≤ s.elapsed + 
 -- how many `suspend_all` are in force after it
 pub suspensions-act : (app : Application) (i : ℕ) (op : Op) (s : State) → (act app i op s).suspensions ≤ s.suspensions + 1
 suspensions-act app i op s = by_op (λ op. (act app i op s).suspensions ≤ s.suspensions + 1)
-    (λ n. let e = suspensions-tick app (use_up app i n s) in let f : (use_up app i n s).suspensions ≡ s.suspensions = ap (λ (x : Suspension). x.suspensions) (keeps-use_up app i n s).suspension in omega arith)
+    (λ n. let e = suspensions-tick app (use_up app i n s) in
+    let f : (use_up app i n s).suspensions ≡ s.suspensions =
+    ap (λ (x : Suspension). x.suspensions) (keeps-use_up app i n s).suspension in
+    omega arith)
     (let e = (suspends-all app i s).suspensions in omega arith)
     (let e = (resumes-all app i s).suspensions in omega arith)
-    (λ op t. let e : (act app i op s).suspensions ≡ s.suspensions = ap (λ (x : Suspension). x.suspensions) (lasts-act app i op s t).suspension in omega arith) op
+    (λ op t.
+    let e : (act app i op s).suspensions ≡ s.suspensions =
+    ap (λ (x : Suspension). x.suspensions) (lasts-act app i op s t).suspension in
+    omega arith)
+    op
 
 -- how many ticks are held after it
 held-act : (app : Application) (i : ℕ) (op : Op) (s : State) → (act app i op s).held_ticks ≤ s.held_ticks + 1
 held-act app i op s = by_op (λ op. (act app i op s).held_ticks ≤ s.held_ticks + 1)
-    (λ n. let e = held-tick app (use_up app i n s) in let f : (use_up app i n s).held_ticks ≡ s.held_ticks = ap (λ (x : Suspension). x.held_ticks) (keeps-use_up app i n s).suspension in omega arith)
+    (λ n. let e = held-tick app (use_up app i n s) in
+    let f : (use_up app i n s).held_ticks ≡ s.held_ticks =
+    ap (λ (x : Suspension). x.held_ticks) (keeps-use_up app i n s).suspension in
+    omega arith)
     (let e = (suspends-all app i s).held in omega arith)
     (let e = (resumes-all app i s).no_more in omega arith)
-    (λ op t. let e : (act app i op s).held_ticks ≡ s.held_ticks = ap (λ (x : Suspension). x.held_ticks) (lasts-act app i op s t).suspension in omega arith) op
+    (λ op t.
+    let e : (act app i op s).held_ticks ≡ s.held_ticks =
+    ap (λ (x : Suspension). x.held_ticks) (lasts-act app i op s t).suspension in
+    omega arith)
+    op
 
 -- a judgement
 pub judged : (i op_index : ℕ) (s : State) → Lasts s (judge i op_index s)
@@ -512,9 +596,11 @@ judged_calm : (i op_index : ℕ) (s : State) → s.suspensions ≡ 0 → judge i
 unfolding judge
 judged_calm i op_index s none = rw none refl
 
-calm_still : (app : Application) (i : ℕ) (op : Op) (s : State) → s.suspensions ≡ 0 → own_misuse s i op ≡ None → op ≢ SuspendAll → (act app i op s).suspensions ≡ 0
+calm_still : (app : Application) (i : ℕ) (op : Op) (s : State) → s.suspensions ≡ 0
+    → own_misuse s i op ≡ None → op ≢ SuspendAll → (act app i op s).suspensions ≡ 0
 calm_still app i op s none = by_op (λ op. own_misuse s i op ≡ None → op ≢ SuspendAll → (act app i op s).suspensions ≡ 0)
-    (λ n m ne. suspensions-tick app (use_up app i n s) ∙ ap (λ (x : Suspension). x.suspensions) (keeps-use_up app i n s).suspension ∙ none)
+    (λ n m ne.
+    suspensions-tick app (use_up app i n s) ∙ ap (λ (x : Suspension). x.suspensions) (keeps-use_up app i n s).suspension ∙ none)
     (λ m ne. absurd (ne refl))
     (λ m ne. let f : Some NotSuspended ≡ None = rw none at m in absurd (cc))
     (λ op t m ne. ap (λ (x : Suspension). x.suspensions) (lasts-act app i op s t).suspension ∙ none) op
@@ -523,40 +609,51 @@ calm_still app i op s none = by_op (λ op. own_misuse s i op ≡ None → op ≢
 pub misuse_calm : (s : State) (i : ℕ) (op : Op) → s.suspensions ≡ 0 → misuse s i op ≡ own_misuse s i op
 misuse_calm s i op none = rw none refl
 
-pub acts_calm : (app : Application) (i : ℕ) (op : Op) (s : State) → s.suspensions ≡ 0 → own_misuse s i op ≡ None → op ≢ SuspendAll → act_unless app i (misuse s i op) op s ≡ act app i op s
+pub acts_calm : (app : Application) (i : ℕ) (op : Op) (s : State) → s.suspensions ≡ 0
+    → own_misuse s i op ≡ None → op ≢ SuspendAll → act_unless app i (misuse s i op) op s ≡ act app i op s
 acts_calm app i op s none fine ne =
     ap (λ (kind : Option Misuse). act_unless app i kind op s) (misuse_calm s i op none ∙ fine)
     ∙ judged_calm i (progress_at s i).op_index (act app i op s) (calm_still app i op s none fine ne)
 
--- no more than one tick passes, except where idle may jump, and then none past the limit; no more than one is held, and no more than
--- one `suspend_all` comes into force
+-- no more than one tick passes, except where idle may jump, and then none past the limit; no more than one is held, and no more
+-- than one `suspend_all` comes into force
 pub record Moves (app : Application) (limits : Limits) (old new : State) : Type 0 where
   pub elapsed : app.tickless ≡ false → new.elapsed ≤ old.elapsed + 1
   pub most : old.elapsed < limits.ticks → new.elapsed ≤ limits.ticks
   pub suspensions : new.suspensions ≤ old.suspensions + 1
   pub held : new.held_ticks ≤ old.held_ticks + 1
 
-moves-act_unless : (app : Application) (limits : Limits) (i : ℕ) (kind : Option Misuse) (op : Op) (s : State) → Moves app limits s (act_unless app i kind op s)
+moves-act_unless : (app : Application) (limits : Limits) (i : ℕ) (kind : Option Misuse) (op : Op) (s : State)
+    → Moves app limits s (act_unless app i kind op s)
 moves-act_unless app limits i None op s =
     let t : State = act app i op s in
     let j = judged i (progress_at s i).op_index t in
     let e = j.elapsed in
-    let f : (judge i (progress_at s i).op_index t).suspensions ≡ t.suspensions = ap (λ (x : Suspension). x.suspensions) j.suspension in
+    let f : (judge i (progress_at s i).op_index t).suspensions ≡ t.suspensions =
+    ap (λ (x : Suspension). x.suspensions) j.suspension in
     let a = elapsed-act app i op s in
     let g : (judge i (progress_at s i).op_index t).held_ticks ≡ t.held_ticks = ap (λ (x : Suspension). x.held_ticks) j.suspension in
     let b = suspensions-act app i op s in
     let h = held-act app i op s in
     record { elapsed = λ off. omega arith; most = λ l. omega arith; suspensions = omega arith; held = omega arith }
-moves-act_unless app limits i (Some kind) op s = record { elapsed = λ off. omega arith; most = λ l. omega arith; suspensions = omega arith; held = omega arith }
+moves-act_unless app limits i (Some kind) op s =
+    record { elapsed = λ off. omega arith; most = λ l. omega arith; suspensions = omega arith; held = omega arith }
 
 moves-act_if : (app : Application) (limits : Limits) (i : ℕ) (o : Option Op) (s : State) → Moves app limits s (act_if app i o s)
-moves-act_if app limits i None s = record { elapsed = λ off. omega arith; most = λ l. omega arith; suspensions = omega arith; held = omega arith }
+moves-act_if app limits i None s =
+    record { elapsed = λ off. omega arith; most = λ l. omega arith; suspensions = omega arith; held = omega arith }
 moves-act_if app limits i (Some op) s = moves-act_unless app limits i (misuse s i op) op s
 
-moves-act_current : (app : Application) (limits : Limits) (r : Option ℕ) (s : State) → Moves app limits s (act_current app limits r s)
+moves-act_current : (app : Application) (limits : Limits) (r : Option ℕ) (s : State)
+    → Moves app limits s (act_current app limits r s)
 moves-act_current app limits None s =
     let f = suspensions-idle app limits s in
-    record { elapsed = λ off. (let e = elapsed-idle app limits s off in omega arith); most = λ l. most-idle app limits s l; suspensions = omega arith; held = held-idle app limits s }
+    record {
+      elapsed = λ off. (let e = elapsed-idle app limits s off in omega arith);
+      most = λ l. most-idle app limits s l;
+      suspensions = omega arith;
+      held = held-idle app limits s;
+    }
 moves-act_current app limits (Some i) s = moves-act_if app limits i (op_at app i (progress_at s i).op_index) s
 
 -- ---- a step, and reset
@@ -584,16 +681,20 @@ moves-step app limits handlers s =
       held = omega arith;
     }
 
-pub elapsed-step : (app : Application) (limits : Limits) (handlers : List ℕ) (s : State) → app.tickless ≡ false → (step app limits handlers s).elapsed ≤ s.elapsed + 1
+pub elapsed-step : (app : Application) (limits : Limits) (handlers : List ℕ) (s : State)
+    → app.tickless ≡ false → (step app limits handlers s).elapsed ≤ s.elapsed + 1
 elapsed-step app limits handlers s = (moves-step app limits handlers s).elapsed
 
-pub most-step : (app : Application) (limits : Limits) (handlers : List ℕ) (s : State) → s.elapsed < limits.ticks → (step app limits handlers s).elapsed ≤ limits.ticks
+pub most-step : (app : Application) (limits : Limits) (handlers : List ℕ) (s : State)
+    → s.elapsed < limits.ticks → (step app limits handlers s).elapsed ≤ limits.ticks
 most-step app limits handlers s = (moves-step app limits handlers s).most
 
-pub held-step : (app : Application) (limits : Limits) (handlers : List ℕ) (s : State) → (step app limits handlers s).held_ticks ≤ s.held_ticks + 1
+pub held-step : (app : Application) (limits : Limits) (handlers : List ℕ) (s : State)
+    → (step app limits handlers s).held_ticks ≤ s.held_ticks + 1
 held-step app limits handlers s = (moves-step app limits handlers s).held
 
-pub suspensions-step : (app : Application) (limits : Limits) (handlers : List ℕ) (s : State) → (step app limits handlers s).suspensions ≤ s.suspensions + 1
+pub suspensions-step : (app : Application) (limits : Limits) (handlers : List ℕ) (s : State)
+    → (step app limits handlers s).suspensions ≤ s.suspensions + 1
 suspensions-step app limits handlers s = (moves-step app limits handlers s).suspensions
 
 elapsed-nobody : (app : Application) → (nobody_ready app).elapsed ≡ 0

@@ -1,5 +1,6 @@
 -- What each phase of a call that waits makes of a state.
-use Rattle.std.proofs.Common.{ap₂, ◌≡◌, ◌≢◌, ◌<◌, ◌||◌, ℕ, true, false, leb, ltb-false, arith, length, Option, Some, None, refl, ap, sym, subst, ◌∙◌, get_or-set_same, get_or-set_other}
+use Rattle.std.proofs.Common.{ap₂, ◌≡◌, ◌≢◌, ◌<◌, ◌||◌, ℕ, true, false, leb, ltb-false, arith, length, Option, Some, None, refl, ap}
+use Rattle.std.proofs.Common.{sym, subst, ◌∙◌, get_or-set_same, get_or-set_other}
 use Rattle.std.specs.Prelude.{Bool}
 use Rattle.std.specs.Option.{IfSome, option_map, is_some, unwrap_or}
 use Rattle.std.proofs.Math.ListN.{length-set}
@@ -10,13 +11,15 @@ use Rattle.model.specs.declared.call.Phase.{Phase}
 use Rattle.model.specs.declared.call.Phase.TheVariants.{Try, Place, Unlock, Leave}
 use Rattle.model.specs.Application.{Application, op_at}
 use Rattle.model.specs.Scripts.{IsWellFormed}
-use Rattle.model.specs.State.{State, Task, Progress, Wait, Waiting, ticket_if_ready, wait_if_awake, task_at, status_at, progress_at, call_at, with_task, go_on, for_each, for_one, no_task}
+use Rattle.model.specs.State.{State, Task, Progress, Wait, Waiting, ticket_if_ready, wait_if_awake, task_at, status_at, progress_at}
+use Rattle.model.specs.State.{call_at, with_task, go_on, for_each, for_one, no_task}
 use Rattle.model.specs.Switching.{is_ready, make_ready, is_scheduler_suspended}
 use Rattle.model.specs.Waiting.{is_locked, wait_in, is_expired, end_hold, unlock_object, unlock}
 use Rattle.model.specs.Objects.{list_for, possible}
 use Rattle.model.specs.Calls.{lock, decide, leave_call}
 use Rattle.model.specs.Mutexes.{inherit}
-use Rattle.model.specs.Invariant.{Hold, hold_of, Course, OnObject, ToSetBits, course, list_of_op, IsPhaseOf, IsSound, holds, IsPlacing, IsRunning, RunsIn, Suspension, suspension_of, IsState, wait_of}
+use Rattle.model.specs.Invariant.{Hold, hold_of, Course, OnObject, ToSetBits, course, list_of_op, IsPhaseOf, IsSound, holds}
+use Rattle.model.specs.Invariant.{IsPlacing, IsRunning, RunsIn, Suspension, suspension_of, IsState, wait_of}
 use Rattle.model.proofs.Sorting.{by_test}
 use Rattle.model.proofs.Tables.{ticket_at, each-set_but}
 use Rattle.model.proofs.Unlocking.{opened_by, none_left, still_at, current-all_ready, none_awake}
@@ -48,12 +51,14 @@ calm_where s not_so none =
 -- while a call holds the scheduler
 pub calm_held : (app : Application) (s : State) → IsState app s → s.call_hold ≡ true → suspension_of s ≡ unsuspended
 calm_held app s h held =
-    let not_so : is_scheduler_suspended s ≡ false = by_test (is_scheduler_suspended s) (λ t. let f = h.apart t in absurd (cc)) (λ t. t) in
+    let not_so : is_scheduler_suspended s ≡ false =
+    by_test (is_scheduler_suspended s) (λ t. let f = h.apart t in absurd (cc)) (λ t. t) in
     calm_where s not_so (h.held not_so)
 
 module _ (app : Application) (formed : IsWellFormed app) where
   -- the running task goes on in a phase that holds the scheduler
-  pub in_hold : (s : State) (i : ℕ) (t : Task) → IsSound app (hold_of s) (with_task i t s) → s.current ≡ Some i → i < length s.tasks → s.call_hold ≡ true
+  pub in_hold : (s : State) (i : ℕ) (t : Task) → IsSound app (hold_of s) (with_task i t s)
+      → s.current ≡ Some i → i < length s.tasks → s.call_hold ≡ true
       → holds t.progress.call.phase ≡ true → (t.progress.call.phase ≡ Place → IsPlacing s.time t (wait_of t.status))
       → (course (op_at app i t.progress.op_index) ≡ ToSetBits → is_some (ticket_if_ready t.status) ≡ true)
       → ((j : ℕ) → j ≢ i → holds (call_at s j).phase ≡ false) → suspension_of s ≡ unsuspended → IsState app (with_task i t s)
@@ -61,7 +66,8 @@ module _ (app : Application) (formed : IsWellFormed app) where
       let at : task_at (with_task i t s) i ≡ t = get_or-set_same s.tasks i t no_task l in
       let H : Task → Type 0 = λ u. holds u.progress.call.phase ≡ s.call_hold in
       let Q : Task → Type 0 = λ u. u.progress.call.phase ≡ Place → IsPlacing s.time u (wait_of u.status) in
-      let T : Task → Type 0 = λ u. course (op_at app i u.progress.op_index) ≡ ToSetBits → is_some (ticket_if_ready u.status) ≡ true in
+      let T : Task → Type 0 = λ u.
+      course (op_at app i u.progress.op_index) ≡ ToSetBits → is_some (ticket_if_ready u.status) ≡ true in
       let P : ℕ → Task → Type 0 = λ j u. holds u.progress.call.phase ≡ true → s.current ≡ Some j in
       record {
         sound = h;
@@ -88,46 +94,81 @@ module _ (app : Application) (formed : IsWellFormed app) where
   -- whatever is held from now on, it is as it was of all tasks
   pub held_by_all : (s : State) (new : Hold) → IsSound app (hold_of s) s → s.call_hold ≡ false → s.locked ≡ None → IsSound app new s
   held_by_all s new h none unlocked =
-      reheld app formed (hold_of s) new s h (λ j. call_apart (hold_of s) new s.time _ (task_at s j) (others_free s h none j) (none_woken s h unlocked j) (h.calls j))
+      reheld app formed (hold_of s) new s h
+      (λ j. call_apart (hold_of s) new s.time _ (task_at s j) (others_free s h none j) (none_woken s h unlocked j) (h.calls j))
 
-  still_to_come : (deadline : Option ℕ) (now : ℕ) → unwrap_or (option_map (λ d. leb d now) deadline) false ≡ false → IfSome deadline (λ d. now < d)
+  still_to_come : (deadline : Option ℕ) (now : ℕ)
+      → unwrap_or (option_map (λ d. leb d now) deadline) false ≡ false → IfSome deadline (λ d. now < d)
   still_to_come None now t = tt
   still_to_come (Some d) now t = leb-false d now t
 
   -- of a call on an object that waits in the list for it
-  module _ (s : State) (i o : ℕ) (a : Access) (op : Op) (h : IsSound app (hold_of s) s) (none : s.call_hold ≡ false) (unlocked : s.locked ≡ None) (calm : suspension_of s ≡ unsuspended)
-      (runs : s.current ≡ Some i) (l : i < length s.tasks) (r : is_ready s i ≡ true) (is : op_at app i (progress_at s i).op_index ≡ Some op) (way : course (Some op) ≡ OnObject o)
+  module _ (s : State) (i o : ℕ) (a : Access) (op : Op) (h : IsSound app (hold_of s) s)
+      (none : s.call_hold ≡ false) (unlocked : s.locked ≡ None) (calm : suspension_of s ≡ unsuspended)
+      (runs : s.current ≡ Some i) (l : i < length s.tasks) (r : is_ready s i ≡ true)
+      (is : op_at app i (progress_at s i).op_index ≡ Some op) (way : course (Some op) ≡ OnObject o)
       (listed : list_of_op (Some op) ≡ Some (list_for o a)) where
     locking : Hold
     locking = record { held = true; locked = Some o }
 
-    phase_there : (phase : Phase) → IsPhaseOf locking (OnObject o) phase → IsPhaseOf locking (course (op_at app i (progress_at s i).op_index)) phase
+    phase_there : (phase : Phase) → IsPhaseOf locking (OnObject o) phase
+        → IsPhaseOf locking (course (op_at app i (progress_at s i).op_index)) phase
     phase_there phase p = let P : Course → Type 0 = λ c. IsPhaseOf locking c phase in subst P (sym way ∙ ap course (sym is)) p
 
     decided_not : IsState app (lock i o Unlock s)
     unfolding locking
     decided_not =
         let t : State = record s { call_hold = true; locked = Some o } in
-        let h1 : IsSound app locking t = framed app formed locking s s.log s.steps s.stopped (Some o) true (held_by_all s locking h none unlocked) in
-        in_hold t i (record (task_at s i) { progress = record (progress_at s i) { call = record (call_at s i) { phase = Unlock } } })
-        (went_on app formed locking t i Unlock h1 (phase_there Unlock (refl, refl))) runs l refl refl (λ e. absurd (cc)) (λ e. let f : OnObject o ≡ ToSetBits = sym way ∙ ap course (sym is) ∙ e in absurd (cc)) (λ j ne. others_free s h none j) calm
+        let h1 : IsSound app locking t =
+        framed app formed locking s s.log s.steps s.stopped (Some o) true (held_by_all s locking h none unlocked) in
+        in_hold t i
+        (record (task_at s i) { progress = record (progress_at s i) { call = record (call_at s i) { phase = Unlock } } })
+        (went_on app formed locking t i Unlock h1 (phase_there Unlock (refl, refl))) runs l refl refl
+        (λ e. absurd (cc)) (λ e. let f : OnObject o ≡ ToSetBits = sym way ∙ ap course (sym is) ∙ e in absurd (cc))
+        (λ j ne. others_free s h none j) calm
 
     -- what the task is when it has begun to wait
     waiting_task : Task
     waiting_task = record (task_at s i) {
       progress = record (progress_at s i) { call = record (call_at s i) { waits = true } };
-      status = Waiting (record { list = list_for o a; priority = (task_at s i).priority; ticket = s.next_ticket; deadline = (call_at s i).deadline });
+      status =
+          Waiting (record {
+            list = list_for o a;
+            priority = (task_at s i).priority;
+            ticket = s.next_ticket;
+            deadline = (call_at s i).deadline;
+          });
     }
 
     begun_at : task_at (wait_in i (list_for o a) s) i ≡ waiting_task
     unfolding wait_in waiting_task
     begun_at =
-        let t : Task = record (task_at s i) { progress = record (progress_at s i) { call = record (call_at s i) { waits = true } } } in
+        let t : Task =
+        record (task_at s i) { progress = record (progress_at s i) { call = record (call_at s i) { waits = true } } } in
         let s1 : State = with_task i t s in
         let at : task_at s1 i ≡ t = get_or-set_same s.tasks i t no_task l in
-        let u : Task = record (task_at s1 i) { status = Waiting (record { list = list_for o a; priority = (task_at s i).priority; ticket = s.next_ticket; deadline = (call_at s i).deadline }) } in
+        let u : Task =
+        record (task_at s1 i) {
+          status = Waiting (record {
+            list = list_for o a;
+            priority = (task_at s i).priority;
+            ticket = s.next_ticket;
+            deadline = (call_at s i).deadline;
+          });
+        } in
         let l1 : i < length s1.tasks = rw length-set l in
-        get_or-set_same s1.tasks i u no_task l1 ∙ ap (λ (v : Task). record v { status = Waiting (record { list = list_for o a; priority = (task_at s i).priority; ticket = s.next_ticket; deadline = (call_at s i).deadline }) }) at
+        get_or-set_same s1.tasks i u no_task l1
+        ∙ ap (λ (v : Task).
+        record v {
+          status =
+              Waiting (record {
+                list = list_for o a;
+                priority = (task_at s i).priority;
+                ticket = s.next_ticket;
+                deadline = (call_at s i).deadline;
+              });
+        })
+        at
 
     begun_others : (j : ℕ) → j ≢ i → task_at (wait_in i (list_for o a) s) j ≡ task_at s j
     unfolding wait_in
@@ -150,27 +191,40 @@ module _ (app : Application) (formed : IsWellFormed app) where
     decided_to_wait to_come =
         let b : State = wait_in i (list_for o a) s in
         let t : State = record b { call_hold = true; locked = Some o } in
-        let h1 : IsSound app locking t = framed app formed locking b b.log b.steps b.stopped (Some o) true (began app formed locking s i o a op (held_by_all s locking h none unlocked) l r is listed) in
+        let h1 : IsSound app locking t =
+        framed app formed locking b b.log b.steps b.stopped (Some o) true
+        (began app formed locking s i o a op (held_by_all s locking h none unlocked) l r is listed) in
         let O : Task → Type 0 = λ (u : Task). IsPhaseOf locking (course (op_at app i u.progress.op_index)) Place in
-        let F : ℕ → Task → Type 0 = λ now u. IsPlacing now (record u { progress = record u.progress { call = record u.progress.call { phase = Place } } }) (wait_of u.status) in
+        let F : ℕ → Task → Type 0 = λ now u.
+        IsPlacing now (record u { progress = record u.progress { call = record u.progress.call { phase = Place } } })
+        (wait_of u.status) in
         let later : IfSome (call_at s i).deadline (λ d. s.time < d) = still_to_come (call_at s i).deadline s.time to_come in
         let placing : F s.time waiting_task = (refl, later) in
         in_hold t i (record (task_at b i) { progress = record (progress_at b i) { call = record (call_at b i) { phase = Place } } })
         (went_on app formed locking t i Place h1 (subst O (sym begun_at) (phase_there Place (refl, refl))))
         (begun_kept.1 ∙ runs) (rw begun_length l) refl refl
         (λ _. subst (λ now. F now (task_at b i)) (sym begun_kept.0) (subst (F s.time) (sym begun_at) placing))
-        (λ e. let f : OnObject o ≡ ToSetBits = sym way ∙ ap course (sym is) ∙ sym (ap (λ (u : Task). course (op_at app i u.progress.op_index)) begun_at) ∙ e in absurd (cc))
-        (λ j ne. subst (λ (u : Task). holds u.progress.call.phase ≡ false) (sym (begun_others j ne)) (others_free s h none j)) (begun_calm ∙ calm)
+        (λ e.
+        let f : OnObject o ≡ ToSetBits =
+        sym way ∙ ap course (sym is) ∙ sym (ap (λ (u : Task). course (op_at app i u.progress.op_index)) begun_at) ∙ e in
+        absurd (cc))
+        (λ j ne. subst (λ (u : Task). holds u.progress.call.phase ≡ false) (sym (begun_others j ne)) (others_free s h none j))
+        (begun_calm ∙ calm)
 
-  module _ (s : State) (i o : ℕ) (a : Access) (op : Op) (h : IsSound app (hold_of s) s) (none : s.call_hold ≡ false) (unlocked : s.locked ≡ None) (calm : suspension_of s ≡ unsuspended)
-      (runs : s.current ≡ Some i) (l : i < length s.tasks) (r : is_ready s i ≡ true) (is : op_at app i (progress_at s i).op_index ≡ Some op) (way : course (Some op) ≡ OnObject o)
+  module _ (s : State) (i o : ℕ) (a : Access) (op : Op) (h : IsSound app (hold_of s) s)
+      (none : s.call_hold ≡ false) (unlocked : s.locked ≡ None) (calm : suspension_of s ≡ unsuspended)
+      (runs : s.current ≡ Some i) (l : i < length s.tasks) (r : is_ready s i ≡ true)
+      (is : op_at app i (progress_at s i).op_index ≡ Some op) (way : course (Some op) ≡ OnObject o)
       (listed : list_of_op (Some op) ≡ Some (list_for o a)) where
     pub decided : IsState app (decide i o a s)
     unfolding decide
     decided = by_test (possible s o a || is_expired s i)
         (λ t. rw t (decided_not s i o a op h none unlocked calm runs l r is way listed))
-        (λ t. rw t (decided_to_wait lent i o a op lent_sound (ap (λ (x : Hold). x.held) kept.hold ∙ none) (ap (λ (x : Hold). x.locked) kept.hold ∙ unlocked) (kept.suspension ∙ calm)
-        (ranks.current ∙ runs) (rw kept.tasks l) ((ranks.at i).ready ∙ r) (ap (op_at app i) (ranks.at i).op_index ∙ is) way listed (still_ahead ∙ expired_not (possible s o a) (is_expired s i) t))) where
+        (λ t.
+        rw t (decided_to_wait lent i o a op lent_sound (ap (λ (x : Hold). x.held) kept.hold ∙ none)
+        (ap (λ (x : Hold). x.locked) kept.hold ∙ unlocked) (kept.suspension ∙ calm)
+        (ranks.current ∙ runs) (rw kept.tasks l) ((ranks.at i).ready ∙ r) (ap (op_at app i) (ranks.at i).op_index ∙ is)
+        way listed (still_ahead ∙ expired_not (possible s o a) (is_expired s i) t))) where
           lent : State
           lent = inherit i o s
 
@@ -184,7 +238,9 @@ module _ (app : Application) (formed : IsWellFormed app) where
           lent_sound = subst (λ x. IsSound app x lent) (sym kept.hold) (inherited app formed (hold_of s) s i o h)
 
           still_ahead : is_expired lent i ≡ is_expired s i
-          still_ahead = ap (λ d. unwrap_or (option_map (λ x. leb x lent.time) d) false) (ranks.at i).deadline ∙ ap (λ time. unwrap_or (option_map (λ x. leb x time) (call_at s i).deadline) false) kept.time
+          still_ahead =
+              ap (λ d. unwrap_or (option_map (λ x. leb x lent.time) d) false) (ranks.at i).deadline
+              ∙ ap (λ time. unwrap_or (option_map (λ x. leb x time) (call_at s i).deadline) false) kept.time
 
           expired_not : (x y : Bool) → (x || y) ≡ false → y ≡ false
           expired_not false y e = e
@@ -204,15 +260,19 @@ module _ (app : Application) (formed : IsWellFormed app) where
         (λ t. t)
 
     -- where nothing is locked any more
-    pub hold_ended : s.locked ≡ None → (phase : Phase) → IsPhaseOf free (course (op_at app i (progress_at s i).op_index)) phase → IsSound app free (end_hold i phase s)
+    pub hold_ended : s.locked ≡ None → (phase : Phase)
+        → IsPhaseOf free (course (op_at app i (progress_at s i).op_index)) phase → IsSound app free (end_hold i phase s)
     hold_ended leaves phase fits =
         let s1 : State = record s { call_hold = false } in
-        let t : Task = record (task_at s i) { progress = record (progress_at s i) { call = record (call_at s i) { phase = phase; waits = false } } } in
+        let t : Task =
+        record (task_at s i)
+        { progress = record (progress_at s i) { call = record (call_at s i) { phase = phase; waits = false } } } in
         let h1 : IsSound app (hold_of s) s1 = framed app formed (hold_of s) s s.log s.steps s.stopped s.locked false h.sound in
         let a = h.sound.progress i in
         let c = h.sound.calls i in
         let A : Option Wait → Type 0 = λ w. IfSome w (λ x. is_locked None x.list ≡ true) in
-        let none : (j : ℕ) → wait_if_awake (status_at s j) ≡ None = λ j. none_awake s.locked (wait_if_awake (status_at s j)) leaves (h.sound.calls j).awake in
+        let none : (j : ℕ) → wait_if_awake (status_at s j) ≡ None = λ j.
+        none_awake s.locked (wait_if_awake (status_at s j)) leaves (h.sound.calls j).awake in
         rehung app formed (hold_of s) free s1 i t h1 l (ticket_at s.next_ticket i s.tasks h.sound.table.tickets) (
           record { nests = a.nests; loops = a.loops; used = a.used; reckoned = a.reckoned; stamped = a.stamped },
           record { phase = fits; wait = c.wait; awake = subst A (sym (none i)) tt; near = c.near },
@@ -222,7 +282,8 @@ module _ (app : Application) (formed : IsWellFormed app) where
 
   -- ---- Place
 
-  module _ (s : State) (i o : ℕ) (h : IsState app s) (runs : s.current ≡ Some i) (l : i < length s.tasks) (on : course (op_at app i (progress_at s i).op_index) ≡ OnObject o) where
+  module _ (s : State) (i o : ℕ) (h : IsState app s) (runs : s.current ≡ Some i)
+      (l : i < length s.tasks) (on : course (op_at app i (progress_at s i).op_index) ≡ OnObject o) where
     running : IsRunning app s i
     running = subst (RunsIn app s) runs h.runs
 
@@ -230,9 +291,13 @@ module _ (app : Application) (formed : IsWellFormed app) where
       pub placed : (call_at s i).phase ≡ Place → IsState app (go_on i Unlock s)
       placed is =
           let P : Course → Phase → Type 0 = λ way phase. IsPhaseOf (hold_of s) way phase in
-          let p : IsPhaseOf (hold_of s) (OnObject o) Place = subst (P (OnObject o)) is (subst (λ way. P way (call_at s i).phase) on (h.sound.calls i).phase) in
-          in_hold s i (record (task_at s i) { progress = record (progress_at s i) { call = record (call_at s i) { phase = Unlock } } })
-          (went_on app formed (hold_of s) s i Unlock h.sound (subst (λ way. P way Unlock) (sym on) p)) runs l held refl (λ e. absurd (cc)) (λ e. let f : OnObject o ≡ ToSetBits = sym on ∙ e in absurd (cc)) (only s i h runs l) (calm_held app s h held)
+          let p : IsPhaseOf (hold_of s) (OnObject o) Place =
+          subst (P (OnObject o)) is (subst (λ way. P way (call_at s i).phase) on (h.sound.calls i).phase) in
+          in_hold s i
+          (record (task_at s i) { progress = record (progress_at s i) { call = record (call_at s i) { phase = Unlock } } })
+          (went_on app formed (hold_of s) s i Unlock h.sound (subst (λ way. P way Unlock) (sym on) p)) runs l
+          held refl (λ e. absurd (cc)) (λ e. let f : OnObject o ≡ ToSetBits = sym on ∙ e in absurd (cc))
+          (only s i h runs l) (calm_held app s h held)
 
       -- ---- Unlock
 
@@ -240,7 +305,8 @@ module _ (app : Application) (formed : IsWellFormed app) where
         unlocks : s.locked ≡ Some o
         unlocks =
             let P : Course → Phase → Type 0 = λ way phase. IsPhaseOf (hold_of s) way phase in
-            let p : IsPhaseOf (hold_of s) (OnObject o) Unlock = subst (P (OnObject o)) is (subst (λ way. P way (call_at s i).phase) on (h.sound.calls i).phase) in
+            let p : IsPhaseOf (hold_of s) (OnObject o) Unlock =
+            subst (P (OnObject o)) is (subst (λ way. P way (call_at s i).phase) on (h.sound.calls i).phase) in
             p.1
 
         opened : State
@@ -255,7 +321,10 @@ module _ (app : Application) (formed : IsWellFormed app) where
 
         opened_sound : IsSound app (hold_of s) opened
         unfolding opened
-        opened_sound = all_made_ready app formed (hold_of s) (record s { locked = None }) (opened_by s o) (framed app formed (hold_of s) s s.log s.steps s.stopped None s.call_hold h.sound) (opened_can s o (λ j. (h.sound.progress j).reckoned))
+        opened_sound =
+            all_made_ready app formed (hold_of s) (record s { locked = None }) (opened_by s o)
+            (framed app formed (hold_of s) s s.log s.steps s.stopped None s.call_hold h.sound)
+            (opened_can s o (λ j. (h.sound.progress j).reckoned))
 
         at_opened : (j : ℕ) → progress_at opened j ≡ progress_at s j
         unfolding opened
@@ -263,7 +332,9 @@ module _ (app : Application) (formed : IsWellFormed app) where
 
         none_opened : (j : ℕ) → wait_if_awake (status_at opened j) ≡ None
         unfolding opened
-        none_opened j = none_left (record s { locked = None }) o j (subst (λ l. IfSome (wait_if_awake (status_at s j)) (λ w. is_locked l w.list ≡ true)) unlocks (h.sound.calls j).awake)
+        none_opened j =
+            none_left (record s { locked = None }) o j (subst
+            (λ l. IfSome (wait_if_awake (status_at s j)) (λ w. is_locked l w.list ≡ true)) unlocks (h.sound.calls j).awake)
 
         kept_opened : Keeps (record s { locked = None }) opened
         unfolding opened
@@ -277,7 +348,9 @@ module _ (app : Application) (formed : IsWellFormed app) where
         off_opened j ne = subst (λ (p : Progress). holds p.call.phase ≡ false) (sym (at_opened j)) (only s i h runs l j ne)
 
         left_task : Task
-        left_task = record (task_at opened i) { progress = record (progress_at opened i) { call = record (call_at opened i) { phase = Leave } } }
+        left_task =
+            record (task_at opened i)
+            { progress = record (progress_at opened i) { call = record (call_at opened i) { phase = Leave } } }
 
         sound_left : IsSound app still (with_task i left_task opened)
         unfolding still left_task
@@ -287,12 +360,19 @@ module _ (app : Application) (formed : IsWellFormed app) where
             let O : Progress → Type 0 = λ p. IsPhaseOf still (course (op_at app i p.op_index)) Leave in
             let A : Option Wait → Type 0 = λ w. IfSome w (λ x. is_locked None x.list ≡ true) in
             let l1 : i < length opened.tasks = rw kept_opened.tasks l in
-            rehung app formed (hold_of s) still opened i left_task opened_sound l1 (ticket_at opened.next_ticket i opened.tasks opened_sound.table.tickets) (
+            rehung app formed (hold_of s) still opened i left_task opened_sound l1
+            (ticket_at opened.next_ticket i opened.tasks opened_sound.table.tickets) (
               record { nests = a.nests; loops = a.loops; used = a.used; reckoned = a.reckoned; stamped = a.stamped },
-              record { phase = subst O (sym (at_opened i)) (subst (λ way. IsPhaseOf still way Leave) (sym on) (held, refl)); wait = c.wait; awake = subst A (sym (none_opened i)) tt; near = c.near },
+              record {
+                phase = subst O (sym (at_opened i)) (subst (λ way. IsPhaseOf still way Leave) (sym on) (held, refl));
+                wait = c.wait;
+                awake = subst A (sym (none_opened i)) tt;
+                near = c.near;
+              },
               opened_sound.priorities i,
             )
-            (λ j ne. call_apart (hold_of s) still opened.time _ (task_at opened j) (off_opened j ne) (none_opened j) (opened_sound.calls j))
+            (λ j ne.
+            call_apart (hold_of s) still opened.time _ (task_at opened j) (off_opened j ne) (none_opened j) (opened_sound.calls j))
 
         pub unlocked : IsState app (go_on i Leave (unlock s))
         unfolding still left_task
@@ -300,9 +380,13 @@ module _ (app : Application) (formed : IsWellFormed app) where
             let kept : hold_of opened ≡ still = kept_opened.hold in
             let hold : opened.call_hold ≡ true = ap (λ (x : Hold). x.held) kept ∙ held in
             let l1 : i < length opened.tasks = rw kept_opened.tasks l in
-            let set_not : course (op_at app i (progress_at opened i).op_index) ≡ ToSetBits → is_ready opened i ≡ true = λ e. let f : OnObject o ≡ ToSetBits = sym on ∙ sym (ap (λ (p : Progress). course (op_at app i p.op_index)) (at_opened i)) ∙ e in absurd (cc) in
+            let set_not : course (op_at app i (progress_at opened i).op_index) ≡ ToSetBits → is_ready opened i ≡ true = λ e.
+            let f : OnObject o ≡ ToSetBits =
+            sym on ∙ sym (ap (λ (p : Progress). course (op_at app i p.op_index)) (at_opened i)) ∙ e in
+            absurd (cc) in
             subst (λ u. IsState app (go_on i Leave u)) (sym opened_is)
-            (in_hold opened i left_task (subst (λ x. IsSound app x (with_task i left_task opened)) (sym kept) sound_left) runs_opened l1 hold refl (λ e. absurd (cc)) set_not off_opened (kept_opened.suspension ∙ calm_held app s h held))
+            (in_hold opened i left_task (subst (λ x. IsSound app x (with_task i left_task opened)) (sym kept) sound_left)
+            runs_opened l1 hold refl (λ e. absurd (cc)) set_not off_opened (kept_opened.suspension ∙ calm_held app s h held))
 
         pub unlocked_held : (go_on i Leave (unlock s)).call_hold ≡ true
         unlocked_held =
@@ -315,7 +399,8 @@ module _ (app : Application) (formed : IsWellFormed app) where
         leaves : s.locked ≡ None
         leaves =
             let P : Course → Phase → Type 0 = λ way phase. IsPhaseOf (hold_of s) way phase in
-            let p : IsPhaseOf (hold_of s) (OnObject o) Leave = subst (P (OnObject o)) is (subst (λ way. P way (call_at s i).phase) on (h.sound.calls i).phase) in
+            let p : IsPhaseOf (hold_of s) (OnObject o) Leave =
+            subst (P (OnObject o)) is (subst (λ way. P way (call_at s i).phase) on (h.sound.calls i).phase) in
             p.1
 
         ended : State

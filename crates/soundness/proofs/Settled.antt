@@ -4,9 +4,11 @@ use Rattle.std.specs.List.{AllByRecursion}
 use Rattle.std.specs.Prelude.{Bool, if◌then◌else◌}
 use Rattle.std.specs.Option.{IfSome, is_some, option_map}
 use Rattle.model.specs.Application.{Application, Limits}
-use Rattle.model.specs.State.{State, Status, Ready, Awake, Waiting, Asleep, WaitingForBits, Suspended, Ended, ticket_if_ready, task_at, for_one}
+use Rattle.model.specs.State.{State, Status, Ready, Awake, Waiting, Asleep, WaitingForBits, Suspended, Ended, ticket_if_ready}
+use Rattle.model.specs.State.{task_at, for_one}
 use Rattle.model.specs.Order.{Key, Entry, key, first, task_of}
-use Rattle.model.specs.Switching.{ready_key, ready_list, is_ready, to_back, choice, is_same, choose, dispatch, yield_now, is_outranked, preempt, is_off, settle, is_held, unless_held}
+use Rattle.model.specs.Switching.{ready_key, ready_list, is_ready, to_back, choice, is_same, choose, dispatch, yield_now}
+use Rattle.model.specs.Switching.{is_outranked, preempt, is_off, settle, is_held, unless_held}
 use Rattle.model.specs.declared.plan.Injection.{Injection}
 use Rattle.model.specs.Step.{act_current, before_step, step, ready_at_reset, reset}
 use Rattle.model.specs.Run.{injected, state_after}
@@ -17,7 +19,8 @@ use Rattle.model.proofs.Chosen.{same_eq}
 abbrev pub IsSettled : State → Type 0
 IsSettled s = IfSome s.current (λ task. is_ready s task ≡ true)
 
-pub keyed_ready : (priority : ℕ) (u : Status) (k : Key) → option_map (key priority) (ticket_if_ready u) ≡ Some k → is_some (ticket_if_ready u) ≡ true
+pub keyed_ready : (priority : ℕ) (u : Status) (k : Key)
+    → option_map (key priority) (ticket_if_ready u) ≡ Some k → is_some (ticket_if_ready u) ≡ true
 keyed_ready priority (Ready n) k e = refl
 keyed_ready priority (Awake w) k e = absurd (cc)
 keyed_ready priority (Waiting w) k e = absurd (cc)
@@ -26,7 +29,8 @@ keyed_ready priority (WaitingForBits g m d) k e = absurd (cc)
 keyed_ready priority Suspended k e = absurd (cc)
 keyed_ready priority Ended k e = absurd (cc)
 
-first_ready : (s : State) (es : List Entry) → AllByRecursion (HasKey ready_key s.tasks) es → IfSome (task_of (first es)) (λ task. is_ready s task ≡ true)
+first_ready : (s : State) (es : List Entry) → AllByRecursion (HasKey ready_key s.tasks) es
+    → IfSome (task_of (first es)) (λ task. is_ready s task ≡ true)
 first_ready s [] h = tt
 first_ready s (e ∷ es) h = keyed_ready (task_at s e.task).priority (task_at s e.task).status e.key h.0.key
 
@@ -79,7 +83,8 @@ pub held_by_none : (s : State) → s.call_hold ≡ false → s.suspensions ≡ 0
 held_by_none s free none = rw (free, none) refl
 
 -- where it isn't held
-pub settled-step : (app : Application) (limits : Limits) (handlers : List ℕ) (s : State) → is_held (step app limits handlers s) ≡ false → IsSettled (step app limits handlers s)
+pub settled-step : (app : Application) (limits : Limits) (handlers : List ℕ) (s : State)
+    → is_held (step app limits handlers s) ≡ false → IsSettled (step app limits handlers s)
 unfolding step
 settled-step app limits handlers s free = by_test (is_held t)
     (λ held. let same : is_held (unless_held settle t) ≡ is_held t = ap is_held (when_held settle t held) in absurd (cc))
@@ -91,6 +96,7 @@ pub settled-reset : (app : Application) → IsSettled (reset app)
 unfolding reset
 settled-reset app = choice_ready (ready_at_reset app)
 
-pub settled_after : (app : Application) (limits : Limits) (plan : List Injection) (n : ℕ) → is_held (state_after app limits plan n) ≡ false → IsSettled (state_after app limits plan n)
+pub settled_after : (app : Application) (limits : Limits) (plan : List Injection) (n : ℕ)
+    → is_held (state_after app limits plan n) ≡ false → IsSettled (state_after app limits plan n)
 settled_after app limits plan zero free = settled-reset app
 settled_after app limits plan (suc n) free = settled-step app limits (injected plan n) (state_after app limits plan n) free

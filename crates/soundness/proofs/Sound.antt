@@ -1,5 +1,7 @@
 -- What every deed keeps.
-use Rattle.std.proofs.Common.{◌≡◌, ◌≢◌, ◌<◌, ◌≤◌, ◌+◌, ◌-◌, ℕ, suc, true, false, eqb, leb, ltb, ltb-false, ◌||◌, List, [], ◌∷◌, length, get_or, set, drop, Option, Some, None, refl, ap, sym, subst, ◌∙◌, arith, get_or-set_same, get_or-set_other, min}
+use Rattle.std.proofs.Common.{◌≡◌, ◌≢◌, ◌<◌, ◌≤◌, ◌+◌, ◌-◌, ℕ, suc, true, false, eqb, leb, ltb, ltb-false, ◌||◌, List, [], ◌∷◌}
+use Rattle.std.proofs.Common.{length, get_or, set, drop, Option, Some, None, refl, ap, sym, subst, ◌∙◌, arith, get_or-set_same}
+use Rattle.std.proofs.Common.{get_or-set_other, min}
 use Rattle.std.specs.List.{AllByRecursion, filter}
 use Rattle.std.specs.Prelude.{Bool}
 use Rattle.std.specs.Option.{IfSome, is_some, option_eq}
@@ -15,19 +17,25 @@ use Rattle.model.specs.Application.{Application, script_of, op_at, op_count}
 use Rattle.model.specs.Answers.{holds}
 use Rattle.model.specs.Blocks.{edge_of, jump_from}
 use Rattle.model.specs.Scripts.{IsWellFormed}
-use Rattle.model.specs.State.{State, Task, Progress, Status, Wait, Ready, Awake, Waiting, Asleep, WaitingForBits, Suspended, Ended, ticket_if_ready, ticket_of, wake_time_of, no_call, task_at, progress_at, status_at, with_task, take_ticket, for_one, for_each, no_task}
+use Rattle.model.specs.State.{State, Task, Progress, Status, Wait, Ready, Awake, Waiting, Asleep, WaitingForBits, Suspended, Ended}
+use Rattle.model.specs.State.{ticket_if_ready, ticket_of, wake_time_of, no_call, task_at, progress_at, status_at, with_task}
+use Rattle.model.specs.State.{take_ticket, for_one, for_each, no_task}
 use Rattle.model.specs.Order.{Entry, tasks_of}
-use Rattle.model.specs.Switching.{make_ready, to_back, dispatch, choose, choice, is_same, is_ready, yield_now, is_outranked, is_sharing, preempt, slice, settle, is_off, write}
+use Rattle.model.specs.Switching.{make_ready, to_back, dispatch, choose, choice, is_same, is_ready, yield_now, is_outranked}
+use Rattle.model.specs.Switching.{is_sharing, preempt, slice, settle, is_off, write}
 use Rattle.model.specs.Waiting.{is_locked}
 use Rattle.model.specs.Time.{wake_due, due, is_due, delayed_list, delayed_key, sleep, set_previous_wake}
-use Rattle.model.specs.Ops.{go_to, moved_to, complete, called, answer, use_up, delay, delay_until, expect, open_loop, next_turn, turn, close_turn, branch, skip_branch, leave_loop, stamp, since}
-use Rattle.model.specs.Invariant.{HasTicketBelow, IsUsedBy, AreOpenAt, LoopsNest, IsReckoned, HasPriority, IsAt, Hold, course, IsPhaseOf, IsWaitOf, IsCall, IsSound, wait_of}
+use Rattle.model.specs.Ops.{go_to, moved_to, complete, called, answer, use_up, delay, delay_until, expect, open_loop, next_turn}
+use Rattle.model.specs.Ops.{turn, close_turn, branch, skip_branch, leave_loop, stamp, since}
+use Rattle.model.specs.Invariant.{HasTicketBelow, IsUsedBy, AreOpenAt, LoopsNest, IsReckoned, HasPriority, IsAt, Hold, course}
+use Rattle.model.specs.Invariant.{IsPhaseOf, IsWaitOf, IsCall, IsSound, wait_of}
 use Rattle.model.proofs.Sorting.{by_test}
 use Rattle.model.proofs.Lists.{eqb-refl, eqb-same}
 use Rattle.model.proofs.Tables.{ticket_at, table-set, table-taken, each-set}
 use Rattle.model.proofs.Chosen.{choice_within, list_within}
 use Rattle.model.proofs.Statuses.{ready_awake, ready_free, free_unwoken}
-use Rattle.soundness.proofs.InScripts.{script_formed, nesting_past, nests_past, no_end, one_less, without_first, open_at_first, used_none}
+use Rattle.soundness.proofs.InScripts.{script_formed, nesting_past, nests_past, no_end, one_less, without_first, open_at_first}
+use Rattle.soundness.proofs.InScripts.{used_none}
 use Rattle.soundness.proofs.Jumping.{after_if, after_else, after_break}
 use Rattle.soundness.proofs.Frames.{keeps-answer}
 
@@ -42,7 +50,8 @@ later_reckoned n now p (WaitingForBits g m d) h = omega arith
 later_reckoned n now p Suspended h = tt
 later_reckoned n now p Ended h = tt
 
-pub ready_reckoned : (now previous : ℕ) (u : Status) → IsReckoned now previous u → is_some (ticket_if_ready u) ≡ true → previous ≤ now
+pub ready_reckoned : (now previous : ℕ) (u : Status) → IsReckoned now previous u
+    → is_some (ticket_if_ready u) ≡ true → previous ≤ now
 ready_reckoned now p (Ready n) h t = h
 ready_reckoned now p (Awake w) h t = h
 ready_reckoned now p (Waiting w) h t = h
@@ -61,7 +70,8 @@ reckoned_now now p Suspended h t = tt
 reckoned_now now p Ended h t = tt
 
 -- one who isn't Ready, and has no other ticket either
-reckoned_ended : (now previous : ℕ) (u : Status) → is_some (ticket_if_ready u) ≡ false → is_some (ticket_of u) ≡ is_some (ticket_if_ready u) → IsReckoned now previous u
+reckoned_ended : (now previous : ℕ) (u : Status) → is_some (ticket_if_ready u) ≡ false
+    → is_some (ticket_of u) ≡ is_some (ticket_if_ready u) → IsReckoned now previous u
 reckoned_ended now p (Ready n) h t = absurd (cc)
 reckoned_ended now p (Awake w) h t = absurd (cc)
 reckoned_ended now p (Waiting w) h t = absurd (cc)
@@ -79,7 +89,8 @@ ready_alone (WaitingForBits g m d) t = absurd (cc)
 ready_alone Suspended t = absurd (cc)
 ready_alone Ended t = absurd (cc)
 
-due_reckoned : (now previous : ℕ) (u : Status) → IsReckoned now previous u → option_eq eqb (wake_time_of u) (Some now) ≡ true → previous ≤ now
+due_reckoned : (now previous : ℕ) (u : Status) → IsReckoned now previous u
+    → option_eq eqb (wake_time_of u) (Some now) ≡ true → previous ≤ now
 due_reckoned now p (Ready n) h t = absurd (cc)
 due_reckoned now p (Awake w) h t = h
 due_reckoned now p (Waiting w) h t = h
@@ -96,19 +107,23 @@ pub can_still : (s : State) (i j : ℕ) → CanBeReady s i → CanBeReady s j �
 can_still s i j c d = (
   rw length-set d.0,
   by_test (eqb j i)
-      (λ u. let same : j ≡ i = eqb-same j i u in rw (same, get_or-set_same s.tasks i (record (task_at s i) { status = Ready s.next_ticket }) no_task c.0, progress_at) c.1)
+      (λ u. let same : j ≡ i = eqb-same j i u in
+      rw (same, get_or-set_same s.tasks i (record (task_at s i) { status = Ready s.next_ticket }) no_task c.0, progress_at) c.1)
       (λ u. let apart : j ≢ i = (λ q. let w : eqb j i ≡ true = rw q (eqb-refl i) in absurd (cc)) in
       rw (get_or-set_other s.tasks i j (record (task_at s i) { status = Ready s.next_ticket }) no_task apart, progress_at) d.1),
 )
 
-still_can : (s : State) (i : ℕ) (js : List ℕ) → CanBeReady s i → AllByRecursion (CanBeReady s) js → AllByRecursion (CanBeReady (make_ready i s)) js
+still_can : (s : State) (i : ℕ) (js : List ℕ) → CanBeReady s i
+    → AllByRecursion (CanBeReady s) js → AllByRecursion (CanBeReady (make_ready i s)) js
 still_can s i [] c a = tt
 still_can s i (j ∷ js) c a = (can_still s i j c a.0, still_can s i js c a.1)
 
-due_can : (s : State) → ((i : ℕ) → IsReckoned s.time (progress_at s i).previous_wake (status_at s i)) → (es : List Entry) → AllByRecursion (λ (e : Entry). e.task < length s.tasks) es → AllByRecursion (CanBeReady s) (tasks_of (filter (is_due s) es))
+due_can : (s : State) → ((i : ℕ) → IsReckoned s.time (progress_at s i).previous_wake (status_at s i)) → (es : List Entry)
+    → AllByRecursion (λ (e : Entry). e.task < length s.tasks) es → AllByRecursion (CanBeReady s) (tasks_of (filter (is_due s) es))
 due_can s r [] a = tt
 due_can s r (e ∷ es) a = by_test (is_due s e)
-    (λ t. rw t ((a.0, due_reckoned s.time (progress_at s e.task).previous_wake (status_at s e.task) (r e.task) t), due_can s r es a.1))
+    (λ t.
+    rw t ((a.0, due_reckoned s.time (progress_at s e.task).previous_wake (status_at s e.task) (r e.task) t), due_can s r es a.1))
     (λ t. rw t (due_can s r es a.1))
 
 -- ---- changes of a list of what is kept
@@ -116,34 +131,45 @@ due_can s r (e ∷ es) a = by_test (is_due s e)
 -- ---- calls
 
 -- a task that doesn't wait, whose call hasn't begun or goes on as it is
-pub call_free : (hold : Hold) (now : ℕ) (op : Option Op) (t : Task) (status : Status) → wait_of status ≡ None → IsCall hold now op t → IsCall hold now op (record t { status = status })
+pub call_free : (hold : Hold) (now : ℕ) (op : Option Op) (t : Task) (status : Status)
+    → wait_of status ≡ None → IsCall hold now op t → IsCall hold now op (record t { status = status })
 call_free hold now op t status free c =
     let W : Option Wait → Type 0 = λ o. IfSome o (λ w. IsWaitOf op t.progress.call.deadline w) in
     let A : Option Wait → Type 0 = λ o. IfSome o (λ w. is_locked hold.locked w.list ≡ true) in
     record { phase = c.phase; wait = subst W (sym free) tt; awake = subst A (sym (free_unwoken status free)) tt; near = c.near }
 
 -- a call that hasn't begun
-pub call_none : (hold : Hold) (now : ℕ) (op : Option Op) (t : Task) → t.progress.call ≡ no_call → wait_of t.status ≡ None → IsCall hold now op t
+pub call_none : (hold : Hold) (now : ℕ) (op : Option Op) (t : Task)
+    → t.progress.call ≡ no_call → wait_of t.status ≡ None → IsCall hold now op t
 call_none hold now op t none free =
     let P : CallProgress → Type 0 = λ call. IsPhaseOf hold (course op) call.phase in
     let W : Option Wait → Type 0 = λ o. IfSome o (λ w. IsWaitOf op t.progress.call.deadline w) in
     let A : Option Wait → Type 0 = λ o. IfSome o (λ w. is_locked hold.locked w.list ≡ true) in
     let N : CallProgress → Type 0 = λ call. IfSome call.deadline (λ deadline. deadline < now + 4294967296) in
-    record { phase = subst P (sym none) tt; wait = subst W (sym free) tt; awake = subst A (sym (free_unwoken t.status free)) tt; near = subst N (sym none) tt }
+    record {
+      phase = subst P (sym none) tt;
+      wait = subst W (sym free) tt;
+      awake = subst A (sym (free_unwoken t.status free)) tt;
+      near = subst N (sym none) tt;
+    }
 
 -- time passes
-near_later : (n : ℕ) (o : Option ℕ) (now : ℕ) → IfSome o (λ deadline. deadline < now + 4294967296) → IfSome o (λ deadline. deadline < (now + n) + 4294967296)
+near_later : (n : ℕ) (o : Option ℕ) (now : ℕ) → IfSome o (λ deadline. deadline < now + 4294967296)
+    → IfSome o (λ deadline. deadline < (now + n) + 4294967296)
 near_later n None now h = tt
 near_later n (Some deadline) now h = omega arith
 
 call_later : (n : ℕ) (hold : Hold) (now : ℕ) (op : Option Op) (t : Task) → IsCall hold now op t → IsCall hold (now + n) op t
-call_later n hold now op t c = record { phase = c.phase; wait = c.wait; awake = c.awake; near = near_later n t.progress.call.deadline now c.near }
+call_later n hold now op t c =
+    record { phase = c.phase; wait = c.wait; awake = c.awake; near = near_later n t.progress.call.deadline now c.near }
 
 -- ---- what each deed keeps
 
 module _ (app : Application) (formed : IsWellFormed app) (hold : Hold) where
   -- the events don't matter, nor the steps done, nor an end that a step has brought about, nor what the state says of a hold
-  pub framed : (s : State) (log : List Event) (steps : ℕ) (stopped : Option ending.End) (locked : Option ℕ) (held : Bool) → IsSound app hold s → IsSound app hold (record s { log = log; steps = steps; stopped = stopped; locked = locked; call_hold = held })
+  pub framed : (s : State) (log : List Event) (steps : ℕ) (stopped : Option ending.End) (locked : Option ℕ) (held : Bool)
+      → IsSound app hold s
+      → IsSound app hold (record s { log = log; steps = steps; stopped = stopped; locked = locked; call_hold = held })
   framed s log steps stopped locked held h = record {
     table = record { tickets = h.table.tickets; few = h.table.few; current = h.table.current; holders = h.table.holders };
     tasks = h.tasks;
@@ -155,20 +181,24 @@ module _ (app : Application) (formed : IsWellFormed app) (hold : Hold) where
     time = h.time;
   }
 
-  pub logged : (s : State) (log : List Event) (steps : ℕ) (stopped : Option ending.End) → IsSound app hold s → IsSound app hold (record s { log = log; steps = steps; stopped = stopped })
+  pub logged : (s : State) (log : List Event) (steps : ℕ) (stopped : Option ending.End)
+      → IsSound app hold s → IsSound app hold (record s { log = log; steps = steps; stopped = stopped })
   logged s log steps stopped h = framed s log steps stopped s.locked s.call_hold h
 
   -- what is true of the task of this number
   abbrev pub IsKept : ℕ → ℕ → Task → Type 0
-  IsKept now i t = IsAt now (script_of app i) t.progress t.status × IsCall hold now (op_at app i t.progress.op_index) t × HasPriority t
+  IsKept now i t =
+      IsAt now (script_of app i) t.progress t.status × IsCall hold now (op_at app i t.progress.op_index) t × HasPriority t
 
   pub kept_at : (s : State) (i : ℕ) → IsSound app hold s → IsKept s.time i (task_at s i)
   kept_at s i h = (h.progress i, h.calls i, h.priorities i)
 
-  kept-set : (s : State) (i : ℕ) (t : Task) → IsSound app hold s → IsKept s.time i t → (j : ℕ) → IsKept s.time j (get_or (set s.tasks i t) j no_task)
+  kept-set : (s : State) (i : ℕ) (t : Task) → IsSound app hold s → IsKept s.time i t
+      → (j : ℕ) → IsKept s.time j (get_or (set s.tasks i t) j no_task)
   kept-set s i t h k = each-set no_task (IsKept s.time) s.tasks i t k (λ j. kept_at s j h)
 
-  pub changed : (s : State) (i : ℕ) (t : Task) → IsSound app hold s → HasTicketBelow s.next_ticket t.status → IsKept s.time i t → IsSound app hold (with_task i t s)
+  pub changed : (s : State) (i : ℕ) (t : Task) → IsSound app hold s
+      → HasTicketBelow s.next_ticket t.status → IsKept s.time i t → IsSound app hold (with_task i t s)
   changed s i t h b k = record {
     table = table-set s i t h.table b;
     tasks = rw length-set h.tasks;
@@ -180,7 +210,8 @@ module _ (app : Application) (formed : IsWellFormed app) (hold : Hold) where
     time = h.time;
   }
 
-  pub taken : (s : State) (i : ℕ) (f : ℕ → Status) → IsSound app hold s → HasTicketBelow (s.next_ticket + 1) (f s.next_ticket) → IsKept s.time i (record (task_at s i) { status = f s.next_ticket }) → IsSound app hold (take_ticket i f s)
+  pub taken : (s : State) (i : ℕ) (f : ℕ → Status) → IsSound app hold s → HasTicketBelow (s.next_ticket + 1) (f s.next_ticket)
+      → IsKept s.time i (record (task_at s i) { status = f s.next_ticket }) → IsSound app hold (take_ticket i f s)
   taken s i f h b k = record {
     table = table-taken s i f h.table b;
     tasks = rw length-set h.tasks;
@@ -193,22 +224,28 @@ module _ (app : Application) (formed : IsWellFormed app) (hold : Hold) where
   }
 
   -- a task in its place gets a status in which it doesn't wait
-  pub kept_free : (s : State) (i : ℕ) (u : Status) → IsSound app hold s → wait_of u ≡ None → IsReckoned s.time (progress_at s i).previous_wake u → IsKept s.time i (record (task_at s i) { status = u })
+  pub kept_free : (s : State) (i : ℕ) (u : Status) → IsSound app hold s → wait_of u ≡ None
+      → IsReckoned s.time (progress_at s i).previous_wake u → IsKept s.time i (record (task_at s i) { status = u })
   kept_free s i u h free r =
-      let a = h.progress i in
-      (record { nests = a.nests; loops = a.loops; used = a.used; reckoned = r; stamped = a.stamped }, call_free hold s.time (op_at app i (progress_at s i).op_index) (task_at s i) u free (h.calls i), ((h.priorities i).0, (h.priorities i).1, subst (λ o. IfSome o (λ w. w.priority < 32)) (sym free) tt))
+      let a = h.progress i in (
+        record { nests = a.nests; loops = a.loops; used = a.used; reckoned = r; stamped = a.stamped },
+        call_free hold s.time (op_at app i (progress_at s i).op_index) (task_at s i) u free (h.calls i),
+        ((h.priorities i).0, (h.priorities i).1, subst (λ o. IfSome o (λ w. w.priority < 32)) (sym free) tt),
+      )
 
   pub made_ready : (s : State) (i : ℕ) → IsSound app hold s → CanBeReady s i → IsSound app hold (make_ready i s)
   made_ready s i h c = taken s i Ready h (omega arith) (kept_free s i (Ready s.next_ticket) h refl c.1)
 
-  pub all_made_ready : (s : State) (is : List ℕ) → IsSound app hold s → AllByRecursion (CanBeReady s) is → IsSound app hold (for_each make_ready is s)
+  pub all_made_ready : (s : State) (is : List ℕ) → IsSound app hold s
+      → AllByRecursion (CanBeReady s) is → IsSound app hold (for_each make_ready is s)
   all_made_ready s [] h a = h
   all_made_ready s (i ∷ is) h a = all_made_ready (make_ready i s) is (made_ready s i h a.0) (still_can s i is a.0 a.1)
 
   pub ready_can : (s : State) (i : ℕ) → IsSound app hold s → i < length s.tasks → is_ready s i ≡ true → CanBeReady s i
   ready_can s i h l t = (l, ready_reckoned s.time (progress_at s i).previous_wake (status_at s i) (h.progress i).reckoned t)
 
-  pub runs : (s : State) (c : Option ℕ) → IsSound app hold s → IfSome c (λ i. i < length s.tasks) → IsSound app hold (record s { current = c })
+  pub runs : (s : State) (c : Option ℕ) → IsSound app hold s
+      → IfSome c (λ i. i < length s.tasks) → IsSound app hold (record s { current = c })
   runs s c h l = record {
     table = record { tickets = h.table.tickets; few = h.table.few; current = l; holders = h.table.holders };
     tasks = h.tasks;
@@ -226,7 +263,8 @@ module _ (app : Application) (formed : IsWellFormed app) (hold : Hold) where
       (λ t. rw t h)
       (λ t. rw t (logged (record s { current = choice s }) _ s.steps s.stopped (runs s (choice s) h (choice_within s))))
 
-  pub went_back : (s : State) (r : Option ℕ) → IsSound app hold s → IfSome r (λ i. i < length s.tasks) → IsSound app hold (for_one to_back r s)
+  pub went_back : (s : State) (r : Option ℕ) → IsSound app hold s
+      → IfSome r (λ i. i < length s.tasks) → IsSound app hold (for_one to_back r s)
   unfolding to_back
   went_back s None h l = h
   went_back s (Some i) h l = by_test (is_ready s i) (λ t. rw t (made_ready s i h (ready_can s i h l t))) (λ t. rw t h)
@@ -249,14 +287,24 @@ module _ (app : Application) (formed : IsWellFormed app) (hold : Hold) where
 
   pub woken : (s : State) → IsSound app hold s → IsSound app hold (wake_due s)
   unfolding wake_due
-  woken s h = all_made_ready s (tasks_of (due s)) h (due_can s (λ i. (h.progress i).reckoned) (delayed_list s) (list_within delayed_key s.tasks))
+  woken s h =
+      all_made_ready s (tasks_of (due s)) h
+      (due_can s (λ i. (h.progress i).reckoned) (delayed_list s) (list_within delayed_key s.tasks))
 
   pub later : (n : ℕ) (s : State) → IsSound app hold s → IsSound app hold (record s { time = s.time + n; elapsed = s.elapsed + n })
   later n s h = let b = h.time.0 in let e = h.time.1 in record {
     table = record { tickets = h.table.tickets; few = h.table.few; current = h.table.current; holders = h.table.holders };
     tasks = h.tasks;
     objects = h.objects;
-    progress = λ i. let a = h.progress i in record { nests = a.nests; loops = a.loops; used = a.used; reckoned = later_reckoned n s.time (progress_at s i).previous_wake (status_at s i) a.reckoned; stamped = let le = a.stamped in omega arith };
+    progress = λ i.
+        let a = h.progress i in
+        record {
+          nests = a.nests;
+          loops = a.loops;
+          used = a.used;
+          reckoned = later_reckoned n s.time (progress_at s i).previous_wake (status_at s i) a.reckoned;
+          stamped = let le = a.stamped in omega arith;
+        };
     calls = λ i. call_later n hold s.time (op_at app i (progress_at s i).op_index) (task_at s i) (h.calls i);
     contents = h.contents;
     priorities = h.priorities;
@@ -264,7 +312,8 @@ module _ (app : Application) (formed : IsWellFormed app) (hold : Hold) where
   }
 
   -- a tick that is held
-  pub held_up : (s : State) → IsSound app hold s → IsSound app hold (record s { elapsed = s.elapsed + 1; held_ticks = s.held_ticks + 1 })
+  pub held_up : (s : State) → IsSound app hold s
+      → IsSound app hold (record s { elapsed = s.elapsed + 1; held_ticks = s.held_ticks + 1 })
   held_up s h = let b = h.time.0 in let e = h.time.1 in record {
     table = record { tickets = h.table.tickets; few = h.table.few; current = h.table.current; holders = h.table.holders };
     tasks = h.tasks;
@@ -277,12 +326,21 @@ module _ (app : Application) (formed : IsWellFormed app) (hold : Hold) where
   }
 
   -- a tick that was held comes now
-  pub held_no_more : (s : State) → IsSound app hold s → 0 < s.held_ticks → IsSound app hold (record s { time = s.time + 1; held_ticks = s.held_ticks - 1 })
+  pub held_no_more : (s : State) → IsSound app hold s → 0 < s.held_ticks
+      → IsSound app hold (record s { time = s.time + 1; held_ticks = s.held_ticks - 1 })
   held_no_more s h some = let b = h.time.0 in let e = h.time.1 in record {
     table = record { tickets = h.table.tickets; few = h.table.few; current = h.table.current; holders = h.table.holders };
     tasks = h.tasks;
     objects = h.objects;
-    progress = λ i. let a = h.progress i in record { nests = a.nests; loops = a.loops; used = a.used; reckoned = later_reckoned 1 s.time (progress_at s i).previous_wake (status_at s i) a.reckoned; stamped = let le = a.stamped in omega arith };
+    progress = λ i.
+        let a = h.progress i in
+        record {
+          nests = a.nests;
+          loops = a.loops;
+          used = a.used;
+          reckoned = later_reckoned 1 s.time (progress_at s i).previous_wake (status_at s i) a.reckoned;
+          stamped = let le = a.stamped in omega arith;
+        };
     calls = λ i. call_later 1 hold s.time (op_at app i (progress_at s i).op_index) (task_at s i) (h.calls i);
     contents = h.contents;
     priorities = h.priorities;
@@ -290,7 +348,8 @@ module _ (app : Application) (formed : IsWellFormed app) (hold : Hold) where
   }
 
   -- the event groups, and how many `suspend_all` are in force
-  pub otherwise : (s : State) (bits : ℕ → ℕ) (suspensions : ℕ) → IsSound app hold s → IsSound app hold (record s { group_bits = bits; suspensions = suspensions })
+  pub otherwise : (s : State) (bits : ℕ → ℕ) (suspensions : ℕ) → IsSound app hold s
+      → IsSound app hold (record s { group_bits = bits; suspensions = suspensions })
   otherwise s bits suspensions h = record {
     table = record { tickets = h.table.tickets; few = h.table.few; current = h.table.current; holders = h.table.holders };
     tasks = h.tasks;
@@ -307,31 +366,54 @@ module _ (app : Application) (formed : IsWellFormed app) (hold : Hold) where
     ticket_kept : HasTicketBelow s.next_ticket (status_at s i)
     ticket_kept = ticket_at s.next_ticket i s.tasks h.table.tickets
 
-    gone : (op_index : ℕ) (p : Progress) → p.previous_wake ≡ (progress_at s i).previous_wake → p.stamp ≤ s.time → AreOpenAt (script_of app i) op_index (length p.loops) → LoopsNest (script_of app i) p.loops → IsSound app hold (go_to app i op_index p s)
+    gone : (op_index : ℕ) (p : Progress) → p.previous_wake ≡ (progress_at s i).previous_wake
+        → p.stamp ≤ s.time → AreOpenAt (script_of app i) op_index (length p.loops)
+        → LoopsNest (script_of app i) p.loops → IsSound app hold (go_to app i op_index p s)
     unfolding go_to
     gone op_index p before stamped n ls =
         let q : Progress = record p { op_index = op_index; used = 0; call = no_call } in
-        let a : (u : Status) → IsReckoned s.time p.previous_wake u → IsAt s.time (script_of app i) q u = λ u r. record { nests = n; loops = ls; used = used_none op_index (script_of app i) (script_formed app formed i).ranges; reckoned = r; stamped = stamped } in
-        let c : (u : Status) → wait_of u ≡ None → IsCall hold s.time (op_at app i op_index) (record (task_at s i) { progress = q; status = u }) = λ u f. call_none hold s.time (op_at app i op_index) (record (task_at s i) { progress = q; status = u }) refl f in
+        let a : (u : Status) → IsReckoned s.time p.previous_wake u → IsAt s.time (script_of app i) q u = λ u r.
+        record {
+          nests = n;
+          loops = ls;
+          used = used_none op_index (script_of app i) (script_formed app formed i).ranges;
+          reckoned = r;
+          stamped = stamped;
+        } in
+        let c : (u : Status) → wait_of u ≡ None
+        → IsCall hold s.time (op_at app i op_index) (record (task_at s i) { progress = q; status = u }) = λ u f.
+        call_none hold s.time (op_at app i op_index) (record (task_at s i) { progress = q; status = u }) refl f in
         let kept : IsReckoned s.time p.previous_wake (status_at s i) = rw before (h.progress i).reckoned in
         by_test (eqb op_index (op_count app i))
-        (λ e. rw e (changed s i (record (task_at s i) { progress = q; status = Ended }) h tt (a Ended tt, c Ended refl, ((h.priorities i).0, (h.priorities i).1, tt))))
-        (λ e. rw e (changed s i (record (task_at s i) { progress = q }) h ticket_kept (a (status_at s i) kept, c (status_at s i) free, h.priorities i)))
+        (λ e.
+        rw e (changed s i (record (task_at s i) { progress = q; status = Ended }) h tt
+        (a Ended tt, c Ended refl, ((h.priorities i).0, (h.priorities i).1, tt))))
+        (λ e.
+        rw e (changed s i (record (task_at s i) { progress = q }) h ticket_kept
+        (a (status_at s i) kept, c (status_at s i) free, h.priorities i)))
 
     module _ (op : Op) (is : op_at app i (progress_at s i).op_index ≡ Some op) where
       past_it : AreOpenAt (script_of app i) ((progress_at s i).op_index + 1) (nesting_past (length (progress_at s i).loops) op)
       past_it = nests_past (length (progress_at s i).loops) (progress_at s i).op_index (script_of app i) op (h.progress i).nests is
 
       -- an op that opens or closes no loop, whatever the answer
-      pub plain : (a : Option ℕ) → nesting_past (length (progress_at s i).loops) op ≡ length (progress_at s i).loops → IsSound app hold (complete app i (record (progress_at s i) { answer = a }) s)
-      plain a e = gone ((progress_at s i).op_index + 1) (record (progress_at s i) { answer = a }) refl (h.progress i).stamped (rw e at past_it) (h.progress i).loops
+      pub plain : (a : Option ℕ) → nesting_past (length (progress_at s i).loops) op ≡ length (progress_at s i).loops
+          → IsSound app hold (complete app i (record (progress_at s i) { answer = a }) s)
+      plain a e =
+          gone ((progress_at s i).op_index + 1) (record (progress_at s i) { answer = a })
+          refl (h.progress i).stamped (rw e at past_it) (h.progress i).loops
 
     -- back to the first op, where no loop is open
-    pub restarted : (a : Option ℕ) → (progress_at s i).loops ≡ [] → IsSound app hold (go_to app i 0 (record (progress_at s i) { answer = a }) s)
-    restarted a none = gone 0 (record (progress_at s i) { answer = a }) refl (h.progress i).stamped (rw none (open_at_first app formed i)) (rw none tt)
+    pub restarted : (a : Option ℕ) → (progress_at s i).loops ≡ []
+        → IsSound app hold (go_to app i 0 (record (progress_at s i) { answer = a }) s)
+    restarted a none =
+        gone 0 (record (progress_at s i) { answer = a }) refl (h.progress i).stamped
+        (rw none (open_at_first app formed i)) (rw none tt)
 
-  module _ (s : State) (i : ℕ) (op : Op) (h : IsSound app hold s) (free : wait_of (status_at s i) ≡ None) (is : op_at app i (progress_at s i).op_index ≡ Some op) where
-    pub answered : (a : Option ℕ) → nesting_past (length (progress_at s i).loops) op ≡ length (progress_at s i).loops → IsSound app hold (answer app i a s)
+  module _ (s : State) (i : ℕ) (op : Op) (h : IsSound app hold s) (free : wait_of (status_at s i) ≡ None)
+      (is : op_at app i (progress_at s i).op_index ≡ Some op) where
+    pub answered : (a : Option ℕ) → nesting_past (length (progress_at s i).loops) op ≡ length (progress_at s i).loops
+        → IsSound app hold (answer app i a s)
     unfolding answer
     answered a e = plain (write (called i (progress_at s i).op_index a) s) i (logged s _ s.steps s.stopped h) free op is a e
 
@@ -345,11 +427,19 @@ module _ (app : Application) (formed : IsWellFormed app) (hold : Hold) where
         let u : IsUsedBy (progress_at s i).used (op_at app i (progress_at s i).op_index) = a.used in
         let W : Option Op → Type 0 = λ o. IsUsedBy (progress_at s i).used o in
         let less : (progress_at s i).used < n = subst W (is ∙ ap Some e) u in
-        let apart : (progress_at s i).used + 1 ≢ n = (λ q. let v : eqb ((progress_at s i).used + 1) n ≡ true = rw q (eqb-refl n) in absurd (cc)) in
+        let apart : (progress_at s i).used + 1 ≢ n =
+        (λ q. let v : eqb ((progress_at s i).used + 1) n ≡ true = rw q (eqb-refl n) in absurd (cc)) in
         let more : (progress_at s i).used + 1 < n = omega arith in
         let V : Option Op → Type 0 = λ o. IsUsedBy ((progress_at s i).used + 1) o in
-        rw t (changed s i (record (task_at s i) { progress = record (progress_at s i) { used = (progress_at s i).used + 1 } }) h (ticket_kept s i h free) (
-          record { nests = a.nests; loops = a.loops; used = subst V (sym (is ∙ ap Some e)) more; reckoned = a.reckoned; stamped = a.stamped },
+        rw t (changed s i (record (task_at s i) { progress = record (progress_at s i) { used = (progress_at s i).used + 1 } })
+        h (ticket_kept s i h free) (
+          record {
+            nests = a.nests;
+            loops = a.loops;
+            used = subst V (sym (is ∙ ap Some e)) more;
+            reckoned = a.reckoned;
+            stamped = a.stamped;
+          },
           record { phase = c.phase; wait = c.wait; awake = c.awake; near = c.near },
           h.priorities i,
         )))
@@ -367,7 +457,8 @@ module _ (app : Application) (formed : IsWellFormed app) (hold : Hold) where
         let Open : ℕ → Type 0 = AreOpenAt (script_of app i) (p.op_index + 1) in
         let inner : Open (length p.loops + 1) = rw e at (past_it s i h free op is) in
         let deep : Open (suc (length p.loops)) = let n : length p.loops + 1 ≡ suc (length p.loops) = omega arith in rw n at inner in
-        gone s i h free (p.op_index + 1) (record p { loops = record { start = p.op_index + 1; left = turns } ∷ p.loops }) refl (h.progress i).stamped deep (deep, (h.progress i).loops)
+        gone s i h free (p.op_index + 1) (record p { loops = record { start = p.op_index + 1; left = turns } ∷ p.loops })
+        refl (h.progress i).stamped deep (deep, (h.progress i).loops)
 
     -- a turn of a loop that is open with these around it
     next_by : (x : Loop) (xs : List Loop) (left : Option ℕ) → LoopsNest (script_of app i) (x ∷ xs)
@@ -380,7 +471,9 @@ module _ (app : Application) (formed : IsWellFormed app) (hold : Hold) where
         let p : Progress = progress_at s i in
         by_test (leb left 1)
         (λ q. rw q (gone s i h free (p.op_index + 1) (record p { loops = xs }) refl (h.progress i).stamped rest all.1))
-        (λ q. rw q (gone s i h free x.start (record p { loops = record x { left = Some (left - 1) } ∷ xs }) refl (h.progress i).stamped all.0 (all.0, all.1)))
+        (λ q.
+        rw q (gone s i h free x.start (record p { loops = record x { left = Some (left - 1) } ∷ xs })
+        refl (h.progress i).stamped all.0 (all.0, all.1)))
 
     closed_by : op ≡ End → (ls : List Loop) → (progress_at s i).loops ≡ ls → IsSound app hold (turn app i (progress_at s i) ls s)
     closed_by e [] same =
@@ -391,8 +484,11 @@ module _ (app : Application) (formed : IsWellFormed app) (hold : Hold) where
         let p : Progress = progress_at s i in
         let all : LoopsNest (script_of app i) (x ∷ xs) = rw same at (h.progress i).loops in
         let P : List Loop → Type 0 = λ us. AreOpenAt (script_of app i) (p.op_index + 1) (nesting_past (length us) op) in
-        let outer : AreOpenAt (script_of app i) (p.op_index + 1) (length (x ∷ xs) - 1) = rw e at (subst P same (past_it s i h free op is)) in
-        let rest : AreOpenAt (script_of app i) (p.op_index + 1) (length xs) = let n : length (x ∷ xs) - 1 ≡ length xs = omega arith in rw n at outer in
+        let outer : AreOpenAt (script_of app i) (p.op_index + 1) (length (x ∷ xs) - 1) =
+        rw e at (subst P same (past_it s i h free op is)) in
+        let rest : AreOpenAt (script_of app i) (p.op_index + 1) (length xs) =
+        let n : length (x ∷ xs) - 1 ≡ length xs = omega arith in
+        rw n at outer in
         next_by x xs x.left all same rest
 
     pub closed : op ≡ End → IsSound app hold (close_turn app i s)
@@ -419,7 +515,8 @@ module _ (app : Application) (formed : IsWellFormed app) (hold : Hold) where
     unfolding stamp
     stamped e =
         let p : Progress = progress_at s i in
-        gone s i h free (p.op_index + 1) (record p { stamp = s.time }) refl (omega arith) (rw e at (past_it s i h free op is)) (h.progress i).loops
+        gone s i h free (p.op_index + 1) (record p { stamp = s.time }) refl
+        (omega arith) (rw e at (past_it s i h free op is)) (h.progress i).loops
 
     pub since_stamped : op ≡ Since → IsSound app hold (since app i s)
     unfolding since
@@ -434,22 +531,29 @@ module _ (app : Application) (formed : IsWellFormed app) (hold : Hold) where
         (subst (AreOpenAt (script_of app i) (jump_from (script_of app i) p.op_index)) (one_less p.loops at.0) at.1)
         (without_first (script_of app i) p.loops (h.progress i).loops)
 
-  pub slept : (s : State) (i wake_time : ℕ) → IsSound app hold s → (is_ready s i ≡ true → (progress_at s i).previous_wake ≤ wake_time) → IsSound app hold (sleep i wake_time s)
+  pub slept : (s : State) (i wake_time : ℕ) → IsSound app hold s
+      → (is_ready s i ≡ true → (progress_at s i).previous_wake ≤ wake_time) → IsSound app hold (sleep i wake_time s)
   unfolding sleep
   slept s i wake_time h le = by_test (is_ready s i)
       (λ u. rw u (taken s i (Asleep wake_time) h (omega arith) (kept_free s i (Asleep wake_time s.next_ticket) h refl (le u))))
       (λ u. rw u h)
 
-  counted : (s : State) (i time : ℕ) → IsSound app hold s → IsReckoned s.time time (status_at s i) → IsSound app hold (set_previous_wake i time s)
+  counted : (s : State) (i time : ℕ) → IsSound app hold s
+      → IsReckoned s.time time (status_at s i) → IsSound app hold (set_previous_wake i time s)
   unfolding set_previous_wake
   counted s i time h r =
       let a = h.progress i in
       let c = h.calls i in
-      changed s i (record (task_at s i) { progress = record (progress_at s i) { previous_wake = time } }) h (ticket_at s.next_ticket i s.tasks h.table.tickets)
-      (record { nests = a.nests; loops = a.loops; used = a.used; reckoned = r; stamped = a.stamped }, record { phase = c.phase; wait = c.wait; awake = c.awake; near = c.near }, h.priorities i)
+      changed s i (record (task_at s i) { progress = record (progress_at s i) { previous_wake = time } })
+      h (ticket_at s.next_ticket i s.tasks h.table.tickets) (
+        record { nests = a.nests; loops = a.loops; used = a.used; reckoned = r; stamped = a.stamped },
+        record { phase = c.phase; wait = c.wait; awake = c.awake; near = c.near },
+        h.priorities i,
+      )
 
   -- One who has begun to sleep until a time may count from it.
-  reckoned_asleep : (s : State) (i wake_time : ℕ) → i < length s.tasks → is_some (ticket_of (status_at s i)) ≡ is_ready s i → IsReckoned (sleep i wake_time s).time wake_time (status_at (sleep i wake_time s) i)
+  reckoned_asleep : (s : State) (i wake_time : ℕ) → i < length s.tasks → is_some (ticket_of (status_at s i)) ≡ is_ready s i
+      → IsReckoned (sleep i wake_time s).time wake_time (status_at (sleep i wake_time s) i)
   unfolding sleep
   reckoned_asleep s i wake_time l same =
       let t : Task = record (task_at s i) { status = Asleep wake_time s.next_ticket } in
@@ -471,18 +575,23 @@ module _ (app : Application) (formed : IsWellFormed app) (hold : Hold) where
 
     awake_answer : is_ready s i ≡ true → wake_time_of (status_at (answer app i a s) i) ≡ None
     unfolding answering
-    awake_answer t = rw (at_answer, status_at) (by_test (eqb ((progress_at s i).op_index + 1) (op_count app i)) (λ u. rw u refl) (λ u. rw u (ready_awake (status_at s i) t)))
+    awake_answer t =
+        rw (at_answer, status_at) (by_test (eqb ((progress_at s i).op_index + 1) (op_count app i))
+        (λ u. rw u refl) (λ u. rw u (ready_awake (status_at s i) t)))
 
     alone_answer : is_ready s i ≡ true → is_some (ticket_of (status_at (answer app i a s) i)) ≡ is_ready (answer app i a s) i
     unfolding answering
-    alone_answer t = rw (at_answer, status_at) (by_test (eqb ((progress_at s i).op_index + 1) (op_count app i)) (λ u. rw u refl) (λ u. rw u (ready_alone (status_at s i) t)))
+    alone_answer t =
+        rw (at_answer, status_at) (by_test (eqb ((progress_at s i).op_index + 1) (op_count app i))
+        (λ u. rw u refl) (λ u. rw u (ready_alone (status_at s i) t)))
 
     previous_answer : (progress_at (answer app i a s) i).previous_wake ≡ (progress_at s i).previous_wake
     unfolding answering
     previous_answer = rw (at_answer, progress_at) refl
 
   -- who sleeps from now on
-  pub delayed : (s : State) (i n : ℕ) → IsSound app hold s → i < length s.tasks → is_ready s i ≡ true → op_at app i (progress_at s i).op_index ≡ Some (Delay n) → IsSound app hold (delay app i n s)
+  pub delayed : (s : State) (i n : ℕ) → IsSound app hold s → i < length s.tasks → is_ready s i ≡ true
+      → op_at app i (progress_at s i).op_index ≡ Some (Delay n) → IsSound app hold (delay app i n s)
   unfolding delay
   delayed s i n h l ready is =
       let t : State = answer app i (Some 0) s in
@@ -493,7 +602,9 @@ module _ (app : Application) (formed : IsWellFormed app) (hold : Hold) where
       (λ q. rw q (slept t i (s.time + n) k
       (λ r. let le = (ready_can t i k (still_task s i (Some 0) l) r).1 in omega arith)))
 
-  pub delayed_until : (s : State) (i n : ℕ) → IsSound app hold s → i < length s.tasks → is_ready s i ≡ true → op_at app i (progress_at s i).op_index ≡ Some (DelayUntil n) → IsSound app hold (delay_until app i ((progress_at s i).previous_wake + n) s)
+  pub delayed_until : (s : State) (i n : ℕ) → IsSound app hold s → i < length s.tasks
+      → is_ready s i ≡ true → op_at app i (progress_at s i).op_index ≡ Some (DelayUntil n)
+      → IsSound app hold (delay_until app i ((progress_at s i).previous_wake + n) s)
   unfolding delay_until
   delayed_until s i n h l ready is =
       let time : ℕ = (progress_at s i).previous_wake + n in
@@ -503,8 +614,10 @@ module _ (app : Application) (formed : IsWellFormed app) (hold : Hold) where
       let one : State = answer app i (Some 1) s in
       let there : i < length one.tasks = still_task s i (Some 1) l in
       let before : (progress_at one i).previous_wake ≡ (progress_at s i).previous_wake = previous_answer s i (Some 1) l in
-      let asleep : IsSound app hold (sleep i time one) = slept one i time (answered s i (DelayUntil n) h free is (Some 1) refl) (λ _. omega arith) in
+      let asleep : IsSound app hold (sleep i time one) =
+      slept one i time (answered s i (DelayUntil n) h free is (Some 1) refl) (λ _. omega arith) in
       rw t (counted (sleep i time one) i time asleep (reckoned_asleep one i time there (alone_answer s i (Some 1) l ready))))
       (λ t.
       let le : time ≤ (answer app i (Some 0) s).time = rw (keeps-answer app i (Some 0) s).time (ltb-false s.time time t) in
-      rw t (counted _ i time (answered s i (DelayUntil n) h free is (Some 0) refl) (reckoned_now _ time _ le (awake_answer s i (Some 0) l ready))))
+      rw t (counted _ i time (answered s i (DelayUntil n) h free is (Some 0) refl)
+      (reckoned_now _ time _ le (awake_answer s i (Some 0) l ready))))

@@ -17,12 +17,14 @@ returns-in_err-add_others-clause-text g c =
     let others = flat_map (λ p. spaced_text (piece_text p)) c.args.others.now in
     rw (flat_map-map spaced_text piece_text c.args.others.now)
     (Adds_stopped _ _ c.args.page.now (piece_text c.args.first ++ others) _ _ _ c.from_residual-in_err-add_others.ensures.0
-    (SentFront_two _ _ _ c.args.page.now (piece_text c.args.first) _ others c.in_ok-add_piece.ensures.text c.in_err-add_others.ensures.text))
+    (SentFront_two _ _ _ c.args.page.now (piece_text c.args.first) _ others
+    c.in_ok-add_piece.ensures.text c.in_err-add_others.ensures.text))
 
 pub returns-clause-text : goal.returns-clause-text
 returns-clause-text g c =
     let others = flat_map (λ p. spaced_text (piece_text p)) c.args.others.now in
     rw (flat_map-map spaced_text piece_text c.args.others.now)
     (Adds_two _ _ _ c.args.page.now (piece_text c.args.first ++ others) _ _ _ _
-    (Sent_two _ _ _ c.args.page.now (piece_text c.args.first) _ others _ c.in_ok-add_piece.ensures.text c.in_ok-add_others.ensures.text)
+    (Sent_two _ _ _ c.args.page.now (piece_text c.args.first) _ others _
+    c.in_ok-add_piece.ensures.text c.in_ok-add_others.ensures.text)
     c.add_text.ensures.text)

@@ -7,7 +7,8 @@ pub returns-in-Some-clause-desks : goal.returns-in-Some-clause-desks
 returns-in-Some-clause-desks c =
     let i = c.loop-desk.invariant in
     let within : c.loop-desk.desk < length c.loop-desk.desks = omega (arith, i.count, c.loop-desk-test.true) in
-    go_further _ _ _ i.on (go_one c.take.new.self c.loop-desk.desks c.loop-desk.desk c.index-desks-desk.result within c.take.ensures.desk)
+    go_further _ _ _ i.on
+    (go_one c.take.new.self c.loop-desk.desks c.loop-desk.desk c.index-desks-desk.result within c.take.ensures.desk)
 
 pub returns-in-Some-clause-right : goal.returns-in-Some-clause-right
 returns-in-Some-clause-right c spelling h =
@@ -19,6 +20,8 @@ loop-desk-preserved c =
     let i = c.loop-desk.invariant in
     let within : c.loop-desk.desk < length c.loop-desk.desks = omega (arith, i.count, c.loop-desk-test.true) in
     record {
-      on = go_further _ _ _ i.on (go_one c.take.new.self c.loop-desk.desks c.loop-desk.desk c.index-desks-desk.result within c.take.ensures.desk);
+      on =
+          go_further _ _ _ i.on
+          (go_one c.take.new.self c.loop-desk.desks c.loop-desk.desk c.index-desks-desk.result within c.take.ensures.desk);
       count = length-set c.loop-desk.desks c.loop-desk.desk c.take.new.self ∙ i.count;
     }

@@ -14,8 +14,12 @@ loop-lane-preserved c =
     record {
       pairs = omega (arith, c.in-Some-Some.ensures.cases, c.in-Some-Some.ensures'.cases, i.pairs);
       count = omega (arith, c.in-Some-Some.ensures.cases, longer, i.count);
-      added = λ kind. added_more kind _ _ c.in-Some-Some.lane c.in-Some-Some.seat _ _ c.len-number.result _ c.with_room-kept.result seats pushed (i.added kind);
-      jobs = λ deal tally count idle ready. jobs_more deal tally count _ _ _ _ c.in-Some-Some.lane c.in-Some-Some.seat _ _ c.len-number.result c.with_room-kept.result c.with_room-kept.ensures lanes seats pushed (i.jobs deal tally count idle ready);
+      added = λ kind.
+          added_more kind _ _ c.in-Some-Some.lane c.in-Some-Some.seat _ _
+          c.len-number.result _ c.with_room-kept.result seats pushed (i.added kind);
+      jobs = λ deal tally count idle ready.
+          jobs_more deal tally count _ _ _ _ c.in-Some-Some.lane c.in-Some-Some.seat _ _ c.len-number.result
+          c.with_room-kept.result c.with_room-kept.ensures lanes seats pushed (i.jobs deal tally count idle ready);
     }
 
 pub returns-clause-jobs : goal.returns-clause-jobs

@@ -18,6 +18,7 @@ loop-alloc-preserved c =
     record {
       few = omega (arith, c.in_ok-push-2.ensures.len, c.len.ensures, c.loop-alloc-test.true);
       pairs = subst (λ (ss : List Speller). ArePairs (own ∷ ss) c.push-in-loop-alloc.new.self.items) (sym more)
-          (subst (λ (ds : List Desk). ArePairs (own ∷ (others ++ speller ∷ [])) ds) (sym desks) (pairs_more (own ∷ others) c.loop-alloc.desks.items speller c.in_ok-speller.desk i.pairs lane.pair));
+          (subst (λ (ds : List Desk). ArePairs (own ∷ (others ++ speller ∷ [])) ds) (sym desks)
+          (pairs_more (own ∷ others) c.loop-alloc.desks.items speller c.in_ok-speller.desk i.pairs lane.pair));
       fresh = (i.fresh.0, subst AreFresh (sym more) (each_last _ others speller i.fresh.1 lane.fresh));
     }

@@ -36,7 +36,10 @@ map_vec-requires-sync-F g c κs within = record {
                       (
                         ((λ q. tt), view.the_sync.shared s.view.now s.view.ref_ptr.0 s.view.ref_ptr.1 there),
                         (
-                          ((λ q. (tt, (tt, tt))), ((shr_slice_sync (of_param 0) there points.the_row point.the_sync).shared s.points b o there).1),
+                          (
+                            (λ q. (tt, (tt, tt))),
+                            ((shr_slice_sync (of_param 0) there points.the_row point.the_sync).shared s.points b o there).1,
+                          ),
                           (((λ q. tt), tally_sync.shared s.tally.now s.tally.ref_ptr.0 s.tally.ref_ptr.1 there), tt),
                         ),
                       ),
@@ -59,8 +62,10 @@ map_vec-requires-sync-F g c κs within = record {
 pub returns-in-Ok : goal.returns-in-Ok
 returns-in-Ok g c deal are =
     let setup = c.args.setup.now in
-    done_each setup deal _ _ c.args.jobs.items c.in-Ok.dones.items (omega (arith, c.in-Ok.ensures.len, c.in-Ok.dones.ok, c.args.jobs.ok))
+    done_each setup deal _ _ c.args.jobs.items c.in-Ok.dones.items
+    (omega (arith, c.in-Ok.ensures.len, c.in-Ok.dones.ok, c.args.jobs.ok))
     (λ i j d l.
     let k = (c.in-Ok.ensures.each i d l).1 in
-    subst (λ (job : Job). IsDone (work_of setup job.lane.game.lengths) job (slice_index_or c.in-Ok.dones.items i d)) (sym (k.job_is j)) k.call.met)
+    subst (λ (job : Job). IsDone (work_of setup job.lane.game.lengths) job (slice_index_or c.in-Ok.dones.items i d))
+    (sym (k.job_is j)) k.call.met)
     are

@@ -10,7 +10,8 @@ pub returns-in_err-title : goal.returns-in_err-title
 returns-in_err-title g c input bytes known file =
     let told : c.from_residual.result ≡ Err c.in_err-title.field-0.0 = search rules in
     rw told
-    (serves_run_fault c.args.at input false (g.W.Sink.has_failed c.args.writer.now) (g.W.Sink.held c.args.writer.now) c.in_err-title.field-0.0 c.args.app.now (bytes, known, file) c.in_err-title.ensures refl c.requires)
+    (serves_run_fault c.args.at input false (g.W.Sink.has_failed c.args.writer.now) (g.W.Sink.held c.args.writer.now)
+    c.in_err-title.field-0.0 c.args.app.now (bytes, known, file) c.in_err-title.ensures refl c.requires)
 
 pub returns-in_err-write_run : goal.returns-in_err-write_run
 returns-in_err-write_run g c input bytes known file =
@@ -29,5 +30,17 @@ returns g c input bytes known file =
     let title = c.in_ok-title.title in
     let run = c.in_ok-title.run' in
     let is : IsReportOf c.args.at bytes (run_text app title run) c.run.inside.end =
-    record { app = app; file = file; title = title; run = run; runs = c.in_ok-title.ensures; ends = ap (λ (r : Run). r.end) (sym c.run.view_is); text = refl } in
-    record { answers = (bytes, known, run_text app title run, is, c.in_ok-write_run.ensures.text); read = refl; write = c.in_ok-write_run.ensures.failed }
+    record {
+      app = app;
+      file = file;
+      title = title;
+      run = run;
+      runs = c.in_ok-title.ensures;
+      ends = ap (λ (r : Run). r.end) (sym c.run.view_is);
+      text = refl;
+    } in
+    record {
+      answers = (bytes, known, run_text app title run, is, c.in_ok-write_run.ensures.text);
+      read = refl;
+      write = c.in_ok-write_run.ensures.failed;
+    }

@@ -13,5 +13,6 @@ loop-cursor-preserved c =
     record {
       at = e.at;
       pieces = subst (λ (ps : List Piece). ArePieces rows 0 c.next.new.cursor.number ps) (sym c.in_ok-push.ensures.items)
-          (piece_more rows 0 old.cursor.number c.next.new.cursor.number old.pieces.items c.next.result old.invariant.pieces e.piece (ap (λ (cursor : Cursor). cursor.number) e.from) (sym e.number));
+          (piece_more rows 0 old.cursor.number c.next.new.cursor.number old.pieces.items c.next.result
+          old.invariant.pieces e.piece (ap (λ (cursor : Cursor). cursor.number) e.from) (sym e.number));
     }

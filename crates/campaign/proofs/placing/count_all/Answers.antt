@@ -28,9 +28,12 @@ loop-place-preserved c =
     let on : index < length places = c.loop-place-test.true in
     let is : place ≡ slice_index_or places index place = any_default places index _ place on in
     let at = each_at _ places index place c.requires.placed on is in
-    let there = got c.args.parts.now place.part c.index-parts-place.result (within_list c.args.parts.now place.part at.part at.at_part) c.index-parts-place.is in
+    let there =
+    got c.args.parts.now place.part c.index-parts-place.result
+    (within_list c.args.parts.now place.part at.part at.at_part) c.index-parts-place.is in
     record {
       totals = c.count_rows.ensures (flat_map f (take index places)) c.loop-place.invariant.totals
-          ∙ ap (λ rows. totals_of (flat_map f (take index places) ++ rows)) (sym (rows_there c.args.base.now c.args.parts.now place c.index-parts-place.result there))
+          ∙ ap (λ rows. totals_of (flat_map f (take index places) ++ rows))
+          (sym (rows_there c.args.base.now c.args.parts.now place c.index-parts-place.result there))
           ∙ ap totals_of (sym (flat_more f places index place on is));
     }

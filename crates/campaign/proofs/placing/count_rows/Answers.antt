@@ -14,8 +14,11 @@ count-requires c =
     let some = take c.args.count (drop c.args.first c.args.part.now.kept) in
     let long = some_long c.args.part.now.kept c.args.first c.args.count c.requires.within in
     let on = c.loop-index-test.true in
-    let counted = rows_few c.args.base.now store some few.0 c.loop-index.index c.args.count (omega arith) (omega arith) in
-    (few.0 ++ rows_of c.args.base.now store (take c.loop-index.index some), c.loop-index.invariant.totals few.0 few.1, omega (arith, few.2))
+    let counted = rows_few c.args.base.now store some few.0 c.loop-index.index c.args.count (omega arith) (omega arith) in (
+      few.0 ++ rows_of c.args.base.now store (take c.loop-index.index some),
+      c.loop-index.invariant.totals few.0 few.1,
+      omega (arith, few.2),
+    )
 
 pub loop-index-preserved : goal.loop-index-preserved
 loop-index-preserved c =
@@ -28,8 +31,11 @@ loop-index-preserved c =
     record {
       steps = c.loop-index.invariant.steps;
       totals = λ rows e. (
-          c.count.ensures (rows ++ rows_of c.args.base.now store (take c.loop-index.index some)) (row_of c.args.base.now store c.at-row.result.now) (c.loop-index.invariant.totals rows e)
-          (ap (λ (n : ℕ). nat_lt n c.args.base.now.steps) (sym c.first_step.ensures) ∙ ap (λ (n : ℕ). nat_lt c.first_step.result n) (sym c.loop-index.invariant.steps)) refl
+          c.count.ensures (rows ++ rows_of c.args.base.now store (take c.loop-index.index some))
+          (row_of c.args.base.now store c.at-row.result.now) (c.loop-index.invariant.totals rows e)
+          (ap (λ (n : ℕ). nat_lt n c.args.base.now.steps) (sym c.first_step.ensures)
+          ∙ ap (λ (n : ℕ). nat_lt c.first_step.result n) (sym c.loop-index.invariant.steps))
+          refl
           ∙ ap totals_of (one_row_more c.args.base.now store some rows c.loop-index.index c.at-row.result.now (omega arith) is));
     }
 

@@ -6,6 +6,7 @@ use Rattle.campaign.proofs.points.count_points.Given as goal
 
 abbrev pub invariant-loop-entry : goal.invariant-loop-entry
 invariant-loop-entry l = record {
-  counted : l.count + length (flat_map (points_of l.steps) (drop l.entry-index l.entries)) ≡ length (flat_map (points_of l.steps) l.entries);
+  counted : l.count + length (flat_map (points_of l.steps) (drop l.entry-index l.entries))
+      ≡ length (flat_map (points_of l.steps) l.entries);
   few : l.count ≤ most_points;
 }

@@ -13,6 +13,7 @@ loop-step-preserved c =
       steps = c.in_ok-push_point.ensures ∙ ap (λ (point : List Injection). c.loop-step.points.items ++ point ∷ []) c.one.ensures
           ∙ ap (λ points. points ++ at c.loop-step.step ∷ []) c.loop-step.invariant.steps
           ∙ append_assoc c.args.points.now.items (every_step c.args.handler c.loop-step.step) (at c.loop-step.step ∷ [])
-          ∙ ap (λ points. c.args.points.now.items ++ points) (sym (map-range_with_len_more at 0 c.loop-step.step c.loop-step.step from));
+          ∙ ap (λ points. c.args.points.now.items ++ points)
+          (sym (map-range_with_len_more at 0 c.loop-step.step c.loop-step.step from));
       within = omega arith;
     }

@@ -6,8 +6,10 @@ use Rattle.campaign.proofs.serving.report_from.Goals as goal
 pub campaign_from-requires-clause-seats : goal.campaign_from-requires-clause-seats
 campaign_from-requires-clause-seats g c κs within =
     let few : length c.args.points.now ≤ 2 ^ 40 = (let most = c.requires.few in omega arith) in
-    let many = ap length c.in-Ok-make.ensures.seats ∙ length-replicate _ _ in
-    (omega (arith, many, c.in-Ok-make.seats.ok), ready_seats c.in-Ok-make.tally (length c.args.points.now) _ c.in-Ok-make.seats.items few c.in-Ok-make.ensures.seats)
+    let many = ap length c.in-Ok-make.ensures.seats ∙ length-replicate _ _ in (
+      omega (arith, many, c.in-Ok-make.seats.ok),
+      ready_seats c.in-Ok-make.tally (length c.args.points.now) _ c.in-Ok-make.seats.items few c.in-Ok-make.ensures.seats,
+    )
 
 pub campaign_from-requires-clause-division : goal.campaign_from-requires-clause-division
 campaign_from-requires-clause-division g c κs within = ap sum c.in-Ok.ensures ∙ sum_even _ _

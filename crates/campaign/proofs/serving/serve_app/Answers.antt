@@ -14,7 +14,9 @@ pub returns-in_err-report : goal.returns-in_err-report
 returns-in_err-report g c input bytes known file =
     let told : c.from_residual.result ≡ Err c.in_err-report.field-0.0 = search rules in
     rw told
-    (campaign_serves_rows_fault c.args.view c.args.shard input false (g.W.Sink.has_failed c.args.writer.now) (g.W.Sink.held c.args.writer.now) c.in_err-report.field-0.0 c.args.app.now (bytes, known, file) c.in_err-report.ensures refl c.requires)
+    (campaign_serves_rows_fault c.args.view c.args.shard input false
+    (g.W.Sink.has_failed c.args.writer.now) (g.W.Sink.held c.args.writer.now) c.in_err-report.field-0.0
+    c.args.app.now (bytes, known, file) c.in_err-report.ensures refl c.requires)
 
 pub returns-in_err-write_report_in : goal.returns-in_err-write_report_in
 returns-in_err-write_report_in g c input bytes known file =
@@ -22,11 +24,14 @@ returns-in_err-write_report_in g c input bytes known file =
     let view = c.args.view in
     let shown = c.in_ok-report.ensures in
     let first = first_number shown.runs in
-    let whole : report_text app c.in_ok-report.report.view c.in_ok-report.report.first c.in_ok-report.report.rows ≡ report_text app view first shown.rows =
+    let whole : report_text app c.in_ok-report.report.view c.in_ok-report.report.first c.in_ok-report.report.rows
+    ≡ report_text app view first shown.rows =
     ap (λ (r : Shown). report_text app r.view r.first r.rows) shown.shown ∙ seen_text view app first shown.rows in
     let is : IsCampaignOf view c.args.shard bytes (report_text app view first shown.rows) (totals_of shown.rows) =
     record { app = app; file = file; rows = shown.rows; runs = shown.runs; adds_up = refl; text = refl } in
-    let sent = subst (SentFront (g.W.Sink.held c.args.writer.now) (g.W.Sink.held c.write_report_in.new.writer)) whole c.in_err-write_report_in.ensures.text in
+    let sent =
+    subst (SentFront (g.W.Sink.held c.args.writer.now) (g.W.Sink.held c.write_report_in.new.writer))
+    whole c.in_err-write_report_in.ensures.text in
     let told : c.from_residual-in_err-write_report_in.result ≡ Err Write = search rules in
     rw told
     (serves_front _ _ _ _ _ _ _ bytes _ _ known is sent refl c.in_err-write_report_in.ensures.failed)
@@ -37,10 +42,17 @@ returns g c input bytes known file =
     let view = c.args.view in
     let shown = c.in_ok-report.ensures in
     let first = first_number shown.runs in
-    let whole : report_text app c.in_ok-report.report.view c.in_ok-report.report.first c.in_ok-report.report.rows ≡ report_text app view first shown.rows =
+    let whole : report_text app c.in_ok-report.report.view c.in_ok-report.report.first c.in_ok-report.report.rows
+    ≡ report_text app view first shown.rows =
     ap (λ (r : Shown). report_text app r.view r.first r.rows) shown.shown ∙ seen_text view app first shown.rows in
     let counted = c.totals-totals.ensures ∙ ap (λ (r : Shown). totals_of r.rows) shown.shown ∙ seen_totals view shown.rows in
     let is : IsCampaignOf view c.args.shard bytes (report_text app view first shown.rows) c.totals-totals.result =
     record { app = app; file = file; rows = shown.rows; runs = shown.runs; adds_up = counted; text = refl } in
-    let sent = subst (Appends (g.W.Sink.held c.args.writer.now) (g.W.Sink.held c.write_report_in.new.writer)) whole c.in_ok-write_report_in.ensures.text in
-    record { answers = (bytes, known, report_text app view first shown.rows, is, sent); read = refl; write = c.in_ok-write_report_in.ensures.failed }
+    let sent =
+    subst (Appends (g.W.Sink.held c.args.writer.now) (g.W.Sink.held c.write_report_in.new.writer))
+    whole c.in_ok-write_report_in.ensures.text in
+    record {
+      answers = (bytes, known, report_text app view first shown.rows, is, sent);
+      read = refl;
+      write = c.in_ok-write_report_in.ensures.failed;
+    }

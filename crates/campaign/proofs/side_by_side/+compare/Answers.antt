@@ -13,5 +13,6 @@ returns t c spelling h =
     let slots = c.slots_beside.ensures in
     let all : received old ++ known_items new ≡ sent c.in-Some.speller.now.spelled =
     ap (λ texts. texts ++ known_items new) (sym slots.looked.1) ∙ slots.fifo ∙ slots.producer.1 in
-    let here = each_left (IsRight spelling) (received old) (known_items new) (subst (AllByRecursion (IsRight spelling)) (sym all) handed.0) in
+    let here =
+    each_left (IsRight spelling) (received old) (known_items new) (subst (AllByRecursion (IsRight spelling)) (sym all) handed.0) in
     subst (HaveReceived spelling) (sym c.in-Some-split_first_mut.ensures.cases.0) (here, c.compare.ensures spelling handed.1)

@@ -12,5 +12,6 @@ returns c spelling h =
     let slots = c.slots_beside.ensures in
     let all : received old ++ known_items new ≡ sent c.args.own.now.spelled =
     ap (λ texts. texts ++ known_items new) (sym slots.looked.1) ∙ slots.fifo ∙ slots.producer.1 in
-    let here = each_left (IsRight spelling) (received old) (known_items new) (subst (AllByRecursion (IsRight spelling)) (sym all) h.0) in
+    let here =
+    each_left (IsRight spelling) (received old) (known_items new) (subst (AllByRecursion (IsRight spelling)) (sym all) h.0) in
     subst (HaveReceived spelling) (sym c.in-Some.ensures.cases.0) (here, c.compare.ensures spelling h.1)

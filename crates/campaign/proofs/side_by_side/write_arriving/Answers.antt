@@ -21,7 +21,9 @@ returns-in_err-put-in-Some-take_from-clause-text g c h =
     let within : c.loop.number < length spelling.pieces.items = omega (arith, c.if-number-len.false, c.len.ensures) in
     let sent = c.in_err-put-in-Some-take_from.ensures.text (texts.right spelling h piece there) in
     MatchResult-from_err c.from_residual.result _ _ c.from_residual.ensures.0
-    (λ y. SentFront_item (text_of spelling) spelling.pieces.items c.loop.number piece piece _ _ _ _ [] within is (c.loop.invariant.sent (texts.desks.received spelling h)) sent)
+    (λ y.
+    SentFront_item (text_of spelling) spelling.pieces.items c.loop.number piece piece _ _
+    _ _ [] within is (c.loop.invariant.sent (texts.desks.received spelling h)) sent)
 
 pub loop-preserved-in-Some-take_from : goal.loop-preserved-in-Some-take_from
 loop-preserved-in-Some-take_from g c =
@@ -43,7 +45,8 @@ loop-preserved-in-Some-take_from g c =
       empty = put.empty;
       sent = λ h.
           let arrived = c.give_back.ensures.received spelling h in
-          Sent_item (text_of spelling) spelling.pieces.items c.loop.number piece piece _ _ _ _ [] [] within is (i.sent (texts.desks.received spelling arrived))
+          Sent_item (text_of spelling) spelling.pieces.items c.loop.number piece piece
+          _ _ _ _ [] [] within is (i.sent (texts.desks.received spelling arrived))
           (Sent_all _ _ _ (put.text (texts.right spelling arrived piece there)));
       working = put.failed;
     }

@@ -14,6 +14,7 @@ invariant-loop g l = record {
   app : l.report.app ≡ l.fn.report.app;
   empty : l.report.page ≡ [];
   sent : HaveReceived l.spelling l.desks → Sent (g.W.Sink.held l.fn.writer) (g.W.Sink.held l.writer)
-      (flat_map (text_of l.spelling) l.spelling.pieces.items) (flat_map (text_of l.spelling) (drop l.number l.spelling.pieces.items));
+      (flat_map (text_of l.spelling) l.spelling.pieces.items)
+      (flat_map (text_of l.spelling) (drop l.number l.spelling.pieces.items));
   working : g.W.Sink.has_failed l.writer ≡ false;
 }

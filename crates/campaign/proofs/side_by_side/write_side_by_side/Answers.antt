@@ -7,7 +7,8 @@ compare_all-requires g c =
     let own = c.args.own.now in
     let others = c.args.others.now in
     let after = c.write_beside-written in
-    pairs_both own after.new.own others after.new.others after.ensures.ring after.ensures.pairs after.new.desks (after.ensures.desks.pairs (own ∷ others) c.requires.pairs)
+    pairs_both own after.new.own others after.new.others after.ensures.ring after.ensures.pairs
+    after.new.desks (after.ensures.desks.pairs (own ∷ others) c.requires.pairs)
 
 pub returns-clause-text : goal.returns-clause-text
 returns-clause-text g c =

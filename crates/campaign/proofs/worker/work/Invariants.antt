@@ -11,6 +11,8 @@ invariant-loop g l = record {
   finite : (goal.iterator-loop g).is_finite l.iterator';
   refused : l.refused ≡ true;
   game : l.lane.game ≡ l.fn.job.lane.game;
-  known : Knows l.setup.app.now l.setup.shelf.now.limits l.setup.view.now l.setup.shelf.now.base l.worker.kept (store_in l.worker.runner) l.worker.runner.table.marks.items;
-  worked : HasWorked (work_of l.setup l.fn.job.lane.game.lengths) l.worker.kept (store_in l.worker.runner) l.worker.blocks.items l.lane.answered l.fn.job.seat l.seat;
+  known : Knows l.setup.app.now l.setup.shelf.now.limits l.setup.view.now l.setup.shelf.now.base
+      l.worker.kept (store_in l.worker.runner) l.worker.runner.table.marks.items;
+  worked : HasWorked (work_of l.setup l.fn.job.lane.game.lengths) l.worker.kept
+      (store_in l.worker.runner) l.worker.blocks.items l.lane.answered l.fn.job.seat l.seat;
 }

@@ -12,7 +12,10 @@ invariant-loop-cursor g l = record {
   low : l.fn.piece.from.number ≤ l.cursor.number;
   high : l.cursor.number ≤ l.fn.piece.from.number + l.fn.piece.count;
   sent : Sent (g.W.Sink.held l.fn.writer) (g.W.Sink.held l.writer)
-      (l.fn.text.page ++ shown_rows l.fn.text.app l.rows.view (l.rows.first + l.fn.piece.from.number) (some_of (whole l.rows) l.fn.piece.from.number (l.cursor.number - l.fn.piece.from.number))) l.text.page;
+      (l.fn.text.page
+      ++ shown_rows l.fn.text.app l.rows.view (l.rows.first + l.fn.piece.from.number)
+      (some_of (whole l.rows) l.fn.piece.from.number (l.cursor.number - l.fn.piece.from.number)))
+      l.text.page;
   working : g.W.Sink.has_failed l.writer ≡ false;
 }
 

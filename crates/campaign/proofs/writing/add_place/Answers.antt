@@ -9,14 +9,17 @@ use Rattle.campaign.proofs.writing.add_place.Goals as goal
 pub add_shown_row-requires-clause-kept : goal.add_shown_row-requires-clause-kept
 add_shown_row-requires-clause-kept g c =
     let kept = c.args.part.now.kept in
-    all_got (IsKept c.args.base.now (store_of c.args.part.now)) kept (c.args.first + c.loop-index.index) c.at-row.result.now c.at-row.ensures c.requires.kept.rows
+    all_got (IsKept c.args.base.now (store_of c.args.part.now)) kept
+    (c.args.first + c.loop-index.index) c.at-row.result.now c.at-row.ensures c.requires.kept.rows
 
 pub add_shown_row-requires-clause-known : goal.add_shown_row-requires-clause-known
 add_shown_row-requires-clause-known g c =
     let i = c.loop-index.invariant in
     let app = c.requires.app ∙ sym i.app in
-    rw app at (text_found (λ t. t.now) c.args.texts.now.app c.args.texts.now.rows c.args.base.now (store_of c.args.part.now) c.args.part_number (c.args.first + c.loop-index.index)
-    c.args.part.now c.at-row.result.now c.requires.part c.at-row.ensures c.requires.base refl c.find-known.result c.find-known.ensures)
+    rw app at (text_found (λ t. t.now) c.args.texts.now.app c.args.texts.now.rows c.args.base.now
+    (store_of c.args.part.now) c.args.part_number (c.args.first + c.loop-index.index)
+    c.args.part.now c.at-row.result.now c.requires.part c.at-row.ensures
+    c.requires.base refl c.find-known.result c.find-known.ensures)
 
 pub returns-in_err-add_shown_row-clause-text : goal.returns-in_err-add_shown_row-clause-text
 returns-in_err-add_shown_row-clause-text g c =

@@ -12,7 +12,8 @@ use Rattle.campaign.proofs.Telling.{row_parts}
 use Rattle.campaign.proofs.writing.add_row.Goals as goal
 
 pub add_told-requires-clause-legs : goal.add_told-requires-clause-legs
-add_told-requires-clause-legs g c = subst (λ (events : List Event). AreLegs events (store_of c.args.part.now)) (sym c.requires.base) c.requires.legs
+add_told-requires-clause-legs g c =
+    subst (λ (events : List Event). AreLegs events (store_of c.args.part.now)) (sym c.requires.base) c.requires.legs
 
 pub returns-in_err-begin_row-clause-text : goal.returns-in_err-begin_row-clause-text
 returns-in_err-begin_row-clause-text g c =
@@ -21,7 +22,8 @@ returns-in_err-begin_row-clause-text g c =
     let row = c.args.row.now in
     let base = c.args.base.now in
     let told = told_at base.events (store_of c.args.part.now) row.told in
-    let head = head_text app (title.Row c.args.number row.point (nat_lt (first_step row.point) base.steps)) row.steps row.ticks row.end in
+    let head =
+    head_text app (title.Row c.args.number row.point (nat_lt (first_step row.point) base.steps)) row.steps row.ticks row.end in
     let first = rw (c.title_of-title.ensures, c.ending_of.ensures, c.requires.base) at c.in_err-begin_row.ensures.text in
     rw (row_parts f head (take row.shared base.events) told)
     (Adds_stopped _ _ _ (head ++ flat_map f (take row.shared base.events)) (flat_map f told) _ _ c.from_residual.ensures.0 first)
@@ -33,7 +35,8 @@ returns-clause-text g c =
     let row = c.args.row.now in
     let base = c.args.base.now in
     let told = told_at base.events (store_of c.args.part.now) row.told in
-    let head = head_text app (title.Row c.args.number row.point (nat_lt (first_step row.point) base.steps)) row.steps row.ticks row.end in
+    let head =
+    head_text app (title.Row c.args.number row.point (nat_lt (first_step row.point) base.steps)) row.steps row.ticks row.end in
     let first = rw (c.title_of-title.ensures, c.ending_of.ensures, c.requires.base) at c.in_ok-begin_row.ensures.text in
     let second = rw (c.in_ok-begin_row.ensures.app, c.requires.base) at c.add_told.ensures.text in
     rw (row_parts f head (take row.shared base.events) told)

@@ -21,7 +21,8 @@ legs-init g c = record {
 pub leg_at-leg-requires : goal.leg_at-leg-requires
 leg_at-leg-requires g c =
     let there = rw c.in-Leg.is at c.legs.invariant.there in
-    let low : c.in-Leg.number < length c.args.part.now.legs.items = slice_get_within c.args.part.now.legs.items c.in-Leg.number there.0 there.1 in
+    let low : c.in-Leg.number < length c.args.part.now.legs.items =
+    slice_get_within c.args.part.now.legs.items c.in-Leg.number there.0 there.1 in
     let same = ap length c.deref.ensures.value in
     omega arith
 
@@ -37,7 +38,9 @@ legs-preserved g c =
       app = c.in_ok-add_events-in-Leg.ensures.app ∙ i.app;
       trail = i.trail;
       there = (c.requires.legs c.in-Leg.number leg at).next;
-      sent = leg_sent c.args.text.now.app c.args.events.now.events store c.requires.legs c.in-Leg.number c.in-Leg.from leg at _ _ _ _ _ sent _ added;
+      sent =
+          leg_sent c.args.text.now.app c.args.events.now.events store c.requires.legs
+          c.in-Leg.number c.in-Leg.from leg at _ _ _ _ _ sent _ added;
       working = c.in_ok-add_events-in-Leg.ensures.failed;
     }
 
@@ -50,7 +53,9 @@ returns-in_err-add_events-in-Leg-clause-text g c =
     let sent = rw c.in-Leg.is at i.sent in
     let added = rw (i.app, i.trail) at c.in_err-add_events-in-Leg.ensures.text in
     MatchResult-from_err c.from_residual.result _ _ c.from_residual.ensures.0
-    (λ y. leg_stopped c.args.text.now.app c.args.events.now.events store c.requires.legs c.in-Leg.number c.in-Leg.from leg at _ _ _ _ _ sent added)
+    (λ y.
+    leg_stopped c.args.text.now.app c.args.events.now.events store c.requires.legs
+    c.in-Leg.number c.in-Leg.from leg at _ _ _ _ _ sent added)
 
 pub returns-in-Base-clause-text : goal.returns-in-Base-clause-text
 returns-in-Base-clause-text g c =

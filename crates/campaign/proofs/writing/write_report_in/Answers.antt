@@ -6,4 +6,9 @@ use Rattle.campaign.proofs.writing.write_report_in.Goals as goal
 pub write_rows_by-requires-clause-spelling : goal.write_rows_by-requires-clause-spelling
 write_rows_by-requires-clause-spelling g c κs within =
     let rows = c.rows-rows.result.now in
-    record { app = search rules; rows = search rules; sound = search rules; pieces = each_piece rows 0 (length (whole rows)) c.in-Ok-pieces_of.pieces.items c.in-Ok-pieces_of.ensures }
+    record {
+      app = search rules;
+      rows = search rules;
+      sound = search rules;
+      pieces = each_piece rows 0 (length (whole rows)) c.in-Ok-pieces_of.pieces.items c.in-Ok-pieces_of.ensures;
+    }

@@ -13,7 +13,9 @@ returns-in_err-write_piece-clause-text g c =
     let from : rows.first + c.all.result.from.number ≡ rows.first = omega (arith, c.all.ensures.from) in
     let text = ap₂ (shown_rows app rows.view) from c.all.ensures.rows in
     MatchResult-from_err c.from_residual.result _ _ c.from_residual.ensures.0
-    (λ y. rows_of_report app rows.view rows.first _ _ _ (subst (SentFront _ _) text (rw c.new-text.ensures.app at c.in_err-write_piece.ensures.text)))
+    (λ y.
+    rows_of_report app rows.view rows.first _ _ _
+    (subst (SentFront _ _) text (rw c.new-text.ensures.app at c.in_err-write_piece.ensures.text)))
 
 pub returns-clause-text : goal.returns-clause-text
 returns-clause-text g c =
@@ -21,4 +23,5 @@ returns-clause-text g c =
     let rows = c.args.rows.now in
     let from : rows.first + c.all.result.from.number ≡ rows.first = omega (arith, c.all.ensures.from) in
     let text = ap₂ (shown_rows app rows.view) from c.all.ensures.rows in
-    rows_and_totals app rows.view rows.first _ _ _ _ _ (subst (Appends _ _) text (rw c.new-text.ensures.app at c.in_ok-write_piece.ensures.text)) c.write_totals.ensures.text
+    rows_and_totals app rows.view rows.first _ _ _ _ _
+    (subst (Appends _ _) text (rw c.new-text.ensures.app at c.in_ok-write_piece.ensures.text)) c.write_totals.ensures.text

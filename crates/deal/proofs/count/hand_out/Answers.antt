@@ -30,12 +30,17 @@ fetch_add-requires c =
     let me : (p.me.0, []) ≡ p.me = λ i. (p.me.0, sym held i) in
     let parts : p.me.0.parts ≡ old.me.0.parts + 0 = ap (λ (m : Mark). m.parts) is in
     let counted : p.me.0.counted ≡ old.me.0.counted + 0 = ap (λ (m : Mark). m.counted) is in
-    let blocks : length p.me.0.blocks ≡ length (old.me.0.blocks ++ c.args.ticket.number ∷ []) = ap (λ (m : Mark). length m.blocks) is in (
+    let blocks : length p.me.0.blocks ≡ length (old.me.0.blocks ++ c.args.ticket.number ∷ []) =
+    ap (λ (m : Mark). length m.blocks) is in (
       e.0 ∙ c.requires.share.0,
       omega (arith, c.requires.share.2),
-      subst (λ m. Allows (IsCounted z.key) z.table_id.slots p.id m 0 (λ n. (n + 1) % 2 ^ 64) (Counting (step z.table_id.slots 0 1 0 none) m)) me
+      subst (λ m.
+          Allows (IsCounted z.key) z.table_id.slots p.id m 0 (λ n. (n + 1) % 2 ^ 64)
+          (Counting (step z.table_id.slots 0 1 0 none) m))
+          me
           (counts z.key z.table_id.slots p.id p.me.0 (omega (arith, parts, c.requires.lane.0))
-          (omega (arith, counted, blocks, length-append old.me.0.blocks (c.args.ticket.number ∷ []), c.requires.lane.1)) c.requires.size),
+          (omega (arith, counted, blocks, length-append old.me.0.blocks (c.args.ticket.number ∷ []), c.requires.lane.1))
+          c.requires.size),
     )
 
 pub returns : goal.returns
@@ -55,7 +60,9 @@ returns c =
     let seen : p.me.0.seen ≡ max old.me.0.seen 0 = ap (λ (m : Mark). m.seen) is in
     let all : p.me.0.all ≡ old.me.0.all = omega (arith, ap (λ (m : Mark). m.all) is) in
     let lanes : p.me.0.lanes ≡ old.me.0.lanes = omega (arith, ap (λ (m : Mark). m.lanes) is) in
-    let now : mark p.me.0.all p.me.0.lanes p.me.0.parts (p.me.0.counted + 1) (n + 1) p.me.0.blocks ≡ mark old.me.0.all old.me.0.lanes old.me.0.parts (old.me.0.counted + 1) (n + 1) (old.me.0.blocks ++ c.args.ticket.number ∷ []) =
+    let now : mark p.me.0.all p.me.0.lanes p.me.0.parts (p.me.0.counted + 1) (n + 1) p.me.0.blocks
+    ≡ mark old.me.0.all old.me.0.lanes old.me.0.parts (old.me.0.counted + 1)
+    (n + 1) (old.me.0.blocks ++ c.args.ticket.number ∷ []) =
     λ i. mark (all i) (lanes i) (parts i) (counted i) (n + 1) (blocks i) in
     record {
       share = (f.0 ∙ e.0 ∙ c.requires.share.0, f.2.1 ∙ held, c.requires.share.2);

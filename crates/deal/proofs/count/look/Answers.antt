@@ -12,5 +12,6 @@ load-requires c =
     let me : (p.me.0, []) ≡ p.me = λ i. (p.me.0, sym c.requires.0.1 i) in (
       c.requires.0.0,
       omega (arith, c.requires.0.2),
-      subst (λ m. Allows (IsCounted z.key) z.table_id.slots p.id m 0 (λ n. n) (Looking (step z.table_id.slots 0 0 0 none) m)) me (looks z.key z.table_id.slots p.id p.me.0 c.requires.1),
+      subst (λ m. Allows (IsCounted z.key) z.table_id.slots p.id m 0 (λ n. n) (Looking (step z.table_id.slots 0 0 0 none) m))
+          me (looks z.key z.table_id.slots p.id p.me.0 c.requires.1),
     )

@@ -16,5 +16,7 @@ join_seat-requires c =
 
 pub returns : goal.returns
 returns c =
-    let e = c.join_seat.ensures in
-    ((e.0 ∙ c.requires.0.0, ap (λ (m : Me (Unit {0}) Mark). m.1) e.2 ∙ c.requires.0.1, c.requires.0.2), ap (λ (m : Me (Unit {0}) Mark). m.0) e.2)
+    let e = c.join_seat.ensures in (
+      (e.0 ∙ c.requires.0.0, ap (λ (m : Me (Unit {0}) Mark). m.1) e.2 ∙ c.requires.0.1, c.requires.0.2),
+      ap (λ (m : Me (Unit {0}) Mark). m.0) e.2,
+    )

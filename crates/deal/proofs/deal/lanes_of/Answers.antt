@@ -20,7 +20,8 @@ new-requires-clause-hand c =
     let k = vec_len rest in
     let mine = last_hand z lanes (length s.division) 4096 k rest.items c.in-Some.hand (omega (arith, rest.ok)) hands in
     let some_hand : IsSomeHand z lanes s.division c.in-Some.hand = (k, omega (arith, c.in-Some.ensures.cases, i.0), mine) in
-    subst (λ (t : Shared). IsSomeHand t.count.shared.table_id t.count.shared.key.lanes t.division c.in-Some.hand) (sym c.in_ok-own.ensures) some_hand
+    subst (λ (t : Shared). IsSomeHand t.count.shared.table_id t.count.shared.key.lanes t.division c.in-Some.hand)
+    (sym c.in_ok-own.ensures) some_hand
 
 pub loop-hand-preserved : goal.loop-hand-preserved
 loop-hand-preserved c =
@@ -37,11 +38,19 @@ loop-hand-preserved c =
     let mine = last_hand z lanes (length s.division) 4096 k rest.items c.in-Some.hand (omega (arith, rest.ok)) hands in
     let e = c.in_ok-lane.ensures in
     let made : c.in_ok-lane.lane ≡ fresh g k =
-    e.lane ∙ ap (λ (t : Shared). opened (game t.count.shared.table_id t.count.shared.key.lanes t.division) (worker_view c.in-Some.hand.own).dealt) c.in_ok-own.ensures ∙ ap (opened g) mine.2 in
+    e.lane
+    ∙ ap (λ (t : Shared).
+    opened (game t.count.shared.table_id t.count.shared.key.lanes t.division) (worker_view c.in-Some.hand.own).dealt)
+    c.in_ok-own.ensures
+    ∙ ap (opened g) mine.2 in
     let left : c.loop-hand.dealer.me.0.parts - 1 ≡ k = omega (arith, ap (λ (m : Mark). m.parts) i.1.1, one_less) in (
       omega (arith, one_less, i.0),
       subst (λ m. IsDealer key z m c.new.new.dealer) left
-          (subst (λ (t : Shared). IsDealer t.count.shared.key t.count.shared.table_id (c.loop-hand.dealer.me.0.parts - 1) c.new.new.dealer) c.in_ok-own.ensures e.dealer),
+          (subst (λ (t : Shared).
+          IsDealer t.count.shared.key t.count.shared.table_id (c.loop-hand.dealer.me.0.parts - 1) c.new.new.dealer)
+          c.in_ok-own.ensures e.dealer),
       hands_before z lanes (length s.division) 4096 rest.items c.in-Some.hand hands,
-      c.in_ok-insert.ensures.items ∙ ap (λ (l : Sight). l ∷ c.loop-hand.lanes.items) made ∙ ap (λ l. fresh g k ∷ l) (i.3 ∙ ap (λ m. map (fresh g) (range m (lanes - m))) one_less) ∙ sym (ap (λ l. map (fresh g) l) (range_next k lanes (omega (arith, one_less, i.0)))),
+      c.in_ok-insert.ensures.items ∙ ap (λ (l : Sight). l ∷ c.loop-hand.lanes.items) made
+          ∙ ap (λ l. fresh g k ∷ l) (i.3 ∙ ap (λ m. map (fresh g) (range m (lanes - m))) one_less)
+          ∙ sym (ap (λ l. map (fresh g) l) (range_next k lanes (omega (arith, one_less, i.0)))),
     )

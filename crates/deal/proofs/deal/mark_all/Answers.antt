@@ -13,8 +13,13 @@ mark_list-requires c x there =
     let i = c.loop-list.list-index in
     let v = c.list-item.result in
     let stands = times_within lists i v x c.loop-list-test.true in
-    let here : times x c.deref.result.now ≡ times x (get_or lists i v).items = ap (times x) (c.deref.ensures.value ∙ ap (λ (u : Vec ℕ Global). u.items) c.list-item.is) in
-    omega (arith, among_below (length c.args.marks.now) (concat (items_of lists)) c.requires.0 x (omega (arith, there, here, stands)), c.loop-list.invariant.0)
+    let here : times x c.deref.result.now ≡ times x (get_or lists i v).items =
+    ap (times x) (c.deref.ensures.value ∙ ap (λ (u : Vec ℕ Global). u.items) c.list-item.is) in
+    omega (
+      arith,
+      among_below (length c.args.marks.now) (concat (items_of lists)) c.requires.0 x (omega (arith, there, here, stands)),
+      c.loop-list.invariant.0,
+    )
 
 pub loop-list-preserved : goal.loop-list-preserved
 loop-list-preserved c =
@@ -25,5 +30,6 @@ loop-list-preserved c =
     let same = c.deref.ensures.value ∙ ap (λ (u : Vec ℕ Global). u.items) c.list-item.is in
     let e = c.mark_list.ensures in (
       e.0 ∙ c.loop-list.invariant.0,
-      subst (λ l. IsMarked l c.mark_list.new.marks) (ap (λ l. concat (items_of (take i lists)) ++ l) same ∙ sym more) (e.1 (concat (items_of (take i lists))) c.loop-list.invariant.1),
+      subst (λ l. IsMarked l c.mark_list.new.marks) (ap (λ l. concat (items_of (take i lists)) ++ l) same ∙ sym more)
+          (e.1 (concat (items_of (take i lists))) c.loop-list.invariant.1),
     )

@@ -1,4 +1,5 @@
-use Rattle.std.proofs.Common.{◌≡◌, ◌≤◌, ◌++◌, ◌∷◌, [], List, append_assoc, length, length-append, reverse, sym, refl, ap, ◌∙◌, subst, arith}
+use Rattle.std.proofs.Common.{◌≡◌, ◌≤◌, ◌++◌, ◌∷◌, [], List, append_assoc, length, length-append, reverse, sym, refl, ap, ◌∙◌}
+use Rattle.std.proofs.Common.{subst, arith}
 use Rattle.std.proofs.lemmas.List.{reverse-append}
 use Rattle.deal.specs.Marks.{IsAmong}
 use Rattle.std.specs.List.{concat, AllByRecursion}
@@ -30,7 +31,8 @@ hand_back-list-requires c =
     let rest = c.pop.new.self.items in
     let lane = c.in-Some.lane in
     let b = i.7 in
-    let split : c.args.lanes.items ≡ i.0 ++ lane ∷ reverse rest = i.1 ∙ ap (λ l. i.0 ++ l) (ap (λ (l : List Sight). reverse l) c.in-Some.ensures.items ∙ reverse-append rest (lane ∷ [])) in
+    let split : c.args.lanes.items ≡ i.0 ++ lane ∷ reverse rest =
+    i.1 ∙ ap (λ l. i.0 ++ l) (ap (λ (l : List Sight). reverse l) c.in-Some.ensures.items ∙ reverse-append rest (lane ∷ [])) in
     let mine = each_middle _ i.0 lane (reverse rest) (subst (AllByRecursion _) split c.requires.lanes) in (
       (i.5 ∙ sym mine.0, i.6, omega (arith, ap (λ z. z.words) (sym mine.0), c.requires.dealer.2)),
       b.0 ∙ sym mine.1,
@@ -50,11 +52,14 @@ loop-lane-preserved c =
     let lane = c.in-Some.lane in
     let e = c.hand_back-list.ensures in
     let p = c.push_reserved.ensures in
-    let split : c.args.lanes.items ≡ i.0 ++ lane ∷ reverse rest = i.1 ∙ ap (λ l. i.0 ++ l) (ap (λ (l : List Sight). reverse l) c.in-Some.ensures.items ∙ reverse-append rest (lane ∷ [])) in
+    let split : c.args.lanes.items ≡ i.0 ++ lane ∷ reverse rest =
+    i.1 ∙ ap (λ l. i.0 ++ l) (ap (λ (l : List Sight). reverse l) c.in-Some.ensures.items ∙ reverse-append rest (lane ∷ [])) in
     let mine = each_middle _ i.0 lane (reverse rest) (subst (AllByRecursion _) split c.requires.lanes) in (
       i.0 ++ lane ∷ [],
       split ∙ sym (append_assoc i.0 (lane ∷ []) (reverse rest)),
-      ap items_of p.items ∙ items_last c.loop-lane.lists.items c.hand_back-list.result ∙ ap (λ l. l ++ c.hand_back-list.result.items ∷ []) i.2 ∙ ap (λ l. lists_of i.0 ++ l ∷ []) e.list ∙ sym (lists_last i.0 lane),
+      ap items_of p.items ∙ items_last c.loop-lane.lists.items c.hand_back-list.result
+          ∙ ap (λ l. l ++ c.hand_back-list.result.items ∷ []) i.2
+          ∙ ap (λ l. lists_of i.0 ++ l ∷ []) e.list ∙ sym (lists_last i.0 lane),
       omega (arith, p.len, i.3, length-append i.0 (lane ∷ [])),
       p.capacity ∙ i.4,
       e.dealer.0.0 ∙ mine.0,
@@ -66,9 +71,13 @@ pub returns : goal.returns
 returns c =
     let i = c.loop-lane.invariant in
     let m = c.args.dealer.now.me.0 in
-    let whole : c.args.lanes.items ≡ i.0 = none_left c.args.lanes.items i.0 c.loop-lane.lanes.items i.1 (omega (arith, c.loop-lane.lanes.ok, c.in_default.ensures.cases.0)) in
+    let whole : c.args.lanes.items ≡ i.0 =
+    none_left c.args.lanes.items i.0 c.loop-lane.lanes.items i.1
+    (omega (arith, c.loop-lane.lanes.ok, c.in_default.ensures.cases.0)) in
     record {
       lists = i.2 ∙ ap lists_of (sym whole);
       among = subst (λ (l : List Sight). IsAmong m.all (concat (lists_of l))) (sym whole) (subst (IsAmong m.all) i.7.3 i.7.5);
-      all = subst (λ (l : List Sight). length l ≡ m.lanes → SomeHasSeenAll l → m.all ≤ length (concat (lists_of l))) (sym whole) (all_back m i.0 c.loop-lane.dealer.me.0 i.7);
+      all =
+          subst (λ (l : List Sight). length l ≡ m.lanes → SomeHasSeenAll l → m.all ≤ length (concat (lists_of l)))
+          (sym whole) (all_back m i.0 c.loop-lane.dealer.me.0 i.7);
     }

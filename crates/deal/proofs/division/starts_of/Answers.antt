@@ -1,18 +1,28 @@
-use Rattle.std.proofs.Common.{◌≡◌, ◌<◌, ◌+◌, ℕ, List, [], ◌∷◌, ◌++◌, length, sum, take, slice_index, ap, sym, subst, ◌∙◌, arith, below_more}
+use Rattle.std.proofs.Common.{◌≡◌, ◌<◌, ◌+◌, ℕ, List, [], ◌∷◌, ◌++◌, length, sum, take, slice_index, ap, sym, subst, ◌∙◌, arith}
+use Rattle.std.proofs.Common.{below_more}
 use Rattle.std.proofs.lemmas.List.{get_or_append_left}
 use Rattle.std.proofs.lemmas.List.Sums.{fold_more, sum_by_more_le}
 use Rattle.std.proofs.Math.Seq.{get_or-append_seam}
 use Rattle.deal.proofs.division.starts_of.Goals as goal
 
 -- one more start
-starts_more : (xs ys : List ℕ) (first n : ℕ) → length ys ≡ n → first ≡ sum (take n xs) → ((i : ℕ) → i < n → slice_index ys i ≡ sum (take i xs)) → (i : ℕ) → i < n + 1 → slice_index (ys ++ first ∷ []) i ≡ sum (take i xs)
+starts_more : (xs ys : List ℕ) (first n : ℕ) → length ys ≡ n → first ≡ sum (take n xs)
+    → ((i : ℕ) → i < n → slice_index ys i ≡ sum (take i xs)) → (i : ℕ) → i < n + 1
+    → slice_index (ys ++ first ∷ []) i ≡ sum (take i xs)
 starts_more xs ys first n many e before =
     let zs : List ℕ = ys ++ first ∷ [] in
     let last : slice_index zs n ≡ first = subst (λ k. slice_index zs k ≡ first) many (get_or-append_seam ys first [] 0) in
-    below_more (λ k. slice_index zs k ≡ sum (take k xs)) n (λ k below. get_or_append_left ys (first ∷ []) 0 k (omega (arith, many, below)) ∙ before k below) (last ∙ e)
+    below_more (λ k. slice_index zs k ≡ sum (take k xs)) n
+    (λ k below. get_or_append_left ys (first ∷ []) 0 k (omega (arith, many, below)) ∙ before k below) (last ∙ e)
 
 pub overflow_add-first : goal.overflow_add-first
-overflow_add-first c = omega (arith, sum_by_more_le (λ x. x) c.args.lengths.now c.loop-length.length-index 0 c.loop-length-test.true, c.loop-length.invariant.1, c.requires)
+overflow_add-first c =
+    omega (
+      arith,
+      sum_by_more_le (λ x. x) c.args.lengths.now c.loop-length.length-index 0 c.loop-length-test.true,
+      c.loop-length.invariant.1,
+      c.requires,
+    )
 
 pub loop-length-preserved : goal.loop-length-preserved
 loop-length-preserved c =

@@ -16,7 +16,16 @@ deal_one-requires-clause-own c =
     let workers = c.len-workers.result in
     let at = c.loop-number.number % workers in
     let hand = c.index_mut-hand.result.now in
-    let here : get_elem? hands at ≡ some hand = at_index hands at hand (omega (arith, c.loop-number.hands.ok, i.0, i.1, mod-lt c.loop-number.number {m = workers} (omega (arith, i.0, c.requires.hands.0)))) c.index_mut-hand.ensures.value in
+    let here : get_elem? hands at ≡ some hand =
+    at_index hands at hand
+    (omega (
+      arith,
+      c.loop-number.hands.ok,
+      i.0,
+      i.1,
+      mod-lt c.loop-number.number {m = workers} (omega (arith, i.0, c.requires.hands.0)),
+    ))
+    c.index_mut-hand.ensures.value in
     let t = i.4 at hand here in
     (t.1, t.4)
 
@@ -29,15 +38,20 @@ loop-number-preserved c =
     let at = n % workers in
     let hand = c.index_mut-hand.result.now in
     let z = c.args.count.now.shared.table_id in
-    let here : get_elem? hands at ≡ some hand = at_index hands at hand (omega (arith, c.loop-number.hands.ok, i.0, i.1, mod-lt n {m = workers} (omega (arith, i.0, c.requires.hands.0)))) c.index_mut-hand.ensures.value in
+    let here : get_elem? hands at ≡ some hand =
+    at_index hands at hand
+    (omega (arith, c.loop-number.hands.ok, i.0, i.1, mod-lt n {m = workers} (omega (arith, i.0, c.requires.hands.0))))
+    c.index_mut-hand.ensures.value in
     let new : Hand = record { own = c.deal_one.new.own; others = hand.others } in
     let e = c.in_ok-deal_one.ensures in
     let old = c.args.dealer.now.me.0 in (
       i.0,
       i.1,
       e.dealer.0,
-      e.dealer.1 ∙ ap without_first i.3 ∙ ap (λ l. mark c.args.blocks old.lanes old.parts 0 0 (others_of l)) (range_next n c.args.blocks c.loop-number-test.true),
-      subst (λ w. AreDealt z w (n + 1) (set hands at new)) i.0 (deals_more z workers n hands hand new here (subst (λ w. AreDealt z w n hands) (sym i.0) i.4) e.own.0 e.own.1 refl),
+      e.dealer.1 ∙ ap without_first i.3
+          ∙ ap (λ l. mark c.args.blocks old.lanes old.parts 0 0 (others_of l)) (range_next n c.args.blocks c.loop-number-test.true),
+      subst (λ w. AreDealt z w (n + 1) (set hands at new)) i.0
+          (deals_more z workers n hands hand new here (subst (λ w. AreDealt z w n hands) (sym i.0) i.4) e.own.0 e.own.1 refl),
     )
 
 pub returns-clause-hands : goal.returns-clause-hands

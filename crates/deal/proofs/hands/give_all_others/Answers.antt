@@ -4,7 +4,8 @@ use Rattle.deal.proofs.HandMoves.{hands_more}
 use Rattle.deal.proofs.hands.give_all_others.Goals as goal
 
 pub give_others-requires-clause-hands : goal.give_others-requires-clause-hands
-give_others-requires-clause-hands c = subst (λ w. HasHands w (64 * c.loop-lane.lane) c.loop-lane.hands.items) (sym c.loop-lane.invariant.0) c.loop-lane.invariant.1
+give_others-requires-clause-hands c =
+    subst (λ w. HasHands w (64 * c.loop-lane.lane) c.loop-lane.hands.items) (sym c.loop-lane.invariant.0) c.loop-lane.invariant.1
 
 pub loop-lane-preserved : goal.loop-lane-preserved
 loop-lane-preserved c =
@@ -21,5 +22,9 @@ loop-lane-preserved c =
 
 pub returns : goal.returns
 returns c =
-    let i = c.loop-lane.invariant in
-    (i.0, λ z n old. hands_more z (vec_len c.args.hands.now) n (64 * c.loop-lane.lane) 4096 c.loop-lane.hands.items (omega (arith, c.loop-lane.auto.lane-end, c.len-lane-end.ensures, c.requires.0)) (i.2 z n old))
+    let i = c.loop-lane.invariant in (
+      i.0,
+      λ z n old.
+          hands_more z (vec_len c.args.hands.now) n (64 * c.loop-lane.lane) 4096 c.loop-lane.hands.items
+          (omega (arith, c.loop-lane.auto.lane-end, c.len-lane-end.ensures, c.requires.0)) (i.2 z n old),
+    )

@@ -29,7 +29,16 @@ way_to-requires c =
     let workers = c.len-workers.result in
     let at = (c.args.lane + c.loop-step.step) % workers in
     let hand = c.index_mut-hand.result.now in
-    let here : get_elem? hands at ≡ some hand = at_index hands at hand (omega (arith, c.loop-step.hands.ok, i.0, i.1, mod-lt (c.args.lane + c.loop-step.step) {m = workers} (omega (arith, i.0, c.requires.lane.0)))) c.index_mut-hand.ensures.value in
+    let here : get_elem? hands at ≡ some hand =
+    at_index hands at hand
+    (omega (
+      arith,
+      c.loop-step.hands.ok,
+      i.0,
+      i.1,
+      mod-lt (c.args.lane + c.loop-step.step) {m = workers} (omega (arith, i.0, c.requires.lane.0)),
+    ))
+    c.index_mut-hand.ensures.value in
     let t = i.2.2 at hand here in
     (t.0, omega (arith, t.1, c.requires.lane.0, c.requires.lane.1, c.loop-step-test.true, i.0))
 
@@ -42,17 +51,21 @@ loop-step-preserved c =
     let step = c.loop-step.step in
     let at = (lane + step) % workers in
     let hand = c.index_mut-hand.result.now in
-    let short : at < length hands = omega (arith, c.loop-step.hands.ok, i.0, i.1, mod-lt (lane + step) {m = workers} (omega (arith, i.0, c.requires.lane.0))) in
+    let short : at < length hands =
+    omega (arith, c.loop-step.hands.ok, i.0, i.1, mod-lt (lane + step) {m = workers} (omega (arith, i.0, c.requires.lane.0))) in
     let here : get_elem? hands at ≡ some hand = at_index hands at hand short c.index_mut-hand.ensures.value in
     let new : Hand = record { own = c.way_to.new.own; others = hand.others } in
     let hand' = c.index_mut-hand-in-loop-step.result.now in
     let hands' : List Hand = set hands at new in
-    let here' : get_elem? hands' lane ≡ some hand' = at_index hands' lane hand' (omega (arith, length-set hands at new, c.loop-step.hands.ok, i.1, c.requires.lane.0)) c.index_mut-hand-in-loop-step.ensures.value in
+    let here' : get_elem? hands' lane ≡ some hand' =
+    at_index hands' lane hand' (omega (arith, length-set hands at new, c.loop-step.hands.ok, i.1, c.requires.lane.0))
+    c.index_mut-hand-in-loop-step.ensures.value in
     let new' : Hand = record { own = hand'.own; others = c.push.new.self } in
     let e = c.in_ok-other.ensures in
     let w = vec_len c.args.hands.now in
     let cut = 64 * lane + step in
-    let more : (z : TableId) (n : ℕ) → AreHands z w n cut hands → AreHands z w n (64 * lane + (step + 1)) (set hands' lane new') = λ z n old.
+    let more : (z : TableId) (n : ℕ) → AreHands z w n cut hands
+    → AreHands z w n (64 * lane + (step + 1)) (set hands' lane new') = λ z n old.
     hands_more z w n (cut + 1) (64 * lane + (step + 1)) (set hands' lane new') (omega arith)
     (gives_more z w n cut at lane hands hand new hand' new' c.in_ok-other.other here here'
     (omega (arith, c.loop-step.auto.step, c.loop-step-test.true, i.0))
@@ -64,5 +77,10 @@ pub returns : goal.returns
 returns c =
     let i = c.loop-step.invariant in
     let w = vec_len c.args.hands.now in
-    let cut = 64 * c.args.lane in
-    (i.1, λ z n old. hands_more z w n (cut + c.loop-step.step) (cut + 64) c.loop-step.hands.items (omega (arith, c.loop-step.auto.step-end (omega (arith, i.0, c.requires.lane.0)), i.0, c.requires.lane.1)) (i.3 z n old))
+    let cut = 64 * c.args.lane in (
+      i.1,
+      λ z n old.
+          hands_more z w n (cut + c.loop-step.step) (cut + 64) c.loop-step.hands.items
+          (omega (arith, c.loop-step.auto.step-end (omega (arith, i.0, c.requires.lane.0)), i.0, c.requires.lane.1))
+          (i.3 z n old),
+    )

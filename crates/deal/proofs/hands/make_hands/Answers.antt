@@ -5,8 +5,11 @@ use Rattle.deal.proofs.hands.make_hands.Goals as goal
 
 pub deal_all-requires-clause-hands : goal.deal_all-requires-clause-hands
 deal_all-requires-clause-hands c =
-    let e = c.in_ok-hands.ensures in
-    (omega (arith, e.0, c.requires.workers.0), subst (λ w. AreDealt c.args.count.now.shared.table_id w 0 c.in_ok-hands.hands.items) (sym e.0) (e.1 c.args.count.now.shared.table_id))
+    let e = c.in_ok-hands.ensures in (
+      omega (arith, e.0, c.requires.workers.0),
+      subst (λ w. AreDealt c.args.count.now.shared.table_id w 0 c.in_ok-hands.hands.items)
+          (sym e.0) (e.1 c.args.count.now.shared.table_id),
+    )
 
 pub give_all_others-requires : goal.give_all_others-requires
 give_all_others-requires c =

@@ -13,7 +13,8 @@ split_seat-seat-requires c =
     let i = c.loop.invariant in (
       i.0.0,
       omega (arith, i.0.2),
-      splits c.args.words.now.shared.key c.loop.rest.id c.loop.rest.me.0 (omega (arith, ap (λ (p : Part). p.parts) i.1, c.loop-test.true))
+      splits c.args.words.now.shared.key c.loop.rest.id c.loop.rest.me.0
+          (omega (arith, ap (λ (p : Part). p.parts) i.1, c.loop-test.true))
           (λ k. ap (λ (p : Part). slice_index p.added k) i.1 ∙ nothing k),
     )
 
@@ -27,10 +28,12 @@ loop-preserved c =
     let fresh : Tallied = fresh_seat (sheet z all) in
     let left : all - c.loop.counter - 1 ≡ all - (c.loop.counter + 1) = omega arith in
     let mine : seat.me.0 ≡ part all 1 zeros zeros = ap (λ (m : Me (Unit {0}) Part). m.0) e.4 ∙ ap seat_part i.1 in
-    let made : tallied seat.table_id seat.me.0 ≡ fresh = ap (λ (t : TableId). tallied t seat.me.0) (e.3 ∙ i.0.0) ∙ ap (tallied z) mine in (
+    let made : tallied seat.table_id seat.me.0 ≡ fresh =
+    ap (λ (t : TableId). tallied t seat.me.0) (e.3 ∙ i.0.0) ∙ ap (tallied z) mine in (
       (e.0 ∙ i.0.0, ap (λ (m : Me (Unit {0}) Part). m.1) e.2 ∙ i.0.1, i.0.2),
       ap (λ (m : Me (Unit {0}) Part). m.0) e.2 ∙ ap less_a_seat i.1 ∙ ap (λ n. part all n zeros zeros) left,
-      c.in_ok-push.ensures.items ∙ ap (λ (s : Tallied). c.loop.list.items ++ s ∷ []) made ∙ ap (λ (l : List Tallied). l ++ fresh ∷ []) i.2 ∙ replicate_more c.loop.counter fresh,
+      c.in_ok-push.ensures.items ∙ ap (λ (s : Tallied). c.loop.list.items ++ s ∷ []) made
+          ∙ ap (λ (l : List Tallied). l ++ fresh ∷ []) i.2 ∙ replicate_more c.loop.counter fresh,
     )
 
 pub returns-clause-rest : goal.returns-clause-rest

@@ -19,8 +19,11 @@ loop-kind-preserved c =
       e.same.0 ∙ i.2,
       e.same.1 ∙ i.3,
       e.same.2 ∙ i.4,
-      sees_more was.seen seen c.see.new.seat.me.0.seen kinds kind n i.1 e.seen.2 here e.seen.0 e.seen.1 (i.6 kind (omega arith)) i.5,
+      sees_more was.seen seen c.see.new.seat.me.0.seen kinds kind n i.1
+          e.seen.2 here e.seen.0 e.seen.1 (i.6 kind (omega arith)) i.5,
       (λ k high. ap (λ l. slice_index l k) e.seen.0 ∙ set_other seen kind k n (omega (arith, high)) ∙ i.6 k (omega (arith, high))),
       λ some all. sums_more was.added kinds kind n i.1 here
-          (e.whole (omega (arith, some, i.3)) (omega (arith, e.parts (omega (arith, some, i.3)), all, i.3, i.4)) ∙ ap (λ l. slice_index l kind) i.2) (i.7 some all),
+          (e.whole (omega (arith, some, i.3)) (omega (arith, e.parts (omega (arith, some, i.3)), all, i.3, i.4))
+          ∙ ap (λ l. slice_index l kind) i.2)
+          (i.7 some all),
     )

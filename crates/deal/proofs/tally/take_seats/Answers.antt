@@ -16,7 +16,15 @@ loop-seat-preserved c =
       e.taken.0 ∙ i.1,
       each_left (λ (s : Tallied). s.sheet ≡ z) rest (seat ∷ []) (subst (AreEachOf z) was i.2),
       omega (arith, e.taken.1, i.3, ap length was, length-append rest (seat ∷ [])),
-      (λ k. omega (arith, e.taken.2 k, i.4 k, ap (λ (l : List Tallied). added_in k l) was, total_append (λ (s : Tallied). slice_index s.added k) rest (seat ∷ []))),
+      (λ k.
+          omega (
+            arith,
+            e.taken.2 k,
+            i.4 k,
+            ap (λ (l : List Tallied). added_in k l) was,
+            total_append (λ (s : Tallied). slice_index s.added k) rest (seat ∷ []),
+          )),
       λ counts mine others. i.5 counts (λ k low. omega (arith, (e.taken.3 k).0, mine k low))
-          (subst (NoneSawMore counts) (sym was) (each_last (λ (s : Tallied). AtMost s.seen counts) rest seat others (λ k low. omega (arith, (e.taken.3 k).1, mine k low)))),
+          (subst (NoneSawMore counts) (sym was) (each_last (λ (s : Tallied). AtMost s.seen counts)
+          rest seat others (λ k low. omega (arith, (e.taken.3 k).1, mine k low)))),
     )

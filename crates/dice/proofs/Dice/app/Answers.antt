@@ -29,15 +29,21 @@ new-requires-2 c =
       points = c.new-points.result.items;
     } in
     let is : app.daemon ≡ daemon_number has_daemon = c.daemon_of-daemon.ensures in
-    let are : AreTasks has_daemon kinds tasks = subst (λ (objects : List ObjectKind). AreTasks has_daemon objects tasks) c.as_slice.ensures.value c.in_ok-tasks.ensures in
+    let are : AreTasks has_daemon kinds tasks =
+    subst (λ (objects : List ObjectKind). AreTasks has_daemon objects tasks) c.as_slice.ensures.value c.in_ok-tasks.ensures in
     let four = four_of_file app has_daemon is are in
     let has : is_some app.daemon ≡ has_daemon = ap is_some is ∙ has_number has_daemon in
     let tasks_few = few_tasks has_daemon kinds tasks are in
     let objects_few = c.in_ok-objects.ensures.few in
     let three = c.in_ok-handlers.ensures.three in
-    let of_interrupts : app.interrupts ≡ c.in_ok-listed.listed.items = of_ok c.new.result (λ interrupts. interrupts ≡ c.as_slice-3.result.now) c.in_ok-interrupts.interrupts c.in_ok-interrupts.ensures.value c.new.ensures ∙ c.as_slice-3.ensures.value in
-    let few : length app.interrupts ≤ 4 = subst (λ (is : List Interrupt). length is ≤ 4) (sym of_interrupts) c.in_ok-listed.ensures.few in
-    let formed : AreInterrupts 800001 app.interrupts = subst (AreInterrupts 800001) (sym of_interrupts) c.in_ok-listed.ensures.formed in
+    let of_interrupts : app.interrupts ≡ c.in_ok-listed.listed.items =
+    of_ok c.new.result (λ interrupts. interrupts ≡ c.as_slice-3.result.now)
+    c.in_ok-interrupts.interrupts c.in_ok-interrupts.ensures.value c.new.ensures
+    ∙ c.as_slice-3.ensures.value in
+    let few : length app.interrupts ≤ 4 =
+    subst (λ (is : List Interrupt). length is ≤ 4) (sym of_interrupts) c.in_ok-listed.ensures.few in
+    let formed : AreInterrupts 800001 app.interrupts =
+    subst (AreInterrupts 800001) (sym of_interrupts) c.in_ok-listed.ensures.formed in
     record {
       some = tasks_few.0;
       few = tasks_few.1;
@@ -46,7 +52,10 @@ new-requires-2 c =
       few_objects = omega arith;
       daemon = is_daemon app has_daemon is c.in_ok-objects.ensures.queue are;
       few_groups = omega arith;
-      handlers = are_handlers app has_daemon kinds refl refl four has handlers (subst (λ (objects : List ObjectKind). AllByRecursion (IsKnownHandler has_daemon objects) handlers) c.as_slice-2.ensures.value c.in_ok-handlers.ensures.known);
+      handlers =
+          are_handlers app has_daemon kinds refl refl four has handlers
+          (subst (λ (objects : List ObjectKind). AllByRecursion (IsKnownHandler has_daemon objects) handlers)
+          c.as_slice-2.ensures.value c.in_ok-handlers.ensures.known);
       few_handlers = omega arith;
       interrupts = are_interrupts app three app.interrupts formed.first formed.last formed.known;
       few_interrupts = omega arith;

@@ -5,8 +5,11 @@ use Rattle.dice.proofs.Dice.script.Goals as goal
 
 pub loop-index-preserved : goal.loop-index-preserved
 loop-index-preserved c = (
-  (let few = c.loop-index.invariant.0 in let more = few-pushed c.loop-index.script c.push.new.self c.op_at.result c.push.result c.push.ensures.ok c.push.ensures.err in omega (arith, few, more)),
-  known-pushed _ c.loop-index.script c.push.new.self c.op_at.result c.push.result c.push.ensures.ok c.push.ensures.err c.loop-index.invariant.1 c.op_at.ensures.known,
+  (let few = c.loop-index.invariant.0 in
+      let more = few-pushed c.loop-index.script c.push.new.self c.op_at.result c.push.result c.push.ensures.ok c.push.ensures.err in
+      omega (arith, few, more)),
+  known-pushed _ c.loop-index.script c.push.new.self c.op_at.result c.push.result
+      c.push.ensures.ok c.push.ensures.err c.loop-index.invariant.1 c.op_at.ensures.known,
 )
 
 pub returns-in-Ok-clause-known : goal.returns-in-Ok-clause-known

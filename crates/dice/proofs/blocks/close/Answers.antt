@@ -5,6 +5,9 @@ use Rattle.dice.proofs.blocks.close.Goals as goal
 
 pub loop-preserved : goal.loop-preserved
 loop-preserved c = (
-  (let few = c.loop.invariant.0 in let more = few-pushed c.loop.script c.push.new.self End c.push.result c.push.ensures.ok c.push.ensures.err in omega (arith, few, more)),
-  known-pushed _ c.loop.script c.push.new.self End c.push.result c.push.ensures.ok c.push.ensures.err c.loop.invariant.1 (λ app same two four. refl),
+  (let few = c.loop.invariant.0 in
+      let more = few-pushed c.loop.script c.push.new.self End c.push.result c.push.ensures.ok c.push.ensures.err in
+      omega (arith, few, more)),
+  known-pushed _ c.loop.script c.push.new.self End c.push.result c.push.ensures.ok
+      c.push.ensures.err c.loop.invariant.1 (λ app same two four. refl),
 )

@@ -16,7 +16,8 @@ returns-then-is_full c =
 pub returns-in_err-next_pair : goal.returns-in_err-next_pair
 returns-in_err-next_pair c =
     let ps : List RawPair = map pair_view c.loop-pairs.pairs.items in
-    let none : raw_pairs c.args.words.now ≡ None = c.loop-pairs.invariant ∙ ap (behind ps) c.in_err-next_pair.ensures ∙ behind_none ps in
+    let none : raw_pairs c.args.words.now ≡ None =
+    c.loop-pairs.invariant ∙ ap (behind ps) c.in_err-next_pair.ensures ∙ behind_none ps in
     rw c.from_residual.ensures (ap (option_and_then if_point) none)
 
 pub loop-pairs-preserved : goal.loop-pairs-preserved
@@ -24,7 +25,8 @@ loop-pairs-preserved c =
     let items = c.loop-pairs.pairs.items in
     let pair = c.in_ok-next_pair.field-0 in
     let after : c.push.new.self.items ≡ items ++ pair ∷ [] = search rules in
-    let more : map pair_view c.push.new.self.items ≡ map pair_view items ++ pair_view pair ∷ [] = ap (map pair_view) after ∙ map-append pair_view items (pair ∷ []) in
+    let more : map pair_view c.push.new.self.items ≡ map pair_view items ++ pair_view pair ∷ [] =
+    ap (map pair_view) after ∙ map-append pair_view items (pair ∷ []) in
     c.loop-pairs.invariant ∙ ap (behind (map pair_view items)) c.in_ok-next_pair.ensures
     ∙ one_more (map pair_view items) (pair_view pair) (raw_pairs c.next_pair.new.words)
     ∙ ap (λ ps. behind ps (raw_pairs c.next_pair.new.words)) (sym more)

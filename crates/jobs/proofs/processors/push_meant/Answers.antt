@@ -16,8 +16,11 @@ loop-word-preserved c =
     ∙ ap (λ (t : List ℕ). t ∷ rest) (ap string_bytes (sym c.word-item.is) ∙ sym c.as_str-word.ensures.value) in
     record {
       is_text = search rules;
-      meant = rw pushed (meant_next c.loop-word.is_verbatim c.eq.result (decimal c.args.workers) c.loop-word.before.now c.as_str-word.result.now (string_bytes text)
-          (map string_bytes c.loop-word.meant.items) (map string_bytes (drop index words)) rest _ c.eq.ensures left c.in_ok-word_meant.ensures c.loop-word.invariant.meant);
+      meant =
+          rw pushed (meant_next c.loop-word.is_verbatim c.eq.result (decimal c.args.workers)
+          c.loop-word.before.now c.as_str-word.result.now (string_bytes text)
+          (map string_bytes c.loop-word.meant.items) (map string_bytes (drop index words)) rest
+          _ c.eq.ensures left c.in_ok-word_meant.ensures c.loop-word.invariant.meant);
     }
 
 pub returns : goal.returns

@@ -23,8 +23,10 @@ loop-word-preserved c =
     record {
       is_text = search rules;
       so_far = rw c.either-ends.ensures
-          (sym (with_more c.loop-word.ends c.in-Some.word.now (slice_split (λ b. b == 44) c.in-Some.others.now) c.in_ok-ends_named.field-0 is others.0 others.1 others.2)
-          ∙ ap (λ (ps : List (List ℕ)). option_map (either c.loop-word.ends) (ends_listed ps)) (sym parts) ∙ c.loop-word.invariant.so_far);
+          (sym (with_more c.loop-word.ends c.in-Some.word.now (slice_split (λ b. b == 44) c.in-Some.others.now)
+          c.in_ok-ends_named.field-0 is others.0 others.1 others.2)
+          ∙ ap (λ (ps : List (List ℕ)). option_map (either c.loop-word.ends) (ends_listed ps)) (sym parts)
+          ∙ c.loop-word.invariant.so_far);
     }
 
 pub returns-in_err-ends_named-2 : goal.returns-in_err-ends_named-2

@@ -12,12 +12,16 @@ returns-in_err-number c =
 pub returns-in_err-spelled : goal.returns-in_err-spelled
 returns-in_err-spelled c =
     let told : c.from_residual-in_err-spelled.result ≡ None = search rules in
-    told ∙ sym (at_stroke c.args.text.now (c.in_ok-number.number, c.in_ok-number.count) c.in_ok-number.ensures.cases ∙ no_number _ _ (c.in_err-spelled.ensures.none refl))
+    told
+    ∙ sym (at_stroke c.args.text.now (c.in_ok-number.number, c.in_ok-number.count) c.in_ok-number.ensures.cases
+    ∙ no_number _ _ (c.in_err-spelled.ensures.none refl))
 
 pub returns-in_err-spelled-2 : goal.returns-in_err-spelled-2
 returns-in_err-spelled-2 c =
     let told : c.from_residual-in_err-spelled-2.result ≡ None = search rules in
-    told ∙ sym (at_stroke c.args.text.now (c.in_ok-number.number, c.in_ok-number.count) c.in_ok-number.ensures.cases ∙ no_count _ _ (c.in_err-spelled-2.ensures.none refl))
+    told
+    ∙ sym (at_stroke c.args.text.now (c.in_ok-number.number, c.in_ok-number.count) c.in_ok-number.ensures.cases
+    ∙ no_count _ _ (c.in_err-spelled-2.ensures.none refl))
 
 pub returns : goal.returns
 returns c =

@@ -7,5 +7,7 @@ use Rattle.jobs.proofs.words.run_command.Goals as goal
 pub returns : goal.returns
 returns c =
     let arguments : List Rule = file_rule ∷ at_rule ∷ handler_rule ∷ state_rule ∷ [] in
-    let are : AreArgsOf arguments c.in_ok-arguments.arguments.items = rw c.in_ok-arguments.ensures.items (c.file_argument.ensures, (c.at_argument.ensures, (c.handler_argument.ensures, (c.state_argument.ensures, tt)))) in
+    let are : AreArgsOf arguments c.in_ok-arguments.arguments.items =
+    rw c.in_ok-arguments.ensures.items
+    (c.file_argument.ensures, (c.at_argument.ensures, (c.handler_argument.ensures, (c.state_argument.ensures, tt)))) in
     with_arguments _ _ arguments _ _ c.described_command.ensures.reads are c.args-2.ensures

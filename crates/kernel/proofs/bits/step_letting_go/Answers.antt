@@ -9,14 +9,19 @@ use Rattle.kernel.proofs.bits.step_letting_go.Goals as goal
 pub let_go-requires-clause-can : goal.let_go-requires-clause-can
 let_go-requires-clause-can g c =
     let letting = c.requires.letting in
-    can_do c.args.app.now c.well_formed-2.ensures c.args.machine.now c.requires.going.1 c.args.task letting.current letting.awake c.args.op.now letting.at
+    can_do c.args.app.now c.well_formed-2.ensures c.args.machine.now c.requires.going.1
+    c.args.task letting.current letting.awake c.args.op.now letting.at
 
 pub overflow_add-machine : goal.overflow_add-machine
 overflow_add-machine g c =
     let limits = c.requires.going.0 in
     let going = c.requires.going.1 in
-    let a = c.settle.ensures.at _ ((c.let_go.ensures limits).at _ (handled_before c.args.app.now [] going.state c.args.machine.now _ (begun c.args.machine.now (g.L.Log.logged c.args.log.now).told going.state going.stands c.requires.begun))) in
-    let still = steps_still c.args.app.now limits [] going.state c.args.machine.now c.settle.new.self (g.L.Log.logged c.settle.new.log).told going.stands a in
+    let a =
+    c.settle.ensures.at _ ((c.let_go.ensures limits).at _ (handled_before c.args.app.now [] going.state c.args.machine.now
+    _ (begun c.args.machine.now (g.L.Log.logged c.args.log.now).told going.state going.stands c.requires.begun))) in
+    let still =
+    steps_still c.args.app.now limits [] going.state c.args.machine.now
+    c.settle.new.self (g.L.Log.logged c.settle.new.log).told going.stands a in
     let is = steps_are c.args.machine.now going.state going.stands in
     let low = below_limits c.args.app.now limits going.state going.goes_on in
     let few = low.1 in
@@ -25,13 +30,21 @@ overflow_add-machine g c =
 
 pub returns-clause-stands : goal.returns-clause-stands
 returns-clause-stands g c = λ limits s h.
-    let a = c.settle.ensures.at _ ((c.let_go.ensures limits).at _ (handled_before c.args.app.now [] s c.args.machine.now _ (begun c.args.machine.now (g.L.Log.logged c.args.log.now).told s h c.requires.begun))) in
-    let still = steps_still c.args.app.now limits [] s c.args.machine.now c.settle.new.self (g.L.Log.logged c.settle.new.log).told h a in
-    stepped c.args.app.now limits [] s c.settle.new.self (g.L.Log.logged c.settle.new.log).told c.settle.new.self.steps (still ∙ steps_are c.args.machine.now s h) a
+    let a =
+    c.settle.ensures.at _ ((c.let_go.ensures limits).at _ (handled_before c.args.app.now [] s c.args.machine.now
+    _ (begun c.args.machine.now (g.L.Log.logged c.args.log.now).told s h c.requires.begun))) in
+    let still =
+    steps_still c.args.app.now limits [] s c.args.machine.now c.settle.new.self (g.L.Log.logged c.settle.new.log).told h a in
+    stepped c.args.app.now limits [] s c.settle.new.self (g.L.Log.logged c.settle.new.log).told
+    c.settle.new.self.steps (still ∙ steps_are c.args.machine.now s h) a
 
 pub returns-clause-told : goal.returns-clause-told
 unfolding step
-returns-clause-told g c = λ limits s h. (c.settle.ensures.at _ ((c.let_go.ensures limits).at _ (handled_before c.args.app.now [] s c.args.machine.now _ (begun c.args.machine.now (g.L.Log.logged c.args.log.now).told s h c.requires.begun)))).log
+returns-clause-told g c = λ limits s h.
+    (c.settle.ensures.at _
+    ((c.let_go.ensures limits).at _
+    (handled_before c.args.app.now [] s c.args.machine.now _
+    (begun c.args.machine.now (g.L.Log.logged c.args.log.now).told s h c.requires.begun)))).log
 
 pub settle-requires : goal.settle-requires
 settle-requires g c =

@@ -9,7 +9,10 @@ use Rattle.kernel.proofs.commands.set_received.Goals as goal
 pub returns : goal.returns
 returns c = record {
   current = c.requires.runs;
-  at = (let P : Progress → Type 0 = λ p. op_at c.args.app.now c.args.task p.op_index ≡ Some c.in-Some.op.now in subst P (c.behind-machine.view_is ∙ c.progress.ensures) c.in-Some.ensures.some) ∙ ap (λ (o : Op). Some o) c.in-Obey.is;
+  at =
+      (let P : Progress → Type 0 = λ p. op_at c.args.app.now c.args.task p.op_index ≡ Some c.in-Some.op.now in
+      subst P (c.behind-machine.view_is ∙ c.progress.ensures) c.in-Some.ensures.some)
+      ∙ ap (λ (o : Op). Some o) c.in-Obey.is;
   reached = sym c.phase.ensures ∙ same_phase c.phase.result Start c.if-ne.ensures;
   awake = (let l = c.if-machine-gt0.false in omega arith);
   received = c.command_of-command.ensures;

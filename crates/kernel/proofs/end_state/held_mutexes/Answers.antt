@@ -7,6 +7,7 @@ loop-number-preserved c = record {
   told = λ s h long.
       let below = c.loop-number-test.true in
       let within : c.loop-number.number < length s.objects = omega (arith, below, long) in
-      held_next c.loop-number.number s.objects c.holder.result _ _ within (c.holder.ensures.stands s None h) (c.loop-number.invariant.told s h long) c.push_held.ensures.items;
+      held_next c.loop-number.number s.objects c.holder.result _ _ within (c.holder.ensures.stands s None h)
+      (c.loop-number.invariant.told s h long) c.push_held.ensures.items;
   count = let more = c.push_held.ensures.count in let before = c.loop-number.invariant.count in omega arith;
 }

@@ -7,6 +7,7 @@ use Rattle.kernel.proofs.end_state.held_mutexes.Given as goal
 
 abbrev pub invariant-loop-number : goal.invariant-loop-number
 invariant-loop-number l = record {
-  told : (s : State) → StandsFor l.queues None s → length s.objects ≡ l.count → l.held.items ≡ held_from 0 (take l.number s.objects);
+  told : (s : State) → StandsFor l.queues None s → length s.objects ≡ l.count
+      → l.held.items ≡ held_from 0 (take l.number s.objects);
   count : array_vec_len l.held ≤ l.number;
 }

@@ -14,7 +14,9 @@ use Rattle.model.specs.State.{go_on}
 use Rattle.kernel.proofs.end_state.place.Goals as goal
 
 pub place-requires-clause-free : goal.place-requires-clause-free
-place-requires-clause-free c = still_free c.args.machine.now.queues c.requires.state (decider c.args.task c.requires.list c.requires.state) c.requires.stands.queues
+place-requires-clause-free c =
+    still_free c.args.machine.now.queues c.requires.state
+    (decider c.args.task c.requires.list c.requires.state) c.requires.stands.queues
 
 pub returns : goal.returns
 returns c = λ s h.
@@ -23,18 +25,27 @@ returns c = λ s h.
     let runs = c.requires.stands.sched.current ∙ c.requires.stands.current in
     by_stands s h where
       by_stands : (s : State) → Stands c.args.machine.now s → StandsFor c.set_phase.new.self (go_on c.args.task Unlock s)
-      by_stands s (Placed p) = absurd (p.rest.placed c.args.task (ap (λ (x : Progress). x.call.phase) (c.requires.stands.progress c.args.task) ∙ c.requires.stands.phase))
+      by_stands s (Placed p) =
+          absurd (p.rest.placed c.args.task
+          (ap (λ (x : Progress). x.call.phase) (c.requires.stands.progress c.args.task) ∙ c.requires.stands.phase))
       by_stands s (Placing j list b) =
           let k = c.args.machine.now in
           let i : ℕ = c.args.task in
           let runs = c.requires.stands.sched.current ∙ c.requires.stands.current in
-          let own : StandsBefore i list k s = subst (λ (m : ℕ). StandsBefore m list k s) (same_Some j i (sym b.current ∙ sym b.sched.current ∙ runs)) b in
+          let own : StandsBefore i list k s =
+          subst (λ (m : ℕ). StandsBefore m list k s) (same_Some j i (sym b.current ∙ sym b.sched.current ∙ runs)) b in
           let view = c.behind-machine.view_is ∙ c.progress.ensures ∙ own.progress i in
           let until = ap (λ (x : Progress). x.call.deadline) view in
-          let priority = c.priority-priority.ensures.priority ∙ ap (λ (v : Schedule). priority_in v.priorities i) c.block.ensures.schedule ∙ own.sched.priorities i in
+          let priority =
+          c.priority-priority.ensures.priority
+          ∙ ap (λ (v : Schedule). priority_in v.priorities i) c.block.ensures.schedule ∙ own.sched.priorities i in
           (placed_at k s.log s i list own refl c.block.new.self c.place.new.self c.place_sleeper.new.clock c.set_phase.new.self
           (c.block.ensures.placed s own.sched)
-          (c.place.ensures.stands s (subst (λ (w : WaitList). queues.StandsFor k.queues (Some (record { task = i; list = w; priority = c.priority-priority.result })) s) (sym own.wait_list)
-          (subst (λ (n : ℕ). queues.StandsFor k.queues (Some (record { task = i; list = list; priority = n })) s) (sym priority) own.queues)))
+          (c.place.ensures.stands s (subst
+          (λ (w : WaitList).
+          queues.StandsFor k.queues (Some (record { task = i; list = w; priority = c.priority-priority.result })) s)
+          (sym own.wait_list)
+          (subst (λ (n : ℕ). queues.StandsFor k.queues (Some (record { task = i; list = list; priority = n })) s)
+          (sym priority) own.queues)))
           (c.place_sleeper.ensures s (subst (λ (d : Option ℕ). clock.StandsBefore i d k.clock s) (sym until) own.clock))
           c.set_phase.ensures).stands

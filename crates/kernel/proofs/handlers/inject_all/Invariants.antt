@@ -7,6 +7,7 @@ use Rattle.kernel.proofs.handlers.inject_all.Given as goal
 
 abbrev pub invariant-loop-handler : goal.invariant-loop-handler
 invariant-loop-handler g l = record {
-  any : DoesAny (17 * l.handler-index) l.fn.machine (g.L.Log.logged l.fn.log) l.machine (g.L.Log.logged l.log) (for_each (inject l.app) (take l.handler-index l.handlers));
+  any : DoesAny (17 * l.handler-index) l.fn.machine (g.L.Log.logged l.fn.log) l.machine
+      (g.L.Log.logged l.log) (for_each (inject l.app) (take l.handler-index l.handlers));
   objects : HasObjects l.app l.machine;
 }

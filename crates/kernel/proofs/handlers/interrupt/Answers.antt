@@ -9,7 +9,11 @@ use Rattle.kernel.proofs.handlers.interrupt.Goals as goal
 
 pub returns-then-is_empty-clause-does : goal.returns-then-is_empty-clause-does
 returns-then-is_empty-clause-does g c = record {
-  at = λ s h. subst (At c.args.machine.now (g.L.Log.logged c.args.log.now).told) (sym (uninterrupted c.args.app.now (sym c.interrupts.ensures ∙ empty c.interrupts.result.now (sym c.is_empty.ensures ∙ c.if-is_empty.true)) s)) h;
+  at = λ s h.
+      subst (At c.args.machine.now (g.L.Log.logged c.args.log.now).told)
+      (sym (uninterrupted c.args.app.now
+      (sym c.interrupts.ensures ∙ empty c.interrupts.result.now (sym c.is_empty.ensures ∙ c.if-is_empty.true)) s))
+      h;
   few = omega arith;
   before = refl;
 }
@@ -19,7 +23,8 @@ returns-then-is_none_due-clause-does g c = record {
   at = λ s h.
       let elapsed : c.elapsed.result ≡ s.elapsed = c.elapsed.ensures.elapsed ∙ h.stands.rest.clock.age in
       let none : interrupts_at c.args.app.now c.elapsed.result ≡ [] = c.is_none_due.ensures c.if-is_none_due.true in
-      subst (λ (t : State). At c.args.machine.now (g.L.Log.logged c.args.log.now).told t) (sym (none_due c.args.app.now s (subst (λ (n : ℕ). interrupts_at c.args.app.now n ≡ []) elapsed none))) h;
+      subst (λ (t : State). At c.args.machine.now (g.L.Log.logged c.args.log.now).told t)
+      (sym (none_due c.args.app.now s (subst (λ (n : ℕ). interrupts_at c.args.app.now n ≡ []) elapsed none))) h;
   few = omega arith;
   before = refl;
 }

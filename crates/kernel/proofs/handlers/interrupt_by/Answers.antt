@@ -16,7 +16,9 @@ handle-requires-clause-room g c =
     let room = c.requires.room in
     let one = c.loop-interrupt-test.true in
     let few = c.well_formed-2.ensures.few_at_once (c.args.machine.now.clock.age + c.args.machine.now.clock.held) in
-    let many : length c.args.due.now ≡ length (interrupts_at c.args.app.now (c.args.machine.now.clock.age + c.args.machine.now.clock.held)) = sym (length-map c.args.due.now (λ (i : Interrupt). i.handler)) ∙ ap (λ (hs : List ℕ). length hs) c.requires.due in
+    let many : length c.args.due.now
+    ≡ length (interrupts_at c.args.app.now (c.args.machine.now.clock.age + c.args.machine.now.clock.held)) =
+    sym (length-map c.args.due.now (λ (i : Interrupt). i.handler)) ∙ ap (λ (hs : List ℕ). length hs) c.requires.due in
     omega arith
 
 pub handle-requires-clause-stands : goal.handle-requires-clause-stands
@@ -25,7 +27,8 @@ handle-requires-clause-stands g c =
     (a.0, Placed a.1)
 
 pub handle-requires-clause-objects : goal.handle-requires-clause-objects
-handle-requires-clause-objects g c = room_after c.args.app.now c.args.machine.now c.loop-interrupt.machine c.requires.objects c.loop-interrupt.invariant.leaves
+handle-requires-clause-objects g c =
+    room_after c.args.app.now c.args.machine.now c.loop-interrupt.machine c.requires.objects c.loop-interrupt.invariant.leaves
 
 pub loop-interrupt-preserved : goal.loop-interrupt-preserved
 loop-interrupt-preserved g c =
@@ -33,8 +36,16 @@ loop-interrupt-preserved g c =
     let xs : List Interrupt = c.args.due.now in
     record {
       does = record {
-        at = λ s h. one_more (handle c.args.app.now) (At c.handle.new.machine (g.L.Log.logged c.handle.new.log).told) (map (λ (i : Interrupt). i.handler) xs) s c.loop-interrupt.interrupt-index c.interrupt-item.result.handler
-            (rw length-map c.loop-interrupt-test.true) (mapped_at (λ (i : Interrupt). i.handler) xs c.loop-interrupt.interrupt-index c.interrupt-item.result c.loop-interrupt-test.true c.interrupt-item.is) (let T : ℕ → Type 0 = λ n. At c.handle.new.machine (g.L.Log.logged c.handle.new.log).told (handle c.args.app.now n (for_each (handle c.args.app.now) (take c.loop-interrupt.interrupt-index (map (λ (i : Interrupt). i.handler) xs)) s)) in
+        at = λ s h.
+            one_more (handle c.args.app.now) (At c.handle.new.machine (g.L.Log.logged c.handle.new.log).told)
+            (map (λ (i : Interrupt). i.handler) xs) s c.loop-interrupt.interrupt-index c.interrupt-item.result.handler
+            (rw length-map c.loop-interrupt-test.true)
+            (mapped_at (λ (i : Interrupt). i.handler) xs c.loop-interrupt.interrupt-index
+            c.interrupt-item.result c.loop-interrupt-test.true c.interrupt-item.is)
+            (let T : ℕ → Type 0 = λ n.
+            At c.handle.new.machine (g.L.Log.logged c.handle.new.log).told
+            (handle c.args.app.now n (for_each (handle c.args.app.now)
+            (take c.loop-interrupt.interrupt-index (map (λ (i : Interrupt). i.handler) xs)) s)) in
             subst T (ap (λ (i : Interrupt). i.handler) c.interrupt.view_is) (c.handle.ensures.does.at _ (so.does.at s h)));
         few = let a = so.does.few in let b = c.handle.ensures.does.few in omega arith;
         before = c.handle.ensures.does.before ∙ so.does.before;
@@ -47,13 +58,21 @@ unfolding interrupt
 returns-clause-does g c =
     let so = c.loop-interrupt.invariant in
     let app = c.args.app.now in
-    let many : length c.args.due.now ≡ length (interrupts_at app (c.args.machine.now.clock.age + c.args.machine.now.clock.held)) = sym (length-map c.args.due.now (λ (i : Interrupt). i.handler)) ∙ ap (λ (hs : List ℕ). length hs) c.requires.due in
+    let many : length c.args.due.now ≡ length (interrupts_at app (c.args.machine.now.clock.age + c.args.machine.now.clock.held)) =
+    sym (length-map c.args.due.now (λ (i : Interrupt). i.handler)) ∙ ap (λ (hs : List ℕ). length hs) c.requires.due in
     record {
       at = λ s h.
-          let P : List ℕ → Type 0 = λ hs. At c.loop-interrupt.machine (g.L.Log.logged c.loop-interrupt.log).told (for_each (handle app) hs s) in
-          let all : take c.loop-interrupt.interrupt-index (map (λ (i : Interrupt). i.handler) c.args.due.now) ≡ interrupts_at app s.elapsed =
-          take_all _ _ (rw length-map c.loop-interrupt-test.false) ∙ c.requires.due ∙ ap (interrupts_at app) h.stands.rest.clock.age in
+          let P : List ℕ → Type 0 = λ hs.
+          At c.loop-interrupt.machine (g.L.Log.logged c.loop-interrupt.log).told (for_each (handle app) hs s) in
+          let all : take c.loop-interrupt.interrupt-index (map (λ (i : Interrupt). i.handler) c.args.due.now)
+          ≡ interrupts_at app s.elapsed =
+          take_all _ _ (rw length-map c.loop-interrupt-test.false)
+          ∙ c.requires.due ∙ ap (interrupts_at app) h.stands.rest.clock.age in
           subst P all (so.does.at s h);
-      few = let a = so.does.few in let l = c.loop-interrupt.auto.interrupt-index-end in let few = c.well_formed-2.ensures.few_at_once (c.args.machine.now.clock.age + c.args.machine.now.clock.held) in omega (arith, many);
+      few =
+          let a = so.does.few in
+          let l = c.loop-interrupt.auto.interrupt-index-end in
+          let few = c.well_formed-2.ensures.few_at_once (c.args.machine.now.clock.age + c.args.machine.now.clock.held) in
+          omega (arith, many);
       before = so.does.before;
     }

@@ -4,7 +4,8 @@ use Rattle.kernel.proofs.Handling.{guessed}
 use Rattle.kernel.proofs.handlers.interrupt_now.Goals as goal
 
 pub interrupt_by-requires-clause-due : goal.interrupt_by-requires-clause-due
-interrupt_by-requires-clause-due g c = c.interrupts_at-next.ensures.due ∙ ap (interrupts_at c.args.app.now) c.elapsed.ensures.elapsed
+interrupt_by-requires-clause-due g c =
+    c.interrupts_at-next.ensures.due ∙ ap (interrupts_at c.args.app.now) c.elapsed.ensures.elapsed
 
 pub overflow_cast-machine : goal.overflow_cast-machine
 overflow_cast-machine g c =

@@ -10,7 +10,10 @@ use Rattle.kernel.proofs.handlers.isr.Goals as goal
 
 pub returns-in-Do-clause-does : goal.returns-in-Do-clause-does
 returns-in-Do-clause-does g c = record {
-  at = λ s h. did_op (At c.attempt-answer.new.machine (g.L.Log.logged c.write.new.log).told) c.args.app.now s c.args.handler c.args.op_index c.args.op.now c.in-Do.object c.in-Do.access c.attempt-answer.result c.isr_told.result c.in-Do.is c.isr_told.ensures (c.attempt-answer.ensures.answer s (Placed h.stands))
+  at = λ s h.
+      did_op (At c.attempt-answer.new.machine (g.L.Log.logged c.write.new.log).told) c.args.app.now s
+      c.args.handler c.args.op_index c.args.op.now c.in-Do.object c.in-Do.access c.attempt-answer.result
+      c.isr_told.result c.in-Do.is c.isr_told.ensures (c.attempt-answer.ensures.answer s (Placed h.stands))
       (c.write.ensures.does.at _ (c.attempt-answer.ensures.does _ s h));
   few = c.write.ensures.does.few;
   before = c.write.ensures.does.before;
@@ -18,7 +21,10 @@ returns-in-Do-clause-does g c = record {
 
 pub returns-in-Do-clause-any : goal.returns-in-Do-clause-any
 returns-in-Do-clause-any g c = record {
-  at = λ s h. did_op (AtAny c.attempt-answer.new.machine (g.L.Log.logged c.write.new.log).told) c.args.app.now s c.args.handler c.args.op_index c.args.op.now c.in-Do.object c.in-Do.access c.attempt-answer.result c.isr_told.result c.in-Do.is c.isr_told.ensures (c.attempt-answer.ensures.answer s h.stands)
+  at = λ s h.
+      did_op (AtAny c.attempt-answer.new.machine (g.L.Log.logged c.write.new.log).told) c.args.app.now s
+      c.args.handler c.args.op_index c.args.op.now c.in-Do.object c.in-Do.access c.attempt-answer.result
+      c.isr_told.result c.in-Do.is c.isr_told.ensures (c.attempt-answer.ensures.answer s h.stands)
       (c.write.ensures.any.at _ (c.attempt-answer.ensures.any _ s h));
   few = c.write.ensures.any.few;
   before = c.write.ensures.any.before;
@@ -26,21 +32,28 @@ returns-in-Do-clause-any g c = record {
 
 pub returns-in-Mark-clause-does : goal.returns-in-Mark-clause-does
 returns-in-Mark-clause-does g c = record {
-  at = λ s h. did_mark (At c.args.machine.now (g.L.Log.logged c.write-in-Mark.new.log).told) c.args.app.now s c.args.handler c.args.op_index c.args.op.now c.in-Mark.number c.in-Mark.is (c.write-in-Mark.ensures.does.at s h);
+  at = λ s h.
+      did_mark (At c.args.machine.now (g.L.Log.logged c.write-in-Mark.new.log).told) c.args.app.now s c.args.handler
+      c.args.op_index c.args.op.now c.in-Mark.number c.in-Mark.is (c.write-in-Mark.ensures.does.at s h);
   few = c.write-in-Mark.ensures.does.few;
   before = c.write-in-Mark.ensures.does.before;
 }
 
 pub returns-in-Mark-clause-any : goal.returns-in-Mark-clause-any
 returns-in-Mark-clause-any g c = record {
-  at = λ s h. did_mark (AtAny c.args.machine.now (g.L.Log.logged c.write-in-Mark.new.log).told) c.args.app.now s c.args.handler c.args.op_index c.args.op.now c.in-Mark.number c.in-Mark.is (c.write-in-Mark.ensures.any.at s h);
+  at = λ s h.
+      did_mark (AtAny c.args.machine.now (g.L.Log.logged c.write-in-Mark.new.log).told) c.args.app.now s c.args.handler
+      c.args.op_index c.args.op.now c.in-Mark.number c.in-Mark.is (c.write-in-Mark.ensures.any.at s h);
   few = c.write-in-Mark.ensures.any.few;
   before = c.write-in-Mark.ensures.any.before;
 }
 
 pub returns-in-GetBits-clause-does : goal.returns-in-GetBits-clause-does
 returns-in-GetBits-clause-does g c = record {
-  at = λ s h. told_bits (At c.args.machine.now (g.L.Log.logged c.write-in-GetBits.new.log).told) c.args.app.now s c.args.handler c.args.op_index c.args.op.now c.in-GetBits.group c.bits-bits.result c.isr_told-in-GetBits.result c.in-GetBits.is c.isr_told-in-GetBits.ensures (c.bits-bits.ensures.stands s h.stands.rest.groups)
+  at = λ s h.
+      told_bits (At c.args.machine.now (g.L.Log.logged c.write-in-GetBits.new.log).told) c.args.app.now s c.args.handler
+      c.args.op_index c.args.op.now c.in-GetBits.group c.bits-bits.result c.isr_told-in-GetBits.result
+      c.in-GetBits.is c.isr_told-in-GetBits.ensures (c.bits-bits.ensures.stands s h.stands.rest.groups)
       (c.write-in-GetBits.ensures.does.at s h);
   few = c.write-in-GetBits.ensures.does.few;
   before = c.write-in-GetBits.ensures.does.before;
@@ -48,7 +61,10 @@ returns-in-GetBits-clause-does g c = record {
 
 pub returns-in-GetBits-clause-any : goal.returns-in-GetBits-clause-any
 returns-in-GetBits-clause-any g c = record {
-  at = λ s h. told_bits (AtAny c.args.machine.now (g.L.Log.logged c.write-in-GetBits.new.log).told) c.args.app.now s c.args.handler c.args.op_index c.args.op.now c.in-GetBits.group c.bits-bits.result c.isr_told-in-GetBits.result c.in-GetBits.is c.isr_told-in-GetBits.ensures (c.bits-bits.ensures.stands s (groups_stand c.args.machine.now s h.stands))
+  at = λ s h.
+      told_bits (AtAny c.args.machine.now (g.L.Log.logged c.write-in-GetBits.new.log).told) c.args.app.now s c.args.handler
+      c.args.op_index c.args.op.now c.in-GetBits.group c.bits-bits.result c.isr_told-in-GetBits.result c.in-GetBits.is
+      c.isr_told-in-GetBits.ensures (c.bits-bits.ensures.stands s (groups_stand c.args.machine.now s h.stands))
       (c.write-in-GetBits.ensures.any.at s h);
   few = c.write-in-GetBits.ensures.any.few;
   before = c.write-in-GetBits.ensures.any.before;
@@ -56,7 +72,10 @@ returns-in-GetBits-clause-any g c = record {
 
 pub returns-in-Resume-clause-does : goal.returns-in-Resume-clause-does
 returns-in-Resume-clause-does g c = record {
-  at = λ s h. told_resume (At c.resume-did.new.machine (g.L.Log.logged c.write-in-Resume.new.log).told) c.args.app.now s c.args.handler c.args.op_index c.args.op.now c.in-Resume.task c.one_if.result c.isr_told-in-Resume.result c.in-Resume.is c.isr_told-in-Resume.ensures (c.one_if.ensures ∙ ap one_if (c.resume-did.ensures.answer s (Placed h.stands)))
+  at = λ s h.
+      told_resume (At c.resume-did.new.machine (g.L.Log.logged c.write-in-Resume.new.log).told) c.args.app.now s c.args.handler
+      c.args.op_index c.args.op.now c.in-Resume.task c.one_if.result c.isr_told-in-Resume.result c.in-Resume.is
+      c.isr_told-in-Resume.ensures (c.one_if.ensures ∙ ap one_if (c.resume-did.ensures.answer s (Placed h.stands)))
       (c.write-in-Resume.ensures.does.at _ (c.resume-did.ensures.does _ s h));
   few = c.write-in-Resume.ensures.does.few;
   before = c.write-in-Resume.ensures.does.before;
@@ -64,7 +83,10 @@ returns-in-Resume-clause-does g c = record {
 
 pub returns-in-Resume-clause-any : goal.returns-in-Resume-clause-any
 returns-in-Resume-clause-any g c = record {
-  at = λ s h. told_resume (AtAny c.resume-did.new.machine (g.L.Log.logged c.write-in-Resume.new.log).told) c.args.app.now s c.args.handler c.args.op_index c.args.op.now c.in-Resume.task c.one_if.result c.isr_told-in-Resume.result c.in-Resume.is c.isr_told-in-Resume.ensures (c.one_if.ensures ∙ ap one_if (c.resume-did.ensures.answer s h.stands))
+  at = λ s h.
+      told_resume (AtAny c.resume-did.new.machine (g.L.Log.logged c.write-in-Resume.new.log).told) c.args.app.now s
+      c.args.handler c.args.op_index c.args.op.now c.in-Resume.task c.one_if.result c.isr_told-in-Resume.result
+      c.in-Resume.is c.isr_told-in-Resume.ensures (c.one_if.ensures ∙ ap one_if (c.resume-did.ensures.answer s h.stands))
       (c.write-in-Resume.ensures.any.at _ (c.resume-did.ensures.any _ s h));
   few = c.write-in-Resume.ensures.any.few;
   before = c.write-in-Resume.ensures.any.before;
@@ -72,7 +94,11 @@ returns-in-Resume-clause-any g c = record {
 
 pub returns-in-Command-clause-does : goal.returns-in-Command-clause-does
 returns-in-Command-clause-does g c = record {
-  at = λ s h. did_command (At c.attempt-sent.new.machine (g.L.Log.logged c.write-in-Command.new.log).told) c.args.app.now s c.args.handler c.args.op_index c.args.op.now c.in-Command.command c.commands.result c.item.result c.attempt-sent.result c.isr_told-in-Command.result c.in-Command.is c.commands.ensures c.item.ensures.value c.isr_told-in-Command.ensures (c.attempt-sent.ensures.answer s (Placed h.stands))
+  at = λ s h.
+      did_command (At c.attempt-sent.new.machine (g.L.Log.logged c.write-in-Command.new.log).told)
+      c.args.app.now s c.args.handler c.args.op_index c.args.op.now c.in-Command.command c.commands.result
+      c.item.result c.attempt-sent.result c.isr_told-in-Command.result c.in-Command.is c.commands.ensures
+      c.item.ensures.value c.isr_told-in-Command.ensures (c.attempt-sent.ensures.answer s (Placed h.stands))
       (c.write-in-Command.ensures.does.at _ (c.attempt-sent.ensures.does _ s h));
   few = c.write-in-Command.ensures.does.few;
   before = c.write-in-Command.ensures.does.before;
@@ -80,7 +106,11 @@ returns-in-Command-clause-does g c = record {
 
 pub returns-in-Command-clause-any : goal.returns-in-Command-clause-any
 returns-in-Command-clause-any g c = record {
-  at = λ s h. did_command (AtAny c.attempt-sent.new.machine (g.L.Log.logged c.write-in-Command.new.log).told) c.args.app.now s c.args.handler c.args.op_index c.args.op.now c.in-Command.command c.commands.result c.item.result c.attempt-sent.result c.isr_told-in-Command.result c.in-Command.is c.commands.ensures c.item.ensures.value c.isr_told-in-Command.ensures (c.attempt-sent.ensures.answer s h.stands)
+  at = λ s h.
+      did_command (AtAny c.attempt-sent.new.machine (g.L.Log.logged c.write-in-Command.new.log).told)
+      c.args.app.now s c.args.handler c.args.op_index c.args.op.now c.in-Command.command c.commands.result
+      c.item.result c.attempt-sent.result c.isr_told-in-Command.result c.in-Command.is c.commands.ensures
+      c.item.ensures.value c.isr_told-in-Command.ensures (c.attempt-sent.ensures.answer s h.stands)
       (c.write-in-Command.ensures.any.at _ (c.attempt-sent.ensures.any _ s h));
   few = c.write-in-Command.ensures.any.few;
   before = c.write-in-Command.ensures.any.before;
@@ -98,7 +128,8 @@ pub returns-in-Resume-clause-answer : goal.returns-in-Resume-clause-answer
 returns-in-Resume-clause-answer g c = λ s h. rw c.in-Resume.is (c.one_if.ensures ∙ ap one_if (c.resume-did.ensures.answer s h))
 
 pub returns-in-GetBits-clause-answer : goal.returns-in-GetBits-clause-answer
-returns-in-GetBits-clause-answer g c = λ s h. rw c.in-GetBits.is (ap Some (c.bits-bits.ensures.stands s (groups_stand c.args.machine.now s h)))
+returns-in-GetBits-clause-answer g c = λ s h.
+    rw c.in-GetBits.is (ap Some (c.bits-bits.ensures.stands s (groups_stand c.args.machine.now s h)))
 
 pub returns-in-Mark-clause-answer : goal.returns-in-Mark-clause-answer
 returns-in-Mark-clause-answer g c = λ s h. rw c.in-Mark.is refl
@@ -112,5 +143,11 @@ returns-in-Expect-clause-any g c = elim c.in-Expect.is [
   ]
 ] where
   same : {op : IsrOp} → c.args.op.now ≡ op → ((s : State) → isr c.args.app.now c.args.handler c.args.op_index op s ≡ s)
-      → DoesAny 1 c.args.machine.now (g.L.Log.logged c.args.log.now) c.args.machine.now (g.L.Log.logged c.args.log.now) (isr c.args.app.now c.args.handler c.args.op_index c.args.op.now)
-  same e none = record { at = λ s h. rw e (subst (λ (t : State). AtAny c.args.machine.now (g.L.Log.logged c.args.log.now).told t) (sym (none s)) h); few = omega arith; before = refl }
+      → DoesAny 1 c.args.machine.now (g.L.Log.logged c.args.log.now) c.args.machine.now
+      (g.L.Log.logged c.args.log.now) (isr c.args.app.now c.args.handler c.args.op_index c.args.op.now)
+  same e none =
+      record {
+        at = λ s h. rw e (subst (λ (t : State). AtAny c.args.machine.now (g.L.Log.logged c.args.log.now).told t) (sym (none s)) h);
+        few = omega arith;
+        before = refl;
+      }

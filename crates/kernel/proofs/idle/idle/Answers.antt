@@ -8,7 +8,9 @@ pub returns-then-tickless : goal.returns-then-tickless
 returns-then-tickless g c =
     let does = c.jump_ahead.ensures in
     record {
-      at = λ s h. subst (λ (x : State). At c.jump_ahead.new.machine (g.L.Log.logged c.jump_ahead.new.log).told x) (sym (idle_jumps c.args.app.now c.args.limits.now s (sym c.tickless.ensures ∙ c.if-tickless.true))) (does.at s h);
+      at = λ s h.
+          subst (λ (x : State). At c.jump_ahead.new.machine (g.L.Log.logged c.jump_ahead.new.log).told x)
+          (sym (idle_jumps c.args.app.now c.args.limits.now s (sym c.tickless.ensures ∙ c.if-tickless.true))) (does.at s h);
       few = does.few;
       before = does.before;
     }
@@ -17,7 +19,9 @@ pub returns : goal.returns
 returns g c =
     let does = c.tick_interrupt.ensures in
     record {
-      at = λ s h. subst (λ (x : State). At c.tick_interrupt.new.machine (g.L.Log.logged c.tick_interrupt.new.log).told x) (sym (idle_ticks c.args.app.now c.args.limits.now s (sym c.tickless.ensures ∙ c.if-tickless.false))) (does.at s h);
+      at = λ s h.
+          subst (λ (x : State). At c.tick_interrupt.new.machine (g.L.Log.logged c.tick_interrupt.new.log).told x)
+          (sym (idle_ticks c.args.app.now c.args.limits.now s (sym c.tickless.ensures ∙ c.if-tickless.false))) (does.at s h);
       few = does.few;
       before = does.before;
     }

@@ -25,7 +25,9 @@ returns-clause-least c = λ s h.
     let before = c.ticks_to_interrupt-before.result in
     let e = h.rest.clock.age in
     let fits = c.if-before.false in
-    let next : interrupts_at c.args.app.now (s.elapsed + (before + 1)) ≢ [] = λ none. c.ticks_to_interrupt-before.ensures.next (omega arith)
-    (let same : s.elapsed + (before + 1) ≡ k.clock.age + k.clock.held + before + 1 = omega arith in subst (λ (n : ℕ). interrupts_at c.args.app.now n ≡ []) same none) in
+    let next : interrupts_at c.args.app.now (s.elapsed + (before + 1)) ≢ [] = λ none.
+    c.ticks_to_interrupt-before.ensures.next (omega arith)
+    (let same : s.elapsed + (before + 1) ≡ k.clock.age + k.clock.held + before + 1 = omega arith in
+    subst (λ (n : ℕ). interrupts_at c.args.app.now n ≡ []) same none) in
     c.min.ensures ∙ sym (least_to_interrupt c.args.app.now c.well_formed-2.ensures s before
     (λ tick more less. c.ticks_to_interrupt-before.ensures.none tick (omega arith) (omega arith)) next c.args.most)

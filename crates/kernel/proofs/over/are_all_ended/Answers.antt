@@ -14,4 +14,5 @@ returns c = λ s h.
     let awaited = all_awaited c.args.app.now.tasks c.well_formed-2.ensures.some none in
     c.is_nobody_left.ensures s h
     ∙ ap (λ (ts : List Task). list_all (λ (t : Task). is_ended t.status) ts) (sym meant)
-    ∙ ap (λ (b : Bool). b && list_all (λ (t : Task). is_ended t.status) (without_endless c.args.app.now.tasks s.tasks)) (sym awaited)
+    ∙ ap (λ (b : Bool). b && list_all (λ (t : Task). is_ended t.status) (without_endless c.args.app.now.tasks s.tasks))
+    (sym awaited)

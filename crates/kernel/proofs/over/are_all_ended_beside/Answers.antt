@@ -14,7 +14,8 @@ returns-then-not-has_endless c = λ s h.
     let awaited = all_awaited c.args.app.now.tasks c.well_formed-then-not-has_endless.ensures.some none in
     c.is_nobody_left.ensures s h
     ∙ ap (λ (ts : List Task). list_all (λ (t : Task). is_ended t.status) ts) (sym meant)
-    ∙ ap (λ (b : Bool). b && list_all (λ (t : Task). is_ended t.status) (without_endless c.args.app.now.tasks s.tasks)) (sym awaited)
+    ∙ ap (λ (b : Bool). b && list_all (λ (t : Task). is_ended t.status) (without_endless c.args.app.now.tasks s.tasks))
+    (sym awaited)
 
 pub returns-then-is_awaited : goal.returns-then-is_awaited
 returns-then-is_awaited c = λ s h. sym (c.is_awaited.ensures s h c.if-is_awaited.true)

@@ -6,4 +6,5 @@ use Rattle.machine.specs.StandsFor.{Stands}
 use Rattle.kernel.proofs.over.are_others_ended.Given as goal
 
 abbrev pub invariant-loop-number : goal.invariant-loop-number
-invariant-loop-number l = (s : State) → Stands l.machine s → (i : ℕ) → i < l.number → (is_endless l.app i || is_ended (status_at s i)) ≡ true
+invariant-loop-number l =
+    (s : State) → Stands l.machine s → (i : ℕ) → i < l.number → (is_endless l.app i || is_ended (status_at s i)) ≡ true

@@ -9,13 +9,16 @@ use Rattle.kernel.proofs.over.is_over_running.Goals as goal
 
 pub returns-then-is_some : goal.returns-then-is_some
 returns-then-is_some c = λ s h.
-    let stopped : is_some s.stopped ≡ true = ap (λ (o : Option End). is_some o) (sym (stopped_is _ s h)) ∙ sym c.if-is_some.ensures in
-    over_first (is_some s.stopped) (are_all_ended c.args.app.now s) (is_at_tick_limit c.args.app.now c.args.limits.now s) (is_stuck c.args.app.now s) stopped
+    let stopped : is_some s.stopped ≡ true =
+    ap (λ (o : Option End). is_some o) (sym (stopped_is _ s h)) ∙ sym c.if-is_some.ensures in
+    over_first (is_some s.stopped) (are_all_ended c.args.app.now s)
+    (is_at_tick_limit c.args.app.now c.args.limits.now s) (is_stuck c.args.app.now s) stopped
 
 pub returns-then-are_all_ended_beside : goal.returns-then-are_all_ended_beside
 returns-then-are_all_ended_beside c = λ s h.
     let on : is_some s.stopped ≡ false = ap (λ (o : Option End). is_some o) (sym (stopped_is _ s h)) ∙ sym c.if-is_some.ensures in
-    over_second (is_some s.stopped) (are_all_ended c.args.app.now s) (is_at_tick_limit c.args.app.now c.args.limits.now s) (is_stuck c.args.app.now s) on (sym (c.if-are_all_ended_beside.ensures s h))
+    over_second (is_some s.stopped) (are_all_ended c.args.app.now s) (is_at_tick_limit c.args.app.now c.args.limits.now s)
+    (is_stuck c.args.app.now s) on (sym (c.if-are_all_ended_beside.ensures s h))
 
 pub returns : goal.returns
 returns c = λ s h.
@@ -24,4 +27,5 @@ returns c = λ s h.
     let on : is_some s.stopped ≡ false = ap (λ (o : Option End). is_some o) (sym (stopped_is _ s h)) ∙ sym c.if-is_some.ensures in
     let moves = runs_on app s c.args.task (sym (current_is c.args.machine.now s h) ∙ c.requires) in
     c.is_at_tick_limit.ensures s h
-    ∙ third_only (is_some s.stopped) (are_all_ended app s) (is_at_tick_limit app limits s) (is_stuck app s) on (sym (c.if-are_all_ended_beside.ensures s h)) moves
+    ∙ third_only (is_some s.stopped) (are_all_ended app s) (is_at_tick_limit app limits s)
+    (is_stuck app s) on (sym (c.if-are_all_ended_beside.ensures s h)) moves

@@ -13,10 +13,13 @@ returns-in-Some-clause-early c = λ k d before less.
     let some = c.if-index-eq0.false in
     let tick : c.last.inside.tick ≡ c.in-Some.last.now.tick = ap (λ (i : Interrupt). i.tick) c.last.view_is in
     let early : c.last.inside.tick ≤ c.args.tick = grind (arith, nat_tests) in
-    let below = less_up_to (λ (i : Interrupt). i.tick) xs (c.args.index - 1) (c.args.tick + 1) c.in-Some.last.now found.1 c.requires there (omega arith) k d (omega arith) (omega arith) in
+    let below =
+    less_up_to (λ (i : Interrupt). i.tick) xs (c.args.index - 1) (c.args.tick + 1)
+    c.in-Some.last.now found.1 c.requires there (omega arith) k d (omega arith) (omega arith) in
     omega arith
 
 pub returns-in-Some-clause-there : goal.returns-in-Some-clause-there
 returns-in-Some-clause-there c = λ before.
-    let there : c.args.index - 1 < length c.args.interrupts.now = ltb-true (c.args.index - 1) (length c.args.interrupts.now) (sym c.in-Some.ensures.lookup.0) in
+    let there : c.args.index - 1 < length c.args.interrupts.now =
+    ltb-true (c.args.index - 1) (length c.args.interrupts.now) (sym c.in-Some.ensures.lookup.0) in
     omega arith

@@ -8,27 +8,36 @@ use Rattle.kernel.proofs.Ticking.{asleep_once, one_passed, quiet_on, quiet_stays
 use Rattle.kernel.proofs.quiet.pass_ticks.Goals as goal
 
 pub pass_tick-requires-clause-age : goal.pass_tick-requires-clause-age
-pass_tick-requires-clause-age c = let low = ticks_low c.args.app.now c.args.injections.now c.args.limits.now c.well_formed-3.ensures c.loop.kernel (c.loop.invariant.along.to.way c.args.injections.now c.requires.free) in omega arith
+pass_tick-requires-clause-age c =
+    let low =
+    ticks_low c.args.app.now c.args.injections.now c.args.limits.now c.well_formed-3.ensures
+    c.loop.kernel (c.loop.invariant.along.to.way c.args.injections.now c.requires.free) in
+    omega arith
 
 pub pass_tick-requires-clause-asleep : goal.pass_tick-requires-clause-asleep
 pass_tick-requires-clause-asleep c =
     let on = c.loop-test.true in
-    asleep_once c.args.app.now c.args.limits.now (c.args.count - c.loop.counter - 1) c.loop.kernel (c.loop.invariant.quiet (c.args.count - c.loop.counter - 1) (omega arith))
+    asleep_once c.args.app.now c.args.limits.now (c.args.count - c.loop.counter - 1)
+    c.loop.kernel (c.loop.invariant.quiet (c.args.count - c.loop.counter - 1) (omega arith))
 
 pub pass_tick-requires-clause-turn : goal.pass_tick-requires-clause-turn
 pass_tick-requires-clause-turn c =
     let on = c.loop-test.true in
-    turn_once c.args.app.now c.args.limits.now (c.args.count - c.loop.counter - 1) c.loop.kernel (c.loop.invariant.quiet (c.args.count - c.loop.counter - 1) (omega arith))
+    turn_once c.args.app.now c.args.limits.now (c.args.count - c.loop.counter - 1) c.loop.kernel
+    (c.loop.invariant.quiet (c.args.count - c.loop.counter - 1) (omega arith))
 
 pub pass_tick-requires-clause-used : goal.pass_tick-requires-clause-used
 pass_tick-requires-clause-used c =
     let on = c.loop-test.true in
-    used_once c.args.app.now c.args.limits.now (c.args.count - c.loop.counter - 1) c.loop.kernel (c.loop.invariant.quiet (c.args.count - c.loop.counter - 1) (omega arith))
+    used_once c.args.app.now c.args.limits.now (c.args.count - c.loop.counter - 1) c.loop.kernel
+    (c.loop.invariant.quiet (c.args.count - c.loop.counter - 1) (omega arith))
 
 pub loop-init : goal.loop-init
 loop-init c = record {
   along = tells_nothing refl;
-  quiet = λ n e. subst (λ (m : ℕ). IsQuiet c.args.app.now c.args.limits.now m c.args.kernel.now) (let same : c.args.count ≡ suc n = omega arith in same) (c.requires.quiet (omega arith));
+  quiet = λ n e.
+      subst (λ (m : ℕ). IsQuiet c.args.app.now c.args.limits.now m c.args.kernel.now)
+      (let same : c.args.count ≡ suc n = omega arith in same) (c.requires.quiet (omega arith));
   steps = omega arith;
 }
 
@@ -38,15 +47,25 @@ loop-preserved c =
     let at = c.loop.invariant.steps in
     let left : ℕ = c.args.count - c.loop.counter - 1 in
     let q : IsQuiet c.args.app.now c.args.limits.now (suc left) c.loop.kernel = c.loop.invariant.quiet left (omega arith) in
-    let free : IsFree c.args.app.now c.args.limits.now (c.args.kernel.now.steps + c.args.count) c.loop.kernel c.args.injections.now = free_next c.loop.invariant.along.to c.requires.free in
+    let free : IsFree c.args.app.now c.args.limits.now
+    (c.args.kernel.now.steps + c.args.count) c.loop.kernel c.args.injections.now =
+    free_next c.loop.invariant.along.to c.requires.free in
     let short : c.loop.kernel.steps < c.args.kernel.now.steps + c.args.count = omega arith in
     let more = one_passed c.args.app.now c.args.limits.now left c.loop.kernel c.pass_tick.new.machine q c.pass_tick.ensures in
     record {
       along = tells_then c.loop.invariant.along
-          (tells_a_step c.args.app.now c.well_formed-2.ensures c.args.limits.now c.well_formed-3.ensures (c.args.kernel.now.steps + c.args.count) c.loop.kernel c.pass_tick.new.machine short
-          (λ plan f. quiet_on c.args.app.now c.args.limits.now left c.loop.kernel q (state_after c.args.app.now c.args.limits.now plan c.loop.kernel.steps) f.way.stands)
-          (stands_passed c.args.app.now c.args.limits.now left c.loop.kernel c.pass_tick.new.machine q c.pass_tick.ensures) free [] []
+          (tells_a_step c.args.app.now c.well_formed-2.ensures c.args.limits.now c.well_formed-3.ensures
+          (c.args.kernel.now.steps + c.args.count) c.loop.kernel c.pass_tick.new.machine short
+          (λ plan f.
+          quiet_on c.args.app.now c.args.limits.now left c.loop.kernel q
+          (state_after c.args.app.now c.args.limits.now plan c.loop.kernel.steps) f.way.stands)
+          (stands_passed c.args.app.now c.args.limits.now left c.loop.kernel c.pass_tick.new.machine q c.pass_tick.ensures)
+          free [] []
           (silent c.args.app.now c.args.limits.now left c.loop.kernel q c.pass_tick.new.machine.clock c.pass_tick.ensures.clock));
-      quiet = λ n e. subst (λ (m : ℕ). IsQuiet c.args.app.now c.args.limits.now m c.pass_tick.new.machine) (let same : left ≡ suc n = omega arith in same) (quiet_stays c.args.app.now c.args.limits.now left c.loop.kernel c.pass_tick.new.machine q c.pass_tick.ensures (state_after c.args.app.now c.args.limits.now c.args.injections.now c.loop.kernel.steps) free.way.stands);
+      quiet = λ n e.
+          subst (λ (m : ℕ). IsQuiet c.args.app.now c.args.limits.now m c.pass_tick.new.machine)
+          (let same : left ≡ suc n = omega arith in same)
+          (quiet_stays c.args.app.now c.args.limits.now left c.loop.kernel c.pass_tick.new.machine q c.pass_tick.ensures
+          (state_after c.args.app.now c.args.limits.now c.args.injections.now c.loop.kernel.steps) free.way.stands);
       steps = omega arith;
     }

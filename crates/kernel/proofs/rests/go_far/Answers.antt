@@ -18,39 +18,63 @@ steps-init c =
     let seen = ap (λ (k : Machine). k.steps) c.kernel.view_is in
     let ahead = c.requires.ahead in
     record {
-      led = subst (λ (k : Machine). IsLed c.args.app.now c.args.limits.now c.args.kernel.now k (all_of c.args.trail.now) (all_of c.args.trail.now)) (sym c.kernel.view_is)
+      led =
+          subst (λ (k : Machine).
+          IsLed c.args.app.now c.args.limits.now c.args.kernel.now k (all_of c.args.trail.now) (all_of c.args.trail.now))
+          (sym c.kernel.view_is)
           (led_here c.args.app.now c.args.limits.now c.args.kernel.now (all_of c.args.trail.now));
       far = omega (arith, seen, ahead);
       meter = omega (arith, seen);
     }
 
 pub returns-in-Some-clause-end : goal.returns-in-Some-clause-end
-returns-in-Some-clause-end c = end_here c.args.app.now c.args.limits.now c.steps.machine c.elapsed.result c.elapsed.ensures.elapsed c.in-Some.end c.in-Some.ensures
+returns-in-Some-clause-end c =
+    end_here c.args.app.now c.args.limits.now c.steps.machine c.elapsed.result
+    c.elapsed.ensures.elapsed c.in-Some.end c.in-Some.ensures
 
 pub returns-then-machine-until-clause-goes : goal.returns-then-machine-until-clause-goes
 returns-then-machine-until-clause-goes c =
-    let way : IsUnderWay c.args.app.now c.args.injections.now c.args.limits.now c.steps.machine = c.steps.invariant.led.leads.way c.args.injections.now (record { way = c.requires.way; past = c.requires.past }) in
-    λ none. ap (λ n. end_of c.args.app.now c.args.limits.now (state_after c.args.app.now c.args.limits.now c.args.injections.now n)) (sym c.if-machine-until.true) ∙ sym (c.in_default.ensures _ way.stands)
+    let way : IsUnderWay c.args.app.now c.args.injections.now c.args.limits.now c.steps.machine =
+    c.steps.invariant.led.leads.way c.args.injections.now (record { way = c.requires.way; past = c.requires.past }) in
+    λ none.
+    ap (λ n. end_of c.args.app.now c.args.limits.now (state_after c.args.app.now c.args.limits.now c.args.injections.now n))
+    (sym c.if-machine-until.true)
+    ∙ sym (c.in_default.ensures _ way.stands)
 
 pub go_on-requires-clause-free : goal.go_on-requires-clause-free
 go_on-requires-clause-free c =
     let on = c.steps.invariant.led.leads.on in
-    free_of_limits c.args.app.now c.args.limits.now c.free_until-stop.result c.steps.machine c.args.injections.now (c.steps.invariant.led.leads.way c.args.injections.now (record { way = c.requires.way; past = c.requires.past })) (λ n from below. c.requires.past n (omega arith)) c.free_until-stop.ensures.ticks c.free_until-stop.ensures.steps
+    free_of_limits c.args.app.now c.args.limits.now c.free_until-stop.result c.steps.machine c.args.injections.now
+    (c.steps.invariant.led.leads.way c.args.injections.now (record { way = c.requires.way; past = c.requires.past }))
+    (λ n from below. c.requires.past n (omega arith)) c.free_until-stop.ensures.ticks c.free_until-stop.ensures.steps
 
 pub steps-smaller : goal.steps-smaller
 steps-smaller c =
-    let way : IsUnderWay c.args.app.now c.args.injections.now c.args.limits.now c.steps.machine = c.steps.invariant.led.leads.way c.args.injections.now (record { way = c.requires.way; past = c.requires.past }) in
-    let on : end_of c.args.app.now c.args.limits.now (state_after c.args.app.now c.args.limits.now c.args.injections.now c.steps.machine.steps) ≡ None = sym (c.in_default.ensures _ way.stands) in
+    let way : IsUnderWay c.args.app.now c.args.injections.now c.args.limits.now c.steps.machine =
+    c.steps.invariant.led.leads.way c.args.injections.now (record { way = c.requires.way; past = c.requires.past }) in
+    let on : end_of c.args.app.now c.args.limits.now
+    (state_after c.args.app.now c.args.limits.now c.args.injections.now c.steps.machine.steps)
+    ≡ None =
+    sym (c.in_default.ensures _ way.stands) in
     let far = c.steps.invariant.far in
     let short : c.steps.machine.steps ≢ c.args.until = c.if-machine-until.false in
-    let limits = below_limits c.args.app.now c.args.limits.now (state_after c.args.app.now c.args.limits.now c.args.injections.now c.steps.machine.steps) on in
+    let limits =
+    below_limits c.args.app.now c.args.limits.now
+    (state_after c.args.app.now c.args.limits.now c.args.injections.now c.steps.machine.steps) on in
     let early = limits.0 in
     let few = limits.1 in
-    let elapsed = elapsed_is c.steps.machine (state_after c.args.app.now c.args.limits.now c.args.injections.now c.steps.machine.steps) way.stands in
-    let done = steps_are c.steps.machine (state_after c.args.app.now c.args.limits.now c.args.injections.now c.steps.machine.steps) way.stands in
-    let more : suc c.steps.machine.steps ≤ c.free_until-stop.result = c.free_until-stop.ensures.most (suc c.steps.machine.steps) (omega arith) (omega arith) (omega arith) (omega arith) in
+    let elapsed =
+    elapsed_is c.steps.machine
+    (state_after c.args.app.now c.args.limits.now c.args.injections.now c.steps.machine.steps) way.stands in
+    let done =
+    steps_are c.steps.machine
+    (state_after c.args.app.now c.args.limits.now c.args.injections.now c.steps.machine.steps) way.stands in
+    let more : suc c.steps.machine.steps ≤ c.free_until-stop.result =
+    c.free_until-stop.ensures.most (suc c.steps.machine.steps) (omega arith) (omega arith) (omega arith) (omega arith) in
     let passed = c.go_on.ensures.to.on in
-    let moved = moves_on c.args.app.now c.args.injections.now c.args.limits.now c.steps.machine c.go_on.new.kernel c.free_until-stop.result (omega arith) (omega arith) on c.in_ok-go_on.ensures.there in
+    let moved =
+    moves_on c.args.app.now c.args.injections.now c.args.limits.now c.steps.machine c.go_on.new.kernel
+    c.free_until-stop.result (omega arith) (omega arith) on c.in_ok-go_on.ensures.there in
     let stop = c.go_on.ensures.to.far c.free_until-stop.ensures.ahead in
     let until = c.free_until-stop.ensures.far in
     omega arith
@@ -58,14 +82,20 @@ steps-smaller c =
 pub steps-preserved : goal.steps-preserved
 steps-preserved c =
     let led = c.steps.invariant.led in
-    let past : IsPast c.args.app.now c.args.limits.now c.steps.machine c.args.injections.now = past_on c.args.app.now c.args.limits.now c.args.kernel.now c.steps.machine led.own led.leads c.args.injections.now (record { way = c.requires.way; past = c.requires.past }) in
+    let past : IsPast c.args.app.now c.args.limits.now c.steps.machine c.args.injections.now =
+    past_on c.args.app.now c.args.limits.now c.args.kernel.now c.steps.machine led.own led.leads
+    c.args.injections.now (record { way = c.requires.way; past = c.requires.past }) in
     let before = c.steps.invariant.meter in
     let after = c.go_on.ensures.meter in
     let stop = c.go_on.ensures.to.far c.free_until-stop.ensures.ahead in
     let until = c.free_until-stop.ensures.far in
     record {
-      led = led_then c.args.app.now c.args.limits.now c.args.kernel.now c.steps.machine c.go_on.new.kernel (all_of c.args.trail.now) (all_of c.steps.trail) (all_of c.go_on.new.trail) led
-          (led_on c.args.app.now c.args.limits.now c.free_until-stop.result c.steps.machine c.go_on.new.kernel (all_of c.steps.trail) (all_of c.go_on.new.trail) c.free_until-stop.ensures.ticks c.free_until-stop.ensures.steps c.in_ok-go_on.ensures.along c.args.injections.now past);
+      led =
+          led_then c.args.app.now c.args.limits.now c.args.kernel.now c.steps.machine c.go_on.new.kernel
+          (all_of c.args.trail.now) (all_of c.steps.trail) (all_of c.go_on.new.trail) led
+          (led_on c.args.app.now c.args.limits.now c.free_until-stop.result c.steps.machine c.go_on.new.kernel
+          (all_of c.steps.trail) (all_of c.go_on.new.trail) c.free_until-stop.ensures.ticks
+          c.free_until-stop.ensures.steps c.in_ok-go_on.ensures.along c.args.injections.now past);
       far = omega arith;
       meter = omega arith;
     }
@@ -73,20 +103,28 @@ steps-preserved c =
 pub returns-in_err-go_on-clause-way : goal.returns-in_err-go_on-clause-way
 returns-in_err-go_on-clause-way c =
     let on = c.steps.invariant.led.leads.on in
-    let free : IsFree c.args.app.now c.args.limits.now c.free_until-stop.result c.steps.machine c.args.injections.now = free_of_limits c.args.app.now c.args.limits.now c.free_until-stop.result c.steps.machine c.args.injections.now (c.steps.invariant.led.leads.way c.args.injections.now (record { way = c.requires.way; past = c.requires.past })) (λ n from below. c.requires.past n (omega arith)) c.free_until-stop.ensures.ticks c.free_until-stop.ensures.steps in
+    let free : IsFree c.args.app.now c.args.limits.now c.free_until-stop.result c.steps.machine c.args.injections.now =
+    free_of_limits c.args.app.now c.args.limits.now c.free_until-stop.result c.steps.machine c.args.injections.now
+    (c.steps.invariant.led.leads.way c.args.injections.now (record { way = c.requires.way; past = c.requires.past }))
+    (λ n from below. c.requires.past n (omega arith)) c.free_until-stop.ensures.ticks c.free_until-stop.ensures.steps in
     c.go_on.ensures.to.way c.args.injections.now free
 
 pub returns-in_err-go_on-clause-kept : goal.returns-in_err-go_on-clause-kept
 returns-in_err-go_on-clause-kept c =
     let p = err_from_is_err_and c.from_residual.result c.from_residual.ensures.1 in
     let led = c.steps.invariant.led in
-    rw p.1 (extends_on (all_of c.args.trail.now) (all_of c.steps.trail) (all_of c.go_on.new.trail) led.own led.kept c.in_err-go_on.ensures.kept)
+    rw p.1 (extends_on (all_of c.args.trail.now) (all_of c.steps.trail)
+    (all_of c.go_on.new.trail) led.own led.kept c.in_err-go_on.ensures.kept)
 
 pub returns-in_err-go_on-clause-refused : goal.returns-in_err-go_on-clause-refused
 returns-in_err-go_on-clause-refused c =
     let on = c.steps.invariant.led.leads.on in
-    let free : IsFree c.args.app.now c.args.limits.now c.free_until-stop.result c.steps.machine c.args.injections.now = free_of_limits c.args.app.now c.args.limits.now c.free_until-stop.result c.steps.machine c.args.injections.now (c.steps.invariant.led.leads.way c.args.injections.now (record { way = c.requires.way; past = c.requires.past })) (λ n from below. c.requires.past n (omega arith)) c.free_until-stop.ensures.ticks c.free_until-stop.ensures.steps in
-    let way : IsUnderWay c.args.app.now c.args.injections.now c.args.limits.now c.go_on.new.kernel = c.go_on.ensures.to.way c.args.injections.now free in
+    let free : IsFree c.args.app.now c.args.limits.now c.free_until-stop.result c.steps.machine c.args.injections.now =
+    free_of_limits c.args.app.now c.args.limits.now c.free_until-stop.result c.steps.machine c.args.injections.now
+    (c.steps.invariant.led.leads.way c.args.injections.now (record { way = c.requires.way; past = c.requires.past }))
+    (λ n from below. c.requires.past n (omega arith)) c.free_until-stop.ensures.ticks c.free_until-stop.ensures.steps in
+    let way : IsUnderWay c.args.app.now c.args.injections.now c.args.limits.now c.go_on.new.kernel =
+    c.go_on.ensures.to.way c.args.injections.now free in
     let p = err_from_is_err_and c.from_residual.result c.from_residual.ensures.1 in
     rw p.1 (λ run is. (
       no_further c.args.app.now c.args.injections.now c.args.limits.now c.go_on.new.kernel way run is,

@@ -7,7 +7,8 @@ abbrev pub invariant-steps : goal.invariant-steps
 invariant-steps l = record {
   way : IsUnderWay l.app [] l.limits l.kernel;
   ahead : l.kernel.steps ≤ l.step;
-  count : length (events_after l.app l.limits [] l.fn.kernel.steps) + l.count ≡ length (events_after l.app l.limits [] l.kernel.steps);
+  count : length (events_after l.app l.limits [] l.fn.kernel.steps) + l.count
+      ≡ length (events_after l.app l.limits [] l.kernel.steps);
   few : l.count ≤ 128 * l.kernel.steps;
   meter : l.meter + l.fn.kernel.steps ≡ l.fn.meter + l.kernel.steps;
 }

@@ -26,21 +26,26 @@ pub advance-before-requires-clause-reached : goal.advance-before-requires-clause
 advance-before-requires-clause-reached c n below = c.requires.reached n (let first = c.first_step-first.ensures in omega arith)
 
 pub go_to_step-requires-clause-plan : goal.go_to_step-requires-clause-plan
-go_to_step-requires-clause-plan c = subst IsPlan (sym (c.as_slice.ensures ∙ c.injections-injections.ensures)) (point_is_plan c.args.point.now c.well_formed-2.ensures)
+go_to_step-requires-clause-plan c =
+    subst IsPlan (sym (c.as_slice.ensures ∙ c.injections-injections.ensures))
+    (point_is_plan c.args.point.now c.well_formed-2.ensures)
 
 pub go_to_step-requires-clause-ahead : goal.go_to_step-requires-clause-ahead
 go_to_step-requires-clause-ahead c =
     let there = c.advance-before.ensures.there in
     let first = c.first_step-first.ensures in
-    subst (AllByRecursion (λ (i : Injection). c.advance-before.new.kernel.steps ≤ i.step)) (sym (c.as_slice.ensures ∙ c.injections-injections.ensures))
+    subst (AllByRecursion (λ (i : Injection). c.advance-before.new.kernel.steps ≤ i.step))
+    (sym (c.as_slice.ensures ∙ c.injections-injections.ensures))
     (from_first c.args.point.now c.well_formed-2.ensures.in_order c.advance-before.new.kernel.steps (omega arith))
 
 pub go_to_step-requires-clause-way : goal.go_to_step-requires-clause-way
 go_to_step-requires-clause-way c =
     let there = c.advance-before.ensures.there in
     let first = c.first_step-first.ensures in
-    subst (λ (is : List Injection). IsUnderWay c.args.app.now is c.args.limits.now c.advance-before.new.kernel) (sym (c.as_slice.ensures ∙ c.injections-injections.ensures))
-    (row_way c.args.app.now c.args.limits.now c.args.point.now c.well_formed-2.ensures c.advance-before.new.kernel c.advance-before.ensures.way (omega arith))
+    subst (λ (is : List Injection). IsUnderWay c.args.app.now is c.args.limits.now c.advance-before.new.kernel)
+    (sym (c.as_slice.ensures ∙ c.injections-injections.ensures))
+    (row_way c.args.app.now c.args.limits.now c.args.point.now c.well_formed-2.ensures
+    c.advance-before.new.kernel c.advance-before.ensures.way (omega arith))
 
 pub go_to_step-requires-clause-soon : goal.go_to_step-requires-clause-soon
 go_to_step-requires-clause-soon c =
@@ -57,7 +62,9 @@ go_to_step-requires-clause-meter c =
     omega arith
 
 pub returns-in_err-end-clause-way : goal.returns-in_err-end-clause-way
-returns-in_err-end-clause-way c = subst (λ (is : List Injection). IsUnderWay c.args.app.now is c.args.limits.now c.go_to_step.new.kernel) (c.as_slice.ensures ∙ c.injections-injections.ensures) c.go_to_step.ensures.way
+returns-in_err-end-clause-way c =
+    subst (λ (is : List Injection). IsUnderWay c.args.app.now is c.args.limits.now c.go_to_step.new.kernel)
+    (c.as_slice.ensures ∙ c.injections-injections.ensures) c.go_to_step.ensures.way
 
 pub returns-in_err-end-clause-on : goal.returns-in_err-end-clause-on
 returns-in_err-end-clause-on c =
@@ -78,13 +85,18 @@ pub returns-in_err-end-clause-refused : goal.returns-in_err-end-clause-refused
 returns-in_err-end-clause-refused c =
     let p = err_from_is_err_and c.from_residual.result c.from_residual.ensures.1 in
     rw p.1 (λ run is.
-    let its = subst (λ (point : List Injection). IsRun c.args.app.now point c.args.limits.now run) (sym (c.as_slice.ensures ∙ c.injections-injections.ensures)) is in (
+    let its =
+    subst (λ (point : List Injection). IsRun c.args.app.now point c.args.limits.now run)
+    (sym (c.as_slice.ensures ∙ c.injections-injections.ensures)) is in (
       no_further c.args.app.now c.as_slice.result.now c.args.limits.now c.go_to_step.new.kernel c.go_to_step.ensures.way run its,
-      told_some c.args.app.now c.as_slice.result.now c.args.limits.now c.go_to_step.new.kernel c.go_to_step.ensures.way run its c.in_err-end.ensures.memory,
+      told_some c.args.app.now c.as_slice.result.now c.args.limits.now c.go_to_step.new.kernel
+          c.go_to_step.ensures.way run its c.in_err-end.ensures.memory,
     ))
 
 pub returns-clause-way : goal.returns-clause-way
-returns-clause-way c = subst (λ (is : List Injection). IsUnderWay c.args.app.now is c.args.limits.now c.go_to_step.new.kernel) (c.as_slice.ensures ∙ c.injections-injections.ensures) c.go_to_step.ensures.way
+returns-clause-way c =
+    subst (λ (is : List Injection). IsUnderWay c.args.app.now is c.args.limits.now c.go_to_step.new.kernel)
+    (c.as_slice.ensures ∙ c.injections-injections.ensures) c.go_to_step.ensures.way
 
 pub returns-clause-on : goal.returns-clause-on
 returns-clause-on c =
@@ -100,22 +112,39 @@ returns-clause-past c =
     let first = c.first_step-first.ensures in
     let on = c.go_to_step.ensures.on in
     let beyond = c.requires.beyond in
-    let end = subst (λ (is : List Injection). c.in_ok-end.end ≡ end_of c.args.app.now c.args.limits.now (state_after c.args.app.now c.args.limits.now is c.go_to_step.new.kernel.steps)) (c.as_slice.ensures ∙ c.injections-injections.ensures) c.in_ok-end.ensures.end in
-    past_it c.args.app.now c.args.limits.now c.args.point.now c.well_formed-2.ensures (c.requires.reached (first_step c.args.point.now) (omega arith)) c.go_to_step.new.kernel.steps (omega arith) c.in_ok-end.end end c.args.until c.in_ok-end.ensures.there (omega arith)
+    let end =
+    subst (λ (is : List Injection).
+    c.in_ok-end.end
+    ≡ end_of c.args.app.now c.args.limits.now (state_after c.args.app.now c.args.limits.now is c.go_to_step.new.kernel.steps))
+    (c.as_slice.ensures ∙ c.injections-injections.ensures) c.in_ok-end.ensures.end in
+    past_it c.args.app.now c.args.limits.now c.args.point.now c.well_formed-2.ensures
+    (c.requires.reached (first_step c.args.point.now) (omega arith)) c.go_to_step.new.kernel.steps
+    (omega arith) c.in_ok-end.end end c.args.until c.in_ok-end.ensures.there (omega arith)
 
 pub returns-clause-before : goal.returns-clause-before
 returns-clause-before c =
-    ap (λ (n : ℕ). length (events_after c.args.app.now c.args.limits.now [] n) + c.advance-before.result) (sym (ap (λ (k : Machine). k.steps) c.kernel.view_is))
+    ap (λ (n : ℕ). length (events_after c.args.app.now c.args.limits.now [] n) + c.advance-before.result)
+    (sym (ap (λ (k : Machine). k.steps) c.kernel.view_is))
     ∙ c.advance-before.ensures.count
     ∙ ap (λ (n : ℕ). length (events_after c.args.app.now c.args.limits.now [] n)) c.first_step-first.ensures
 
 pub returns-clause-events : goal.returns-clause-events
 returns-clause-events c =
-    subst (λ (is : List Injection). all_of c.go_to_step.new.trail ≡ all_of c.args.trail.now ++ events_from c.args.app.now c.args.limits.now is c.advance-before.new.kernel.steps c.go_to_step.new.kernel.steps) (c.as_slice.ensures ∙ c.injections-injections.ensures) c.in_ok-end.ensures.events
-    ∙ ap (λ (n : ℕ). all_of c.args.trail.now ++ events_from c.args.app.now c.args.limits.now c.args.point.now n c.go_to_step.new.kernel.steps) (c.advance-before.ensures.there ∙ c.first_step-first.ensures)
+    subst (λ (is : List Injection).
+    all_of c.go_to_step.new.trail
+    ≡ all_of c.args.trail.now
+    ++ events_from c.args.app.now c.args.limits.now is c.advance-before.new.kernel.steps c.go_to_step.new.kernel.steps)
+    (c.as_slice.ensures ∙ c.injections-injections.ensures) c.in_ok-end.ensures.events
+    ∙ ap (λ (n : ℕ).
+    all_of c.args.trail.now ++ events_from c.args.app.now c.args.limits.now c.args.point.now n c.go_to_step.new.kernel.steps)
+    (c.advance-before.ensures.there ∙ c.first_step-first.ensures)
 
 pub returns-clause-end : goal.returns-clause-end
-returns-clause-end c = subst (λ (is : List Injection). c.in_ok-end.end ≡ end_of c.args.app.now c.args.limits.now (state_after c.args.app.now c.args.limits.now is c.go_to_step.new.kernel.steps)) (c.as_slice.ensures ∙ c.injections-injections.ensures) c.in_ok-end.ensures.end
+returns-clause-end c =
+    subst (λ (is : List Injection).
+    c.in_ok-end.end
+    ≡ end_of c.args.app.now c.args.limits.now (state_after c.args.app.now c.args.limits.now is c.go_to_step.new.kernel.steps))
+    (c.as_slice.ensures ∙ c.injections-injections.ensures) c.in_ok-end.ensures.end
 
 pub returns-clause-meter : goal.returns-clause-meter
 returns-clause-meter c =

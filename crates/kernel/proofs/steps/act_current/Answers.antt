@@ -12,4 +12,5 @@ act-requires-clause-can g c =
 pub returns-in-Some : goal.returns-in-Some
 returns-in-Some g c =
     let at = c.in-Some.ensures.some in
-    acts c.args.app.now c.args.limits.now c.args.machine.now c.in-Some.found.0 at.current c.in-Some.found.1.now at.at c.act.new.machine _ _ c.act.ensures.does
+    acts c.args.app.now c.args.limits.now c.args.machine.now c.in-Some.found.0
+    at.current c.in-Some.found.1.now at.at c.act.new.machine _ _ c.act.ensures.does

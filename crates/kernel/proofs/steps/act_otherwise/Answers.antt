@@ -3,7 +3,8 @@ use Rattle.kernel.proofs.Running.{rests}
 use Rattle.kernel.proofs.steps.act_otherwise.Goals as goal
 
 pub act_while_suspended-requires-clause-can : goal.act_while_suspended-requires-clause-can
-act_while_suspended-requires-clause-can g c = λ op at. (c.requires.can.op c.in-Some.task op (sym c.current.ensures.current ∙ c.in-Some.is) at).1 c.if-machine-gt0.true
+act_while_suspended-requires-clause-can g c = λ op at.
+    (c.requires.can.op c.in-Some.task op (sym c.current.ensures.current ∙ c.in-Some.is) at).1 c.if-machine-gt0.true
 
 pub returns-then-machine-gt0-clause-does : goal.returns-then-machine-gt0-clause-does
 returns-then-machine-gt0-clause-does g c = c.act_while_suspended.ensures c.args.limits.now
@@ -11,4 +12,5 @@ returns-then-machine-gt0-clause-does g c = c.act_while_suspended.ensures c.args.
 pub returns-else-machine-gt0-clause-does : goal.returns-else-machine-gt0-clause-does
 returns-else-machine-gt0-clause-does g c =
     let runs = sym c.current.ensures.current ∙ c.in-Some.is in
-    rests c.args.app.now c.args.limits.now c.args.machine.now c.in-Some.task runs (c.requires.none c.in-Some.task runs (let l = c.if-machine-gt0.false in omega arith)) _
+    rests c.args.app.now c.args.limits.now c.args.machine.now c.in-Some.task runs
+    (c.requires.none c.in-Some.task runs (let l = c.if-machine-gt0.false in omega arith)) _

@@ -18,5 +18,7 @@ returns-clause-going c = λ s h is.
     let runs = sym c.current.ensures.current ∙ c.in-Some.is in
     let free : k.sched.depth ≡ 0 = (let e = c.depth.ensures.depth in let l = c.if-depth-gt0.false in omega arith) in
     let on : is_some s.stopped ≡ false = ap (λ (o : Option End). is_some o) (sym (stopped_is k s h)) ∙ sym c.if-is_some.ensures in
-    let left : are_all_ended app s ≡ false = sym (alone_unheld app k s c.in-Some.task h is runs free) ∙ sym (c.if-is_left_alone.ensures s h) in
-    none_of (is_some s.stopped) (are_all_ended app s) (is_at_tick_limit app limits s) (is_stuck app s) on left (sym (c.if-is_at_tick_limit.ensures s h)) (runs_on app s c.in-Some.task (sym (current_is k s h) ∙ runs))
+    let left : are_all_ended app s ≡ false =
+    sym (alone_unheld app k s c.in-Some.task h is runs free) ∙ sym (c.if-is_left_alone.ensures s h) in
+    none_of (is_some s.stopped) (are_all_ended app s) (is_at_tick_limit app limits s) (is_stuck app s) on left
+    (sym (c.if-is_at_tick_limit.ensures s h)) (runs_on app s c.in-Some.task (sym (current_is k s h) ∙ runs))

@@ -28,9 +28,11 @@ step_at-following-requires-clause-going c =
     let inv = c.steps.invariant in
     let app = c.args.app.now in
     let limits = c.args.limits.now in
-    let g : IsGoing app limits c.args.until c.steps.kernel c.args.injections.now = goes_still inv.along c.requires.going (inv.going c.args.injections.now c.requires.going) in
+    let g : IsGoing app limits c.args.until c.steps.kernel c.args.injections.now =
+    goes_still inv.along c.requires.going (inv.going c.args.injections.now c.requires.going) in
     let short : c.steps.kernel.steps < c.args.until = (let soon = inv.soon in omega arith) in
-    can_step app c.well_formed-2.ensures c.args.injections.now limits c.well_formed-3.ensures c.steps.kernel g.free.way (ends_not short g)
+    can_step app c.well_formed-2.ensures c.args.injections.now limits
+    c.well_formed-3.ensures c.steps.kernel g.free.way (ends_not short g)
 
 pub step_at-following-requires-clause-at : goal.step_at-following-requires-clause-at
 step_at-following-requires-clause-at c = c.steps.invariant.at
@@ -46,10 +48,16 @@ returns-then-ne-clause-along c =
     let inv = c.steps.invariant in
     let app = c.args.app.now in
     let limits = c.args.limits.now in
-    let g : IsGoing app limits c.args.until c.steps.kernel c.args.injections.now = goes_still inv.along c.requires.going (inv.going c.args.injections.now c.requires.going) in
+    let g : IsGoing app limits c.args.until c.steps.kernel c.args.injections.now =
+    goes_still inv.along c.requires.going (inv.going c.args.injections.now c.requires.going) in
     let short : c.steps.kernel.steps < c.args.until = (let soon = inv.soon in omega arith) in
-    let further = goes_further app c.well_formed-2.ensures limits c.well_formed-3.ensures c.args.until c.steps.kernel c.step_at-following.new.machine short c.step_at-following.ensures.stands g (all_of c.steps.trail) (all_of c.step_at-following.new.log)
-    (λ s h. told_after c.step_at-following.new.log _ _ (c.step_at-following.ensures.before ∙ sym (all_before c.steps.trail inv.told)) (c.step_at-following.ensures.told s h)) in
+    let further =
+    goes_further app c.well_formed-2.ensures limits c.well_formed-3.ensures c.args.until
+    c.steps.kernel c.step_at-following.new.machine short c.step_at-following.ensures.stands
+    g (all_of c.steps.trail) (all_of c.step_at-following.new.log)
+    (λ s h.
+    told_after c.step_at-following.new.log _ _ (c.step_at-following.ensures.before ∙ sym (all_before c.steps.trail inv.told))
+    (c.step_at-following.ensures.told s h)) in
     further_then inv.along inv.going further
 
 pub returns-then-ne-clause-on : goal.returns-then-ne-clause-on
@@ -57,9 +65,12 @@ returns-then-ne-clause-on c =
     let inv = c.steps.invariant in
     let app = c.args.app.now in
     let limits = c.args.limits.now in
-    let g : IsGoing app limits c.args.until c.steps.kernel c.args.injections.now = goes_still inv.along c.requires.going (inv.going c.args.injections.now c.requires.going) in
+    let g : IsGoing app limits c.args.until c.steps.kernel c.args.injections.now =
+    goes_still inv.along c.requires.going (inv.going c.args.injections.now c.requires.going) in
     let short : c.steps.kernel.steps < c.args.until = (let soon = inv.soon in omega arith) in
-    let one = one_step app c.well_formed-2.ensures limits c.well_formed-3.ensures c.args.until c.steps.kernel c.step_at-following.new.machine short c.step_at-following.ensures.stands g in
+    let one =
+    one_step app c.well_formed-2.ensures limits c.well_formed-3.ensures c.args.until c.steps.kernel
+    c.step_at-following.new.machine short c.step_at-following.ensures.stands g in
     let on = inv.along.on in
     omega arith
 
@@ -68,9 +79,12 @@ returns-then-ne-clause-soon c =
     let inv = c.steps.invariant in
     let app = c.args.app.now in
     let limits = c.args.limits.now in
-    let g : IsGoing app limits c.args.until c.steps.kernel c.args.injections.now = goes_still inv.along c.requires.going (inv.going c.args.injections.now c.requires.going) in
+    let g : IsGoing app limits c.args.until c.steps.kernel c.args.injections.now =
+    goes_still inv.along c.requires.going (inv.going c.args.injections.now c.requires.going) in
     let short : c.steps.kernel.steps < c.args.until = (let soon = inv.soon in omega arith) in
-    let one = one_step app c.well_formed-2.ensures limits c.well_formed-3.ensures c.args.until c.steps.kernel c.step_at-following.new.machine short c.step_at-following.ensures.stands g in
+    let one =
+    one_step app c.well_formed-2.ensures limits c.well_formed-3.ensures c.args.until c.steps.kernel
+    c.step_at-following.new.machine short c.step_at-following.ensures.stands g in
     let soon = inv.soon in
     omega arith
 
@@ -79,20 +93,29 @@ op_of-requires c =
     let inv = c.steps.invariant in
     let app = c.args.app.now in
     let limits = c.args.limits.now in
-    let g : IsGoing app limits c.args.until c.steps.kernel c.args.injections.now = goes_still inv.along c.requires.going (inv.going c.args.injections.now c.requires.going) in
+    let g : IsGoing app limits c.args.until c.steps.kernel c.args.injections.now =
+    goes_still inv.along c.requires.going (inv.going c.args.injections.now c.requires.going) in
     let short : c.steps.kernel.steps < c.args.until = (let soon = inv.soon in omega arith) in
     let s = state_after app limits c.args.injections.now c.steps.kernel.steps in
-    subst (λ (o : Option ℕ). IfSome o (λ task. task < length app.tasks)) inv.at.current (runs_there app c.steps.kernel s (hold_of s) g.free.way.stands (reached_after app c.well_formed-2.ensures limits c.args.injections.now c.steps.kernel.steps).sound)
+    subst (λ (o : Option ℕ). IfSome o (λ task. task < length app.tasks)) inv.at.current
+    (runs_there app c.steps.kernel s (hold_of s) g.free.way.stands
+    (reached_after app c.well_formed-2.ensures limits c.args.injections.now c.steps.kernel.steps).sound)
 
 pub returns-in_default-clause-along : goal.returns-in_default-clause-along
 returns-in_default-clause-along c =
     let inv = c.steps.invariant in
     let app = c.args.app.now in
     let limits = c.args.limits.now in
-    let g : IsGoing app limits c.args.until c.steps.kernel c.args.injections.now = goes_still inv.along c.requires.going (inv.going c.args.injections.now c.requires.going) in
+    let g : IsGoing app limits c.args.until c.steps.kernel c.args.injections.now =
+    goes_still inv.along c.requires.going (inv.going c.args.injections.now c.requires.going) in
     let short : c.steps.kernel.steps < c.args.until = (let soon = inv.soon in omega arith) in
-    let further = goes_further app c.well_formed-2.ensures limits c.well_formed-3.ensures c.args.until c.steps.kernel c.step_at-following.new.machine short c.step_at-following.ensures.stands g (all_of c.steps.trail) (all_of c.step_at-following.new.log)
-    (λ s h. told_after c.step_at-following.new.log _ _ (c.step_at-following.ensures.before ∙ sym (all_before c.steps.trail inv.told)) (c.step_at-following.ensures.told s h)) in
+    let further =
+    goes_further app c.well_formed-2.ensures limits c.well_formed-3.ensures c.args.until
+    c.steps.kernel c.step_at-following.new.machine short c.step_at-following.ensures.stands
+    g (all_of c.steps.trail) (all_of c.step_at-following.new.log)
+    (λ s h.
+    told_after c.step_at-following.new.log _ _ (c.step_at-following.ensures.before ∙ sym (all_before c.steps.trail inv.told))
+    (c.step_at-following.ensures.told s h)) in
     further_then inv.along inv.going further
 
 pub returns-in_default-clause-on : goal.returns-in_default-clause-on
@@ -100,9 +123,12 @@ returns-in_default-clause-on c =
     let inv = c.steps.invariant in
     let app = c.args.app.now in
     let limits = c.args.limits.now in
-    let g : IsGoing app limits c.args.until c.steps.kernel c.args.injections.now = goes_still inv.along c.requires.going (inv.going c.args.injections.now c.requires.going) in
+    let g : IsGoing app limits c.args.until c.steps.kernel c.args.injections.now =
+    goes_still inv.along c.requires.going (inv.going c.args.injections.now c.requires.going) in
     let short : c.steps.kernel.steps < c.args.until = (let soon = inv.soon in omega arith) in
-    let one = one_step app c.well_formed-2.ensures limits c.well_formed-3.ensures c.args.until c.steps.kernel c.step_at-following.new.machine short c.step_at-following.ensures.stands g in
+    let one =
+    one_step app c.well_formed-2.ensures limits c.well_formed-3.ensures c.args.until c.steps.kernel
+    c.step_at-following.new.machine short c.step_at-following.ensures.stands g in
     let on = inv.along.on in
     omega arith
 
@@ -111,9 +137,12 @@ steps-smaller c =
     let inv = c.steps.invariant in
     let app = c.args.app.now in
     let limits = c.args.limits.now in
-    let g : IsGoing app limits c.args.until c.steps.kernel c.args.injections.now = goes_still inv.along c.requires.going (inv.going c.args.injections.now c.requires.going) in
+    let g : IsGoing app limits c.args.until c.steps.kernel c.args.injections.now =
+    goes_still inv.along c.requires.going (inv.going c.args.injections.now c.requires.going) in
     let short : c.steps.kernel.steps < c.args.until = (let soon = inv.soon in omega arith) in
-    let one = one_step app c.well_formed-2.ensures limits c.well_formed-3.ensures c.args.until c.steps.kernel c.step_at-following.new.machine short c.step_at-following.ensures.stands g in
+    let one =
+    one_step app c.well_formed-2.ensures limits c.well_formed-3.ensures c.args.until c.steps.kernel
+    c.step_at-following.new.machine short c.step_at-following.ensures.stands g in
     omega arith
 
 pub steps-preserved : goal.steps-preserved
@@ -121,19 +150,29 @@ steps-preserved c =
     let inv = c.steps.invariant in
     let app = c.args.app.now in
     let limits = c.args.limits.now in
-    let g : IsGoing app limits c.args.until c.steps.kernel c.args.injections.now = goes_still inv.along c.requires.going (inv.going c.args.injections.now c.requires.going) in
+    let g : IsGoing app limits c.args.until c.steps.kernel c.args.injections.now =
+    goes_still inv.along c.requires.going (inv.going c.args.injections.now c.requires.going) in
     let short : c.steps.kernel.steps < c.args.until = (let soon = inv.soon in omega arith) in
-    let further = goes_further app c.well_formed-2.ensures limits c.well_formed-3.ensures c.args.until c.steps.kernel c.step_at-following.new.machine short c.step_at-following.ensures.stands g (all_of c.steps.trail) (all_of c.step_at-following.new.log)
-    (λ s h. told_after c.step_at-following.new.log _ _ (c.step_at-following.ensures.before ∙ sym (all_before c.steps.trail inv.told)) (c.step_at-following.ensures.told s h)) in
+    let further =
+    goes_further app c.well_formed-2.ensures limits c.well_formed-3.ensures c.args.until
+    c.steps.kernel c.step_at-following.new.machine short c.step_at-following.ensures.stands
+    g (all_of c.steps.trail) (all_of c.step_at-following.new.log)
+    (λ s h.
+    told_after c.step_at-following.new.log _ _ (c.step_at-following.ensures.before ∙ sym (all_before c.steps.trail inv.told))
+    (c.step_at-following.ensures.told s h)) in
     let e = not_another c.step_at-following.result c.if-ne.ensures in
     let silent = c.step_at-following.ensures.silent e in
     record {
       along = further_then inv.along inv.going further;
-      going = λ plan f. still_going app c.well_formed-2.ensures limits c.well_formed-3.ensures c.args.until c.steps.kernel c.step_at-following.new.machine short c.step_at-following.ensures.stands (goes_still inv.along f (inv.going plan f))
+      going = λ plan f.
+          still_going app c.well_formed-2.ensures limits c.well_formed-3.ensures c.args.until c.steps.kernel
+          c.step_at-following.new.machine short c.step_at-following.ensures.stands (goes_still inv.along f (inv.going plan f))
           (λ s h. c.step_at-following.ensures.on e s h);
       at = record {
         current = c.step_at-following.ensures.runs e;
-        at = (let P : Progress → Type 0 = λ p. op_at app c.args.task p.op_index ≡ Some c.in-Some.next.now in subst P (c.behind-kernel.view_is ∙ c.progress.ensures) c.in-Some.ensures.some);
+        at =
+            (let P : Progress → Type 0 = λ p. op_at app c.args.task p.op_index ≡ Some c.in-Some.next.now in
+            subst P (c.behind-kernel.view_is ∙ c.progress.ensures) c.in-Some.ensures.some);
         awake = c.step_at-following.ensures.awake e;
       };
       soon = (let l = c.if-last-kernel.false in let soon = c.requires.soon in omega arith);

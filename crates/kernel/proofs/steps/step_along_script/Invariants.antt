@@ -10,7 +10,8 @@ use Rattle.kernel.proofs.steps.step_along_script.Given as goal
 abbrev pub invariant-steps : goal.invariant-steps
 invariant-steps l = record {
   along : GoesFurther l.app l.limits l.until l.fn.kernel l.kernel (all_of l.fn.trail) (all_of l.trail);
-  going : (plan : List Injection) → IsGoing l.app l.limits l.until l.fn.kernel plan → is_over l.app l.limits (state_after l.app l.limits plan l.kernel.steps) ≡ false;
+  going : (plan : List Injection) → IsGoing l.app l.limits l.until l.fn.kernel plan
+      → is_over l.app l.limits (state_after l.app l.limits plan l.kernel.steps) ≡ false;
   at : IsAt l.app l.kernel l.task l.op;
   soon : l.kernel.steps + 1 < l.until;
   told : l.trail.told ≡ [];

@@ -10,13 +10,22 @@ use Rattle.kernel.proofs.Running.{acts}
 use Rattle.kernel.proofs.steps.step_at.Goals as goal
 
 pub act-following-requires-clause-can : goal.act-following-requires-clause-can
-act-following-requires-clause-can g c = let at = c.requires.at in can_do c.args.app.now c.well_formed-2.ensures c.args.machine.now c.requires.going c.args.task at.current at.awake c.args.op.now at.at
+act-following-requires-clause-can g c =
+    let at = c.requires.at in
+    can_do c.args.app.now c.well_formed-2.ensures c.args.machine.now
+    c.requires.going c.args.task at.current at.awake c.args.op.now at.at
 
 pub overflow_add-machine-then-eq-2 : goal.overflow_add-machine-then-eq-2
 overflow_add-machine-then-eq-2 g c =
     let going = c.requires.going in
-    let a = c.settle.ensures.at _ ((acts c.args.app.now c.args.limits.now c.args.machine.now c.args.task c.requires.at.current c.args.op.now c.requires.at.at c.act-following.new.machine _ _ c.act-following.ensures.does).at _ (handled_before c.args.app.now [] going.state c.args.machine.now _ (begun c.args.machine.now (g.L.Log.logged c.args.log.now).told going.state going.stands c.requires.begun))) in
-    let still = steps_still c.args.app.now c.args.limits.now [] going.state c.args.machine.now c.settle.new.self (g.L.Log.logged c.settle.new.log).told going.stands a in
+    let a =
+    c.settle.ensures.at _ ((acts c.args.app.now c.args.limits.now c.args.machine.now c.args.task c.requires.at.current
+    c.args.op.now c.requires.at.at c.act-following.new.machine _ _ c.act-following.ensures.does).at
+    _ (handled_before c.args.app.now [] going.state c.args.machine.now _
+    (begun c.args.machine.now (g.L.Log.logged c.args.log.now).told going.state going.stands c.requires.begun))) in
+    let still =
+    steps_still c.args.app.now c.args.limits.now [] going.state c.args.machine.now
+    c.settle.new.self (g.L.Log.logged c.settle.new.log).told going.stands a in
     let is = steps_are c.args.machine.now going.state going.stands in
     let low = below_limits c.args.app.now c.args.limits.now going.state going.goes_on in
     let few = low.1 in
@@ -25,19 +34,37 @@ overflow_add-machine-then-eq-2 g c =
 
 pub returns-then-eq-2-clause-stands : goal.returns-then-eq-2-clause-stands
 returns-then-eq-2-clause-stands g c = λ s h.
-    let a = c.settle.ensures.at _ ((acts c.args.app.now c.args.limits.now c.args.machine.now c.args.task c.requires.at.current c.args.op.now c.requires.at.at c.act-following.new.machine _ _ c.act-following.ensures.does).at _ (handled_before c.args.app.now [] s c.args.machine.now _ (begun c.args.machine.now (g.L.Log.logged c.args.log.now).told s h c.requires.begun))) in
-    let still = steps_still c.args.app.now c.args.limits.now [] s c.args.machine.now c.settle.new.self (g.L.Log.logged c.settle.new.log).told h a in
-    stepped c.args.app.now c.args.limits.now [] s c.settle.new.self (g.L.Log.logged c.settle.new.log).told c.settle.new.self.steps (still ∙ steps_are c.args.machine.now s h) a
+    let a =
+    c.settle.ensures.at _ ((acts c.args.app.now c.args.limits.now c.args.machine.now c.args.task c.requires.at.current
+    c.args.op.now c.requires.at.at c.act-following.new.machine _ _ c.act-following.ensures.does).at
+    _ (handled_before c.args.app.now [] s c.args.machine.now _
+    (begun c.args.machine.now (g.L.Log.logged c.args.log.now).told s h c.requires.begun))) in
+    let still =
+    steps_still c.args.app.now c.args.limits.now [] s c.args.machine.now
+    c.settle.new.self (g.L.Log.logged c.settle.new.log).told h a in
+    stepped c.args.app.now c.args.limits.now [] s c.settle.new.self (g.L.Log.logged c.settle.new.log).told
+    c.settle.new.self.steps (still ∙ steps_are c.args.machine.now s h) a
 
 pub returns-then-eq-2-clause-told : goal.returns-then-eq-2-clause-told
 unfolding step
-returns-then-eq-2-clause-told g c = λ s h. (c.settle.ensures.at _ ((acts c.args.app.now c.args.limits.now c.args.machine.now c.args.task c.requires.at.current c.args.op.now c.requires.at.at c.act-following.new.machine _ _ c.act-following.ensures.does).at _ (handled_before c.args.app.now [] s c.args.machine.now _ (begun c.args.machine.now (g.L.Log.logged c.args.log.now).told s h c.requires.begun)))).log
+returns-then-eq-2-clause-told g c = λ s h.
+    (c.settle.ensures.at _
+    ((acts c.args.app.now c.args.limits.now c.args.machine.now c.args.task c.requires.at.current
+    c.args.op.now c.requires.at.at c.act-following.new.machine _ _ c.act-following.ensures.does).at
+    _ (handled_before c.args.app.now [] s c.args.machine.now _
+    (begun c.args.machine.now (g.L.Log.logged c.args.log.now).told s h c.requires.begun)))).log
 
 pub overflow_add-machine-2 : goal.overflow_add-machine-2
 overflow_add-machine-2 g c =
     let going = c.requires.going in
-    let a = c.settle-2.ensures.at _ ((acts c.args.app.now c.args.limits.now c.args.machine.now c.args.task c.requires.at.current c.args.op.now c.requires.at.at c.act-following.new.machine _ _ c.act-following.ensures.does).at _ (handled_before c.args.app.now [] going.state c.args.machine.now _ (begun c.args.machine.now (g.L.Log.logged c.args.log.now).told going.state going.stands c.requires.begun))) in
-    let still = steps_still c.args.app.now c.args.limits.now [] going.state c.args.machine.now c.settle-2.new.self (g.L.Log.logged c.settle-2.new.log).told going.stands a in
+    let a =
+    c.settle-2.ensures.at _ ((acts c.args.app.now c.args.limits.now c.args.machine.now c.args.task c.requires.at.current
+    c.args.op.now c.requires.at.at c.act-following.new.machine _ _ c.act-following.ensures.does).at
+    _ (handled_before c.args.app.now [] going.state c.args.machine.now _
+    (begun c.args.machine.now (g.L.Log.logged c.args.log.now).told going.state going.stands c.requires.begun))) in
+    let still =
+    steps_still c.args.app.now c.args.limits.now [] going.state c.args.machine.now
+    c.settle-2.new.self (g.L.Log.logged c.settle-2.new.log).told going.stands a in
     let is = steps_are c.args.machine.now going.state going.stands in
     let low = below_limits c.args.app.now c.args.limits.now going.state going.goes_on in
     let few = low.1 in
@@ -46,37 +73,71 @@ overflow_add-machine-2 g c =
 
 pub returns-clause-stands : goal.returns-clause-stands
 returns-clause-stands g c = λ s h.
-    let a = c.settle-2.ensures.at _ ((acts c.args.app.now c.args.limits.now c.args.machine.now c.args.task c.requires.at.current c.args.op.now c.requires.at.at c.act-following.new.machine _ _ c.act-following.ensures.does).at _ (handled_before c.args.app.now [] s c.args.machine.now _ (begun c.args.machine.now (g.L.Log.logged c.args.log.now).told s h c.requires.begun))) in
-    let still = steps_still c.args.app.now c.args.limits.now [] s c.args.machine.now c.settle-2.new.self (g.L.Log.logged c.settle-2.new.log).told h a in
-    stepped c.args.app.now c.args.limits.now [] s c.settle-2.new.self (g.L.Log.logged c.settle-2.new.log).told c.settle-2.new.self.steps (still ∙ steps_are c.args.machine.now s h) a
+    let a =
+    c.settle-2.ensures.at _ ((acts c.args.app.now c.args.limits.now c.args.machine.now c.args.task c.requires.at.current
+    c.args.op.now c.requires.at.at c.act-following.new.machine _ _ c.act-following.ensures.does).at
+    _ (handled_before c.args.app.now [] s c.args.machine.now _
+    (begun c.args.machine.now (g.L.Log.logged c.args.log.now).told s h c.requires.begun))) in
+    let still =
+    steps_still c.args.app.now c.args.limits.now [] s c.args.machine.now
+    c.settle-2.new.self (g.L.Log.logged c.settle-2.new.log).told h a in
+    stepped c.args.app.now c.args.limits.now [] s c.settle-2.new.self (g.L.Log.logged c.settle-2.new.log).told
+    c.settle-2.new.self.steps (still ∙ steps_are c.args.machine.now s h) a
 
 pub returns-clause-told : goal.returns-clause-told
 unfolding step
-returns-clause-told g c = λ s h. (c.settle-2.ensures.at _ ((acts c.args.app.now c.args.limits.now c.args.machine.now c.args.task c.requires.at.current c.args.op.now c.requires.at.at c.act-following.new.machine _ _ c.act-following.ensures.does).at _ (handled_before c.args.app.now [] s c.args.machine.now _ (begun c.args.machine.now (g.L.Log.logged c.args.log.now).told s h c.requires.begun)))).log
+returns-clause-told g c = λ s h.
+    (c.settle-2.ensures.at _
+    ((acts c.args.app.now c.args.limits.now c.args.machine.now c.args.task c.requires.at.current
+    c.args.op.now c.requires.at.at c.act-following.new.machine _ _ c.act-following.ensures.does).at
+    _ (handled_before c.args.app.now [] s c.args.machine.now _
+    (begun c.args.machine.now (g.L.Log.logged c.args.log.now).told s h c.requires.begun)))).log
 
 pub returns-then-eq-clause-stands : goal.returns-then-eq-clause-stands
 returns-then-eq-clause-stands g c = λ s h.
     let at = c.requires.at in
     let e = same_following c.act-following.result c.if-eq.ensures in
     let silent = c.act-following.ensures.silent e in
-    let can = can_do c.args.app.now c.well_formed-2.ensures c.args.machine.now c.requires.going c.args.task at.current at.awake c.args.op.now at.at in
-    let does = silently c.args.machine.now c.act-following.new.machine _ _ _ (acts c.args.app.now c.args.limits.now c.args.machine.now c.args.task at.current c.args.op.now at.at c.act-following.new.machine _ _ c.act-following.ensures.does) c.requires.begun silent in
-    stands_amid c.args.app.now c.args.limits.now c.args.machine.now c.act-following.new.machine c.args.task c.args.op.now at (c.act-following.ensures.plain e) can (c.act-following.ensures.amid e) does s h
+    let can =
+    can_do c.args.app.now c.well_formed-2.ensures c.args.machine.now
+    c.requires.going c.args.task at.current at.awake c.args.op.now at.at in
+    let does =
+    silently c.args.machine.now c.act-following.new.machine _ _ _
+    (acts c.args.app.now c.args.limits.now c.args.machine.now c.args.task at.current
+    c.args.op.now at.at c.act-following.new.machine _ _ c.act-following.ensures.does)
+    c.requires.begun silent in
+    stands_amid c.args.app.now c.args.limits.now c.args.machine.now c.act-following.new.machine c.args.task
+    c.args.op.now at (c.act-following.ensures.plain e) can (c.act-following.ensures.amid e) does s h
 
 pub returns-then-eq-clause-told : goal.returns-then-eq-clause-told
 returns-then-eq-clause-told g c = λ s h.
     let at = c.requires.at in
     let e = same_following c.act-following.result c.if-eq.ensures in
     let silent = c.act-following.ensures.silent e in
-    let can = can_do c.args.app.now c.well_formed-2.ensures c.args.machine.now c.requires.going c.args.task at.current at.awake c.args.op.now at.at in
-    let does = silently c.args.machine.now c.act-following.new.machine _ _ _ (acts c.args.app.now c.args.limits.now c.args.machine.now c.args.task at.current c.args.op.now at.at c.act-following.new.machine _ _ c.act-following.ensures.does) c.requires.begun silent in
-    ap (λ (l : Logged). l.told) silent ∙ c.requires.begun ∙ sym (silent_amid c.args.app.now c.args.limits.now c.args.machine.now c.act-following.new.machine c.args.task c.args.op.now at (c.act-following.ensures.plain e) can (c.act-following.ensures.amid e) does s h)
+    let can =
+    can_do c.args.app.now c.well_formed-2.ensures c.args.machine.now
+    c.requires.going c.args.task at.current at.awake c.args.op.now at.at in
+    let does =
+    silently c.args.machine.now c.act-following.new.machine _ _ _
+    (acts c.args.app.now c.args.limits.now c.args.machine.now c.args.task at.current
+    c.args.op.now at.at c.act-following.new.machine _ _ c.act-following.ensures.does)
+    c.requires.begun silent in
+    ap (λ (l : Logged). l.told) silent ∙ c.requires.begun
+    ∙ sym (silent_amid c.args.app.now c.args.limits.now c.args.machine.now c.act-following.new.machine c.args.task
+    c.args.op.now at (c.act-following.ensures.plain e) can (c.act-following.ensures.amid e) does s h)
 
 pub returns-then-eq-clause-on : goal.returns-then-eq-clause-on
 returns-then-eq-clause-on g c = λ next s h going.
     let at = c.requires.at in
     let e = same_following c.act-following.result c.if-eq.ensures in
     let silent = c.act-following.ensures.silent e in
-    let can = can_do c.args.app.now c.well_formed-2.ensures c.args.machine.now c.requires.going c.args.task at.current at.awake c.args.op.now at.at in
-    let does = silently c.args.machine.now c.act-following.new.machine _ _ _ (acts c.args.app.now c.args.limits.now c.args.machine.now c.args.task at.current c.args.op.now at.at c.act-following.new.machine _ _ c.act-following.ensures.does) c.requires.begun silent in
-    on_amid c.args.app.now c.args.limits.now c.args.machine.now c.act-following.new.machine c.args.task c.args.op.now at (c.act-following.ensures.plain e) can (c.act-following.ensures.amid e) does s h going
+    let can =
+    can_do c.args.app.now c.well_formed-2.ensures c.args.machine.now
+    c.requires.going c.args.task at.current at.awake c.args.op.now at.at in
+    let does =
+    silently c.args.machine.now c.act-following.new.machine _ _ _
+    (acts c.args.app.now c.args.limits.now c.args.machine.now c.args.task at.current
+    c.args.op.now at.at c.act-following.new.machine _ _ c.act-following.ensures.does)
+    c.requires.begun silent in
+    on_amid c.args.app.now c.args.limits.now c.args.machine.now c.act-following.new.machine c.args.task
+    c.args.op.now at (c.act-following.ensures.plain e) can (c.act-following.ensures.amid e) does s h going

@@ -9,31 +9,43 @@ pub step_otherwise-following-requires-clause-going : goal.step_otherwise-followi
 step_otherwise-following-requires-clause-going c =
     let g = c.requires.going in
     let short : c.args.kernel.now.steps < c.args.until = (let soon = c.requires.soon in omega arith) in
-    can_step c.args.app.now c.well_formed-2.ensures c.args.injections.now c.args.limits.now c.well_formed-3.ensures c.args.kernel.now g.free.way (ends_not short g)
+    can_step c.args.app.now c.well_formed-2.ensures c.args.injections.now c.args.limits.now
+    c.well_formed-3.ensures c.args.kernel.now g.free.way (ends_not short g)
 
 pub go_on_while_suspended-requires : goal.go_on_while_suspended-requires
 go_on_while_suspended-requires c =
     let g = c.requires.going in
     let short : c.args.kernel.now.steps < c.args.until = (let soon = c.requires.soon in omega arith) in
-    let further = goes_further c.args.app.now c.well_formed-2.ensures c.args.limits.now c.well_formed-3.ensures c.args.until c.args.kernel.now
-    c.step_otherwise-following.new.machine short c.step_otherwise-following.ensures.stands g (all_of c.args.trail.now) (all_of c.step_otherwise-following.new.log)
-    (λ s h. told_after c.step_otherwise-following.new.log _ _ (c.step_otherwise-following.ensures.before ∙ sym (all_before c.args.trail.now c.requires.begun)) (c.step_otherwise-following.ensures.told s h)) in
+    let further =
+    goes_further c.args.app.now c.well_formed-2.ensures c.args.limits.now c.well_formed-3.ensures c.args.until c.args.kernel.now
+    c.step_otherwise-following.new.machine short c.step_otherwise-following.ensures.stands
+    g (all_of c.args.trail.now) (all_of c.step_otherwise-following.new.log)
+    (λ s h.
+    told_after c.step_otherwise-following.new.log _ _
+    (c.step_otherwise-following.ensures.before ∙ sym (all_before c.args.trail.now c.requires.begun))
+    (c.step_otherwise-following.ensures.told s h)) in
     still_free further g
 
 pub returns-then-kernel-gt0-clause-along : goal.returns-then-kernel-gt0-clause-along
 returns-then-kernel-gt0-clause-along c =
     let g = c.requires.going in
     let short : c.args.kernel.now.steps < c.args.until = (let soon = c.requires.soon in omega arith) in
-    let further = goes_further c.args.app.now c.well_formed-2.ensures c.args.limits.now c.well_formed-3.ensures c.args.until c.args.kernel.now
-    c.step_otherwise-following.new.machine short c.step_otherwise-following.ensures.stands g (all_of c.args.trail.now) (all_of c.step_otherwise-following.new.log)
-    (λ s h. told_after c.step_otherwise-following.new.log _ _ (c.step_otherwise-following.ensures.before ∙ sym (all_before c.args.trail.now c.requires.begun)) (c.step_otherwise-following.ensures.told s h)) in
+    let further =
+    goes_further c.args.app.now c.well_formed-2.ensures c.args.limits.now c.well_formed-3.ensures c.args.until c.args.kernel.now
+    c.step_otherwise-following.new.machine short c.step_otherwise-following.ensures.stands
+    g (all_of c.args.trail.now) (all_of c.step_otherwise-following.new.log)
+    (λ s h.
+    told_after c.step_otherwise-following.new.log _ _
+    (c.step_otherwise-following.ensures.before ∙ sym (all_before c.args.trail.now c.requires.begun))
+    (c.step_otherwise-following.ensures.told s h)) in
     further_on further c.go_on_while_suspended.ensures.along
 
 pub returns-then-kernel-gt0-clause-on : goal.returns-then-kernel-gt0-clause-on
 returns-then-kernel-gt0-clause-on c =
     let g = c.requires.going in
     let short : c.args.kernel.now.steps < c.args.until = (let soon = c.requires.soon in omega arith) in
-    let one = one_step c.args.app.now c.well_formed-2.ensures c.args.limits.now c.well_formed-3.ensures c.args.until c.args.kernel.now
+    let one =
+    one_step c.args.app.now c.well_formed-2.ensures c.args.limits.now c.well_formed-3.ensures c.args.until c.args.kernel.now
     c.step_otherwise-following.new.machine short c.step_otherwise-following.ensures.stands g in
     let on = c.go_on_while_suspended.ensures.along.to.on in
     omega arith
@@ -42,7 +54,8 @@ pub returns-then-kernel-gt0-clause-soon : goal.returns-then-kernel-gt0-clause-so
 returns-then-kernel-gt0-clause-soon c =
     let g = c.requires.going in
     let short : c.args.kernel.now.steps < c.args.until = (let soon = c.requires.soon in omega arith) in
-    let one = one_step c.args.app.now c.well_formed-2.ensures c.args.limits.now c.well_formed-3.ensures c.args.until c.args.kernel.now
+    let one =
+    one_step c.args.app.now c.well_formed-2.ensures c.args.limits.now c.well_formed-3.ensures c.args.until c.args.kernel.now
     c.step_otherwise-following.new.machine short c.step_otherwise-following.ensures.stands g in
     let soon = c.requires.soon in
     c.go_on_while_suspended.ensures.soon (omega arith)
@@ -52,14 +65,19 @@ returns-else-kernel-gt0-clause-along c =
     let g = c.requires.going in
     let short : c.args.kernel.now.steps < c.args.until = (let soon = c.requires.soon in omega arith) in
     goes_further c.args.app.now c.well_formed-2.ensures c.args.limits.now c.well_formed-3.ensures c.args.until c.args.kernel.now
-    c.step_otherwise-following.new.machine short c.step_otherwise-following.ensures.stands g (all_of c.args.trail.now) (all_of c.step_otherwise-following.new.log)
-    (λ s h. told_after c.step_otherwise-following.new.log _ _ (c.step_otherwise-following.ensures.before ∙ sym (all_before c.args.trail.now c.requires.begun)) (c.step_otherwise-following.ensures.told s h))
+    c.step_otherwise-following.new.machine short c.step_otherwise-following.ensures.stands
+    g (all_of c.args.trail.now) (all_of c.step_otherwise-following.new.log)
+    (λ s h.
+    told_after c.step_otherwise-following.new.log _ _
+    (c.step_otherwise-following.ensures.before ∙ sym (all_before c.args.trail.now c.requires.begun))
+    (c.step_otherwise-following.ensures.told s h))
 
 pub returns-else-kernel-gt0-clause-on : goal.returns-else-kernel-gt0-clause-on
 returns-else-kernel-gt0-clause-on c =
     let g = c.requires.going in
     let short : c.args.kernel.now.steps < c.args.until = (let soon = c.requires.soon in omega arith) in
-    let one = one_step c.args.app.now c.well_formed-2.ensures c.args.limits.now c.well_formed-3.ensures c.args.until c.args.kernel.now
+    let one =
+    one_step c.args.app.now c.well_formed-2.ensures c.args.limits.now c.well_formed-3.ensures c.args.until c.args.kernel.now
     c.step_otherwise-following.new.machine short c.step_otherwise-following.ensures.stands g in
     omega arith
 
@@ -67,7 +85,8 @@ pub returns-else-kernel-gt0-clause-soon : goal.returns-else-kernel-gt0-clause-so
 returns-else-kernel-gt0-clause-soon c =
     let g = c.requires.going in
     let short : c.args.kernel.now.steps < c.args.until = (let soon = c.requires.soon in omega arith) in
-    let one = one_step c.args.app.now c.well_formed-2.ensures c.args.limits.now c.well_formed-3.ensures c.args.until c.args.kernel.now
+    let one =
+    one_step c.args.app.now c.well_formed-2.ensures c.args.limits.now c.well_formed-3.ensures c.args.until c.args.kernel.now
     c.step_otherwise-following.new.machine short c.step_otherwise-following.ensures.stands g in
     let soon = c.requires.soon in
     omega arith

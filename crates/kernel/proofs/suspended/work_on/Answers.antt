@@ -5,16 +5,21 @@ use Rattle.machine.proofs.Acting.{agrees_after}
 use Rattle.kernel.proofs.suspended.work_on.Goals as goal
 
 pub held_tick_interrupt-requires-clause-agrees : goal.held_tick_interrupt-requires-clause-agrees
-held_tick_interrupt-requires-clause-agrees g c = agrees_after c.args.machine.now c.use_up.new.machine [] [] c.requires.can.agrees _ (λ s h. c.use_up.ensures.does [] s h)
+held_tick_interrupt-requires-clause-agrees g c =
+    agrees_after c.args.machine.now c.use_up.new.machine [] [] c.requires.can.agrees _ (λ s h. c.use_up.ensures.does [] s h)
 
 pub held_tick_interrupt-requires-clause-objects : goal.held_tick_interrupt-requires-clause-objects
-held_tick_interrupt-requires-clause-objects g c = λ o a fit. subst (λ (q : Exchange). HasRoom q o a) (sym c.use_up.ensures.queues) (c.requires.can.objects o a fit)
+held_tick_interrupt-requires-clause-objects g c = λ o a fit.
+    subst (λ (q : Exchange). HasRoom q o a) (sym c.use_up.ensures.queues) (c.requires.can.objects o a fit)
 
 pub held_tick_interrupt-requires-clause-some : goal.held_tick_interrupt-requires-clause-some
 held_tick_interrupt-requires-clause-some g c = let e = c.use_up.ensures.suspensions in let l = c.requires.some in omega arith
 
 pub held_tick_interrupt-requires-clause-few : goal.held_tick_interrupt-requires-clause-few
-held_tick_interrupt-requires-clause-few g c = let e = ap (λ (t : Timeline). t.held) c.use_up.ensures.clock in let l = c.requires.can.held in omega arith
+held_tick_interrupt-requires-clause-few g c =
+    let e = ap (λ (t : Timeline). t.held) c.use_up.ensures.clock in
+    let l = c.requires.can.held in
+    omega arith
 
 pub returns : goal.returns
 returns g c = record {

@@ -14,5 +14,9 @@ use Rattle.model.specs.Step.{judge, before_step, step, nobody_ready, ready_at_re
 use Rattle.laws.proofs.examples.end_states_of_examples.Goals as goal
 
 pub returns : goal.returns
-unfolding to_back dispatch choose yield_now preempt slice settle wait_in set_deadline wake_best unlock wake_due advance increment_tick handle inject interrupt tick_interrupt idle sleep set_previous_wake go_to answer use_up delay delay_until expect open_loop close_turn fulfil attempt set_priority inherit after_timeout disinherit give_mutex try decide leave_call do_now set begin_set clear answer_bits wait_for_bits begin_bits_wait check received take_command obeyed clear_by_daemon suspend resume call_suspend call_resume judge before_step step nobody_ready ready_at_reset reset
+unfolding to_back dispatch choose yield_now preempt slice settle wait_in set_deadline wake_best unlock wake_due advance
+    increment_tick handle inject interrupt tick_interrupt idle sleep set_previous_wake go_to answer use_up delay
+    delay_until expect open_loop close_turn fulfil attempt set_priority inherit after_timeout disinherit give_mutex try
+    decide leave_call do_now set begin_set clear answer_bits wait_for_bits begin_bits_wait check received take_command
+    obeyed clear_by_daemon suspend resume call_suspend call_resume judge before_step step nobody_ready ready_at_reset reset
 returns c = (refl, (refl, (refl, (refl, (refl, (refl, (refl, (refl, (refl, (refl, tt))))))))))

@@ -8,12 +8,15 @@ use Rattle.model.specs.Objects.{fulfil}
 use Rattle.model.specs.Mutexes.{inherit, after_timeout}
 use Rattle.model.specs.Calls.{try, decide, leave_call}
 use Rattle.model.specs.Step.{judge, before_step, step, nobody_ready, ready_at_reset, reset}
-use Rattle.laws.specs.Examples.{round_robin, delay_zero, delay_one, across_the_wrap, periodic, two_turns, failed_expect, times_out, peek_passes_on, send_wakes, two_writers}
+use Rattle.laws.specs.Examples.{round_robin, delay_zero, delay_one, across_the_wrap, periodic, two_turns, failed_expect, times_out}
+use Rattle.laws.specs.Examples.{peek_passes_on, send_wakes, two_writers}
 use Rattle.laws.proofs.ExampleRuns.{is_run}
 use Rattle.laws.proofs.examples.examples_run.Goals as goal
 
 pub returns : goal.returns
-unfolding to_back dispatch choose yield_now preempt slice settle wait_in set_deadline wake_best unlock wake_due advance increment_tick interrupt tick_interrupt idle sleep set_previous_wake go_to answer use_up delay delay_until expect open_loop close_turn fulfil inherit after_timeout try decide leave_call judge before_step step nobody_ready ready_at_reset reset
+unfolding to_back dispatch choose yield_now preempt slice settle wait_in set_deadline wake_best unlock wake_due advance
+    increment_tick interrupt tick_interrupt idle sleep set_previous_wake go_to answer use_up delay delay_until expect open_loop
+    close_turn fulfil inherit after_timeout try decide leave_call judge before_step step nobody_ready ready_at_reset reset
 returns c = (
   is_run round_robin.app [] round_robin.app.limits round_robin.run refl refl refl refl,
   (

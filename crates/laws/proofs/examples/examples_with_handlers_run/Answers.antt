@@ -13,7 +13,10 @@ use Rattle.laws.proofs.ExampleRuns.{is_run}
 use Rattle.laws.proofs.examples.examples_with_handlers_run.Goals as goal
 
 pub returns : goal.returns
-unfolding to_back dispatch choose yield_now preempt slice settle wait_in set_deadline wake_best unlock wake_due advance increment_tick handle inject interrupt tick_interrupt idle sleep set_previous_wake go_to answer use_up delay delay_until expect open_loop close_turn fulfil attempt inherit after_timeout try decide leave_call judge before_step step nobody_ready ready_at_reset reset
+unfolding to_back dispatch choose yield_now preempt slice settle wait_in set_deadline wake_best unlock
+    wake_due advance increment_tick handle inject interrupt tick_interrupt idle sleep set_previous_wake
+    go_to answer use_up delay delay_until expect open_loop close_turn fulfil attempt inherit
+    after_timeout try decide leave_call judge before_step step nobody_ready ready_at_reset reset
 returns c = (
   is_run two_queues.app two_queues.plan two_queues.app.limits two_queues.run refl refl refl refl,
   (

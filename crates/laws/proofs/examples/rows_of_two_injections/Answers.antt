@@ -14,19 +14,45 @@ use Rattle.laws.proofs.ExampleRuns.{is_run}
 use Rattle.laws.proofs.examples.rows_of_two_injections.Goals as goal
 
 base_is_run : IsRun one_receive [] one_receive.limits past_the_end.row
-unfolding to_back dispatch choose yield_now preempt slice settle wait_in set_deadline wake_best unlock wake_due advance increment_tick handle inject interrupt tick_interrupt idle sleep set_previous_wake go_to answer use_up delay delay_until expect open_loop close_turn fulfil attempt inherit after_timeout try decide leave_call judge before_step step nobody_ready ready_at_reset reset
+unfolding to_back dispatch choose yield_now preempt slice settle wait_in set_deadline wake_best unlock
+    wake_due advance increment_tick handle inject interrupt tick_interrupt idle sleep set_previous_wake
+    go_to answer use_up delay delay_until expect open_loop close_turn fulfil attempt inherit
+    after_timeout try decide leave_call judge before_step step nobody_ready ready_at_reset reset
 base_is_run = is_run one_receive [] one_receive.limits past_the_end.row refl refl refl refl
 
 pub returns : goal.returns
-unfolding to_back dispatch choose yield_now preempt slice settle wait_in set_deadline wake_best unlock wake_due advance increment_tick handle inject interrupt tick_interrupt idle sleep set_previous_wake go_to answer use_up delay delay_until expect open_loop close_turn fulfil attempt inherit after_timeout try decide leave_call judge before_step step nobody_ready ready_at_reset reset
+unfolding to_back dispatch choose yield_now preempt slice settle wait_in set_deadline wake_best unlock
+    wake_due advance increment_tick handle inject interrupt tick_interrupt idle sleep set_previous_wake
+    go_to answer use_up delay delay_until expect open_loop close_turn fulfil attempt inherit
+    after_timeout try decide leave_call judge before_step step nobody_ready ready_at_reset reset
 returns c = (
-  record { base = past_the_end.row; is_base = base_is_run; is_reached = refl; is_row = is_run one_receive twice.point one_receive.limits twice.row refl refl refl refl },
+  record {
+    base = past_the_end.row;
+    is_base = base_is_run;
+    is_reached = refl;
+    is_row = is_run one_receive twice.point one_receive.limits twice.row refl refl refl refl;
+  },
   (
-    record { base = past_the_end.row; is_base = base_is_run; is_reached = refl; is_row = is_run one_receive past_the_base_run.point one_receive.limits past_the_base_run.row refl refl refl refl },
+    record {
+      base = past_the_end.row;
+      is_base = base_is_run;
+      is_reached = refl;
+      is_row = is_run one_receive past_the_base_run.point one_receive.limits past_the_base_run.row refl refl refl refl;
+    },
     (
-      record { base = past_the_end.row; is_base = base_is_run; is_reached = refl; is_row = is_run one_receive past_the_row.point one_receive.limits past_the_row.row refl refl refl refl },
+      record {
+        base = past_the_end.row;
+        is_base = base_is_run;
+        is_reached = refl;
+        is_row = is_run one_receive past_the_row.point one_receive.limits past_the_row.row refl refl refl refl;
+      },
       (
-        record { base = past_the_end.row; is_base = base_is_run; is_reached = refl; is_row = is_run one_receive [] one_receive.limits from_the_end_on.row refl refl refl refl },
+        record {
+          base = past_the_end.row;
+          is_base = base_is_run;
+          is_reached = refl;
+          is_row = is_run one_receive [] one_receive.limits from_the_end_on.row refl refl refl refl;
+        },
         tt,
       ),
     ),

@@ -8,12 +8,16 @@ use Rattle.model.specs.Objects.{fulfil, attempt}
 use Rattle.model.specs.Mutexes.{inherit, after_timeout}
 use Rattle.model.specs.Calls.{try, decide, leave_call}
 use Rattle.model.specs.Step.{judge, before_step, step, nobody_ready, ready_at_reset, reset}
-use Rattle.laws.specs.TicklessExamples.{long_sleeps, up_to_an_interrupt, up_to_the_limit, all_at_the_wrap, woken_from_idle, sleeps_on}
+use Rattle.laws.specs.TicklessExamples.{long_sleeps, up_to_an_interrupt, up_to_the_limit, all_at_the_wrap, woken_from_idle}
+use Rattle.laws.specs.TicklessExamples.{sleeps_on}
 use Rattle.laws.proofs.ExampleRuns.{is_run}
 use Rattle.laws.proofs.examples.tickless_examples_run.Goals as goal
 
 pub returns : goal.returns
-unfolding to_back dispatch choose yield_now preempt slice settle wait_in set_deadline wake_best unlock wake_due advance increment_tick jump handle inject interrupt tick_interrupt idle sleep set_previous_wake go_to answer use_up delay delay_until expect open_loop close_turn fulfil attempt inherit after_timeout try decide leave_call judge before_step step nobody_ready ready_at_reset reset
+unfolding to_back dispatch choose yield_now preempt slice settle wait_in set_deadline wake_best unlock
+    wake_due advance increment_tick jump handle inject interrupt tick_interrupt idle sleep
+    set_previous_wake go_to answer use_up delay delay_until expect open_loop close_turn fulfil attempt
+    inherit after_timeout try decide leave_call judge before_step step nobody_ready ready_at_reset reset
 returns c = (
   is_run long_sleeps.app long_sleeps.plan long_sleeps.app.limits long_sleeps.run refl refl refl refl,
   (

@@ -9,7 +9,8 @@ use Rattle.laws.proofs.states.steps_keep_states_sound.Goals as goal
 pub returns-clause-sound : goal.returns-clause-sound
 returns-clause-sound c = reached_step
 
-in_step : (app : Application) (limits : Limits) (handlers : List ℕ) (s : State) → s.suspensions ≤ s.steps → (step app limits handlers s).suspensions ≤ (step app limits handlers s).steps
+in_step : (app : Application) (limits : Limits) (handlers : List ℕ) (s : State) → s.suspensions ≤ s.steps
+    → (step app limits handlers s).suspensions ≤ (step app limits handlers s).steps
 unfolding step
 in_step app limits handlers s few = let one = suspensions-step app limits handlers s in omega arith
 

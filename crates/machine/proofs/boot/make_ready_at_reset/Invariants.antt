@@ -11,5 +11,7 @@ abbrev pub invariant-loop-index : goal.invariant-loop-index
 invariant-loop-index l = record {
   calm : l.sched.depth ≡ 0;
   none : HasNoneFrom l.index l.sched;
-  ready : (s : State) → StandsFor l.fn.sched s → length s.tasks ≡ length l.tasks → ((task : ℕ) → can_resume (status_at s task) ≡ false) → StandsFor l.sched (for_each make_ready (with_ops 0 (take l.index l.tasks)) s);
+  ready : (s : State) → StandsFor l.fn.sched s → length s.tasks ≡ length l.tasks
+      → ((task : ℕ) → can_resume (status_at s task) ≡ false)
+      → StandsFor l.sched (for_each make_ready (with_ops 0 (take l.index l.tasks)) s);
 }

@@ -10,8 +10,13 @@ pub loop-index-preserved : goal.loop-index-preserved
 loop-index-preserved c =
     let so = c.loop-index.invariant in
     record {
-      priorities = rw c.priority.ensures (priorities_more c.args.tasks.now c.loop-index.index c.index-tasks-index.result c.requires.few c.loop-index-test.true c.index-tasks-index.is c.loop-index.priorities so.full so.priorities);
-      known = known_more c.loop-index.priorities c.loop-index.index c.priority.result so.known (rw c.priority.ensures (priority_low c.args.tasks.now c.loop-index.index c.index-tasks-index.result c.requires.formed c.loop-index-test.true c.index-tasks-index.is));
+      priorities =
+          rw c.priority.ensures (priorities_more c.args.tasks.now c.loop-index.index c.index-tasks-index.result
+          c.requires.few c.loop-index-test.true c.index-tasks-index.is c.loop-index.priorities so.full so.priorities);
+      known =
+          known_more c.loop-index.priorities c.loop-index.index c.priority.result so.known
+          (rw c.priority.ensures (priority_low c.args.tasks.now c.loop-index.index
+          c.index-tasks-index.result c.requires.formed c.loop-index-test.true c.index-tasks-index.is));
       full = length-set _ _ _ ∙ so.full;
     }
 

@@ -7,14 +7,29 @@ use Rattle.machine.proofs.Waking.{depth_woken, next_free, more_free, ready_more}
 use Rattle.machine.proofs.switching.make_all_ready.Goals as goal
 
 pub wake-requires : goal.wake-requires
-wake-requires c = record { free = next_free c.loop-task.sched c.args.tasks.now c.loop-task.task-index c.task-item.result c.loop-task-test.true c.task-item.is c.loop-task.invariant.free }
+wake-requires c =
+    record {
+      free =
+          next_free c.loop-task.sched c.args.tasks.now c.loop-task.task-index c.task-item.result
+          c.loop-task-test.true c.task-item.is c.loop-task.invariant.free;
+    }
 
 pub loop-task-preserved : goal.loop-task-preserved
 loop-task-preserved c = record {
-  ready = λ s h a. ready_more (StandsFor c.wake.new.self) s c.args.tasks.now c.loop-task.task-index c.task-item.result c.loop-task-test.true c.task-item.is a (λ l u. c.wake.ensures.stands _ (c.loop-task.invariant.ready s h a) l u);
-  left = λ s h a. ready_more (queues.StandsFor c.drop_waiter.new.self None) s c.args.tasks.now c.loop-task.task-index c.task-item.result c.loop-task-test.true c.task-item.is a (λ l u. c.drop_waiter.ensures.stands _ (c.loop-task.invariant.left s h a) c.loop-task.invariant.unlocked l);
-  gone = λ s h a. ready_more (groups.StandsFor c.drop_waiter-in-loop-task.new.self) s c.args.tasks.now c.loop-task.task-index c.task-item.result c.loop-task-test.true c.task-item.is a (λ l u. c.drop_waiter-in-loop-task.ensures.readied _ (c.loop-task.invariant.gone s h a) l);
-  free = more_free c.loop-task.sched c.args.tasks.now c.loop-task.task-index c.task-item.result c.loop-task-test.true c.task-item.is c.loop-task.invariant.free c.wake.new.self c.wake.ensures.schedule;
+  ready = λ s h a.
+      ready_more (StandsFor c.wake.new.self) s c.args.tasks.now c.loop-task.task-index c.task-item.result
+      c.loop-task-test.true c.task-item.is a (λ l u. c.wake.ensures.stands _ (c.loop-task.invariant.ready s h a) l u);
+  left = λ s h a.
+      ready_more (queues.StandsFor c.drop_waiter.new.self None) s c.args.tasks.now c.loop-task.task-index
+      c.task-item.result c.loop-task-test.true c.task-item.is a
+      (λ l u. c.drop_waiter.ensures.stands _ (c.loop-task.invariant.left s h a) c.loop-task.invariant.unlocked l);
+  gone = λ s h a.
+      ready_more (groups.StandsFor c.drop_waiter-in-loop-task.new.self) s c.args.tasks.now
+      c.loop-task.task-index c.task-item.result c.loop-task-test.true c.task-item.is a
+      (λ l u. c.drop_waiter-in-loop-task.ensures.readied _ (c.loop-task.invariant.gone s h a) l);
+  free =
+      more_free c.loop-task.sched c.args.tasks.now c.loop-task.task-index c.task-item.result c.loop-task-test.true
+      c.task-item.is c.loop-task.invariant.free c.wake.new.self c.wake.ensures.schedule;
   unlocked = ap (λ (q : Exchange). q.lock) c.drop_waiter.ensures.gone ∙ c.loop-task.invariant.unlocked;
   depth = depth_woken c.loop-task.sched c.wake.new.self c.task-item.result c.wake.ensures.schedule ∙ c.loop-task.invariant.depth;
   number = ap (λ (q : Exchange). q.number) c.drop_waiter.ensures.gone ∙ c.loop-task.invariant.number;

@@ -9,9 +9,12 @@ use Rattle.machine.proofs.switching.make_all_ready.Given as goal
 
 abbrev pub invariant-loop-task : goal.invariant-loop-task
 invariant-loop-task l = record {
-  ready : (s : State) → StandsFor l.fn.sched s → AreThere s l.tasks → StandsFor l.sched (for_each make_ready (take l.task-index l.tasks) s);
-  left : (s : State) → queues.StandsFor l.fn.queues None s → AreThere s l.tasks → queues.StandsFor l.queues None (for_each make_ready (take l.task-index l.tasks) s);
-  gone : (s : State) → groups.StandsFor l.fn.groups s → AreThere s l.tasks → groups.StandsFor l.groups (for_each make_ready (take l.task-index l.tasks) s);
+  ready : (s : State) → StandsFor l.fn.sched s → AreThere s l.tasks
+      → StandsFor l.sched (for_each make_ready (take l.task-index l.tasks) s);
+  left : (s : State) → queues.StandsFor l.fn.queues None s → AreThere s l.tasks
+      → queues.StandsFor l.queues None (for_each make_ready (take l.task-index l.tasks) s);
+  gone : (s : State) → groups.StandsFor l.fn.groups s → AreThere s l.tasks
+      → groups.StandsFor l.groups (for_each make_ready (take l.task-index l.tasks) s);
   free : AreToWake l.sched (drop l.task-index l.tasks);
   unlocked : l.queues.lock ≡ None;
   depth : l.sched.depth ≡ l.fn.sched.depth;

@@ -6,15 +6,31 @@ use Rattle.machine.proofs.Waking.{depth_woken, next_free, more_free, more_left, 
 use Rattle.machine.proofs.switching.wake_all.Goals as goal
 
 pub wake-requires-in-loop-task : goal.wake-requires-in-loop-task
-wake-requires-in-loop-task c = record { free = next_free c.loop-task.sched c.args.tasks.now c.loop-task.task-index c.task-item.result c.loop-task-test.true c.task-item.is c.loop-task.invariant.free }
+wake-requires-in-loop-task c =
+    record {
+      free =
+          next_free c.loop-task.sched c.args.tasks.now c.loop-task.task-index c.task-item.result
+          c.loop-task-test.true c.task-item.is c.loop-task.invariant.free;
+    }
 
 pub loop-task-preserved : goal.loop-task-preserved
 loop-task-preserved c = record {
-  ready = λ s h a. ready_more (StandsFor c.wake-in-loop-task.new.self) s c.args.tasks.now c.loop-task.task-index c.task-item.result c.loop-task-test.true c.task-item.is a (λ l u. c.wake-in-loop-task.ensures.stands _ (c.loop-task.invariant.ready s h a) l u);
-  woken = λ s h a. ready_more (clock.StandsFor c.wake.new.self) s c.args.tasks.now c.loop-task.task-index c.task-item.result c.loop-task-test.true c.task-item.is a (λ l u. c.wake.ensures.stands _ (c.loop-task.invariant.woken s h a) l);
-  free = more_free c.loop-task.sched c.args.tasks.now c.loop-task.task-index c.task-item.result c.loop-task-test.true c.task-item.is c.loop-task.invariant.free c.wake-in-loop-task.new.self c.wake-in-loop-task.ensures.schedule;
-  rest = λ more a. more_left c.loop-task.sched c.args.tasks.now c.loop-task.task-index c.task-item.result c.loop-task-test.true c.task-item.is more (c.loop-task.invariant.rest more a) c.wake-in-loop-task.new.self c.wake-in-loop-task.ensures.schedule;
-  depth = depth_woken c.loop-task.sched c.wake-in-loop-task.new.self c.task-item.result c.wake-in-loop-task.ensures.schedule ∙ c.loop-task.invariant.depth;
+  ready = λ s h a.
+      ready_more (StandsFor c.wake-in-loop-task.new.self) s c.args.tasks.now
+      c.loop-task.task-index c.task-item.result c.loop-task-test.true c.task-item.is a
+      (λ l u. c.wake-in-loop-task.ensures.stands _ (c.loop-task.invariant.ready s h a) l u);
+  woken = λ s h a.
+      ready_more (clock.StandsFor c.wake.new.self) s c.args.tasks.now c.loop-task.task-index c.task-item.result
+      c.loop-task-test.true c.task-item.is a (λ l u. c.wake.ensures.stands _ (c.loop-task.invariant.woken s h a) l);
+  free =
+      more_free c.loop-task.sched c.args.tasks.now c.loop-task.task-index c.task-item.result c.loop-task-test.true
+      c.task-item.is c.loop-task.invariant.free c.wake-in-loop-task.new.self c.wake-in-loop-task.ensures.schedule;
+  rest = λ more a.
+      more_left c.loop-task.sched c.args.tasks.now c.loop-task.task-index c.task-item.result c.loop-task-test.true c.task-item.is
+      more (c.loop-task.invariant.rest more a) c.wake-in-loop-task.new.self c.wake-in-loop-task.ensures.schedule;
+  depth =
+      depth_woken c.loop-task.sched c.wake-in-loop-task.new.self c.task-item.result c.wake-in-loop-task.ensures.schedule
+      ∙ c.loop-task.invariant.depth;
   current = c.wake-in-loop-task.ensures.current ∙ c.loop-task.invariant.current;
 }
 

@@ -8,8 +8,10 @@ use Rattle.machine.proofs.switching.wake_all.Given as goal
 
 abbrev pub invariant-loop-task : goal.invariant-loop-task
 invariant-loop-task l = record {
-  ready : (s : State) → StandsFor l.fn.sched s → AreThere s l.tasks → StandsFor l.sched (for_each make_ready (take l.task-index l.tasks) s);
-  woken : (s : State) → clock.StandsFor l.fn.clock s → AreThere s l.tasks → clock.StandsFor l.clock (for_each make_ready (take l.task-index l.tasks) s);
+  ready : (s : State) → StandsFor l.fn.sched s → AreThere s l.tasks
+      → StandsFor l.sched (for_each make_ready (take l.task-index l.tasks) s);
+  woken : (s : State) → clock.StandsFor l.fn.clock s → AreThere s l.tasks
+      → clock.StandsFor l.clock (for_each make_ready (take l.task-index l.tasks) s);
   free : AreToWake l.sched (drop l.task-index l.tasks);
   rest : (more : List ℕ) → AreToWake l.fn.sched (l.tasks ++ more) → AreToWake l.sched (drop l.task-index l.tasks ++ more);
   depth : l.sched.depth ≡ l.fn.sched.depth;

@@ -6,4 +6,5 @@ use Rattle.model.proofs.app.is_any_awaited.Given as goal
 
 abbrev pub invariant-loop-task : goal.invariant-loop-task
 invariant-loop-task l =
-    list_any (λ (d : Definition). not d.endless) l.fn.tasks ≡ list_any (λ (d : Definition). not d.endless) (drop l.task-index l.fn.tasks)
+    list_any (λ (d : Definition). not d.endless) l.fn.tasks
+    ≡ list_any (λ (d : Definition). not d.endless) (drop l.task-index l.fn.tasks)

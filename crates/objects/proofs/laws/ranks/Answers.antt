@@ -1,5 +1,6 @@
 use Rattle.model.specs.Mutexes.{after_timeout, disinherit, inherit}
-use Rattle.objects.proofs.Ranking.{at_locked-ranked, at_locked_kept, kept-after_timeout, kept-disinherit, kept-inherit, stands_kept, stands_ranked}
+use Rattle.objects.proofs.Ranking.{at_locked-ranked, at_locked_kept, kept-after_timeout, kept-disinherit, kept-inherit, stands_kept}
+use Rattle.objects.proofs.Ranking.{stands_ranked}
 use Rattle.objects.proofs.laws.ranks.Goals as goal
 
 pub returns : goal.returns

@@ -15,8 +15,14 @@ use Rattle.ops.proofs.calls.begin_wait.Goals as goal
 pub returns-clause-does : goal.returns-clause-does
 returns-clause-does c = λ log s h.
     let k = c.args.machine.now in
-    let holds : s.call_hold ≡ false → sched.StandsFor c.hold.new.self (record s { call_hold = true }) = λ free. c.hold.ensures.stands s h.stands.sched free in
-    let locks : ((j : ℕ) → wait_if_awake (status_at s j) ≡ None) → queues.StandsFor c.lock.new.self None (record s { locked = Some c.args.object }) = λ nobody. c.lock.ensures.stands s None h.stands.rest.queues nobody in
-    subst (λ (x : Machine). AtAny x log (lock c.args.task c.args.object Place (wait_in c.args.task (list_for c.args.object c.args.access) s))) (sym c.set_wait.ensures)
-    (waits k log s h c.args.task c.args.object c.requires c.hold.new.self c.lock.new.self c.hold.ensures.calm holds c.hold.ensures.schedule locks
+    let holds : s.call_hold ≡ false → sched.StandsFor c.hold.new.self (record s { call_hold = true }) = λ free.
+    c.hold.ensures.stands s h.stands.sched free in
+    let locks : ((j : ℕ) → wait_if_awake (status_at s j) ≡ None)
+    → queues.StandsFor c.lock.new.self None (record s { locked = Some c.args.object }) = λ nobody.
+    c.lock.ensures.stands s None h.stands.rest.queues nobody in
+    subst (λ (x : Machine).
+    AtAny x log (lock c.args.task c.args.object Place (wait_in c.args.task (list_for c.args.object c.args.access) s)))
+    (sym c.set_wait.ensures)
+    (waits k log s h c.args.task c.args.object c.requires c.hold.new.self
+    c.lock.new.self c.hold.ensures.calm holds c.hold.ensures.schedule locks
     c.args.access (subst CountsNobody (sym c.lock.ensures.lock) (refl, refl)) _ c.list_for-machine.ensures _ refl)

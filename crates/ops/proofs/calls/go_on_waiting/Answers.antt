@@ -20,7 +20,8 @@ try_call-requires-clause-can g c =
         ready = ap (λ (v : Schedule). is_ready v c.args.task) c.set_deadline.ensures.parts.0 ∙ runs.ready;
         op_index = rw c.set_deadline.ensures.op_index runs.op_index;
       };
-      agrees = agrees_after c.args.machine.now c.set_deadline.new.self [] [] can.0.agrees _ (λ s h. c.set_deadline.ensures.does [] s h);
+      agrees =
+          agrees_after c.args.machine.now c.set_deadline.new.self [] [] can.0.agrees _ (λ s h. c.set_deadline.ensures.does [] s h);
       free = ap (λ (q : Exchange). q.lock) c.set_deadline.ensures.parts.1 ∙ can.0.free;
       depth = ap (λ (v : Schedule). v.depth) c.set_deadline.ensures.parts.0 ∙ can.0.depth;
       room = rw c.set_deadline.ensures.parts.1 can.0.room;
@@ -30,40 +31,59 @@ pub returns-in-Start : goal.returns-in-Start
 returns-in-Start g c =
     let e = ap (λ (p : Progress). p.call.phase) (sym (c.behind-machine.view_is ∙ c.progress.ensures)) ∙ c.in-Start.is in
     let can = subst (CanGoOn c.args.machine.now c.args.task c.args.object c.args.access c.args.ticks) e c.requires.can in
-    in_phase c.args.app.now c.args.machine.now c.try_call.new.machine (g.L.Log.logged c.args.log.now) (g.L.Log.logged c.try_call.new.log) c.args.task c.args.object c.args.access c.args.ticks Start e
-    (does_any 2 c.args.machine.now c.try_call.new.machine (g.L.Log.logged c.args.log.now) (g.L.Log.logged c.try_call.new.log) _ can.0.agrees (record { at = λ s h. c.try_call.ensures.at _ (c.set_deadline.ensures.does _ s h); few = c.try_call.ensures.few; before = c.try_call.ensures.before }))
+    in_phase c.args.app.now c.args.machine.now c.try_call.new.machine (g.L.Log.logged c.args.log.now)
+    (g.L.Log.logged c.try_call.new.log) c.args.task c.args.object c.args.access c.args.ticks Start e
+    (does_any 2 c.args.machine.now c.try_call.new.machine (g.L.Log.logged c.args.log.now) (g.L.Log.logged c.try_call.new.log) _
+    can.0.agrees (record {
+      at = λ s h. c.try_call.ensures.at _ (c.set_deadline.ensures.does _ s h);
+      few = c.try_call.ensures.few;
+      before = c.try_call.ensures.before;
+    }))
 
 pub returns-in-Try : goal.returns-in-Try
 returns-in-Try g c =
     let e = ap (λ (p : Progress). p.call.phase) (sym (c.behind-machine.view_is ∙ c.progress.ensures)) ∙ c.in-Try.is in
     let can = subst (CanGoOn c.args.machine.now c.args.task c.args.object c.args.access c.args.ticks) e c.requires.can in
-    in_phase c.args.app.now c.args.machine.now c.try_call-in-Try.new.machine (g.L.Log.logged c.args.log.now) (g.L.Log.logged c.try_call-in-Try.new.log) c.args.task c.args.object c.args.access c.args.ticks Try e
-    (does_any 2 c.args.machine.now c.try_call-in-Try.new.machine (g.L.Log.logged c.args.log.now) (g.L.Log.logged c.try_call-in-Try.new.log) _ can.agrees c.try_call-in-Try.ensures)
+    in_phase c.args.app.now c.args.machine.now c.try_call-in-Try.new.machine (g.L.Log.logged c.args.log.now)
+    (g.L.Log.logged c.try_call-in-Try.new.log) c.args.task c.args.object c.args.access c.args.ticks Try e
+    (does_any 2 c.args.machine.now c.try_call-in-Try.new.machine (g.L.Log.logged c.args.log.now)
+    (g.L.Log.logged c.try_call-in-Try.new.log) _ can.agrees c.try_call-in-Try.ensures)
 
 pub returns-in-Decide : goal.returns-in-Decide
 returns-in-Decide g c =
     let e = ap (λ (p : Progress). p.call.phase) (sym (c.behind-machine.view_is ∙ c.progress.ensures)) ∙ c.in-Decide.is in
     let can = subst (CanGoOn c.args.machine.now c.args.task c.args.object c.args.access c.args.ticks) e c.requires.can in
-    in_phase c.args.app.now c.args.machine.now c.decide.new.machine (g.L.Log.logged c.args.log.now) (g.L.Log.logged c.args.log.now) c.args.task c.args.object c.args.access c.args.ticks Decide e
-    (record { at = λ s h. c.decide.ensures.does _ s (all_placed c.args.machine.now can.agrees _ s h); few = omega arith; before = refl })
+    in_phase c.args.app.now c.args.machine.now c.decide.new.machine (g.L.Log.logged c.args.log.now)
+    (g.L.Log.logged c.args.log.now) c.args.task c.args.object c.args.access c.args.ticks Decide e
+    (record {
+      at = λ s h. c.decide.ensures.does _ s (all_placed c.args.machine.now can.agrees _ s h);
+      few = omega arith;
+      before = refl;
+    })
 
 pub returns-in-Place : goal.returns-in-Place
 returns-in-Place g c =
     let e = ap (λ (p : Progress). p.call.phase) (sym (c.behind-machine.view_is ∙ c.progress.ensures)) ∙ c.in-Place.is in
     let can = subst (CanGoOn c.args.machine.now c.args.task c.args.object c.args.access c.args.ticks) e c.requires.can in
-    in_phase c.args.app.now c.args.machine.now c.place.new.machine (g.L.Log.logged c.args.log.now) (g.L.Log.logged c.args.log.now) c.args.task c.args.object c.args.access c.args.ticks Place e
+    in_phase c.args.app.now c.args.machine.now c.place.new.machine (g.L.Log.logged c.args.log.now)
+    (g.L.Log.logged c.args.log.now) c.args.task c.args.object c.args.access c.args.ticks Place e
     (record { at = λ s h. any c.place.new.machine _ _ (c.place.ensures.does _ s h); few = omega arith; before = refl })
 
 pub returns-in-Unlock : goal.returns-in-Unlock
 returns-in-Unlock g c =
     let e = ap (λ (p : Progress). p.call.phase) (sym (c.behind-machine.view_is ∙ c.progress.ensures)) ∙ c.in-Unlock.is in
     let can = subst (CanGoOn c.args.machine.now c.args.task c.args.object c.args.access c.args.ticks) e c.requires.can in
-    in_phase c.args.app.now c.args.machine.now c.unlock.new.machine (g.L.Log.logged c.args.log.now) (g.L.Log.logged c.args.log.now) c.args.task c.args.object c.args.access c.args.ticks Unlock e
+    in_phase c.args.app.now c.args.machine.now c.unlock.new.machine (g.L.Log.logged c.args.log.now)
+    (g.L.Log.logged c.args.log.now) c.args.task c.args.object c.args.access c.args.ticks Unlock e
     (moves_any 2 c.args.machine.now c.unlock.new.machine (g.L.Log.logged c.args.log.now) _ can.agrees c.unlock.ensures.does)
 
 pub returns-in-Leave : goal.returns-in-Leave
 returns-in-Leave g c =
     let e = ap (λ (p : Progress). p.call.phase) (sym (c.behind-machine.view_is ∙ c.progress.ensures)) ∙ c.in-Leave.is in
     let can = subst (CanGoOn c.args.machine.now c.args.task c.args.object c.args.access c.args.ticks) e c.requires.can in
-    in_phase c.args.app.now c.args.machine.now c.leave_call.new.machine (g.L.Log.logged c.args.log.now) (g.L.Log.logged c.leave_call.new.log) c.args.task c.args.object c.args.access c.args.ticks Leave e
-    (does_more 1 2 c.args.machine.now c.leave_call.new.machine (g.L.Log.logged c.args.log.now) (g.L.Log.logged c.leave_call.new.log) _ (omega arith) (does_any 1 c.args.machine.now c.leave_call.new.machine (g.L.Log.logged c.args.log.now) (g.L.Log.logged c.leave_call.new.log) _ can.call.agrees c.leave_call.ensures))
+    in_phase c.args.app.now c.args.machine.now c.leave_call.new.machine (g.L.Log.logged c.args.log.now)
+    (g.L.Log.logged c.leave_call.new.log) c.args.task c.args.object c.args.access c.args.ticks Leave e
+    (does_more 1 2 c.args.machine.now c.leave_call.new.machine (g.L.Log.logged c.args.log.now) (g.L.Log.logged c.leave_call.new.log)
+    _ (omega arith)
+    (does_any 1 c.args.machine.now c.leave_call.new.machine (g.L.Log.logged c.args.log.now)
+    (g.L.Log.logged c.leave_call.new.log) _ can.call.agrees c.leave_call.ensures))

@@ -12,7 +12,9 @@ use Rattle.ops.proofs.Deciding.{placed_at}
 use Rattle.ops.proofs.calls.place.Goals as goal
 
 pub place-requires-clause-free : goal.place-requires-clause-free
-place-requires-clause-free c = still_free c.args.machine.now.queues c.requires.state (decider c.args.task c.requires.list c.requires.state) c.requires.stands.queues
+place-requires-clause-free c =
+    still_free c.args.machine.now.queues c.requires.state
+    (decider c.args.task c.requires.list c.requires.state) c.requires.stands.queues
 
 pub returns-clause-does : goal.returns-clause-does
 returns-clause-does c = λ log s h.
@@ -20,15 +22,22 @@ returns-clause-does c = λ log s h.
     let i : ℕ = c.args.task in
     let runs = c.requires.stands.sched.current ∙ c.requires.stands.current in
     either k log s h
-    (λ p. absurd (p.stands.rest.placed i (ap (λ (x : Progress). x.call.phase) (c.requires.stands.progress i) ∙ c.requires.stands.phase)))
+    (λ p.
+    absurd (p.stands.rest.placed i (ap (λ (x : Progress). x.call.phase) (c.requires.stands.progress i) ∙ c.requires.stands.phase)))
     (λ j list b.
-    let own : StandsBefore i list k s = subst (λ (m : ℕ). StandsBefore m list k s) (same_Some j i (sym b.current ∙ sym b.sched.current ∙ runs)) b in
+    let own : StandsBefore i list k s =
+    subst (λ (m : ℕ). StandsBefore m list k s) (same_Some j i (sym b.current ∙ sym b.sched.current ∙ runs)) b in
     let view = c.behind-machine.view_is ∙ c.progress.ensures ∙ own.progress i in
     let until = ap (λ (x : Progress). x.call.deadline) view in
-    let priority = c.priority-priority.ensures.priority ∙ ap (λ (v : Schedule). priority_in v.priorities i) c.block.ensures.schedule ∙ own.sched.priorities i in
+    let priority =
+    c.priority-priority.ensures.priority
+    ∙ ap (λ (v : Schedule). priority_in v.priorities i) c.block.ensures.schedule ∙ own.sched.priorities i in
     placed_at k log s i list own h.log c.block.new.self c.place.new.self c.place_sleeper.new.clock c.set_phase.new.self
     (c.block.ensures.placed s own.sched)
-    (c.place.ensures.stands s (subst (λ (w : WaitList). queues.StandsFor k.queues (Some (record { task = i; list = w; priority = c.priority-priority.result })) s) (sym own.wait_list)
-    (subst (λ (n : ℕ). queues.StandsFor k.queues (Some (record { task = i; list = list; priority = n })) s) (sym priority) own.queues)))
+    (c.place.ensures.stands s (subst
+    (λ (w : WaitList). queues.StandsFor k.queues (Some (record { task = i; list = w; priority = c.priority-priority.result })) s)
+    (sym own.wait_list)
+    (subst (λ (n : ℕ). queues.StandsFor k.queues (Some (record { task = i; list = list; priority = n })) s)
+    (sym priority) own.queues)))
     (c.place_sleeper.ensures s (subst (λ (d : Option ℕ). clock.StandsBefore i d k.clock s) (sym until) own.clock))
     c.set_phase.ensures)

@@ -2,7 +2,8 @@ use Rattle.std.proofs.Common.{ℕ, List, ◌++◌}
 use Rattle.sched.specs.StandsFor as sched
 use Rattle.clock.specs.StandsFor as clock
 use Rattle.objects.specs.WaitersStand.{opened}
-use Rattle.ops.proofs.Unlocking.{are_to_wake, receivers_within, senders_within, front_wakes, none_by, sched_opened, clock_opened, unlocked_at, still_unlocked, in_turn}
+use Rattle.ops.proofs.Unlocking.{are_to_wake, receivers_within, senders_within, front_wakes, none_by, sched_opened, clock_opened}
+use Rattle.ops.proofs.Unlocking.{unlocked_at, still_unlocked, in_turn}
 use Rattle.machine.proofs.Waking.{still_there}
 use Rattle.ops.proofs.calls.unlock_and_wake.Goals as goal
 
@@ -12,7 +13,8 @@ wake_all-requires c =
     let h = c.requires.1 in
     let a = c.in-Some.ensures.awakened s h.rest.queues in
     let all = are_to_wake c.args.machine.now s h a.0 c.in-Some.unlocked.to_receive.items c.in-Some.unlocked.to_send.items a.2 in
-    rw c.as_slice.ensures.value (front_wakes c.args.machine.now.sched c.in-Some.unlocked.to_receive.items c.in-Some.unlocked.to_send.items all)
+    rw c.as_slice.ensures.value
+    (front_wakes c.args.machine.now.sched c.in-Some.unlocked.to_receive.items c.in-Some.unlocked.to_send.items all)
 
 pub wake_all-requires-in-Some : goal.wake_all-requires-in-Some
 wake_all-requires-in-Some c =
@@ -31,14 +33,22 @@ returns-in-Some-clause-does c = λ log s h.
     let xs_in = receivers_within k s h.stands a.0 xs ys a.2 in
     let ys_in = senders_within k s h.stands a.0 xs ys a.2 in
     let on = c.wake_all.ensures.ready (opened s) (sched_opened k log s h) (rw c.as_slice.ensures.value xs_in) in
-    let on_both = c.wake_all-in-Some.ensures.ready _ on (rw c.as_slice-in-Some.ensures.value (still_there (opened s) c.as_slice.result.now ys ys_in)) in
+    let on_both =
+    c.wake_all-in-Some.ensures.ready _ on
+    (rw c.as_slice-in-Some.ensures.value (still_there (opened s) c.as_slice.result.now ys ys_in)) in
     let awake = c.wake_all.ensures.woken (opened s) (clock_opened k log s h) (rw c.as_slice.ensures.value xs_in) in
-    let awake_both = c.wake_all-in-Some.ensures.woken _ awake (rw c.as_slice-in-Some.ensures.value (still_there (opened s) c.as_slice.result.now ys ys_in)) in
+    let awake_both =
+    c.wake_all-in-Some.ensures.woken _ awake
+    (rw c.as_slice-in-Some.ensures.value (still_there (opened s) c.as_slice.result.now ys ys_in)) in
     unlocked_at k log s h (xs ++ ys) c.wake_all-in-Some.new.sched c.wake_all-in-Some.new.clock c.unlock.new.self
     (c.in-Some.ensures.woken s h.stands.rest.queues)
-    (in_turn (sched.StandsFor c.wake_all-in-Some.new.sched) (opened s) xs ys (rw (c.as_slice.ensures.value, c.as_slice-in-Some.ensures.value) at on_both))
-    (in_turn (clock.StandsFor c.wake_all-in-Some.new.clock) (opened s) xs ys (rw (c.as_slice.ensures.value, c.as_slice-in-Some.ensures.value) at awake_both))
+    (in_turn (sched.StandsFor c.wake_all-in-Some.new.sched) (opened s) xs ys
+    (rw (c.as_slice.ensures.value, c.as_slice-in-Some.ensures.value) at on_both))
+    (in_turn (clock.StandsFor c.wake_all-in-Some.new.clock) (opened s) xs ys
+    (rw (c.as_slice.ensures.value, c.as_slice-in-Some.ensures.value) at awake_both))
     (c.in-Some.ensures.stands s h.stands.rest.queues)
 
 pub returns-in_default-clause-does : goal.returns-in_default-clause-does
-returns-in_default-clause-does c = λ log s h. still_unlocked c.args.machine.now log s h (none_by c.args.machine.now.queues.lock c.in_default.ensures.locked.1) c.unlock.new.self (c.in_default.ensures.stands s h.stands.rest.queues)
+returns-in_default-clause-does c = λ log s h.
+    still_unlocked c.args.machine.now log s h (none_by c.args.machine.now.queues.lock c.in_default.ensures.locked.1)
+    c.unlock.new.self (c.in_default.ensures.stands s h.stands.rest.queues)

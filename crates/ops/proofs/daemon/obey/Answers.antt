@@ -15,5 +15,7 @@ returns-in-Start-2 g c =
     let log = g.L.Log.logged c.args.log.now in
     let e = ap (λ (p : Progress). p.call.phase) (sym (c.behind-machine.view_is ∙ c.progress.ensures)) ∙ c.in-Start-2.is in
     let can = subst (CanSetBits k c.args.task) e c.requires.can in
-    obey_in_phase c.args.app.now k c.begin_set.new.machine log log c.args.task c.command_of-command.result Start e c.command_of-command.ensures
-    (obey_set c.args.app.now k c.begin_set.new.machine log log c.args.task c.command_of-command.result c.if-command.false (moves_any 2 k c.begin_set.new.machine log _ can.agrees c.begin_set.ensures))
+    obey_in_phase c.args.app.now k c.begin_set.new.machine log log c.args.task
+    c.command_of-command.result Start e c.command_of-command.ensures
+    (obey_set c.args.app.now k c.begin_set.new.machine log log c.args.task c.command_of-command.result
+    c.if-command.false (moves_any 2 k c.begin_set.new.machine log _ can.agrees c.begin_set.ensures))

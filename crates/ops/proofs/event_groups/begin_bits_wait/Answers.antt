@@ -14,26 +14,38 @@ pub place-requires : goal.place-requires
 place-requires c =
     let s = c.requires.can.agrees.0 in
     let h = c.requires.can.agrees.1 in
-    let w = wanting c.args.machine.now s.log s (record { stands = h; log = refl }) c.args.task c.requires.can c.hold.new.self c.hold.ensures.calm c.hold.ensures.schedule (λ free. c.hold.ensures.stands s h.sched free) c.set_deadline.new.self c.args.ticks c.set_deadline.ensures.does c.set_deadline.ensures.parts.0 c.want.new.self c.args.condition c.want.ensures in
+    let w =
+    wanting c.args.machine.now s.log s (record { stands = h; log = refl }) c.args.task c.requires.can c.hold.new.self
+    c.hold.ensures.calm c.hold.ensures.schedule (λ free. c.hold.ensures.stands s h.sched free) c.set_deadline.new.self
+    c.args.ticks c.set_deadline.ensures.does c.set_deadline.ensures.parts.0 c.want.new.self c.args.condition c.want.ensures in
     record { free = w.free }
 
 pub place_sleeper_for-requires-clause-awake : goal.place_sleeper_for-requires-clause-awake
 place_sleeper_for-requires-clause-awake c =
     let s = c.requires.can.agrees.0 in
     let h = c.requires.can.agrees.1 in
-    let w = wanting c.args.machine.now s.log s (record { stands = h; log = refl }) c.args.task c.requires.can c.hold.new.self c.hold.ensures.calm c.hold.ensures.schedule (λ free. c.hold.ensures.stands s h.sched free) c.set_deadline.new.self c.args.ticks c.set_deadline.ensures.does c.set_deadline.ensures.parts.0 c.want.new.self c.args.condition c.want.ensures in
+    let w =
+    wanting c.args.machine.now s.log s (record { stands = h; log = refl }) c.args.task c.requires.can c.hold.new.self
+    c.hold.ensures.calm c.hold.ensures.schedule (λ free. c.hold.ensures.stands s h.sched free) c.set_deadline.new.self
+    c.args.ticks c.set_deadline.ensures.does c.set_deadline.ensures.parts.0 c.want.new.self c.args.condition c.want.ensures in
     w.awake
 
 pub returns : goal.returns
 unfolding definitions.begin_bits_wait
 returns c = λ log s h.
     let i = c.args.task in
-    let w = wanting c.args.machine.now log s h i c.requires.can c.hold.new.self c.hold.ensures.calm c.hold.ensures.schedule (λ free. c.hold.ensures.stands s h.stands.sched free) c.set_deadline.new.self c.args.ticks c.set_deadline.ensures.does c.set_deadline.ensures.parts.0 c.want.new.self c.args.condition c.want.ensures in
+    let w =
+    wanting c.args.machine.now log s h i c.requires.can c.hold.new.self c.hold.ensures.calm c.hold.ensures.schedule
+    (λ free. c.hold.ensures.stands s h.stands.sched free) c.set_deadline.new.self c.args.ticks
+    c.set_deadline.ensures.does c.set_deadline.ensures.parts.0 c.want.new.self c.args.condition c.want.ensures in
     let deadline = ap (λ (x : Machine). (progress_in x.progress i).call.deadline) c.want.ensures
     ∙ deadline_in (Some c.args.condition) c.set_deadline.new.self.progress i
     ∙ c.set_deadline.ensures.deadline in
     let now = ap (λ (x : Machine). x.clock.now) c.want.ensures ∙ ap (λ (t : Timeline). t.now) c.set_deadline.ensures.clock in
     let until = ap (λ (m : ℕ). option_map (λ n. m + n) c.args.ticks) now ∙ sym deadline in
-    let waits = waits_at c.want.new.self log _ w.at i w.runs w.ready c.args.group w.calm c.block.new.self c.place_sleeper_for.new.clock c.place.new.self (option_map (λ n. c.want.new.self.clock.now + n) c.args.ticks) until
+    let waits =
+    waits_at c.want.new.self log _ w.at i w.runs w.ready c.args.group w.calm c.block.new.self c.place_sleeper_for.new.clock
+    c.place.new.self (option_map (λ n. c.want.new.self.clock.now + n) c.args.ticks) until
     (c.block.ensures.placed _) (c.place_sleeper_for.ensures _) (c.place.ensures.stands _ w.groups w.within) in
-    gone_on _ c.set_phase.new.self log _ waits i (ap (λ (v : Schedule). v.current) c.block.ensures.schedule ∙ w.runs) Leave c.set_phase.ensures (λ e. absurd (cc))
+    gone_on _ c.set_phase.new.self log _ waits i (ap (λ (v : Schedule). v.current) c.block.ensures.schedule ∙ w.runs)
+    Leave c.set_phase.ensures (λ e. absurd (cc))

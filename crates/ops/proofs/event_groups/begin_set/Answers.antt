@@ -17,7 +17,9 @@ wake_met-requires c =
     let s = c.requires.agrees.0 in
     let h = c.requires.agrees.1 in
     let held : State = record s { call_hold = true } in
-    let there = held_then k s.log s (record { stands = h; log = refl }) c.requires.depth c.hold.new.self (λ free. c.hold.ensures.stands s h.sched free) in
+    let there =
+    held_then k s.log s (record { stands = h; log = refl }) c.requires.depth
+    c.hold.new.self (λ free. c.hold.ensures.stands s h.sched free) in
     record {
       free = subst (AreToWake c.hold.new.self) (sym (c.set-met.ensures.met held there.stands.rest.groups))
           (met_wake (record k { sched = c.hold.new.self }) held there.stands c.args.group (bits_set c.args.group c.args.mask held));
@@ -42,7 +44,12 @@ returns c = λ log s h.
     let awake = c.wake_met.ensures.woken _ (clock_kept k1 log held h1 group mask is bits met by) there in
     let then : At c.wake_met.new.machine log (definitions.set group mask held) =
     subst (λ (x : Machine). At x log (definitions.set group mask held)) (sym c.wake_met.ensures.kept)
-    (set_at k1 log held h1 group mask is bits met by c.wake_met.new.machine.sched c.wake_met.new.machine.clock c.set-met.new.self on awake (c.set-met.ensures.stands held h1.stands.rest.groups)) in
-    let runs = then.stands.sched.current ∙ (stays-set group mask held).current ∙ sym h.stands.sched.current ∙ c.requires.runs.current in
-    let answered = left_at c.wake_met.new.machine c.keep_answer.new.self log _ then i runs c.set-met.result.left _ (c.set-met.ensures.kept held h1.stands.rest.groups) c.keep_answer.ensures in
-    gone_on c.keep_answer.new.self c.set_phase.new.self log _ answered i (ap (λ (x : Machine). x.sched.current) c.keep_answer.ensures ∙ runs) Leave c.set_phase.ensures (λ e. absurd (cc))
+    (set_at k1 log held h1 group mask is bits met by c.wake_met.new.machine.sched c.wake_met.new.machine.clock
+    c.set-met.new.self on awake (c.set-met.ensures.stands held h1.stands.rest.groups)) in
+    let runs =
+    then.stands.sched.current ∙ (stays-set group mask held).current ∙ sym h.stands.sched.current ∙ c.requires.runs.current in
+    let answered =
+    left_at c.wake_met.new.machine c.keep_answer.new.self log _
+    then i runs c.set-met.result.left _ (c.set-met.ensures.kept held h1.stands.rest.groups) c.keep_answer.ensures in
+    gone_on c.keep_answer.new.self c.set_phase.new.self log _ answered i
+    (ap (λ (x : Machine). x.sched.current) c.keep_answer.ensures ∙ runs) Leave c.set_phase.ensures (λ e. absurd (cc))

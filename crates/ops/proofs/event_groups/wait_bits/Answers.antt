@@ -26,7 +26,10 @@ returns-in-Start g c =
 pub leave_bits_wait-requires : goal.leave_bits_wait-requires
 leave_bits_wait-requires g c =
     let e = ap (λ (p : Progress). p.call.phase) (sym (c.behind-machine.view_is ∙ c.progress.ensures)) ∙ c.in-Leave.is in
-    record { room = omega (arith, c.requires.room); can = subst (CanWaitBits c.args.machine.now c.args.task c.args.ticks) e c.requires.can }
+    record {
+      room = omega (arith, c.requires.room);
+      can = subst (CanWaitBits c.args.machine.now c.args.task c.args.ticks) e c.requires.can;
+    }
 
 pub returns-in-Leave : goal.returns-in-Leave
 returns-in-Leave g c =
@@ -43,16 +46,21 @@ pub finish_wait-requires : goal.finish_wait-requires
 finish_wait-requires g c =
     let e = ap (λ (p : Progress). p.call.phase) (sym (c.behind-machine.view_is ∙ c.progress.ensures)) in
     let can = subst (CanWaitBits c.args.machine.now c.args.task c.args.ticks) e c.requires.can in
-    record { room = omega (arith, c.requires.room); runs = (decides_at_last c.args.machine.now c.args.task c.args.ticks _ c.in_default.not-Start c.in_default.not-Leave can).runs }
+    record {
+      room = omega (arith, c.requires.room);
+      runs = (decides_at_last c.args.machine.now c.args.task c.args.ticks _ c.in_default.not-Start c.in_default.not-Leave can).runs;
+    }
 
 pub returns-in_default : goal.returns-in_default
 returns-in_default g c =
     let e = ap (λ (p : Progress). p.call.phase) (sym (c.behind-machine.view_is ∙ c.progress.ensures)) in
     let can = subst (CanWaitBits c.args.machine.now c.args.task c.args.ticks) e c.requires.can in
-    let agrees = (decides_at_last c.args.machine.now c.args.task c.args.ticks _ c.in_default.not-Start c.in_default.not-Leave can).agrees in
+    let agrees =
+    (decides_at_last c.args.machine.now c.args.task c.args.ticks _ c.in_default.not-Start c.in_default.not-Leave can).agrees in
     let old = c.args.machine.now in
     let new = c.finish_wait.new.machine in
     let log = g.L.Log.logged c.args.log.now in
     let after = g.L.Log.logged c.finish_wait.new.log in
-    wait_at_last c.args.app.now old new log after c.args.task c.args.group c.args.condition c.args.ticks _ e c.in_default.not-Start c.in_default.not-Leave
+    wait_at_last c.args.app.now old new log after c.args.task c.args.group
+    c.args.condition c.args.ticks _ e c.in_default.not-Start c.in_default.not-Leave
     (does_more 1 2 old new log after _ (omega arith) (does_any 1 old new log after _ agrees c.finish_wait.ensures))

@@ -10,21 +10,31 @@ use Rattle.ops.proofs.mutexes.give_mutex.Goals as goal
 pub let_go-requires-clause-agrees : goal.let_go-requires-clause-agrees
 let_go-requires-clause-agrees g c =
     let s : State = c.requires.can.tick.advance.agrees.0 in
-    let h : At c.args.machine.now s.log s = record { stands = c.requires.can.tick.advance.agrees.1; log = refl } in
-    (with_object c.args.object (record (object_at s c.args.object) { holder = None }) s, (stored_at c.args.machine.now s.log s h c.args.object _ c.give_mutex.new.self (c.in-Ok.ensures.stands s None h.stands.rest.queues)).stands)
+    let h : At c.args.machine.now s.log s = record { stands = c.requires.can.tick.advance.agrees.1; log = refl } in (
+      with_object c.args.object (record (object_at s c.args.object) { holder = None }) s,
+      (stored_at c.args.machine.now s.log s h c.args.object _ c.give_mutex.new.self
+          (c.in-Ok.ensures.stands s None h.stands.rest.queues)).stands,
+    )
 
 pub returns-in-Ok : goal.returns-in-Ok
 returns-in-Ok g c = record {
-  at = λ s h. gave c.args.app.now c.let_go.new.machine _ s c.args.task c.args.object (sym h.stands.rest.suspensions ∙ c.requires.can.tick.advance.awake) (c.in-Ok.ensures.allowed s None h.stands.rest.queues)
-      (c.let_go.ensures.at _ (stored_at c.args.machine.now _ s h c.args.object _ c.give_mutex.new.self (c.in-Ok.ensures.stands s None h.stands.rest.queues)));
+  at = λ s h.
+      gave c.args.app.now c.let_go.new.machine _ s c.args.task c.args.object
+      (sym h.stands.rest.suspensions ∙ c.requires.can.tick.advance.awake) (c.in-Ok.ensures.allowed s None h.stands.rest.queues)
+      (c.let_go.ensures.at _ (stored_at c.args.machine.now _ s h c.args.object _
+      c.give_mutex.new.self (c.in-Ok.ensures.stands s None h.stands.rest.queues)));
   few = c.let_go.ensures.few;
   before = c.let_go.ensures.before;
 }
 
 pub returns-in-Err : goal.returns-in-Err
 returns-in-Err g c = record {
-  at = λ s h. gave_nothing c.args.app.now c.misuse.new.self _ s c.args.task c.args.object NotHolder (sym h.stands.rest.suspensions ∙ c.requires.can.tick.advance.awake) (c.in-Err.ensures.misuse s None h.stands.rest.queues)
-      (c.misuse.ensures _ s (subst (λ (q : Exchange). At (record c.args.machine.now { queues = q }) (g.L.Log.logged c.args.log.now).told s) (sym c.in-Err.ensures.refused) h));
+  at = λ s h.
+      gave_nothing c.args.app.now c.misuse.new.self _ s c.args.task c.args.object NotHolder
+      (sym h.stands.rest.suspensions ∙ c.requires.can.tick.advance.awake) (c.in-Err.ensures.misuse s None h.stands.rest.queues)
+      (c.misuse.ensures _ s (subst
+      (λ (q : Exchange). At (record c.args.machine.now { queues = q }) (g.L.Log.logged c.args.log.now).told s)
+      (sym c.in-Err.ensures.refused) h));
   few = omega arith;
   before = refl;
 }

@@ -16,7 +16,15 @@ returns-clause-does c = λ log s h l.
     let runs = c.requires.runs.current in
     let view = h.stands.rest.progress i in
     let then : CallProgress = record (call_at s i) { inherited = inherits i c.args.holder s } in
-    let same = ap (λ (p : Progress). record p.call { inherited = c.inherits-inherited.result }) view ∙ ap (λ (b : Bool). record (call_at s i) { inherited = b }) (c.inherits-inherited.ensures s h.stands) in
-    let mid = recalled k c.set_inherited.new.self log s h i runs (record (progress_in k.progress i).call { inherited = c.inherits-inherited.result }) then c.set_inherited.ensures same (not_placing k c.set_inherited.new.self log s h i runs) (λ _. refl) in
-    let priority = c.priority-priority.ensures.priority ∙ ap (λ (x : Machine). priority_in x.sched.priorities i) c.set_inherited.ensures ∙ h.stands.sched.priorities i in
-    subst (λ (n : ℕ). At c.lend.new.machine log (lend n c.args.holder (with_call i then s))) priority (c.lend.ensures.does log (with_call i then s) mid (rw length-set l))
+    let same =
+    ap (λ (p : Progress). record p.call { inherited = c.inherits-inherited.result }) view
+    ∙ ap (λ (b : Bool). record (call_at s i) { inherited = b }) (c.inherits-inherited.ensures s h.stands) in
+    let mid =
+    recalled k c.set_inherited.new.self log s h i runs
+    (record (progress_in k.progress i).call { inherited = c.inherits-inherited.result })
+    then c.set_inherited.ensures same (not_placing k c.set_inherited.new.self log s h i runs) (λ _. refl) in
+    let priority =
+    c.priority-priority.ensures.priority ∙ ap (λ (x : Machine). priority_in x.sched.priorities i) c.set_inherited.ensures
+    ∙ h.stands.sched.priorities i in
+    subst (λ (n : ℕ). At c.lend.new.machine log (lend n c.args.holder (with_call i then s)))
+    priority (c.lend.ensures.does log (with_call i then s) mid (rw length-set l))

@@ -6,5 +6,6 @@ use Rattle.ops.proofs.mutexes.lend.Goals as goal
 pub returns-then-priority-clause-does : goal.returns-then-priority-clause-does
 returns-then-priority-clause-does c = λ log s h l.
     lent (At c.set_priority.new.machine log) s c.args.priority c.args.holder
-    (subst (λ (n : ℕ). n < c.args.priority) (c.priority.ensures.priority ∙ h.stands.sched.priorities c.args.holder) c.if-priority.true)
+    (subst (λ (n : ℕ). n < c.args.priority)
+    (c.priority.ensures.priority ∙ h.stands.sched.priorities c.args.holder) c.if-priority.true)
     (c.set_priority.ensures.does log s h l)

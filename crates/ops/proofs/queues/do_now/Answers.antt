@@ -14,7 +14,9 @@ returns g c = record {
       let told = (g.L.Log.logged c.answer_given.new.log).told in
       let there = c.answer_given.ensures.does.at _ (c.attempt-answer.ensures.does _ s h) in
       did app c.preempt.new.self (g.L.Log.logged c.preempt.new.log).told s i c.args.object c.args.access
-      (c.preempt.ensures.does.at _ (subst (λ (a : Option ℕ). At c.answer_given.new.self told (answer app i a (attempt (Some i) c.args.object c.args.access s))) (c.attempt-answer.ensures.answer s (Placed h.stands)) there));
+      (c.preempt.ensures.does.at _ (subst
+      (λ (a : Option ℕ). At c.answer_given.new.self told (answer app i a (attempt (Some i) c.args.object c.args.access s)))
+      (c.attempt-answer.ensures.answer s (Placed h.stands)) there));
   few = let a = c.answer_given.ensures.does.few in let b = c.preempt.ensures.does.few in omega arith;
   before = c.preempt.ensures.does.before ∙ c.answer_given.ensures.does.before;
 }

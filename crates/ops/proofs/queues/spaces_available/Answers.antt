@@ -5,7 +5,9 @@ use Rattle.ops.proofs.queues.spaces_available.Goals as goal
 
 pub returns : goal.returns
 returns g c = record {
-  at = λ s h. subst (λ (n : ℕ). At c.answer.new.self (g.L.Log.logged c.answer.new.log).told (answer c.args.app.now c.args.task (Some n) s)) (c.spaces-spaces.ensures.stands s None h.stands.rest.queues) (c.answer.ensures.does.at s h);
+  at = λ s h.
+      subst (λ (n : ℕ). At c.answer.new.self (g.L.Log.logged c.answer.new.log).told (answer c.args.app.now c.args.task (Some n) s))
+      (c.spaces-spaces.ensures.stands s None h.stands.rest.queues) (c.answer.ensures.does.at s h);
   few = c.answer.ensures.does.few;
   before = c.answer.ensures.does.before;
 }

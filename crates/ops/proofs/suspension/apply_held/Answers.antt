@@ -20,7 +20,8 @@ apply_one-requires-clause-can c = can_apply c.args.machine.now c.loop.machine c.
 
 pub loop-preserved : goal.loop-preserved
 loop-preserved c = record {
-  does = λ log s h. applied_more c.apply_one.new.machine log c.loop.counter s (c.apply_one.ensures.does log _ (c.loop.invariant.does log s h));
+  does = λ log s h.
+      applied_more c.apply_one.new.machine log c.loop.counter s (c.apply_one.ensures.does log _ (c.loop.invariant.does log s h));
   leaves = leaves_both c.args.machine.now c.loop.machine c.apply_one.new.machine c.loop.invariant.leaves c.apply_one.ensures.leaves;
 }
 

@@ -7,7 +7,9 @@ pub increment_tick-requires : goal.increment_tick-requires
 increment_tick-requires c =
     let can = c.requires.can in
     let s = can.agrees.0 in
-    let back = released c.args.machine.now s.log s (record { stands = can.agrees.1; log = refl }) c.release.new.self (c.release.ensures.stands s can.agrees.1.rest.clock) in
+    let back =
+    released c.args.machine.now s.log s (record { stands = can.agrees.1; log = refl })
+    c.release.new.self (c.release.ensures.stands s can.agrees.1.rest.clock) in
     record {
       agrees = (_, back.stands);
       free = can.free;
@@ -20,7 +22,9 @@ returns-clause-does c = λ log s h.
     let some = c.requires.some in
     let e = h.stands.rest.clock.age in
     applied_now c.increment_tick.new.self log s (sym h.stands.rest.suspensions ∙ c.requires.can.awake) (omega arith)
-    (c.increment_tick.ensures.does log _ (released c.args.machine.now log s h c.release.new.self (c.release.ensures.stands s h.stands.rest.clock)))
+    (c.increment_tick.ensures.does log _
+    (released c.args.machine.now log s h c.release.new.self (c.release.ensures.stands s h.stands.rest.clock)))
 
 pub returns-clause-leaves : goal.returns-clause-leaves
-returns-clause-leaves c = record { depth = c.increment_tick.ensures.leaves.depth; objects = c.increment_tick.ensures.leaves.objects }
+returns-clause-leaves c =
+    record { depth = c.increment_tick.ensures.leaves.depth; objects = c.increment_tick.ensures.leaves.objects }

@@ -8,7 +8,9 @@ apply_held-requires c =
     let s = can.agrees.0 in
     let e = can.agrees.1.rest.suspensions in
     let some = c.requires.some in
-    let less = with_suspensions c.args.machine.now s.log s (record { stands = can.agrees.1; log = refl }) c.unhold.new.self _ _ (ap (λ (n : ℕ). n - 1) e) (c.unhold.ensures.resumes s can.agrees.1.sched (omega arith)) in
+    let less =
+    with_suspensions c.args.machine.now s.log s (record { stands = can.agrees.1; log = refl }) c.unhold.new.self
+    _ _ (ap (λ (n : ℕ). n - 1) e) (c.unhold.ensures.resumes s can.agrees.1.sched (omega arith)) in
     record { can = record { agrees = (_, less.stands); free = can.free; age = can.age; awake = c.if-machine-eq0.true } }
 
 pub returns-then-machine-eq0-clause-does : goal.returns-then-machine-eq0-clause-does
@@ -17,7 +19,8 @@ returns-then-machine-eq0-clause-does c = λ log s h.
     let some = c.requires.some in
     let none = c.if-machine-eq0.true in
     last_resumed c.args.app.now c.apply_held.new.machine log s (omega arith)
-    (c.apply_held.ensures.does log _ (with_suspensions c.args.machine.now log s h c.unhold.new.self _ _ (ap (λ (n : ℕ). n - 1) e) (c.unhold.ensures.resumes s h.stands.sched (omega arith))))
+    (c.apply_held.ensures.does log _ (with_suspensions c.args.machine.now log s h c.unhold.new.self
+    _ _ (ap (λ (n : ℕ). n - 1) e) (c.unhold.ensures.resumes s h.stands.sched (omega arith))))
 
 pub returns-then-machine-eq0-clause-depth : goal.returns-then-machine-eq0-clause-depth
 returns-then-machine-eq0-clause-depth c = λ _.
@@ -33,4 +36,5 @@ returns-else-machine-eq0-clause-does c = λ log s h.
     let some = c.requires.some in
     let more = c.if-machine-eq0.false in
     more_resumed c.args.app.now _ log s (λ one. more (let z : c.args.machine.now.suspensions - 1 ≡ 0 = omega arith in z))
-    (with_suspensions c.args.machine.now log s h c.unhold.new.self _ _ (ap (λ (n : ℕ). n - 1) e) (c.unhold.ensures.resumes s h.stands.sched (omega arith)))
+    (with_suspensions c.args.machine.now log s h c.unhold.new.self _ _
+    (ap (λ (n : ℕ). n - 1) e) (c.unhold.ensures.resumes s h.stands.sched (omega arith)))

@@ -17,7 +17,9 @@ answer-requires-clause-runs g c =
 pub returns : goal.returns
 unfolding suspend_all
 returns g c = record {
-  at = λ s h. c.answer.ensures.does.at _ (with_suspensions c.args.machine.now _ s h c.hold.new.self _ _ (ap (λ (n : ℕ). n + 1) h.stands.rest.suspensions) (c.hold.ensures.suspends s h.stands.sched));
+  at = λ s h.
+      c.answer.ensures.does.at _ (with_suspensions c.args.machine.now _ s h c.hold.new.self _ _
+      (ap (λ (n : ℕ). n + 1) h.stands.rest.suspensions) (c.hold.ensures.suspends s h.stands.sched));
   few = c.answer.ensures.does.few;
   before = c.answer.ensures.does.before;
 }

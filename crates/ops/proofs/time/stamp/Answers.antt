@@ -5,4 +5,6 @@ use Rattle.ops.proofs.time.stamp.Goals as goal
 
 pub returns : goal.returns
 returns c = λ log s h.
-    stamped_at c.args.app.now c.args.machine.now c.complete.new.self log s h c.args.task c.requires.runs.current (progress_in c.args.machine.now.progress c.args.task) refl c.set_stamp.new.self c.now-now.result c.now-now.ensures.now c.set_stamp.ensures c.complete.ensures.does
+    stamped_at c.args.app.now c.args.machine.now c.complete.new.self log s h c.args.task
+    c.requires.runs.current (progress_in c.args.machine.now.progress c.args.task) refl c.set_stamp.new.self
+    c.now-now.result c.now-now.ensures.now c.set_stamp.ensures c.complete.ensures.does

@@ -15,9 +15,13 @@ loop-number-preserved c =
     let next : group ≡ take 8 (drop (8 * length ends) events) =
     ap (λ (n : ℕ). take n (drop (number * 8) events)) count ∙ ap (λ (n : ℕ). take 8 (drop n events)) first in
     let text = rw c.loop-number.invariant.app at c.in_ok-add.ensures.text in
-    let more : length c.add.new.self.ends.items ≡ number + 1 = ap length c.in_ok-add.ensures.ends ∙ length-append ends (length c.add.new.self.text.items ∷ []) ∙ ap (λ (n : ℕ). n + 1) groups in
+    let more : length c.add.new.self.ends.items ≡ number + 1 =
+    ap length c.in_ok-add.ensures.ends ∙ length-append ends (length c.add.new.self.text.items ∷ [])
+    ∙ ap (λ (n : ℕ). n + 1) groups in
     record {
       app = c.in_ok-add.ensures.app ∙ c.loop-number.invariant.app;
       groups = more;
-      is = next_spelled c.args.app.now events c.loop-number.spelled.text.items ends c.loop-number.invariant.is c.add.new.self.text.items c.add.new.self.ends.items group low next text c.in_ok-add.ensures.ends;
+      is =
+          next_spelled c.args.app.now events c.loop-number.spelled.text.items ends c.loop-number.invariant.is
+          c.add.new.self.text.items c.add.new.self.ends.items group low next text c.in_ok-add.ensures.ends;
     }

@@ -7,7 +7,8 @@ use Rattle.report.proofs.writer.add_events.Given as goal
 abbrev pub invariant-loop-rest : goal.invariant-loop-rest
 invariant-loop-rest g l = record {
   app : l.lines ≡ l.fn.lines;
-  sent : Sent (g.W.Sink.held l.fn.writer) (g.W.Sink.held l.writer) (l.fn.page ++ flat_map (event_text l.fn.lines) l.events) (l.page ++ flat_map (event_text l.fn.lines) l.rest);
+  sent : Sent (g.W.Sink.held l.fn.writer) (g.W.Sink.held l.writer)
+      (l.fn.page ++ flat_map (event_text l.fn.lines) l.events) (l.page ++ flat_map (event_text l.fn.lines) l.rest);
   working : g.W.Sink.has_failed l.writer ≡ false;
 }
 

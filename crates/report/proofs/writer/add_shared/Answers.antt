@@ -12,7 +12,8 @@ returns-in_err-add_text-clause-text g c =
     let events = c.args.base.now.events in
     let text = rw c.requires.app at c.front-count.ensures.text in
     rw (first_after f count c.args.shared events c.front-count.ensures.within)
-    (Adds_stopped _ _ _ (flat_map f (take count events)) (flat_map f (take (c.args.shared - count) (drop count events))) _ _ c.from_residual.ensures.0
+    (Adds_stopped _ _ _ (flat_map f (take count events))
+    (flat_map f (take (c.args.shared - count) (drop count events))) _ _ c.from_residual.ensures.0
     (rw text at c.in_err-add_text.ensures.text))
 
 pub returns-clause-text : goal.returns-clause-text

@@ -74,7 +74,8 @@ new-requires c =
       tasks = parts.tasks.1;
       objects = parts.objects.1;
       few_objects =
-          subst (λ (o : Option ℕ). length app.objects ≤ most_objects + (if is_some o then 1 else 0)) (sym c.daemon_number.ensures) parts.objects.2;
+          subst (λ (o : Option ℕ). length app.objects ≤ most_objects + (if is_some o then 1 else 0))
+          (sym c.daemon_number.ensures) parts.objects.2;
       daemon = daemon_formed app entries parts.objects.0 parts.tasks.0 c.daemon_number.ensures some;
       few_groups = c.group_count.ensures.few;
       handlers =

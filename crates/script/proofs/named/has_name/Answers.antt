@@ -35,5 +35,6 @@ returns g c =
     let r = g.E.Named in
     let entries = c.args.entries.now in
     let i = c.loop-entry.entry-index in
-    sym (ap (λ rest. list_any (bytes_eq c.args.name.now) (map r.name_of (map r.shown rest))) (none_left entries entries refl i c.loop-entry-test.false))
+    sym (ap (λ rest. list_any (bytes_eq c.args.name.now) (map r.name_of (map r.shown rest)))
+    (none_left entries entries refl i c.loop-entry-test.false))
     ∙ c.loop-entry.invariant

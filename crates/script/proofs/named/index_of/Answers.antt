@@ -17,7 +17,8 @@ returns-then-eq g c =
           sym (c.loop-index.invariant
           ∙ position_here is_name (r.name_of (r.shown entry)) (map r.name_of (map r.shown (drop i entries)))
           (map r.name_of (map r.shown (drop (i + 1) entries)))
-          (ap (λ rest. map r.name_of (map r.shown rest)) (left entries i entry c.loop-index-test.true c.index-entries-index.is)) i is);
+          (ap (λ rest. map r.name_of (map r.shown rest)) (left entries i entry c.loop-index-test.true c.index-entries-index.is)) i
+          is);
       below = c.loop-index-test.true;
     }
 
@@ -43,6 +44,7 @@ returns g c =
     record {
       index =
           sym (c.loop-index.invariant
-          ∙ ap (λ rest. position_from is_name i (map r.name_of (map r.shown rest))) (none_left entries entries refl i c.loop-index-test.false));
+          ∙ ap (λ rest. position_from is_name i (map r.name_of (map r.shown rest)))
+          (none_left entries entries refl i c.loop-index-test.false));
       below = tt;
     }

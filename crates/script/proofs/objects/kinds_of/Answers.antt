@@ -15,7 +15,8 @@ loop-object-preserved c =
     let kind_of = λ (o : ObjectEntry). o.kind in
     record {
       kinds =
-          one_made object_view object (drop i objects) (drop (i + 1) objects) (left objects i object c.loop-object-test.true c.object-item.is)
+          one_made object_view object (drop i objects) (drop (i + 1) objects)
+          (left objects i object c.loop-object-test.true c.object-item.is)
           kind_of (map kind_of (map object_view objects)) before after object.kind c.loop-object.invariant.kinds refl new;
       formed = all_grown object.kind before after new IsObjectKind c.loop-object.invariant.formed object.formed;
     }

@@ -16,9 +16,12 @@ loop-entry-preserved c =
     let seen = c.as_slice-handler-items in
     let i = c.loop-entry.entry in
     let handler = c.handler-item.result in
-    let place : c.key-place.result ≡ (handler_scripts entries).at i = c.key-place.ensures ∙ ap (λ (p : Place). at_key p key.Ops) c.entry.ensures in
-    goes_on (handler_scripts entries) tt i (map view handler.ops.now) (map texts (map isr_view (drop i handlers))) (map texts (map isr_view (drop (i + 1) handlers)))
-    (ap (λ rest. map texts (map isr_view rest)) (left_in seen.result.now handlers seen.ensures.value i handler c.loop-entry-test.true c.handler-item.is))
+    let place : c.key-place.result ≡ (handler_scripts entries).at i =
+    c.key-place.ensures ∙ ap (λ (p : Place). at_key p key.Ops) c.entry.ensures in
+    goes_on (handler_scripts entries) tt i (map view handler.ops.now)
+    (map texts (map isr_view (drop i handlers))) (map texts (map isr_view (drop (i + 1) handlers)))
+    (ap (λ rest. map texts (map isr_view rest))
+    (left_in seen.result.now handlers seen.ensures.value i handler c.loop-entry-test.true c.handler-item.is))
     (handler_ops_fault entries) c.loop-entry.invariant
     (subst (λ p. script_fault handler_ops entries p (map view handler.ops.now) ≡ None) place c.in_ok-check_script.ensures.0)
 
@@ -29,8 +32,10 @@ returns c =
     let texts = λ (entry : RawIsr). entry.ops in
     let seen = c.as_slice-handler-items in
     let i = c.loop-entry.entry in (
-      all_pass (handler_scripts entries) tt i (map texts (map isr_view (drop i handlers))) (handler_ops_fault entries) c.loop-entry.invariant
-          (ap (λ rest. map texts (map isr_view rest)) (none_left seen.result.now handlers seen.ensures.value i c.loop-entry-test.false)),
+      all_pass (handler_scripts entries) tt i (map texts (map isr_view (drop i handlers)))
+          (handler_ops_fault entries) c.loop-entry.invariant
+          (ap (λ rest. map texts (map isr_view rest))
+          (none_left seen.result.now handlers seen.ensures.value i c.loop-entry-test.false)),
       refl,
     )
 
@@ -48,6 +53,7 @@ returns-in_err-check_script c =
     refused c.from_residual.result (handler_ops_fault entries) tt fault c.from_residual.ensures.1
     (stops (handler_scripts entries) tt i (map view handler.ops.now) (map texts (map isr_view (drop i handlers)))
     (map texts (map isr_view (drop (i + 1) handlers)))
-    (ap (λ rest. map texts (map isr_view rest)) (left_in seen.result.now handlers seen.ensures.value i handler c.loop-entry-test.true c.handler-item.is))
+    (ap (λ rest. map texts (map isr_view rest))
+    (left_in seen.result.now handlers seen.ensures.value i handler c.loop-entry-test.true c.handler-item.is))
     (handler_ops_fault entries) fault c.loop-entry.invariant
     (subst (λ p. script_fault handler_ops entries p (map view handler.ops.now) ≡ Some fault) place c.in_err-check_script.ensures))

@@ -44,7 +44,8 @@ returns g c =
     let none = none_left texts texts refl i c.loop-index-test.false in (
       closed (each_fault elements [] 0 (map view texts)) (fold (blocks_with ops entries) [] (map view texts)) blocks
           (fault_at BadNesting (at_element c.args.place (length (map view texts))))
-          (all_pass elements blocks i (map view (drop i texts)) (each_fault elements [] 0 (map view texts)) c.loop-index.invariant.checks
+          (all_pass elements blocks i (map view (drop i texts))
+          (each_fault elements [] 0 (map view texts)) c.loop-index.invariant.checks
           (ap (map view) none))
           (c.loop-index.invariant.blocks ∙ ap (λ xs. fold (blocks_with ops entries) blocks (map view xs)) none)
           (sym c.if-not-is_empty.false ∙ c.is_empty.ensures),

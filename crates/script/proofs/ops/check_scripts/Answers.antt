@@ -16,9 +16,12 @@ loop-entry-preserved c =
     let seen = c.as_slice-task-items in
     let i = c.loop-entry.entry in
     let task = c.task-item.result in
-    let place : c.key-place.result ≡ (task_scripts entries).at i = c.key-place.ensures ∙ ap (λ (p : Place). at_key p key.Script) c.entry.ensures in
-    goes_on (task_scripts entries) tt i (map view task.script.now) (map texts (map raw_view (drop i tasks))) (map texts (map raw_view (drop (i + 1) tasks)))
-    (ap (λ rest. map texts (map raw_view rest)) (left_in seen.result.now tasks seen.ensures.value i task c.loop-entry-test.true c.task-item.is))
+    let place : c.key-place.result ≡ (task_scripts entries).at i =
+    c.key-place.ensures ∙ ap (λ (p : Place). at_key p key.Script) c.entry.ensures in
+    goes_on (task_scripts entries) tt i (map view task.script.now)
+    (map texts (map raw_view (drop i tasks))) (map texts (map raw_view (drop (i + 1) tasks)))
+    (ap (λ rest. map texts (map raw_view rest))
+    (left_in seen.result.now tasks seen.ensures.value i task c.loop-entry-test.true c.task-item.is))
     (scripts_fault entries) c.loop-entry.invariant
     (subst (λ p. script_fault task_ops entries p (map view task.script.now) ≡ None) place c.in_ok-check_script.ensures.0)
 
@@ -30,7 +33,8 @@ returns c =
     let seen = c.as_slice-task-items in
     let i = c.loop-entry.entry in (
       all_pass (task_scripts entries) tt i (map texts (map raw_view (drop i tasks))) (scripts_fault entries) c.loop-entry.invariant
-          (ap (λ rest. map texts (map raw_view rest)) (none_left seen.result.now tasks seen.ensures.value i c.loop-entry-test.false)),
+          (ap (λ rest. map texts (map raw_view rest))
+          (none_left seen.result.now tasks seen.ensures.value i c.loop-entry-test.false)),
       refl,
     )
 
@@ -48,6 +52,7 @@ returns-in_err-check_script c =
     refused c.from_residual.result (scripts_fault entries) tt fault c.from_residual.ensures.1
     (stops (task_scripts entries) tt i (map view task.script.now) (map texts (map raw_view (drop i tasks)))
     (map texts (map raw_view (drop (i + 1) tasks)))
-    (ap (λ rest. map texts (map raw_view rest)) (left_in seen.result.now tasks seen.ensures.value i task c.loop-entry-test.true c.task-item.is))
+    (ap (λ rest. map texts (map raw_view rest))
+    (left_in seen.result.now tasks seen.ensures.value i task c.loop-entry-test.true c.task-item.is))
     (scripts_fault entries) fault c.loop-entry.invariant
     (subst (λ p. script_fault task_ops entries p (map view task.script.now) ≡ Some fault) place c.in_err-check_script.ensures))

@@ -25,7 +25,8 @@ loop-handler-preserved c =
           (with_isr_ops entries) (map (with_isr_ops entries) (map isr_view handlers))
           before after definition c.loop-handler.invariant.named c.in_ok-definition.ensures.handler new;
       formed =
-          all_grown definition before after new (λ (h : Handler). (length h.name ≤ most_name_bytes) × (length h.ops ≤ most_handler_ops))
+          all_grown definition before after new
+          (λ (h : Handler). (length h.name ≤ most_name_bytes) × (length h.ops ≤ most_handler_ops))
           c.loop-handler.invariant.formed c.in_ok-definition.ensures.formed;
       count = counted definition before after new i c.loop-handler.invariant.count;
     }

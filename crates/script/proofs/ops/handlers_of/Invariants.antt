@@ -11,6 +11,7 @@ invariant-loop-handler l = record {
   named : map (with_isr_ops (entries_view l.entries)) (map isr_view l.entries.handlers.items)
       ≡ l.definitions.items
       ++ map (with_isr_ops (entries_view l.entries)) (map isr_view (drop l.handler-index l.entries.handlers.items));
-  formed : AllByRecursion (λ (h : Handler). (length h.name ≤ most_name_bytes) × (length h.ops ≤ most_handler_ops)) l.definitions.items;
+  formed : AllByRecursion (λ (h : Handler). (length h.name ≤ most_name_bytes) × (length h.ops ≤ most_handler_ops))
+      l.definitions.items;
   count : length l.definitions.items ≡ l.handler-index;
 }

@@ -17,7 +17,8 @@ loop-text-preserved c =
     let new = c.in_ok-push.ensures.items in
     record {
       named =
-          named view c.text-item.result (drop i texts) (drop (i + 1) texts) (left texts i c.text-item.result c.loop-text-test.true c.text-item.is)
+          named view c.text-item.result (drop i texts) (drop (i + 1) texts)
+          (left texts i c.text-item.result c.loop-text-test.true c.text-item.is)
           (op_in handler_ops (among entries)) (ops_named handler_ops entries (map view texts)) ops after c.in-Some.op
           c.loop-text.invariant.named (sym c.op_in.ensures ∙ c.in-Some.is) new;
       few = grown c.in-Some.op ops after new i c.loop-text.invariant.few;

@@ -19,7 +19,8 @@ push-requires c =
     let builder = c.loop-text.builder in
     let spelled = sym c.op_in.ensures ∙ c.in-Some.is in
     let next =
-    next_named view c.text-item.result (drop i texts) (drop (i + 1) texts) (left texts i c.text-item.result c.loop-text-test.true c.text-item.is)
+    next_named view c.text-item.result (drop i texts) (drop (i + 1) texts)
+    (left texts i c.text-item.result c.loop-text-test.true c.text-item.is)
     (op_in task_ops (among entries)) (Some op) spelled in
     record {
       range = spelled_in_range (among entries) (as_str (view c.text-item.result)) op spelled;
@@ -42,7 +43,9 @@ loop-text-preserved c =
     let turn = left texts i c.text-item.result c.loop-text-test.true c.text-item.is in
     let rest = ops_named task_ops entries (map view (drop i texts)) in
     let others = ops_named task_ops entries (map view (drop (i + 1) texts)) in
-    let next = next_named view c.text-item.result (drop i texts) (drop (i + 1) texts) turn (op_in task_ops (among entries)) (Some op) spelled in
+    let next =
+    next_named view c.text-item.result (drop i texts) (drop (i + 1) texts)
+    turn (op_in task_ops (among entries)) (Some op) spelled in
     record {
       nests = others_nest before after op rest others next c.loop-text.invariant.nests new;
       named = others_left before after op rest others next (script_named entries (map view texts)) c.loop-text.invariant.named new;
@@ -57,9 +60,12 @@ loop-text-preserved-in_default c =
     let builder = c.loop-text.builder in
     let spelled = sym c.op_in.ensures ∙ c.in_default.is in
     let turn = left texts i c.text-item.result c.loop-text-test.true c.text-item.is in
-    let next = next_named view c.text-item.result (drop i texts) (drop (i + 1) texts) turn (op_in task_ops (among entries)) None spelled in
+    let next =
+    next_named view c.text-item.result (drop i texts) (drop (i + 1) texts) turn (op_in task_ops (among entries)) None spelled in
     record {
-      nests = subst (λ ops. Nests (open_behind builder) (edges_of (with_ends (open_behind builder) ops))) next c.loop-text.invariant.nests;
+      nests =
+          subst (λ ops. Nests (open_behind builder) (edges_of (with_ends (open_behind builder) ops)))
+          next c.loop-text.invariant.nests;
       named = c.loop-text.invariant.named ∙ ap (λ ops. builder ++ with_ends (open_behind builder) ops) next;
       few = kept (length builder) i c.loop-text.invariant.few;
     }

@@ -7,7 +7,8 @@ use Rattle.script.proofs.ops.script_of.Given as goal
 
 abbrev pub invariant-loop-text : goal.invariant-loop-text
 invariant-loop-text l =
-    let left = with_ends (open_behind l.builder) (ops_named task_ops (entries_view l.entries) (map view (drop l.text-index l.texts))) in
+    let left =
+    with_ends (open_behind l.builder) (ops_named task_ops (entries_view l.entries) (map view (drop l.text-index l.texts))) in
     record {
       nests : Nests (open_behind l.builder) (edges_of left);
       named : script_named (entries_view l.entries) (map view l.texts) ≡ l.builder ++ left;

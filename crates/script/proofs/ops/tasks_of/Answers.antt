@@ -24,7 +24,9 @@ loop-task-preserved c =
     let tasks = c.args.entries.now.tasks.items in
     let i = c.loop-task.task-index in
     let task = c.task-item.result in
-    let turn = left_in c.as_slice-task-items.result.now tasks c.as_slice-task-items.ensures.value i task c.loop-task-test.true c.task-item.is in
+    let turn =
+    left_in c.as_slice-task-items.result.now tasks c.as_slice-task-items.ensures.value
+    i task c.loop-task-test.true c.task-item.is in
     let before = c.loop-task.definitions.items in
     let after = c.push.new.self.items in
     let new = c.in_ok-push.ensures.items in
@@ -34,7 +36,8 @@ loop-task-preserved c =
           (all_left raw_view task (drop i tasks) (drop (i + 1) tasks) turn (with_script entries)
           (λ (t : Definition). Nests [] (edges_of t.script)) c.loop-task.invariant.nest).1;
       named =
-          one_made raw_view task (drop i tasks) (drop (i + 1) tasks) turn (with_script entries) (map (with_script entries) (map raw_view tasks))
+          one_made raw_view task (drop i tasks) (drop (i + 1) tasks) turn
+          (with_script entries) (map (with_script entries) (map raw_view tasks))
           before after definition c.loop-task.invariant.named c.in_ok-definition.ensures.task new;
       formed = all_grown definition before after new IsDefinition c.loop-task.invariant.formed c.in_ok-definition.ensures.formed;
       count = counted definition before after new i c.loop-task.invariant.count;
@@ -48,8 +51,11 @@ returns c =
     let i = c.loop-task.task-index in
     record {
       tasks =
-          all_made (with_script entries) raw_view (drop i tasks) (map (with_script entries) (map raw_view tasks)) c.loop-task.definitions.items
+          all_made (with_script entries) raw_view (drop i tasks)
+          (map (with_script entries) (map raw_view tasks)) c.loop-task.definitions.items
           c.loop-task.invariant.named (none_left seen.result.now tasks seen.ensures.value i c.loop-task-test.false);
       formed = c.loop-task.invariant.formed;
-      few = subst (λ n. n ≤ most_tasks) (sym c.loop-task.invariant.count) (le_trans c.loop-task.auto.task-index-end seen.ensures.fits);
+      few =
+          subst (λ n. n ≤ most_tasks) (sym c.loop-task.invariant.count)
+          (le_trans c.loop-task.auto.task-index-end seen.ensures.fits);
     }

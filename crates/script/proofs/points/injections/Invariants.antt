@@ -7,5 +7,6 @@ use Rattle.script.proofs.points.injections.Given as goal
 abbrev pub invariant-loop-pair : goal.invariant-loop-pair
 invariant-loop-pair l =
     let names = isr_names (entries_view l.entries) in
-    (all_known names (map pair_view l.pairs) ≡ behind l.injections.items (all_known names (map pair_view (drop l.pair-index l.pairs))))
+    (all_known names (map pair_view l.pairs)
+    ≡ behind l.injections.items (all_known names (map pair_view (drop l.pair-index l.pairs))))
     × (length l.injections.items ≡ l.pair-index)

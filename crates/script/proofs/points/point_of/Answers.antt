@@ -15,4 +15,6 @@ returns c =
     let point : IsPoint is = is_point names ps is (known_sound names ps is known) c.requires in
     let same : c.as_slice.result.now ≡ is = c.as_slice.ensures.value in
     let e = c.new.ensures in
-    c.ok.ensures.value ∙ made_point c.new.result is point (rw same at e.value) (rw same at e.empty) (rw same at e.many) (rw same at e.falling) ∙ sym known
+    c.ok.ensures.value
+    ∙ made_point c.new.result is point (rw same at e.value) (rw same at e.empty) (rw same at e.many) (rw same at e.falling)
+    ∙ sym known

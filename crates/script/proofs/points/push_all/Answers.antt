@@ -24,7 +24,8 @@ loop-index-preserved c =
           (ap (map view) turn) (each_fault (point_elements names c.args.place) tt 0 (map view values)) c.loop-index.invariant.checks
           (subst (λ p. entry_fault names p (view value) ≡ None) c.element.ensures taken.0);
       named =
-          named view value (drop i values) (drop (i + 1) values) turn (entry_named names) (filter_map (entry_named names) (map view values))
+          named view value (drop i values) (drop (i + 1) values) turn
+          (entry_named names) (filter_map (entry_named names) (map view values))
           before after c.in_ok-entry.field-0 c.loop-index.invariant.named (sym taken.1) new;
       count = counted c.in_ok-entry.field-0 before after new i c.loop-index.invariant.count;
       room = subst (λ n. length values ≤ n) (sym c.push_reserved.ensures.capacity) c.loop-index.invariant.room;
@@ -39,7 +40,8 @@ returns c =
     let none = none_left values values refl i c.loop-index-test.false in (
       all_pass elements tt i (map view (drop i values)) (each_fault elements tt 0 (map view values)) c.loop-index.invariant.checks
           (ap (map view) none),
-      all_named (entry_named names) view (drop i values) (filter_map (entry_named names) (map view values)) c.loop-index.points.items
+      all_named (entry_named names) view (drop i values)
+          (filter_map (entry_named names) (map view values)) c.loop-index.points.items
           c.loop-index.invariant.named none,
     )
 
@@ -52,7 +54,8 @@ returns-in_err-entry c =
     let value = c.index-values-index.result in
     let fault = c.in_err-entry.field-0.0 in
     let all = each_fault elements tt 0 (map view values) in
-    refused_seen (λ v. v.items) c.from_residual.result all (filter_map (entry_named names) (map view values)) fault c.from_residual.ensures.1
+    refused_seen (λ v. v.items) c.from_residual.result all
+    (filter_map (entry_named names) (map view values)) fault c.from_residual.ensures.1
     (stops elements tt i (view value) (map view (drop i values)) (map view (drop (i + 1) values))
     (ap (map view) (left values i value c.loop-index-test.true c.index-values-index.is)) all fault c.loop-index.invariant.checks
     (subst (λ p. entry_fault names p (view value) ≡ Some fault) c.element.ensures c.in_err-entry.ensures))

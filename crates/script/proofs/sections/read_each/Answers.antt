@@ -30,13 +30,15 @@ loop-index-preserved g c =
           goes_on elements (map r.shown before) i (view value) (map view (drop i values)) others (ap (map view) turn)
           (each_fault elements (map r.shown c.args.read.now.items) 0 (map view values)) c.loop-index.invariant.checks
           (subst (λ p. need (fault_at WrongKind p) (as_table (view value)) (keys (map r.shown before) p) ≡ None) c.entry.ensures
-          (subst (λ xs. need (fault_at WrongKind c.entry.result) (as_table (view value)) (keys (map r.shown xs) c.entry.result) ≡ None)
+          (subst
+          (λ xs. need (fault_at WrongKind c.entry.result) (as_table (view value)) (keys (map r.shown xs) c.entry.result) ≡ None)
           c.as_slice.ensures.value taken.0))
           ∙ ap (λ shown. each_fault elements (map r.shown before ++ shown ∷ []) (i + 1) others) (sym taken.1)
           ∙ ap (λ shown. each_fault elements shown (i + 1) others) (sym new);
       named =
           one_made view value (drop i values) (drop (i + 1) values) turn (λ (d : Data). named (as_table d))
-          (map r.shown c.args.read.now.items ++ map (λ (d : Data). named (as_table d)) (map view values)) (map r.shown before) (map r.shown after)
+          (map r.shown c.args.read.now.items ++ map (λ (d : Data). named (as_table d)) (map view values))
+          (map r.shown before) (map r.shown after)
           (r.shown entry) c.loop-index.invariant.named taken.1 new;
       count =
           counted entry before after c.push.ensures.items (length c.args.read.now.items + i) c.loop-index.invariant.count
@@ -54,12 +56,14 @@ returns g c =
     record {
       checks = (
         all_pass elements (map r.shown c.loop-index.read.items) i (map view (drop i values))
-            (each_fault elements (map r.shown c.args.read.now.items) 0 (map view values)) c.loop-index.invariant.checks (ap (map view) none),
+            (each_fault elements (map r.shown c.args.read.now.items) 0 (map view values))
+            c.loop-index.invariant.checks (ap (map view) none),
         refl,
       );
       added =
           all_made (λ (d : Data). named (as_table d)) view (drop i values)
-          (map r.shown c.args.read.now.items ++ map (λ (d : Data). named (as_table d)) (map view values)) (map r.shown c.loop-index.read.items)
+          (map r.shown c.args.read.now.items ++ map (λ (d : Data). named (as_table d)) (map view values))
+          (map r.shown c.loop-index.read.items)
           c.loop-index.invariant.named none;
     }
 
@@ -79,9 +83,12 @@ returns-in_err-entry g c =
       checks =
           refused c.from_residual.result all tt fault c.from_residual.ensures.1
           (stops elements (map r.shown before) i (view value) (map view (drop i values)) (map view (drop (i + 1) values))
-          (ap (map view) (left values i value c.loop-index-test.true c.index-values-index.is)) all fault c.loop-index.invariant.checks
-          (subst (λ p. need (fault_at WrongKind p) (as_table (view value)) (keys (map r.shown before) p) ≡ Some fault) c.entry.ensures
-          (subst (λ xs. need (fault_at WrongKind c.entry.result) (as_table (view value)) (keys (map r.shown xs) c.entry.result) ≡ Some fault)
+          (ap (map view) (left values i value c.loop-index-test.true c.index-values-index.is)) all
+          fault c.loop-index.invariant.checks
+          (subst (λ p. need (fault_at WrongKind p) (as_table (view value)) (keys (map r.shown before) p) ≡ Some fault)
+          c.entry.ensures
+          (subst (λ xs.
+          need (fault_at WrongKind c.entry.result) (as_table (view value)) (keys (map r.shown xs) c.entry.result) ≡ Some fault)
           c.as_slice.ensures.value c.in_err-entry.ensures)));
       added =
           not_done c.from_residual.result fault

@@ -8,7 +8,8 @@ abbrev pub invariant-loop-index : goal.invariant-loop-index
 invariant-loop-index g l =
     let r = g.R.EntryReader in
     record {
-      checks : each_fault (tables l.section (r.named l.reader) (r.keys l.reader)) (map r.shown l.initial.read.items) 0 (map view l.values)
+      checks : each_fault (tables l.section (r.named l.reader) (r.keys l.reader))
+          (map r.shown l.initial.read.items) 0 (map view l.values)
           ≡ each_fault (tables l.section (r.named l.reader) (r.keys l.reader)) (map r.shown l.read.items) l.index
           (map view (drop l.index l.values));
       named : map r.shown l.initial.read.items ++ map (λ d. r.named l.reader (as_table d)) (map view l.values)

@@ -19,7 +19,10 @@ returns-in_default g c =
     record {
       checks = (
         ap (λ d. option_and_then
-            (array_fault (g.row.N - length read) (tables c.args.section named (r.keys c.args.reader.now)) read (at_section c.args.section)) d) (sym none),
+            (array_fault (g.row.N - length read) (tables c.args.section named (r.keys c.args.reader.now))
+            read (at_section c.args.section))
+            d)
+            (sym none),
         refl,
       );
       added = sym (append-nil read) ∙ ap (λ d. read ++ section_named named d) none;
@@ -84,6 +87,8 @@ returns g c =
     record {
       checks = subst (λ check. Judges c.read_each.result check tt) (sym all) c.read_each.ensures.checks;
       added =
-          subst (λ ds. OnOk c.read_each.result (map r.shown c.read_each.new.read.items ≡ read ++ map (λ (d : Data). named (as_table d)) ds)) found
+          subst (λ ds.
+          OnOk c.read_each.result (map r.shown c.read_each.new.read.items ≡ read ++ map (λ (d : Data). named (as_table d)) ds))
+          found
           c.read_each.ensures.added;
     }

@@ -29,7 +29,8 @@ pub returns : goal.returns
 returns c =
     let values = c.args.values.now in
     let i = c.loop-index.index in (
-      all_pass (text_elements c.args.place) tt i (map view (drop i values)) (each_fault (text_elements c.args.place) tt 0 (map view values))
+      all_pass (text_elements c.args.place) tt i (map view (drop i values))
+          (each_fault (text_elements c.args.place) tt 0 (map view values))
           c.loop-index.invariant (ap (map view) (none_left values values refl i c.loop-index-test.false)),
       refl,
     )

@@ -68,7 +68,8 @@ returns-then-has_name g c =
     let double : list_any (bytes_eq name) (earlier ++ before) ≡ true =
     list_any-append (bytes_eq name) earlier before
     ∙ elim c.then-has_name.branch [
-      | then-has_name-via-then-has_name w ↦ ap (λ b. b || list_any (bytes_eq name) before) (sym c.has_name.ensures ∙ w.if-has_name.true)
+      | then-has_name-via-then-has_name w ↦
+          ap (λ b. b || list_any (bytes_eq name) before) (sym c.has_name.ensures ∙ w.if-has_name.true)
       | then-has_name-via-else-has_name+then-has_name-2 w ↦
           ap (λ b. b || list_any (bytes_eq name) before) (sym c.has_name.ensures ∙ w.if-has_name.false)
           ∙ sym w.has_name-else-has_name.ensures
@@ -78,7 +79,8 @@ returns-then-has_name g c =
       checks =
           there c.args.place key.Name (name_fault (earlier ++ before)) (table_view c.args.table.now) here c.key-place.ensures d
           (Some c.at-then-has_name.result) c.in-Some.ensures
-          (text (earlier ++ before) here d name true true c.in-Some-as_str.ensures is double ∙ ap (λ f. Some f) (sym c.at-then-has_name.ensures));
+          (text (earlier ++ before) here d name true true c.in-Some-as_str.ensures is double
+          ∙ ap (λ f. Some f) (sym c.at-then-has_name.ensures));
       length = tt;
     }
 
@@ -96,7 +98,8 @@ returns-clause-checks g c =
     ∙ ap (λ b. b || list_any (bytes_eq name) before) (sym c.has_name.ensures ∙ c.if-has_name.false)
     ∙ sym c.has_name-else-has_name.ensures
     ∙ c.if-has_name-2.false in (
-      there c.args.place key.Name (name_fault (earlier ++ before)) (table_view c.args.table.now) here c.key-place.ensures d None c.in-Some.ensures
+      there c.args.place key.Name (name_fault (earlier ++ before))
+          (table_view c.args.table.now) here c.key-place.ensures d None c.in-Some.ensures
           (text (earlier ++ before) here d name true false c.in-Some-as_str.ensures is single),
       ap (λ o. unwrap_or o []) c.in-Some-as_str.ensures ∙ ap (λ o. unwrap_or (option_and_then as_str o) []) c.in-Some.ensures,
     )

@@ -25,7 +25,8 @@ returns-in_default-array c =
       checks =
           there c.args.place c.args.key (texts_fault c.args.most) (table_view c.args.table.now) here c.key-place.ensures d
           (Some c.at-in_default-array.result) c.in-Some.ensures
-          (no_array c.args.most (text_elements here) tt here d c.in_default-array.ensures ∙ ap (λ f. Some f) (sym c.at-in_default-array.ensures));
+          (no_array c.args.most (text_elements here) tt here d c.in_default-array.ensures
+          ∙ ap (λ f. Some f) (sym c.at-in_default-array.ensures));
       few = tt;
     }
 
@@ -53,7 +54,8 @@ returns-in_err-check_texts c =
     let ms = table_view c.args.table.now in
     record {
       checks =
-          refused_seen (λ texts. map view texts.now) c.from_residual.result (required c.args.place c.args.key (texts_fault c.args.most) ms)
+          refused_seen (λ texts. map view texts.now) c.from_residual.result
+          (required c.args.place c.args.key (texts_fault c.args.most) ms)
           (texts_named c.args.key (Some ms)) fault c.from_residual.ensures.1
           (there c.args.place c.args.key (texts_fault c.args.most) ms here c.key-place.ensures d (Some fault) c.in-Some.ensures
           (few_enough c.args.most (text_elements here) tt here d (map view values) (Some fault) c.in-Some-array.ensures
@@ -68,7 +70,8 @@ returns c =
     let values = c.in-Some-array.values.now in
     record {
       checks = (
-        there c.args.place c.args.key (texts_fault c.args.most) (table_view c.args.table.now) here c.key-place.ensures d None c.in-Some.ensures
+        there c.args.place c.args.key (texts_fault c.args.most)
+            (table_view c.args.table.now) here c.key-place.ensures d None c.in-Some.ensures
             (few_enough c.args.most (text_elements here) tt here d (map view values) None c.in-Some-array.ensures
             (subst (λ n. n ≤ c.args.most) (sym (length-map values view)) c.if-values-most.false) c.in_ok-check_texts.ensures.0),
         ap (λ o. unwrap_or o []) c.in-Some-array.ensures ∙ ap (λ o. elements_of o) c.in-Some.ensures,

@@ -16,19 +16,29 @@ go_far-requires-clause-past c = λ n from. refl
 
 pub returns-in-Some-clause-base : goal.returns-in-Some-clause-base
 returns-in-Some-clause-base c =
-    let end = subst (λ (e : Option RestEnding). IfSome e (IsEnd c.args.app.now c.args.limits.now c.go_far.new.kernel)) c.in-Some.is c.in_ok-ending.ensures.end in
-    base_is c.args.app.now c.args.limits.now c.go_far.new.kernel c.in-Some.ending end (all_of c.go_far.new.trail) c.into_events.result.items c.into_events.ensures c.go_far.ensures.way
-    (told_on c.args.app.now c.args.limits.now c.stops.kernel c.go_far.new.kernel (all_of c.stops.trail) (all_of c.go_far.new.trail) c.in_ok-ending.ensures.led c.stops.invariant.way c.stops.invariant.events)
+    let end =
+    subst (λ (e : Option RestEnding). IfSome e (IsEnd c.args.app.now c.args.limits.now c.go_far.new.kernel))
+    c.in-Some.is c.in_ok-ending.ensures.end in
+    base_is c.args.app.now c.args.limits.now c.go_far.new.kernel c.in-Some.ending end
+    (all_of c.go_far.new.trail) c.into_events.result.items c.into_events.ensures c.go_far.ensures.way
+    (told_on c.args.app.now c.args.limits.now c.stops.kernel c.go_far.new.kernel (all_of c.stops.trail)
+    (all_of c.go_far.new.trail) c.in_ok-ending.ensures.led c.stops.invariant.way c.stops.invariant.events)
 
 pub returns-in-Some-clause-rests : goal.returns-in-Some-clause-rests
 returns-in-Some-clause-rests c =
-    let end = subst (λ (e : Option RestEnding). IfSome e (IsEnd c.args.app.now c.args.limits.now c.go_far.new.kernel)) c.in-Some.is c.in_ok-ending.ensures.end in
-    all_join c.args.app.now c.args.limits.now c.go_far.new.kernel c.in-Some.ending end (all_of c.go_far.new.trail) c.into_events.result.items c.into_events.ensures c.stops.stops.items
-    (all_on c.args.app.now c.args.limits.now (all_of c.stops.trail) (all_of c.go_far.new.trail) c.stops.kernel c.go_far.new.kernel c.in_ok-ending.ensures.led c.stops.stops.items c.stops.invariant.behind)
+    let end =
+    subst (λ (e : Option RestEnding). IfSome e (IsEnd c.args.app.now c.args.limits.now c.go_far.new.kernel))
+    c.in-Some.is c.in_ok-ending.ensures.end in
+    all_join c.args.app.now c.args.limits.now c.go_far.new.kernel c.in-Some.ending end
+    (all_of c.go_far.new.trail) c.into_events.result.items c.into_events.ensures c.stops.stops.items
+    (all_on c.args.app.now c.args.limits.now (all_of c.stops.trail) (all_of c.go_far.new.trail) c.stops.kernel
+    c.go_far.new.kernel c.in_ok-ending.ensures.led c.stops.stops.items c.stops.invariant.behind)
 
 pub returns-in-Some-clause-enough : goal.returns-in-Some-clause-enough
 returns-in-Some-clause-enough c =
-    let end = subst (λ (e : Option RestEnding). IfSome e (IsEnd c.args.app.now c.args.limits.now c.go_far.new.kernel)) c.in-Some.is c.in_ok-ending.ensures.end in
+    let end =
+    subst (λ (e : Option RestEnding). IfSome e (IsEnd c.args.app.now c.args.limits.now c.go_far.new.kernel))
+    c.in-Some.is c.in_ok-ending.ensures.end in
     let here = end.here in
     let far = c.go_far.ensures.far in
     let next = c.stops.invariant.next in
@@ -37,20 +47,30 @@ returns-in-Some-clause-enough c =
 pub stops-smaller : goal.stops-smaller
 stops-smaller c =
     let there = c.in_ok-ending.ensures.there c.in_default.is in
-    let on : end_of c.args.app.now c.args.limits.now (state_after c.args.app.now c.args.limits.now [] c.go_far.new.kernel.steps) ≡ None = ap (λ n. end_of c.args.app.now c.args.limits.now (state_after c.args.app.now c.args.limits.now [] n)) there ∙ c.in_ok-ending.ensures.goes c.in_default.is in
+    let on : end_of c.args.app.now c.args.limits.now (state_after c.args.app.now c.args.limits.now [] c.go_far.new.kernel.steps)
+    ≡ None =
+    ap (λ n. end_of c.args.app.now c.args.limits.now (state_after c.args.app.now c.args.limits.now [] n)) there
+    ∙ c.in_ok-ending.ensures.goes c.in_default.is in
     let way = c.go_far.ensures.way in
-    let below = steps_below c.args.app.now c.well_formed-2.ensures [] c.args.limits.now c.well_formed-3.ensures c.go_far.new.kernel way on in
+    let below =
+    steps_below c.args.app.now c.well_formed-2.ensures [] c.args.limits.now c.well_formed-3.ensures c.go_far.new.kernel way on in
     let apart = c.requires.apart in
     omega (arith, below, there, apart)
 
 pub stops-preserved : goal.stops-preserved
 stops-preserved c =
     let there = c.in_ok-ending.ensures.there c.in_default.is in
-    let on : end_of c.args.app.now c.args.limits.now (state_after c.args.app.now c.args.limits.now [] c.go_far.new.kernel.steps) ≡ None = ap (λ n. end_of c.args.app.now c.args.limits.now (state_after c.args.app.now c.args.limits.now [] n)) there ∙ c.in_ok-ending.ensures.goes c.in_default.is in
+    let on : end_of c.args.app.now c.args.limits.now (state_after c.args.app.now c.args.limits.now [] c.go_far.new.kernel.steps)
+    ≡ None =
+    ap (λ n. end_of c.args.app.now c.args.limits.now (state_after c.args.app.now c.args.limits.now [] n)) there
+    ∙ c.in_ok-ending.ensures.goes c.in_default.is in
     let way = c.go_far.ensures.way in
-    let below = steps_below c.args.app.now c.well_formed-2.ensures [] c.args.limits.now c.well_formed-3.ensures c.go_far.new.kernel way on in
+    let below =
+    steps_below c.args.app.now c.well_formed-2.ensures [] c.args.limits.now c.well_formed-3.ensures c.go_far.new.kernel way on in
     let put = there ∙ c.stops.invariant.next in
-    let events = told_on c.args.app.now c.args.limits.now c.stops.kernel c.go_far.new.kernel (all_of c.stops.trail) (all_of c.go_far.new.trail) c.in_ok-ending.ensures.led c.stops.invariant.way c.stops.invariant.events in
+    let events =
+    told_on c.args.app.now c.args.limits.now c.stops.kernel c.go_far.new.kernel (all_of c.stops.trail)
+    (all_of c.go_far.new.trail) c.in_ok-ending.ensures.led c.stops.invariant.way c.stops.invariant.events in
     let metered = c.go_far.ensures.meter in
     let meter = c.stops.invariant.meter in
     let low = c.stops.invariant.low in
@@ -58,14 +78,22 @@ stops-preserved c =
       way = way;
       far = omega (arith, there);
       events = events;
-      stops = one_more c.args.app.now c.args.limits.now c.args.stride c.stops.stops.items c.push.new.self.items _ c.stops.invariant.stops c.in_ok-push.ensures.items (record {
-        way = subst (IsUnderWay c.args.app.now [] c.args.limits.now) (sym c.in_ok-snapshot.ensures) way;
-        there = ap (λ (k : Machine). k.steps) c.in_ok-snapshot.ensures ∙ put;
-        before = c.len.ensures ∙ ap length events ∙ ap (λ (n : ℕ). length (events_after c.args.app.now c.args.limits.now [] n)) put;
-      });
-      behind = put_behind c.args.app.now c.args.limits.now c.go_far.new.kernel (all_of c.go_far.new.trail) c.stops.stops.items c.push.new.self.items _ c.in_ok-push.ensures.items c.in_ok-snapshot.ensures c.len.ensures
-          (all_on c.args.app.now c.args.limits.now (all_of c.stops.trail) (all_of c.go_far.new.trail) c.stops.kernel c.go_far.new.kernel c.in_ok-ending.ensures.led c.stops.stops.items c.stops.invariant.behind);
-      next = put_more c.stops.stops.items c.push.new.self.items _ c.args.stride c.stops.next c.in_ok-push.ensures.items c.stops.invariant.next;
+      stops =
+          one_more c.args.app.now c.args.limits.now c.args.stride c.stops.stops.items
+          c.push.new.self.items _ c.stops.invariant.stops c.in_ok-push.ensures.items (record {
+            way = subst (IsUnderWay c.args.app.now [] c.args.limits.now) (sym c.in_ok-snapshot.ensures) way;
+            there = ap (λ (k : Machine). k.steps) c.in_ok-snapshot.ensures ∙ put;
+            before =
+                c.len.ensures ∙ ap length events ∙ ap (λ (n : ℕ). length (events_after c.args.app.now c.args.limits.now [] n)) put;
+          });
+      behind =
+          put_behind c.args.app.now c.args.limits.now c.go_far.new.kernel (all_of c.go_far.new.trail) c.stops.stops.items
+          c.push.new.self.items _ c.in_ok-push.ensures.items c.in_ok-snapshot.ensures c.len.ensures
+          (all_on c.args.app.now c.args.limits.now (all_of c.stops.trail) (all_of c.go_far.new.trail) c.stops.kernel
+          c.go_far.new.kernel c.in_ok-ending.ensures.led c.stops.stops.items c.stops.invariant.behind);
+      next =
+          put_more c.stops.stops.items c.push.new.self.items _ c.args.stride
+          c.stops.next c.in_ok-push.ensures.items c.stops.invariant.next;
       meter = omega (arith, metered, meter);
       low = omega (arith, below, there);
     }

@@ -8,5 +8,6 @@ invariant_of-result c = c.requires c.in-Some.node.number (ap (option_map (λ (no
 
 pub overflow_cast-result : goal.overflow_cast-result
 overflow_cast-result c =
-    let known : c.in-Some.node.number < 32 = c.requires c.in-Some.node.number (ap (option_map (λ (node : NodeId). node.number)) c.in-Some.is) in
+    let known : c.in-Some.node.number < 32 =
+    c.requires c.in-Some.node.number (ap (option_map (λ (node : NodeId). node.number)) c.in-Some.is) in
     omega (arith, known)

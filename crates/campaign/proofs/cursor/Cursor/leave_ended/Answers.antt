@@ -5,7 +5,8 @@ use Rattle.campaign.proofs.cursor.Cursor.leave_ended.Goals as goal
 pub loop-place-preserved : goal.loop-place-preserved
 loop-place-preserved c =
     let i = c.loop-place.invariant in
-    let next = left_at c.args.rows.now c.loop-place.self i.at c.requires.sound c.loop-place.place i.within i.is c.loop-place-test.true in
+    let next =
+    left_at c.args.rows.now c.loop-place.self i.at c.requires.sound c.loop-place.place i.within i.is c.loop-place-test.true in
     record {
       at = next;
       number = i.number;

@@ -13,11 +13,14 @@ index-place-requires c =
 pub index-requires : goal.index-requires
 index-requires c =
     let rows = c.self.inside in
-    let low = place_low rows.different.items rows.places.items c.args.self.now c.self.view_is c.self.invariant c.args.number c.index-place.result.now c.requires c.index-place.ensures in
+    let low =
+    place_low rows.different.items rows.places.items c.args.self.now c.self.view_is
+    c.self.invariant c.args.number c.index-place.result.now c.requires c.index-place.ensures in
     let long = rows.different.ok.0 in
     omega arith
 
 pub returns : goal.returns
 returns c =
     let rows = c.self.inside in
-    seen rows.different.items rows.places.items c.args.self.now c.self.view_is c.self.invariant c.args.number c.index-place.result.now c.requires c.index-place.ensures c.index.result.now c.index.ensures
+    seen rows.different.items rows.places.items c.args.self.now c.self.view_is c.self.invariant c.args.number
+    c.index-place.result.now c.requires c.index-place.ensures c.index.result.now c.index.ensures

@@ -27,4 +27,5 @@ returns c is =
     let same : c.index-2.result.now ≡ c.index.result.now = sym (eqb-true c.index.result.now c.index-2.result.now is) in
     its different places rows c.self.view_is c.self.invariant c.args.other c.index-2.result.now c.requires.other c.index-2.ensures
     ∙ ap (slice_get different) same
-    ∙ sym (its different places rows c.self.view_is c.self.invariant c.args.number c.index.result.now c.requires.number c.index.ensures)
+    ∙ sym (its different places rows c.self.view_is c.self.invariant
+    c.args.number c.index.result.now c.requires.number c.index.ensures)

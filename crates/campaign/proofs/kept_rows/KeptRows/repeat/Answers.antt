@@ -16,15 +16,19 @@ invariant_of-self-2 c =
     let different = c.self.inside.different.items in
     let places = c.self.inside.places.items in
     let place = c.index-place.result.now in
-    let low = place_low different places c.args.self.now c.self.view_is c.self.invariant c.args.number place c.requires c.index-place.ensures in
-    subst (λ (ps : List ℕ). AreThere different ps) (sym c.in_ok-push.ensures.items) (one_there different places place c.self.invariant low)
+    let low =
+    place_low different places c.args.self.now c.self.view_is c.self.invariant
+    c.args.number place c.requires c.index-place.ensures in
+    subst (λ (ps : List ℕ). AreThere different ps) (sym c.in_ok-push.ensures.items)
+    (one_there different places place c.self.invariant low)
 
 pub returns : goal.returns
 returns c row is =
     let different = c.self.inside.different.items in
     let places = c.self.inside.places.items in
     let place = c.index-place.result.now in
-    let here = its different places c.args.self.now c.self.view_is c.self.invariant c.args.number place c.requires c.index-place.ensures in
+    let here =
+    its different places c.args.self.now c.self.view_is c.self.invariant c.args.number place c.requires c.index-place.ensures in
     ap (looked_up different) c.in_ok-push.ensures.items
     ∙ one_found different places place row (sym here ∙ is)
     ∙ ap (λ (rows : List KeptRow). rows ++ row ∷ []) c.self.view_is

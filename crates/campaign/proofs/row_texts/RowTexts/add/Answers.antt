@@ -15,4 +15,5 @@ text_of-requires-clause-kept c =
     let part = c.args.part.now in
     let same : c.self.inside.rows.now ≡ c.args.self.now.rows = ap (λ (t : Texts). t.rows) c.self.view_is in
     let kept = subst (λ (rows : Rows). AreKept rows.base part) (sym same) c.requires.kept in
-    all_got (IsKept c.self.inside.rows.now.base (store_of part)) part.kept c.args.number c.at-row.result.now c.at-row.ensures kept.rows
+    all_got (IsKept c.self.inside.rows.now.base (store_of part)) part.kept
+    c.args.number c.at-row.result.now c.at-row.ensures kept.rows

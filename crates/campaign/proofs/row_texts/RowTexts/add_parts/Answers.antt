@@ -11,7 +11,9 @@ add_part-requires-clause-part c =
     let rows = c.self.inside.rows.now in
     let number = c.loop-number.number in
     let part = c.index.result.now in
-    let there = got rows.parts.items number part (omega (arith, c.loop-number-test.true, c.len-number-end.ensures, rows.parts.ok.0)) c.index.ensures in
+    let there =
+    got rows.parts.items number part
+    (omega (arith, c.loop-number-test.true, c.len-number-end.ensures, rows.parts.ok.0)) c.index.ensures in
     let same = i.rows ∙ sym (ap (λ (t : Texts). t.rows) (c.begin_part.ensures ∙ i.same)) in
     subst (λ (rs : Rows). slice_get rs.parts.items number ≡ Some part) same there
 
@@ -21,7 +23,8 @@ add_part-requires-clause-kept c =
     let part = c.index.result.now in
     let rows = c.begin_part.new.self.rows in
     let same = sym (ap (λ (t : Texts). t.rows) (c.begin_part.ensures ∙ i.same)) in
-    parts_kept rows.base rows.parts.items c.loop-number.number part (add_part-requires-clause-part c) (rw same at c.requires.sound.kept)
+    parts_kept rows.base rows.parts.items c.loop-number.number part
+    (add_part-requires-clause-part c) (rw same at c.requires.sound.kept)
 
 pub add_part-requires-clause-app : goal.add_part-requires-clause-app
 add_part-requires-clause-app c =

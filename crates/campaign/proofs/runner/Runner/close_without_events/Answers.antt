@@ -9,4 +9,7 @@ pub returns-clause-marks : goal.returns-clause-marks
 returns-clause-marks c = λ app limits view base store are all.
     let number : c.len-number.result ≡ length c.args.self.now.legs.items = search rules in
     c.put_marks.ensures.marks app limits view base store are
-    (subst (λ (n : ℕ). AllByRecursion (λ (p : Passed). IsRestIn app limits view base store p.kernel.value (rest_from n c.args.rest.now p)) c.args.self.now.passed.items) (sym number) all)
+    (subst (λ (n : ℕ).
+    AllByRecursion (λ (p : Passed). IsRestIn app limits view base store p.kernel.value (rest_from n c.args.rest.now p))
+    c.args.self.now.passed.items)
+    (sym number) all)

@@ -11,7 +11,10 @@ pub returns : goal.returns
 returns c =
     let shelf = c.args.shelf.now in
     let same = c.base.view_is ∙ c.base-base.ensures in
-    let shared = subst (λ (r : Run). c.shared_by.result ≡ (if shows_events c.args.view r.end then length r.events else 0)) (sym c.base.view_is) c.shared_by.ensures in
+    let shared =
+    subst (λ (r : Run). c.shared_by.result ≡ (if shows_events c.args.view r.end then length r.events else 0))
+    (sym c.base.view_is) c.shared_by.ensures in
     let told = subst (λ (r : Run). c.end_of_base.result ≡ link.Base (length r.events)) (sym c.base.view_is) c.end_of_base.ensures in
-    missed_row c.args.app.now shelf.limits c.args.view shelf.base c.requires.shelf.is_base c.args.point.now (store_in c.args.self.now) c.requires.legs _ _ _ same c.requires.missed
+    missed_row c.args.app.now shelf.limits c.args.view shelf.base c.requires.shelf.is_base
+    c.args.point.now (store_in c.args.self.now) c.requires.legs _ _ _ same c.requires.missed
     shared told

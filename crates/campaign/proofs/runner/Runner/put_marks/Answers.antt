@@ -8,6 +8,8 @@ loop-passed-preserved c =
     record {
       trail = c.loop-passed.invariant.trail;
       legs = c.loop-passed.invariant.legs;
-      right = right_then c.args.number c.args.rest.now c.args.self.now.passed.items c.args.self.now.table.marks.items c.loop-passed.self.passed.items c.loop-passed.self.table.marks.items
+      right =
+          right_then c.args.number c.args.rest.now c.args.self.now.passed.items c.args.self.now.table.marks.items
+          c.loop-passed.self.passed.items c.loop-passed.self.table.marks.items
           c.in-Some.passed c.pop.new.self.items c.put.new.self.marks.items c.loop-passed.invariant.right popped c.put.ensures;
     }

@@ -6,7 +6,8 @@ abbrev pub invariant-loop-passed : goal.invariant-loop-passed
 invariant-loop-passed l = record {
   trail : l.self.trail ≡ l.fn.self.trail;
   legs : l.self.legs ≡ l.fn.self.legs;
-  right : LeavesRight l.number l.rest l.fn.self.passed.items l.fn.self.table.marks.items l.self.passed.items l.self.table.marks.items;
+  right : LeavesRight l.number l.rest l.fn.self.passed.items
+      l.fn.self.table.marks.items l.self.passed.items l.self.table.marks.items;
 }
 
 abbrev pub decreases-loop-passed : goal.decreases-loop-passed

@@ -18,7 +18,8 @@ rest-requires-clause-marks c =
     let old = store_in c.args.self.now in
     let mid : Store = record { trail = all_of c.begin_row.new.trail; legs = c.args.self.now.legs.items } in
     let grown : Grows old mid = record { own = begun.own; trail = begun.kept; more = []; legs = sym (append-nil old.legs) } in
-    still_marked c.args.app.now shelf.limits c.args.view shelf.base old mid c.requires.legs grown c.args.self.now.table.marks.items c.requires.marks
+    still_marked c.args.app.now shelf.limits c.args.view shelf.base old mid
+    c.requires.legs grown c.args.self.now.table.marks.items c.requires.marks
 
 pub rest-requires-clause-legs : goal.rest-requires-clause-legs
 rest-requires-clause-legs c =
@@ -36,10 +37,15 @@ returns-clause-row c =
     let closed = c.in_ok-told.ensures in
     let mid : Store = record { trail = all_of c.begin_row.new.trail; legs = c.args.self.now.legs.items } in
     let over = store_in c.rest.new.self in
-    let goes : IsRestOf c.args.app.now shelf.limits c.args.view shelf.base mid over c.args.point.now c.begin_row.new.kernel c.in_ok-rest.rest = rest.rest in
-    reached_row c.args.app.now shelf.limits c.args.view shelf.base c.requires.shelf.is_base c.args.point.now (store_in c.args.self.now) mid over c.begin_row.new.kernel c.in_ok-begun.begun
-    c.requires.legs begun.begun refl c.in_ok-rest.rest goes (ap (λ v. v.items) rest.legs) (store_in c.close.new.self) begun.before c.requires.reached
-    (sym c.shows_events.ensures ∙ c.if-not-shows_events.false) (ap all_of closed.trail) closed.legs _ c.len-from.ensures _ closed.link
+    let goes : IsRestOf c.args.app.now shelf.limits c.args.view shelf.base
+    mid over c.args.point.now c.begin_row.new.kernel c.in_ok-rest.rest =
+    rest.rest in
+    reached_row c.args.app.now shelf.limits c.args.view shelf.base c.requires.shelf.is_base
+    c.args.point.now (store_in c.args.self.now) mid over c.begin_row.new.kernel c.in_ok-begun.begun
+    c.requires.legs begun.begun refl c.in_ok-rest.rest goes (ap (λ v. v.items) rest.legs)
+    (store_in c.close.new.self) begun.before c.requires.reached
+    (sym c.shows_events.ensures ∙ c.if-not-shows_events.false)
+    (ap all_of closed.trail) closed.legs _ c.len-from.ensures _ closed.link
 
 pub returns-clause-marks : goal.returns-clause-marks
 returns-clause-marks c =
@@ -52,13 +58,19 @@ returns-clause-marks c =
     let mid : Store = record { trail = all_of c.begin_row.new.trail; legs = c.args.self.now.legs.items } in
     let over = store_in c.rest.new.self in
     let new = store_in c.close.new.self in
-    let goes : IsRestOf app shelf.limits view shelf.base mid over c.args.point.now c.begin_row.new.kernel c.in_ok-rest.rest = rest.rest in
-    let legs = its_legs app shelf.limits view shelf.base c.requires.shelf.is_base c.args.point.now (store_in c.args.self.now) mid over c.begin_row.new.kernel c.in_ok-begun.begun
+    let goes : IsRestOf app shelf.limits view shelf.base mid over c.args.point.now c.begin_row.new.kernel c.in_ok-rest.rest =
+    rest.rest in
+    let legs =
+    its_legs app shelf.limits view shelf.base c.requires.shelf.is_base c.args.point.now
+    (store_in c.args.self.now) mid over c.begin_row.new.kernel c.in_ok-begun.begun
     c.requires.legs begun.begun refl c.in_ok-rest.rest goes (ap (λ v. v.items) rest.legs) in
-    let still = still_marked app shelf.limits view shelf.base (store_in c.args.self.now) new c.requires.legs (returns-clause-row c).grows c.args.self.now.table.marks.items c.requires.marks in
+    let still =
+    still_marked app shelf.limits view shelf.base (store_in c.args.self.now) new c.requires.legs
+    (returns-clause-row c).grows c.args.self.now.table.marks.items c.requires.marks in
     let before = subst (λ (t : MarkTable). AreMarked app shelf.limits view shelf.base new t.marks.items) (sym rest.table) still in
     closed.marks app shelf.limits view shelf.base new before
-    (all_closed app shelf.limits view shelf.base over new c.in_ok-rest.rest legs (ap all_of closed.trail) closed.legs c.rest.new.self.passed.items rest.passed)
+    (all_closed app shelf.limits view shelf.base over new c.in_ok-rest.rest legs
+    (ap all_of closed.trail) closed.legs c.rest.new.self.passed.items rest.passed)
 
 pub returns-then-not-shows_events-clause-row : goal.returns-then-not-shows_events-clause-row
 returns-then-not-shows_events-clause-row c =
@@ -68,11 +80,16 @@ returns-then-not-shows_events-clause-row c =
     let closed = c.close_without_events.ensures in
     let mid : Store = record { trail = all_of c.begin_row.new.trail; legs = c.args.self.now.legs.items } in
     let over = store_in c.rest.new.self in
-    let goes : IsRestOf c.args.app.now shelf.limits c.args.view shelf.base mid over c.args.point.now c.begin_row.new.kernel c.in_ok-rest.rest = rest.rest in
+    let goes : IsRestOf c.args.app.now shelf.limits c.args.view shelf.base
+    mid over c.args.point.now c.begin_row.new.kernel c.in_ok-rest.rest =
+    rest.rest in
     let told = subst (λ (b : Run). c.end_of_base.result ≡ link.Base (length b.events)) c.base-base.ensures c.end_of_base.ensures in
-    bare_row c.args.app.now shelf.limits c.args.view shelf.base c.requires.shelf.is_base c.args.point.now (store_in c.args.self.now) mid over c.begin_row.new.kernel c.in_ok-begun.begun
-    c.requires.legs begun.begun refl c.in_ok-rest.rest goes (ap (λ v. v.items) rest.legs) (store_in c.close_without_events.new.self) c.requires.reached
-    (sym c.shows_events.ensures ∙ c.if-not-shows_events.true) _ c.len-from.ensures closed.trail (ap (λ v. v.items) closed.legs) _ told
+    bare_row c.args.app.now shelf.limits c.args.view shelf.base c.requires.shelf.is_base
+    c.args.point.now (store_in c.args.self.now) mid over c.begin_row.new.kernel c.in_ok-begun.begun
+    c.requires.legs begun.begun refl c.in_ok-rest.rest goes (ap (λ v. v.items) rest.legs)
+    (store_in c.close_without_events.new.self) c.requires.reached
+    (sym c.shows_events.ensures ∙ c.if-not-shows_events.true) _
+    c.len-from.ensures closed.trail (ap (λ v. v.items) closed.legs) _ told
 
 pub returns-then-not-shows_events-clause-marks : goal.returns-then-not-shows_events-clause-marks
 returns-then-not-shows_events-clause-marks c =
@@ -83,7 +100,10 @@ returns-then-not-shows_events-clause-marks c =
     let closed = c.close_without_events.ensures in
     let over = store_in c.rest.new.self in
     let new = store_in c.close_without_events.new.self in
-    let still = still_marked app shelf.limits view shelf.base (store_in c.args.self.now) new c.requires.legs (returns-then-not-shows_events-clause-row c).grows c.args.self.now.table.marks.items c.requires.marks in
+    let still =
+    still_marked app shelf.limits view shelf.base (store_in c.args.self.now) new c.requires.legs
+    (returns-then-not-shows_events-clause-row c).grows c.args.self.now.table.marks.items c.requires.marks in
     let before = subst (λ (t : MarkTable). AreMarked app shelf.limits view shelf.base new t.marks.items) (sym rest.table) still in
     closed.marks app shelf.limits view shelf.base new before
-    (all_bare app shelf.limits view shelf.base over new _ c.in_ok-rest.rest (sym c.shows_events.ensures ∙ c.if-not-shows_events.true) c.rest.new.self.passed.items rest.passed)
+    (all_bare app shelf.limits view shelf.base over new _ c.in_ok-rest.rest
+    (sym c.shows_events.ensures ∙ c.if-not-shows_events.true) c.rest.new.self.passed.items rest.passed)

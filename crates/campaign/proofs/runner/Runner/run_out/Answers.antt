@@ -8,7 +8,8 @@ use Rattle.campaign.proofs.runner.Runner.run_out.Goals as goal
 pub go_far-requires-clause-ahead : goal.go_far-requires-clause-ahead
 go_far-requires-clause-ahead c =
     let formed = rw c.limits-limits.ensures at c.well_formed-2.ensures in
-    let low = steps_low c.args.app.now c.args.injections.now c.args.shelf.now.limits formed c.args.self.now.kernel c.requires.past.way in
+    let low =
+    steps_low c.args.app.now c.args.injections.now c.args.shelf.now.limits formed c.args.self.now.kernel c.requires.past.way in
     omega (arith, low)
 
 pub unreachable-requires : goal.unreachable-requires
@@ -23,5 +24,7 @@ pub returns-clause-passed : goal.returns-clause-passed
 returns-clause-passed c =
     let app = c.args.app.now in
     let limits = c.args.shelf.now.limits in
-    let led : IsLed app limits c.args.self.now.kernel c.go_far.new.kernel (all_of c.args.self.now.trail) (all_of c.go_far.new.trail) = rw c.limits-limits.ensures at c.in_ok-ending.ensures.led in
+    let led : IsLed app limits c.args.self.now.kernel c.go_far.new.kernel
+    (all_of c.args.self.now.trail) (all_of c.go_far.new.trail) =
+    rw c.limits-limits.ensures at c.in_ok-ending.ensures.led in
     behind_on app limits _ _ c.args.self.now.kernel c.go_far.new.kernel led c.args.self.now.passed.items c.requires.passed

@@ -9,7 +9,10 @@ pub loop-point-init : goal.loop-point-init
 loop-point-init c = record {
   blocks = refl;
   known = c.requires.known;
-  rows = gains_none c.args.setup.now.app.now c.args.setup.now.shelf.now.limits c.args.setup.now.view.now c.args.setup.now.shelf.now.base c.args.self.now.kept (store_in c.args.self.now.runner) c.args.seat.now c.requires.known.legs;
+  rows =
+      gains_none c.args.setup.now.app.now c.args.setup.now.shelf.now.limits
+      c.args.setup.now.view.now c.args.setup.now.shelf.now.base c.args.self.now.kept
+      (store_in c.args.self.now.runner) c.args.seat.now c.requires.known.legs;
 }
 
 pub add_row-requires-clause-seat : goal.add_row-requires-clause-seat
@@ -20,9 +23,12 @@ add_row-requires-clause-room c kind l =
     let shelf = c.args.setup.now.shelf.now in
     let all = c.args.setup.now.points.now in
     let points = take (c.args.first + c.args.count - c.args.first) (drop c.args.first all) in
-    let within : c.args.first + c.args.count - c.args.first ≤ length (drop c.args.first all) = omega (arith, length-drop c.args.first all, c.requires.points) in
+    let within : c.args.first + c.args.count - c.args.first ≤ length (drop c.args.first all) =
+    omega (arith, length-drop c.args.first all, c.requires.points) in
     let long = length-take-le (c.args.first + c.args.count - c.args.first) (drop c.args.first all) within in
-    let few = gained_few c.args.setup.now.app.now shelf.limits c.args.setup.now.view.now shelf.base _ _ _ _ _ _ _ c.loop-point.invariant.rows kind l in
+    let few =
+    gained_few c.args.setup.now.app.now shelf.limits c.args.setup.now.view.now
+    shelf.base _ _ _ _ _ _ _ c.loop-point.invariant.rows kind l in
     let on = c.loop-point-test.true in
     let room = c.requires.room kind l in
     let count = length-take-le c.loop-point.point-index points (omega arith) in
@@ -36,7 +42,9 @@ loop-point-preserved c =
       blocks = c.in_ok-add_row.ensures.blocks ∙ c.loop-point.invariant.blocks;
       known = c.in_ok-add_row.ensures.known;
       rows = rw (next_point points c.loop-point.point-index c.point-item.result c.loop-point-test.true c.point-item.is)
-          (gains_both c.args.setup.now.app.now shelf.limits c.args.setup.now.view.now shelf.base (take c.loop-point.point-index points) (c.point-item.result ∷ []) _ _ _ _ _ _ _ _ _ c.loop-point.invariant.rows c.in_ok-add_row.ensures.row);
+          (gains_both c.args.setup.now.app.now shelf.limits c.args.setup.now.view.now
+          shelf.base (take c.loop-point.point-index points) (c.point-item.result ∷ [])
+          _ _ _ _ _ _ _ _ _ c.loop-point.invariant.rows c.in_ok-add_row.ensures.row);
     }
 
 pub returns-clause-rows : goal.returns-clause-rows
@@ -47,5 +55,8 @@ returns-clause-rows c =
     let end : length points ≤ c.loop-point.point-index = omega (arith, c.loop-point-test.false) in
     let count : c.args.first + c.args.count - c.args.first ≡ c.args.count = omega arith in
     let same = take_all c.loop-point.point-index points end ∙ ap (λ (n : ℕ). take n after) count in
-    subst (λ (ps : List (List Injection)). GainsRows setup.app.now setup.shelf.now.limits setup.view.now setup.shelf.now.base ps c.args.self.now.kept c.loop-point.self.kept (store_in c.args.self.now.runner) (store_in c.loop-point.self.runner) c.args.seat.now c.loop-point.seat)
+    subst (λ (ps : List (List Injection)).
+    GainsRows setup.app.now setup.shelf.now.limits setup.view.now setup.shelf.now.base
+    ps c.args.self.now.kept c.loop-point.self.kept (store_in c.args.self.now.runner)
+    (store_in c.loop-point.self.runner) c.args.seat.now c.loop-point.seat)
     same c.loop-point.invariant.rows

@@ -6,7 +6,8 @@ use Rattle.campaign.proofs.worker.Worker.add_block.Given as goal
 abbrev pub invariant-loop-point : goal.invariant-loop-point
 invariant-loop-point l = record {
   blocks : l.self.blocks ≡ l.fn.self.blocks;
-  known : Knows l.setup.app.now l.setup.shelf.now.limits l.setup.view.now l.setup.shelf.now.base l.self.kept (store_in l.self.runner) l.self.runner.table.marks.items;
+  known : Knows l.setup.app.now l.setup.shelf.now.limits l.setup.view.now l.setup.shelf.now.base
+      l.self.kept (store_in l.self.runner) l.self.runner.table.marks.items;
   rows : GainsRows l.setup.app.now l.setup.shelf.now.limits l.setup.view.now l.setup.shelf.now.base (take l.point-index l.points)
       l.fn.self.kept l.self.kept (store_in l.fn.self.runner) (store_in l.self.runner) l.fn.seat l.seat;
 }

@@ -14,12 +14,17 @@ returns-clause-row c =
     let shelf = setup.shelf.now in
     let keeps = c.in_ok-end.ensures.row in
     let store = store_in c.keep_row.new.self.runner in
-    gains_one setup.app.now shelf.limits setup.view.now shelf.base c.args.point.now c.args.self.now.kept c.keep_row.new.self.kept (store_in c.args.self.now.runner) store c.args.seat.now c.count_row.new.seat keeps.row keeps.gains
+    gains_one setup.app.now shelf.limits setup.view.now shelf.base c.args.point.now c.args.self.now.kept c.keep_row.new.self.kept
+    (store_in c.args.self.now.runner) store c.args.seat.now c.count_row.new.seat keeps.row keeps.gains
     keeps.rows_are
-    (c.count_row.ensures (row_of shelf.base store keeps.row) (ap (λ (p : List Injection). nat_lt (first_step p) shelf.base.steps) keeps.gains.row.at_point ∙ sym c.reaches-is_reached.ensures) keeps.ends)
+    (c.count_row.ensures (row_of shelf.base store keeps.row)
+    (ap (λ (p : List Injection). nat_lt (first_step p) shelf.base.steps) keeps.gains.row.at_point
+    ∙ sym c.reaches-is_reached.ensures)
+    keeps.ends)
 
 pub returns-clause-known : goal.returns-clause-known
 returns-clause-known c =
     let setup = c.args.setup.now in
     let shelf = setup.shelf.now in
-    knows_more setup.app.now shelf.limits setup.view.now shelf.base (c.args.point.now ∷ []) _ _ _ _ _ _ _ _ c.requires.known (returns-clause-row c) c.in_ok-end.ensures.marks
+    knows_more setup.app.now shelf.limits setup.view.now shelf.base (c.args.point.now ∷ [])
+    _ _ _ _ _ _ _ _ c.requires.known (returns-clause-row c) c.in_ok-end.ensures.marks

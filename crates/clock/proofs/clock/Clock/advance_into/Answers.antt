@@ -10,21 +10,30 @@ pub invariant_of-self : goal.invariant_of-self
 invariant_of-self c =
     let q = c.self.inside in
     let s = c.if-self.self-inside in
-    let P : Inside → Type 0 = λ i. Turned i.lists i.age (2 ^ 32 * i.overflows) i.tick i.current.number i.overflow.number c.args.self.now in
+    let P : Inside → Type 0 = λ i.
+    Turned i.lists i.age (2 ^ 32 * i.overflows) i.tick i.current.number i.overflow.number c.args.self.now in
     let turned : P s = elim c.if-self.branch [
-      | then-self w ↦ subst P (sym w.self-inside-is) (rw (w.swap.ensures.x_after, w.swap.ensures.y_after) (turned_over c.self.invariant c.self.view_is (2 ^ 32 * (q.overflows + 1)) (omega arith) (omega (arith, w.if-self.true))))
-      | else-self w ↦ subst P (sym w.self-inside-is) (ticked c.self.invariant c.self.view_is (let ne = w.if-self.false in omega (arith, ne)))
+      | then-self w ↦
+          subst P (sym w.self-inside-is) (rw (w.swap.ensures.x_after, w.swap.ensures.y_after)
+          (turned_over c.self.invariant c.self.view_is (2 ^ 32 * (q.overflows + 1)) (omega arith) (omega (arith, w.if-self.true))))
+      | else-self w ↦
+          subst P (sym w.self-inside-is) (ticked c.self.invariant c.self.view_is (let ne = w.if-self.false in omega (arith, ne)))
     ] in
-    clock_after turned c.take_due.new.lists _ c.take_due.ensures.due c.take_due.ensures.later c.take_due.ensures.others c.take_due.ensures.sound c.requires (omega arith)
+    clock_after turned c.take_due.new.lists _ c.take_due.ensures.due c.take_due.ensures.later
+    c.take_due.ensures.others c.take_due.ensures.sound c.requires (omega arith)
 
 pub returns-clause-advances : goal.returns-clause-advances
 returns-clause-advances c =
     let q = c.self.inside in
     let s = c.if-self.self-inside in
-    let P : Inside → Type 0 = λ i. Turned i.lists i.age (2 ^ 32 * i.overflows) i.tick i.current.number i.overflow.number c.args.self.now in
+    let P : Inside → Type 0 = λ i.
+    Turned i.lists i.age (2 ^ 32 * i.overflows) i.tick i.current.number i.overflow.number c.args.self.now in
     let turned : P s = elim c.if-self.branch [
-      | then-self w ↦ subst P (sym w.self-inside-is) (rw (w.swap.ensures.x_after, w.swap.ensures.y_after) (turned_over c.self.invariant c.self.view_is (2 ^ 32 * (q.overflows + 1)) (omega arith) (omega (arith, w.if-self.true))))
-      | else-self w ↦ subst P (sym w.self-inside-is) (ticked c.self.invariant c.self.view_is (let ne = w.if-self.false in omega (arith, ne)))
+      | then-self w ↦
+          subst P (sym w.self-inside-is) (rw (w.swap.ensures.x_after, w.swap.ensures.y_after)
+          (turned_over c.self.invariant c.self.view_is (2 ^ 32 * (q.overflows + 1)) (omega arith) (omega (arith, w.if-self.true))))
+      | else-self w ↦
+          subst P (sym w.self-inside-is) (ticked c.self.invariant c.self.view_is (let ne = w.if-self.false in omega (arith, ne)))
     ] in
     let H : Inside → Type 0 = λ i. i.held ≡ c.args.self.now.held in
     let held : H s = elim c.if-self.branch [

@@ -15,7 +15,8 @@ pub returns-clause-advances : goal.returns-clause-advances
 returns-clause-advances c =
     let now = ap (λ (t : Timeline). t.now) c.self.view_is in
     let turn = c.requires.turn in
-    advances_quietly (ticked c.self.invariant c.self.view_is (omega (arith, now, turn))) c.requires.asleep _ (ap (λ (t : Timeline). t.held) c.self.view_is)
+    advances_quietly (ticked c.self.invariant c.self.view_is (omega (arith, now, turn)))
+    c.requires.asleep _ (ap (λ (t : Timeline). t.held) c.self.view_is)
 
 pub returns-clause-due : goal.returns-clause-due
 returns-clause-due c = λ s h. due_next c.args.self.now _ s [] (returns-clause-advances c) h

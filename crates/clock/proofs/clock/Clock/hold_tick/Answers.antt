@@ -7,4 +7,5 @@ use Rattle.clock.proofs.clock.Clock.hold_tick.Goals as goal
 
 pub returns-clause-stands : goal.returns-clause-stands
 returns-clause-stands c = λ s h on.
-    subst (λ (t : Timeline). StandsFor t (time.increment_tick s)) (sym (ap (λ (t : Timeline). holding t (t.held + 1)) c.self.view_is)) (stands_held c.args.self.now s h on)
+    subst (λ (t : Timeline). StandsFor t (time.increment_tick s))
+    (sym (ap (λ (t : Timeline). holding t (t.held + 1)) c.self.view_is)) (stands_held c.args.self.now s h on)

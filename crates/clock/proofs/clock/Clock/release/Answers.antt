@@ -6,4 +6,5 @@ use Rattle.clock.proofs.clock.Clock.release.Goals as goal
 
 pub returns-clause-stands : goal.returns-clause-stands
 returns-clause-stands c = λ s h.
-    subst (λ (t : Timeline). StandsFor t (before_held s)) (sym (ap (λ (t : Timeline). holding t (t.held - 1)) c.self.view_is)) (stands_released c.args.self.now s h c.requires)
+    subst (λ (t : Timeline). StandsFor t (before_held s))
+    (sym (ap (λ (t : Timeline). holding t (t.held - 1)) c.self.view_is)) (stands_released c.args.self.now s h c.requires)

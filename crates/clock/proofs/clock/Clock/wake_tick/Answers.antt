@@ -13,5 +13,6 @@ returns c =
     let asleep : is_asleep c.args.self.now c.args.task ≡ true = search rules in
     let here = subst (λ (t : Timeline). is_asleep t c.args.task ≡ true) (sym c.self.view_is) asleep in
     let until : SleepsUntil c.args.self.now.delayed_list c.args.task c.value.result =
-    subst (λ (t : Timeline). SleepsUntil t.delayed_list c.args.task c.value.result) c.self.view_is (sleeps_until c.self.inside.overflows c.self.invariant c.args.task c.value.result here c.value.ensures.value) in
+    subst (λ (t : Timeline). SleepsUntil t.delayed_list c.args.task c.value.result) c.self.view_is
+    (sleeps_until c.self.inside.overflows c.self.invariant c.args.task c.value.result here c.value.ensures.value) in
     record { stands = λ s h. wakes_with c.args.self.now s c.args.task c.value.result h until }

@@ -1,4 +1,5 @@
-use Rattle.std.proofs.Common.{◌≡◌, ◌<◌, ◌≤◌, ◌^◌, [], List, length, replicate, false, vec_len, vec_capacity, sym, ap, ap₂, ◌∙◌, subst, arith}
+use Rattle.std.proofs.Common.{◌≡◌, ◌<◌, ◌≤◌, ◌^◌, [], List, length, replicate, false, vec_len, vec_capacity, sym, ap, ap₂, ◌∙◌}
+use Rattle.std.proofs.Common.{subst, arith}
 use Rattle.atomic_table.specs.Table.{Me}
 use Rattle.deal.specs.Totals.{range}
 use Rattle.deal.specs.Marks.{mark}
@@ -21,7 +22,9 @@ lanes_of-requires-clause-hands c =
     let of : AreHands table.table_id table.key.lanes (length c.args.division) 4096 hands.items =
     subst (λ n. AreHands table.table_id table.key.lanes n 4096 hands.items) c.count-blocks.ensures
     (subst (λ w. AreHands table.table_id w c.count-blocks.result 4096 hands.items) many e.1) in
-    subst (λ (t : Shared). (vec_len hands ≡ t.count.shared.key.lanes) × AreHands t.count.shared.table_id t.count.shared.key.lanes (length t.division) 4096 hands.items)
+    subst (λ (t : Shared).
+    (vec_len hands ≡ t.count.shared.key.lanes)
+    × AreHands t.count.shared.table_id t.count.shared.key.lanes (length t.division) 4096 hands.items)
     (sym c.in_ok-shared.ensures.ok) (e.0 ∙ many, of)
 
 pub returns-clause-of : goal.returns-clause-of
@@ -34,16 +37,20 @@ pub returns-clause-many : goal.returns-clause-many
 returns-clause-many c =
     let s = c.in_ok-shared.shared.value in
     let g : Game = game s.count.shared.table_id s.count.shared.key.lanes s.division in
-    let workers : s.count.shared.key.lanes ≡ c.args.workers = ap (λ (t : Shared). t.count.shared.key.lanes) c.in_ok-shared.ensures.ok ∙ ap (λ (k : Size). k.lanes) c.in_ok-count.ensures.5 in
+    let workers : s.count.shared.key.lanes ≡ c.args.workers =
+    ap (λ (t : Shared). t.count.shared.key.lanes) c.in_ok-shared.ensures.ok ∙ ap (λ (k : Size). k.lanes) c.in_ok-count.ensures.5 in
     omega (arith, c.in_ok-lanes.lanes.ok, ap (λ (l : List Sight). length l) c.in_ok-lanes.ensures.lanes, fresh_many g, workers)
 
 pub make_hands-requires-clause-dealer : goal.make_hands-requires-clause-dealer
 make_hands-requires-clause-dealer c =
     let e = c.in_ok-count.ensures in
     let blocks = c.count-blocks.result in
-    let first : c.in_ok-count.dealer.me.0 ≡ mark blocks c.args.workers c.args.workers 0 0 (range 0 blocks) = ap (λ (m : Me (Unit {0}) Mark). m.0) e.4 in (
+    let first : c.in_ok-count.dealer.me.0 ≡ mark blocks c.args.workers c.args.workers 0 0 (range 0 blocks) =
+    ap (λ (m : Me (Unit {0}) Mark). m.0) e.4 in (
       (e.2, ap (λ (m : Me (Unit {0}) Mark). m.1) e.4, e.0),
-      first ∙ ap₂ (λ lanes parts. mark blocks lanes parts 0 0 (range 0 blocks)) (sym (ap (λ (m : Mark). m.lanes) first)) (sym (ap (λ (m : Mark). m.parts) first)),
+      first
+          ∙ ap₂ (λ lanes parts. mark blocks lanes parts 0 0 (range 0 blocks))
+          (sym (ap (λ (m : Mark). m.lanes) first)) (sym (ap (λ (m : Mark). m.parts) first)),
     )
 
 pub lanes_of-requires-clause-shared : goal.lanes_of-requires-clause-shared
@@ -63,15 +70,18 @@ lanes_of-requires-clause-dealer c =
     let blocks = c.count-blocks.result in
     let first = ap (λ (m : Me (Unit {0}) Mark). m.0) e.4 in
     let all : c.make_hands.new.dealer.me.0 ≡ mark blocks c.args.workers c.args.workers 0 0 [] =
-    d.1 ∙ ap₂ (λ lanes parts. mark blocks lanes parts 0 0 []) (ap (λ (m : Mark). m.lanes) first) (ap (λ (m : Mark). m.parts) first) in
-    subst (λ (t : Shared). IsDealer t.count.shared.key t.count.shared.table_id t.count.shared.key.lanes c.make_hands.new.dealer) (sym c.in_ok-shared.ensures.ok)
+    d.1
+    ∙ ap₂ (λ lanes parts. mark blocks lanes parts 0 0 []) (ap (λ (m : Mark). m.lanes) first) (ap (λ (m : Mark). m.parts) first) in
+    subst (λ (t : Shared). IsDealer t.count.shared.key t.count.shared.table_id t.count.shared.key.lanes c.make_hands.new.dealer)
+    (sym c.in_ok-shared.ensures.ok)
     (d.0, subst (λ (k : Size). c.make_hands.new.dealer.me.0 ≡ mark k.blocks k.lanes k.lanes 0 0 []) (sym e.5) all)
 
 pub invariant_of-deal : goal.invariant_of-deal
 invariant_of-deal c =
     let e = c.in_ok-count.ensures in
     let s = c.in_ok-shared.shared.value in
-    let blocks : length s.division ≡ c.count-blocks.result = ap (λ (t : Shared). length t.division) c.in_ok-shared.ensures.ok ∙ sym c.count-blocks.ensures in
+    let blocks : length s.division ≡ c.count-blocks.result =
+    ap (λ (t : Shared). length t.division) c.in_ok-shared.ensures.ok ∙ sym c.count-blocks.ensures in
     let key = ap (λ (t : Shared). t.count.shared.key) c.in_ok-shared.ensures.ok ∙ e.5 in
     let lanes : s.count.shared.key.lanes ≡ c.args.workers = ap (λ (k : Size). k.lanes) key in
     let room = c.in_ok-lists.ensures in (

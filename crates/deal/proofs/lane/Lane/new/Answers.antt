@@ -27,6 +27,7 @@ invariant_of-result c =
       c.requires.hand.2.0,
       omega (arith, room.capacity, c.count.ensures, ap (λ (t : Shared). length t.division) c.deref.ensures),
       s.3,
-      new_lane c.args.shared.value.count.shared.key c.args.shared.value.division c.split_seat-share.result c.args.dealer.now c.args.hand c.in_ok-got.got.items z
+      new_lane c.args.shared.value.count.shared.key c.args.shared.value.division
+          c.split_seat-share.result c.args.dealer.now c.args.hand c.in_ok-got.got.items z
           s.0 s.1 room.items d of (ap (λ (m : Me (Unit {0}) Mark). m.0) e.4) c.requires.hand,
     )

@@ -25,12 +25,19 @@ invariant_of-self c =
     let now = c.self.inside.shared.value in
     let z = now.count.shared.table_id in
     let of : IsShareOf z c.hand_out.new.share = subst (λ t. IsShareOf t.count.shared.table_id c.hand_out.new.share) here e.share in
-    let took = subst (λ t. Took t.count.shared.table_id (worker_view c.self.inside.own) c.self.inside.others.items (worker_view c.take.new.own) c.take.new.others.items c.in-Some.ticket) here c.in-Some.ensures.taken in (
+    let took =
+    subst (λ t.
+    Took t.count.shared.table_id (worker_view c.self.inside.own) c.self.inside.others.items
+    (worker_view c.take.new.own) c.take.new.others.items c.in-Some.ticket)
+    here c.in-Some.ensures.taken in (
       c.take.ensures.same.1 ∙ c.self.invariant.0,
       omega (arith, p.capacity, c.self.invariant.1),
       c.self.invariant.2,
-      subst (λ g. IsLane now.count.shared.key now.division c.hand_out.new.share (worker_view c.take.new.own) c.take.new.others.items g z) (sym p.items)
-          (after_block now.count.shared.key now.division c.self.inside.share _ _ _ _ c.hand_out.new.share _ _ c.in-Some.ticket _ l took of e.counted),
+      subst (λ g.
+          IsLane now.count.shared.key now.division c.hand_out.new.share (worker_view c.take.new.own) c.take.new.others.items g z)
+          (sym p.items)
+          (after_block now.count.shared.key now.division c.self.inside.share _ _ _
+          _ c.hand_out.new.share _ _ c.in-Some.ticket _ l took of e.counted),
     )
 
 pub returns-in-Some : goal.returns-in-Some
@@ -64,7 +71,9 @@ returns-after-look-blocks c =
     let many = c.blocks-in-None.ensures ∙ ap (λ t. length t.division) here in
     let now = c.self.inside.shared.value in
     let old = c.args.self.now in
-    let new : Sight = sight (game now.count.shared.table_id now.count.shared.key.lanes now.division) c.look.new.share.me.0 (worker_view c.take.new.own) c.self.inside.got.items in
+    let new : Sight =
+    sight (game now.count.shared.table_id now.count.shared.key.lanes now.division)
+    c.look.new.share.me.0 (worker_view c.take.new.own) c.self.inside.got.items in
     let goes : Goes old new = (
       ap (λ (s : Sight). s.game) v,
       ap (λ w. w.dealt) none.0 ∙ ap (λ (s : Sight). s.dealt) v,
@@ -72,7 +81,23 @@ returns-after-look-blocks c =
     ) in
     let same : new.answered ≡ old.answered = ap (λ (s : Sight). s.answered) v in
     let next : MatchNext c.if-look-blocks.result old new = elim c.if-look-blocks.branch [
-      | then-look-blocks w ↦ subst (λ r. MatchNext r old new) (sym w.result-is) (same, omega (arith, seen, w.if-look-blocks.true, many))
-      | else-look-blocks w ↦ subst (λ r. MatchNext r old new) (sym w.result-is) (same, omega (arith, e.among.1, l.3, l.5, λ (lone : now.count.shared.key.lanes ≡ 1). w.if-look-blocks.false (e.whole (l.3 ∙ sym lone ∙ sym l.5) ∙ alone now.count.shared.key now.division c.self.inside.share (worker_view c.self.inside.own) c.self.inside.others.items c.self.inside.got.items now.count.shared.table_id l lone none.2 ∙ sym many)), λ (all : new.seen ≡ length now.division). w.if-look-blocks.false (sym seen ∙ all ∙ sym many))
+      | then-look-blocks w ↦
+          subst (λ r. MatchNext r old new) (sym w.result-is) (same, omega (arith, seen, w.if-look-blocks.true, many))
+      | else-look-blocks w ↦
+          subst (λ r. MatchNext r old new) (sym w.result-is) (
+            same,
+            omega (
+              arith,
+              e.among.1,
+              l.3,
+              l.5,
+              λ (lone : now.count.shared.key.lanes ≡ 1).
+                  w.if-look-blocks.false (e.whole (l.3 ∙ sym lone ∙ sym l.5)
+                  ∙ alone now.count.shared.key now.division c.self.inside.share (worker_view c.self.inside.own)
+                  c.self.inside.others.items c.self.inside.got.items now.count.shared.table_id l lone none.2
+                  ∙ sym many),
+            ),
+            λ (all : new.seen ≡ length now.division). w.if-look-blocks.false (sym seen ∙ all ∙ sym many),
+          )
     ] in
     record { goes = goes; next = next }

@@ -13,9 +13,20 @@ returns-clause-taken c =
     let same : w.seats ≡ v.seats = ap (λ (t : Tallied). t.sheet.seats) view ∙ ap (λ (s : Sheet). s.seats) c.requires.0 in (
       omega (arith, ap (λ (p : Part). p.seats) is, same),
       omega (arith, ap (λ (p : Part). p.parts) is, c.self.invariant.1),
-      (λ k. omega (arith, ap (λ (p : Part). slice_index p.added k) is, sums_at v.added w.added k, ap (λ (t : Tallied). slice_index t.added k) view)),
+      (λ k.
+          omega (
+            arith,
+            ap (λ (p : Part). slice_index p.added k) is,
+            sums_at v.added w.added k,
+            ap (λ (t : Tallied). slice_index t.added k) view,
+          )),
       λ k. (
         omega (arith, ap (λ (p : Part). slice_index p.seen k) is, greater_at v.seen w.seen k),
-        omega (arith, ap (λ (p : Part). slice_index p.seen k) is, greater_at v.seen w.seen k, ap (λ (t : Tallied). slice_index t.seen k) view),
+        omega (
+          arith,
+          ap (λ (p : Part). slice_index p.seen k) is,
+          greater_at v.seen w.seen k,
+          ap (λ (t : Tallied). slice_index t.seen k) view,
+        ),
       ),
     )

@@ -16,9 +16,12 @@ returns-then-is_met-clause-stands c = λ s h.
     let known : n < 16 = c.group.invariant in
     let condition = c.args.condition.now in
     let bits : c.bits-bits.result ≡ bits_at s c.args.group = c.bits-bits.ensures.stands s h in
-    let met : definitions.is_met (bits_at s c.args.group) condition ≡ true = ap (λ (b : ℕ). definitions.is_met b condition) (sym bits) ∙ sym c.is_met.ensures.met ∙ c.if-is_met.true in
-    let left : c.bits_left.result ≡ definitions.bits_left (bits_at s c.args.group) condition = c.bits_left.ensures.left ∙ ap (λ (b : ℕ). definitions.bits_left b condition) bits in
+    let met : definitions.is_met (bits_at s c.args.group) condition ≡ true =
+    ap (λ (b : ℕ). definitions.is_met b condition) (sym bits) ∙ sym c.is_met.ensures.met ∙ c.if-is_met.true in
+    let left : c.bits_left.result ≡ definitions.bits_left (bits_at s c.args.group) condition =
+    c.bits_left.ensures.left ∙ ap (λ (b : ℕ). definitions.bits_left b condition) bits in
     rw met
     (subst (λ (b : ℕ). StandsFor (record v { bits = set q.bits n c.bits_left.result }) (with_bits c.args.group b s)) left
-    (subst (λ (g : ℕ). StandsFor (record v { bits = set q.bits n c.bits_left.result }) (with_bits g c.bits_left.result s)) c.group.view_is
+    (subst (λ (g : ℕ). StandsFor (record v { bits = set q.bits n c.bits_left.result }) (with_bits g c.bits_left.result s))
+    c.group.view_is
     (stands_with_bits v s n c.bits_left.result (omega (arith, told, known)) h')))

@@ -22,13 +22,19 @@ returns-clause-stands c = λ s h l.
     let put : c.push_back.new.self ≡ set q.lists g (entries_of q.lists g ++ (i, 0) ∷ []) =
     c.push_back.ensures.put ∙ ap (λ (k : ℕ). set q.lists k (entries_of q.lists k ++ (i, 0) ∷ [])) c.list_id.ensures.number in
     let t : State = wait_for_bits i g (want i c.args.condition s) in
-    subst (λ (k : ℕ). StandsFor (record { bits = q.bits; waiting = c.push_back.new.self; wants = set q.wants k c.args.condition }) t) (sym c.task.view_is)
-    (subst (λ (ls : List (List (ℕ × ℕ))). StandsFor (record { bits = q.bits; waiting = ls; wants = set q.wants i c.args.condition }) t) (sym put) one)
+    subst
+    (λ (k : ℕ). StandsFor (record { bits = q.bits; waiting = c.push_back.new.self; wants = set q.wants k c.args.condition }) t)
+    (sym c.task.view_is)
+    (subst
+    (λ (ls : List (List (ℕ × ℕ))). StandsFor (record { bits = q.bits; waiting = ls; wants = set q.wants i c.args.condition }) t)
+    (sym put) one)
 
 pub returns-clause-begins : goal.returns-clause-begins
 returns-clause-begins c = λ s ticks h l.
     let q = c.self.inside in
     let v : EventGroups = record { bits = q.bits; waiting = q.lists; wants = q.wants } in
     let h' : StandsFor v s = subst (λ (w : EventGroups). StandsFor w s) (sym c.self.view_is) h in
-    let free : place_of q.lists c.args.task ≡ None = ap (λ (w : EventGroups). place_of w.waiting c.args.task) c.self.view_is ∙ c.requires.free in
-    stands_begun c.args.self.now s c.args.task c.args.group c.args.condition ticks _ h (free_waits v s h' c.args.task c.self.invariant.sound free) l (returns-clause-stands c)
+    let free : place_of q.lists c.args.task ≡ None =
+    ap (λ (w : EventGroups). place_of w.waiting c.args.task) c.self.view_is ∙ c.requires.free in
+    stands_begun c.args.self.now s c.args.task c.args.group c.args.condition ticks _ h
+    (free_waits v s h' c.args.task c.self.invariant.sound free) l (returns-clause-stands c)

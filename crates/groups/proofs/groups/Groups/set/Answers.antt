@@ -14,12 +14,16 @@ pub returns-clause-met : goal.returns-clause-met
 returns-clause-met c = λ s h.
     let v = c.args.self.now in
     let g = c.args.group in
-    let bits : bit_or c.bits.result c.args.mask ≡ bits_set g c.args.mask s = ap (λ (b : ℕ). bit_or b c.args.mask) c.bits.ensures.bits ∙ set_is v s h g c.args.mask in
+    let bits : bit_or c.bits.result c.args.mask ≡ bits_set g c.args.mask s =
+    ap (λ (b : ℕ). bit_or b c.args.mask) c.bits.ensures.bits ∙ set_is v s h g c.args.mask in
     let wants : c.self.inside.wants ≡ v.wants = ap (λ (w : EventGroups). w.wants) c.self.view_is in
     let lists : entries_of c.self.inside.lists c.list_id.result.number ≡ waiting_in v g =
-    ap (λ (w : EventGroups). entries_of w.waiting c.list_id.result.number) c.self.view_is ∙ ap (waiting_in v) c.list_id.ensures.number in
+    ap (λ (w : EventGroups). entries_of w.waiting c.list_id.result.number) c.self.view_is
+    ∙ ap (waiting_in v) c.list_id.ensures.number in
     c.take_met-met.ensures.tasks
-    ∙ ap (λ (ws : List Condition). met_of ws (bit_or c.bits.result c.args.mask) (entries_of c.self.inside.lists c.list_id.result.number)) wants
+    ∙ ap (λ (ws : List Condition).
+    met_of ws (bit_or c.bits.result c.args.mask) (entries_of c.self.inside.lists c.list_id.result.number))
+    wants
     ∙ ap (met_of v.wants (bit_or c.bits.result c.args.mask)) lists
     ∙ ap (λ (b : ℕ). met_of v.wants b (waiting_in v g)) bits
     ∙ met_is v s h g (bits_set g c.args.mask s)
@@ -28,7 +32,8 @@ pub returns-clause-after : goal.returns-clause-after
 returns-clause-after c = λ s h.
     let v = c.args.self.now in
     let g = c.args.group in
-    let bits : bit_or c.bits.result c.args.mask ≡ bits_set g c.args.mask s = ap (λ (b : ℕ). bit_or b c.args.mask) c.bits.ensures.bits ∙ set_is v s h g c.args.mask in
+    let bits : bit_or c.bits.result c.args.mask ≡ bits_set g c.args.mask s =
+    ap (λ (b : ℕ). bit_or b c.args.mask) c.bits.ensures.bits ∙ set_is v s h g c.args.mask in
     let wants : c.self.inside.wants ≡ v.wants = ap (λ (w : EventGroups). w.wants) c.self.view_is in
     let met = returns-clause-met c s h ∙ sym (met_is v s h g (bits_set g c.args.mask s)) in
     c.take_met-met.ensures.left
@@ -43,14 +48,19 @@ returns-clause-stands c = λ s h.
     let w : EventGroups = record { bits = q.bits; waiting = q.lists; wants = q.wants } in
     let h' : StandsFor w s = subst (λ (v : EventGroups). StandsFor v s) (sym c.self.view_is) h in
     let g = c.args.group in
-    let bits : bit_or c.bits.result c.args.mask ≡ bits_set g c.args.mask s = ap (λ (b : ℕ). bit_or b c.args.mask) c.bits.ensures.bits ∙ set_is c.args.self.now s h g c.args.mask in
+    let bits : bit_or c.bits.result c.args.mask ≡ bits_set g c.args.mask s =
+    ap (λ (b : ℕ). bit_or b c.args.mask) c.bits.ensures.bits ∙ set_is c.args.self.now s h g c.args.mask in
     let new = c.take_met-met.new.lists in
     let woken = c.take_met-met.ensures.woken w s refl h' in
     let told = c.self.told in
     let known : c.group.inside.number < 16 = c.group.invariant in
     let there : g < length q.bits = subst (λ (k : ℕ). k < length q.bits) c.group.view_is (omega (arith, told, known)) in
-    subst (λ (k : ℕ). StandsFor (record { bits = set q.bits k c.take_met-met.result.left; waiting = new; wants = q.wants }) (definitions.set g c.args.mask s)) (sym c.group.view_is)
-    (stands_set w s g c.args.mask (bit_or c.bits.result c.args.mask) c.take_met-met.result.left c.take_met-met.result.tasks.items new there bits (returns-clause-met c s h) (returns-clause-after c s h) woken)
+    subst (λ (k : ℕ).
+    StandsFor (record { bits = set q.bits k c.take_met-met.result.left; waiting = new; wants = q.wants })
+    (definitions.set g c.args.mask s))
+    (sym c.group.view_is)
+    (stands_set w s g c.args.mask (bit_or c.bits.result c.args.mask) c.take_met-met.result.left
+    c.take_met-met.result.tasks.items new there bits (returns-clause-met c s h) (returns-clause-after c s h) woken)
 
 pub returns-clause-kept : goal.returns-clause-kept
 returns-clause-kept c = λ s h.

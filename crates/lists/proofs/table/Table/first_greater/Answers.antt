@@ -8,7 +8,9 @@ use Rattle.lists.proofs.table.Table.first_greater.Goals as goal
 pub loop-at-init : goal.loop-at-init
 loop-at-init g c =
     let h = c.self.invariant.rings in
-    let entries = entries_of (lists_of g.row.N (links_of g.row.N c.self.inside.next) c.self.inside.values (ends_of g.row.N c.self.inside.next)) c.args.list.number in
+    let entries =
+    entries_of (lists_of g.row.N (links_of g.row.N c.self.inside.next) c.self.inside.values (ends_of g.row.N c.self.inside.next))
+    c.args.list.number in
     let start : Search c.args.value entries (node_at g.row.N (get_or c.self.inside.next (g.row.N + c.args.list.number) 0)) =
     record { before = []; rest = entries; whole = refl; here = ring_first h c.args.list.number c.requires; same = refl } in
     rw c.end-end.ensures start
@@ -16,7 +18,9 @@ loop-at-init g c =
 pub returns-then-value-self-clause-found : goal.returns-then-value-self-clause-found
 returns-then-value-self-clause-found g c =
     let is = node-below g.row.N c.loop-at.at c.loop-at-test.true in
-    let at = shows c.self.invariant.rings.spells c.args.list.number c.requires c.args.value c.loop-at.at (node_at g.row.N c.loop-at.at) c.loop-at.invariant is in
+    let at =
+    shows c.self.invariant.rings.spells c.args.list.number c.requires c.args.value
+    c.loop-at.at (node_at g.row.N c.loop-at.at) c.loop-at.invariant is in
     at.greater (omega arith)
     ∙ ap (λ (xs : List (List (ℕ × ℕ))). first_of (upper c.args.value (entries_of xs c.args.list.number))) c.self.view_is
 
@@ -24,13 +28,23 @@ pub loop-at-smaller : goal.loop-at-smaller
 loop-at-smaller g c =
     let links = links_of g.row.N c.self.inside.next in
     let is = node-below g.row.N c.loop-at.at c.loop-at-test.true in
-    let at = shows c.self.invariant.rings.spells c.args.list.number c.requires c.args.value c.loop-at.at (node_at g.row.N c.loop-at.at) c.loop-at.invariant is in
-    subst (λ (o : Option ℕ). length (walk links c.self.inside.values g.row.N o) < length (walk links c.self.inside.values g.row.N (node_at g.row.N c.loop-at.at)))
+    let at =
+    shows c.self.invariant.rings.spells c.args.list.number c.requires c.args.value
+    c.loop-at.at (node_at g.row.N c.loop-at.at) c.loop-at.invariant is in
+    subst (λ (o : Option ℕ).
+    length (walk links c.self.inside.values g.row.N o)
+    < length (walk links c.self.inside.values g.row.N (node_at g.row.N c.loop-at.at)))
     (read_node g.row.N c.self.inside.next c.loop-at.at c.loop-at-test.true (next_room c.self.invariant.rings)) at.shorter
 
 pub loop-at-preserved : goal.loop-at-preserved
 loop-at-preserved g c =
-    let entries = entries_of (lists_of g.row.N (links_of g.row.N c.self.inside.next) c.self.inside.values (ends_of g.row.N c.self.inside.next)) c.args.list.number in
+    let entries =
+    entries_of (lists_of g.row.N (links_of g.row.N c.self.inside.next) c.self.inside.values (ends_of g.row.N c.self.inside.next))
+    c.args.list.number in
     let is = node-below g.row.N c.loop-at.at c.loop-at-test.true in
-    let at = shows c.self.invariant.rings.spells c.args.list.number c.requires c.args.value c.loop-at.at (node_at g.row.N c.loop-at.at) c.loop-at.invariant is in
-    subst (Search c.args.value entries) (read_node g.row.N c.self.inside.next c.loop-at.at c.loop-at-test.true (next_room c.self.invariant.rings)) (at.goes_on (omega arith))
+    let at =
+    shows c.self.invariant.rings.spells c.args.list.number c.requires c.args.value
+    c.loop-at.at (node_at g.row.N c.loop-at.at) c.loop-at.invariant is in
+    subst (Search c.args.value entries)
+    (read_node g.row.N c.self.inside.next c.loop-at.at c.loop-at-test.true (next_room c.self.invariant.rings))
+    (at.goes_on (omega arith))

@@ -18,5 +18,7 @@ put_before-requires g c =
 pub returns-clause-put : goal.returns-clause-put
 returns-clause-put g c =
     let entries = entries_of c.args.self.now c.args.list.number in
-    c.put_before.ensures.put (lower c.args.value entries) (upper c.args.value entries) (lower-upper c.args.value entries) c.first_greater-after.ensures.found
-    ∙ ap (λ (xs : List (ℕ × ℕ)). set c.args.self.now c.args.list.number xs) (sym (insert_sorted-lower-upper c.args.node.number c.args.value entries))
+    c.put_before.ensures.put (lower c.args.value entries) (upper c.args.value entries)
+    (lower-upper c.args.value entries) c.first_greater-after.ensures.found
+    ∙ ap (λ (xs : List (ℕ × ℕ)). set c.args.self.now c.args.list.number xs)
+    (sym (insert_sorted-lower-upper c.args.node.number c.args.value entries))

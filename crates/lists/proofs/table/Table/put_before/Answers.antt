@@ -16,17 +16,21 @@ invariant_of-self g c =
     let h = ring_seen c.self.invariant.rings c.self.view_is in
     let free = place_is h.spells c.args.node.number ∙ c.requires.free in
     rw c.to.ensures.to
-    (ring_table (ring_put h c.args.list.number c.args.node.number c.args.value c.args.after p.before p.rest c.requires.list c.requires.node free p.whole p.here c.requires.end) c.self.invariant.lists_fit c.self.invariant.nodes_fit)
+    (ring_table (ring_put h c.args.list.number c.args.node.number c.args.value c.args.after
+    p.before p.rest c.requires.list c.requires.node free p.whole p.here c.requires.end)
+    c.self.invariant.lists_fit c.self.invariant.nodes_fit)
 
 pub returns-clause-put : goal.returns-clause-put
 returns-clause-put g c = λ before rest whole here.
     let h = ring_seen c.self.invariant.rings c.self.view_is in
     let free = place_is h.spells c.args.node.number ∙ c.requires.free in
-    ring_lists (ring_put h c.args.list.number c.args.node.number c.args.value c.args.after before rest c.requires.list c.requires.node free whole here c.requires.end)
+    ring_lists (ring_put h c.args.list.number c.args.node.number c.args.value c.args.after
+    before rest c.requires.list c.requires.node free whole here c.requires.end)
 
 pub returns-clause-sound : goal.returns-clause-sound
 returns-clause-sound g c =
     let p = c.requires.split in
     let h = ring_seen c.self.invariant.rings c.self.view_is in
     let free = place_is h.spells c.args.node.number ∙ c.requires.free in
-    ring_sound (ring_put h c.args.list.number c.args.node.number c.args.value c.args.after p.before p.rest c.requires.list c.requires.node free p.whole p.here c.requires.end)
+    ring_sound (ring_put h c.args.list.number c.args.node.number c.args.value c.args.after
+    p.before p.rest c.requires.list c.requires.node free p.whole p.here c.requires.end)

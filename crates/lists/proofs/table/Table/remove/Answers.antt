@@ -16,39 +16,51 @@ no_list (Some k) b e t = absurd cc
 pub bounds-self-inside-before : goal.bounds-self-inside-before
 bounds-self-inside-before g c =
     let h = ring_seen c.self.invariant.rings c.self.view_is in
-    let at = some_list (get_or c.self.inside.place c.args.node.number None) c.is_some.result (sym (ap is_some (read_link _ _ _ h.spells.place_length c.requires)) ∙ sym c.is_some.ensures) c.if-is_some.true in
+    let at =
+    some_list (get_or c.self.inside.place c.args.node.number None) c.is_some.result
+    (sym (ap is_some (read_link _ _ _ h.spells.place_length c.requires)) ∙ sym c.is_some.ensures) c.if-is_some.true in
     let a = around h c.args.node.number at.0 c.requires at.1 in
     within h at.0 _ a.list a.before_end
 
 pub bounds-self-inside-after : goal.bounds-self-inside-after
 bounds-self-inside-after g c =
     let h = ring_seen c.self.invariant.rings c.self.view_is in
-    let at = some_list (get_or c.self.inside.place c.args.node.number None) c.is_some.result (sym (ap is_some (read_link _ _ _ h.spells.place_length c.requires)) ∙ sym c.is_some.ensures) c.if-is_some.true in
+    let at =
+    some_list (get_or c.self.inside.place c.args.node.number None) c.is_some.result
+    (sym (ap is_some (read_link _ _ _ h.spells.place_length c.requires)) ∙ sym c.is_some.ensures) c.if-is_some.true in
     let a = around h c.args.node.number at.0 c.requires at.1 in
     within h at.0 _ a.list a.after_end
 
 pub invariant_of-self : goal.invariant_of-self
 invariant_of-self g c =
     let h = ring_seen c.self.invariant.rings c.self.view_is in
-    let at = some_list (get_or c.self.inside.place c.args.node.number None) c.is_some.result (sym (ap is_some (read_link _ _ _ h.spells.place_length c.requires)) ∙ sym c.is_some.ensures) c.if-is_some.true in
-    rw c.none.ensures.none (ring_table (ring_taken h c.args.node.number at.0 c.requires at.1) c.self.invariant.lists_fit c.self.invariant.nodes_fit)
+    let at =
+    some_list (get_or c.self.inside.place c.args.node.number None) c.is_some.result
+    (sym (ap is_some (read_link _ _ _ h.spells.place_length c.requires)) ∙ sym c.is_some.ensures) c.if-is_some.true in
+    rw c.none.ensures.none
+    (ring_table (ring_taken h c.args.node.number at.0 c.requires at.1) c.self.invariant.lists_fit c.self.invariant.nodes_fit)
 
 pub returns-then-is_some-clause-removed : goal.returns-then-is_some-clause-removed
 returns-then-is_some-clause-removed g c =
     let h = ring_seen c.self.invariant.rings c.self.view_is in
-    let at = some_list (get_or c.self.inside.place c.args.node.number None) c.is_some.result (sym (ap is_some (read_link _ _ _ h.spells.place_length c.requires)) ∙ sym c.is_some.ensures) c.if-is_some.true in
+    let at =
+    some_list (get_or c.self.inside.place c.args.node.number None) c.is_some.result
+    (sym (ap is_some (read_link _ _ _ h.spells.place_length c.requires)) ∙ sym c.is_some.ensures) c.if-is_some.true in
     ring_lists (ring_taken h c.args.node.number at.0 c.requires at.1)
 
 pub returns-then-is_some-clause-sound : goal.returns-then-is_some-clause-sound
 returns-then-is_some-clause-sound g c =
     let h = ring_seen c.self.invariant.rings c.self.view_is in
-    let at = some_list (get_or c.self.inside.place c.args.node.number None) c.is_some.result (sym (ap is_some (read_link _ _ _ h.spells.place_length c.requires)) ∙ sym c.is_some.ensures) c.if-is_some.true in
+    let at =
+    some_list (get_or c.self.inside.place c.args.node.number None) c.is_some.result
+    (sym (ap is_some (read_link _ _ _ h.spells.place_length c.requires)) ∙ sym c.is_some.ensures) c.if-is_some.true in
     ring_sound (ring_taken h c.args.node.number at.0 c.requires at.1)
 
 pub returns-else-is_some-clause-removed : goal.returns-else-is_some-clause-removed
 returns-else-is_some-clause-removed g c =
     let h = ring_seen c.self.invariant.rings c.self.view_is in
-    sym (without_unplaced h.spells c.args.node.number (no_list (get_or c.self.inside.place c.args.node.number None) c.is_some.result (sym (ap is_some (read_link _ _ _ h.spells.place_length c.requires)) ∙ sym c.is_some.ensures) c.if-is_some.false))
+    sym (without_unplaced h.spells c.args.node.number (no_list (get_or c.self.inside.place c.args.node.number None) c.is_some.result
+    (sym (ap is_some (read_link _ _ _ h.spells.place_length c.requires)) ∙ sym c.is_some.ensures) c.if-is_some.false))
 
 pub returns-else-is_some-clause-sound : goal.returns-else-is_some-clause-sound
 returns-else-is_some-clause-sound g c =

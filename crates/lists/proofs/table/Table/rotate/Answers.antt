@@ -14,7 +14,8 @@ pub invariant_of-self : goal.invariant_of-self
 invariant_of-self g c =
     let h = ring_seen c.self.invariant.rings c.self.view_is in
     let first : get_or c.self.inside.next (g.row.N + c.args.list.number) 0 < g.row.N = rw c.end-end.ensures at c.if-first.true in
-    rw c.end-end.ensures (ring_table (ring_rotated h c.args.list.number c.requires _ refl first _ refl) c.self.invariant.lists_fit c.self.invariant.nodes_fit)
+    rw c.end-end.ensures (ring_table (ring_rotated h c.args.list.number c.requires _ refl first _ refl)
+    c.self.invariant.lists_fit c.self.invariant.nodes_fit)
 
 pub returns-then-second-clause-rotated : goal.returns-then-second-clause-rotated
 returns-then-second-clause-rotated g c =
@@ -26,7 +27,8 @@ pub returns-then-second-clause-second : goal.returns-then-second-clause-second
 returns-then-second-clause-second g c =
     let h = ring_seen c.self.invariant.rings c.self.view_is in
     let first : get_or c.self.inside.next (g.row.N + c.args.list.number) 0 < g.row.N = rw c.end-end.ensures at c.if-first.true in
-    let second : get_or c.self.inside.next (get_or c.self.inside.next (g.row.N + c.args.list.number) 0) 0 < g.row.N = rw c.end-end.ensures at c.if-second.true in
+    let second : get_or c.self.inside.next (get_or c.self.inside.next (g.row.N + c.args.list.number) 0) 0 < g.row.N =
+    rw c.end-end.ensures at c.if-second.true in
     rw c.end-end.ensures (somebody_second h c.args.list.number c.requires _ refl first second)
 
 pub returns-then-second-clause-sound : goal.returns-then-second-clause-sound
@@ -39,14 +41,16 @@ pub returns-else-second-clause-rotated : goal.returns-else-second-clause-rotated
 returns-else-second-clause-rotated g c =
     let h = ring_seen c.self.invariant.rings c.self.view_is in
     let first : get_or c.self.inside.next (g.row.N + c.args.list.number) 0 < g.row.N = rw c.end-end.ensures at c.if-first.true in
-    let second : g.row.N ≤ get_or c.self.inside.next (get_or c.self.inside.next (g.row.N + c.args.list.number) 0) 0 = rw c.end-end.ensures at c.if-second.false in
+    let second : g.row.N ≤ get_or c.self.inside.next (get_or c.self.inside.next (g.row.N + c.args.list.number) 0) 0 =
+    rw c.end-end.ensures at c.if-second.false in
     (nobody_second h c.args.list.number c.requires _ refl first second).same
 
 pub returns-else-second-clause-second : goal.returns-else-second-clause-second
 returns-else-second-clause-second g c =
     let h = ring_seen c.self.invariant.rings c.self.view_is in
     let first : get_or c.self.inside.next (g.row.N + c.args.list.number) 0 < g.row.N = rw c.end-end.ensures at c.if-first.true in
-    let second : g.row.N ≤ get_or c.self.inside.next (get_or c.self.inside.next (g.row.N + c.args.list.number) 0) 0 = rw c.end-end.ensures at c.if-second.false in
+    let second : g.row.N ≤ get_or c.self.inside.next (get_or c.self.inside.next (g.row.N + c.args.list.number) 0) 0 =
+    rw c.end-end.ensures at c.if-second.false in
     (nobody_second h c.args.list.number c.requires _ refl first second).none
 
 pub returns-else-second-clause-sound : goal.returns-else-second-clause-sound

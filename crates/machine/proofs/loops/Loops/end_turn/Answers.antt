@@ -9,4 +9,6 @@ returns-clause-loops c =
 
 pub returns-then-left-le1-clause-loops : goal.returns-then-left-le1-clause-loops
 returns-then-left-le1-clause-loops c =
-    c.leave.ensures ∙ last_turn c.self.inside.cells c.self.inside.nesting c.in-Some.left c.args.self.now c.self.view_is c.if-self-eq0.false c.in-Some.is (omega (arith, c.if-left-le1.true))
+    c.leave.ensures
+    ∙ last_turn c.self.inside.cells c.self.inside.nesting c.in-Some.left c.args.self.now
+    c.self.view_is c.if-self-eq0.false c.in-Some.is (omega (arith, c.if-left-le1.true))

@@ -10,4 +10,5 @@ pub returns-clause-does : goal.returns-clause-does
 returns-clause-does c = λ log s h. rw c.or-self.ensures (failed_at c.args.self.now log s h c.args.check c.args.check refl)
 
 pub returns-clause-any : goal.returns-clause-any
-returns-clause-any c = λ log s h. rw c.or-self.ensures (record { stands = failed_any c.args.self.now s h.stands c.args.check; log = h.log })
+returns-clause-any c = λ log s h.
+    rw c.or-self.ensures (record { stands = failed_any c.args.self.now s h.stands c.args.check; log = h.log })

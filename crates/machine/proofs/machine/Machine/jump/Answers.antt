@@ -9,15 +9,25 @@ use Rattle.machine.proofs.Waking.{to_wake, due_there, sched-jumped, queues-jumpe
 use Rattle.machine.proofs.machine.Machine.jump.Goals as goal
 
 pub make_all_ready-requires-clause-free : goal.make_all_ready-requires-clause-free
-make_all_ready-requires-clause-free c = rw c.as_slice.ensures.value (to_wake c.args.ticks c.args.self.now c.requires.advance.agrees.0 c.requires.advance.agrees.1 c.jump_into.new.self c.jump_into.new.due.items c.jump_into.ensures.jumps)
+make_all_ready-requires-clause-free c =
+    rw c.as_slice.ensures.value (to_wake c.args.ticks c.args.self.now c.requires.advance.agrees.0
+    c.requires.advance.agrees.1 c.jump_into.new.self c.jump_into.new.due.items c.jump_into.ensures.jumps)
 
 pub returns-clause-does : goal.returns-clause-does
 returns-clause-does c = λ log s h.
-    let is : c.as_slice.result.now ≡ tasks_of (due (at_jump c.args.ticks s)) = c.as_slice.ensures.value ∙ c.jump_into.ensures.due s h.stands.rest.clock in
-    let ready = c.make_all_ready.ensures.ready (at_jump c.args.ticks s) (sched-jumped c.args.self.now log s h c.args.ticks) (rw is (due_there (at_jump c.args.ticks s))) in
-    let left = c.make_all_ready.ensures.left (at_jump c.args.ticks s) (queues-jumped c.args.self.now log s h c.args.ticks) (rw is (due_there (at_jump c.args.ticks s))) in
-    let gone = c.make_all_ready.ensures.gone (at_jump c.args.ticks s) (groups-jumped c.args.self.now log s h c.args.ticks) (rw is (due_there (at_jump c.args.ticks s))) in
-    jumped c.args.self.now log s h c.args.ticks c.as_slice.result.now c.make_all_ready.new.sched c.make_all_ready.new.queues c.jump_into.new.self c.make_all_ready.new.groups is ready left gone (c.jump_into.ensures.woken s h.stands.rest.clock)
+    let is : c.as_slice.result.now ≡ tasks_of (due (at_jump c.args.ticks s)) =
+    c.as_slice.ensures.value ∙ c.jump_into.ensures.due s h.stands.rest.clock in
+    let ready =
+    c.make_all_ready.ensures.ready (at_jump c.args.ticks s)
+    (sched-jumped c.args.self.now log s h c.args.ticks) (rw is (due_there (at_jump c.args.ticks s))) in
+    let left =
+    c.make_all_ready.ensures.left (at_jump c.args.ticks s)
+    (queues-jumped c.args.self.now log s h c.args.ticks) (rw is (due_there (at_jump c.args.ticks s))) in
+    let gone =
+    c.make_all_ready.ensures.gone (at_jump c.args.ticks s)
+    (groups-jumped c.args.self.now log s h c.args.ticks) (rw is (due_there (at_jump c.args.ticks s))) in
+    jumped c.args.self.now log s h c.args.ticks c.as_slice.result.now c.make_all_ready.new.sched c.make_all_ready.new.queues
+    c.jump_into.new.self c.make_all_ready.new.groups is ready left gone (c.jump_into.ensures.woken s h.stands.rest.clock)
 
 pub returns-clause-leaves : goal.returns-clause-leaves
 returns-clause-leaves c = record {

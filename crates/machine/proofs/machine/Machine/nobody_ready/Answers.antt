@@ -3,7 +3,8 @@ use Rattle.sched.specs.Schedule.{Schedule, is_suspended, lined_up}
 use Rattle.clock.specs.StandsFor.{tasks_at}
 use Rattle.model.specs.Step.{nobody_ready}
 use Rattle.soundness.proofs.Reached.{reached_nobody}
-use Rattle.machine.proofs.Booting.{none_ready, none_due, priority_at, base_priority_at, queues_at_reset, nobody_awake-reset, none_placing, ended_reset, nobody_suspended}
+use Rattle.machine.proofs.Booting.{none_ready, none_due, priority_at, base_priority_at, queues_at_reset, nobody_awake-reset}
+use Rattle.machine.proofs.Booting.{none_placing, ended_reset, nobody_suspended}
 use Rattle.model.specs.Suspension.{can_resume}
 use Rattle.groups.specs.StandsFor.{bits_wait}
 use Rattle.machine.proofs.machine.Machine.nobody_ready.Goals as goal
@@ -16,10 +17,16 @@ returns-clause-stands c =
       sched = record {
         ready = ap lined_up c.new.ensures.new ∙ sym (none_ready c.args.app.now.start c.args.app.now.tasks);
         current = ap (λ (v : Schedule). v.current) c.new.ensures.new;
-        priorities = λ i. rw c.new.ensures.new (c.priorities_of.ensures.priorities i ∙ rw c.tasks-2.ensures (priority_at c.args.app.now.start c.args.app.now.tasks i));
-        base_priorities = λ i. rw c.new.ensures.new (c.priorities_of.ensures.priorities i ∙ rw c.tasks-2.ensures (base_priority_at c.args.app.now.start c.args.app.now.tasks i));
+        priorities = λ i.
+            rw c.new.ensures.new (c.priorities_of.ensures.priorities i
+            ∙ rw c.tasks-2.ensures (priority_at c.args.app.now.start c.args.app.now.tasks i));
+        base_priorities = λ i.
+            rw c.new.ensures.new (c.priorities_of.ensures.priorities i
+            ∙ rw c.tasks-2.ensures (base_priority_at c.args.app.now.start c.args.app.now.tasks i));
         depth = ap (λ (v : Schedule). v.depth) c.new.ensures.new;
-        suspended = λ i. ap (λ (v : Schedule). is_suspended v i) c.new.ensures.new ∙ nobody_suspended i ∙ sym (ap can_resume (ended_reset c.args.app.now.start i c.args.app.now.tasks));
+        suspended = λ i.
+            ap (λ (v : Schedule). is_suspended v i) c.new.ensures.new ∙ nobody_suspended i
+            ∙ sym (ap can_resume (ended_reset c.args.app.now.start i c.args.app.now.tasks));
         table = table;
       };
       rest = record {
@@ -36,10 +43,16 @@ returns-clause-stands c =
         };
         steps = refl;
         stopped = refl;
-        queues = queues_at_reset c.args.app.now c.new-3.result (c.new-3.ensures.stands c.args.app.now (sym c.objects.ensures) c.well_formed-2.ensures.few) table;
-        groups = c.new-4.ensures.stands _ table (λ group. refl) (λ i. ap bits_wait (ended_reset c.args.app.now.start i c.args.app.now.tasks));
+        queues =
+            queues_at_reset c.args.app.now c.new-3.result
+            (c.new-3.ensures.stands c.args.app.now (sym c.objects.ensures) c.well_formed-2.ensures.few) table;
+        groups =
+            c.new-4.ensures.stands _ table (λ group. refl)
+            (λ i. ap bits_wait (ended_reset c.args.app.now.start i c.args.app.now.tasks));
         suspensions = refl;
         awake = nobody_awake-reset c.args.app.now;
-        placed = none_placing c.args.app.now c.progress_of.result (λ i. c.progress_of.ensures.progress i ∙ rw (c.tasks.ensures, c.start.ensures) refl);
+        placed =
+            none_placing c.args.app.now c.progress_of.result
+            (λ i. c.progress_of.ensures.progress i ∙ rw (c.tasks.ensures, c.start.ensures) refl);
       };
     }

@@ -9,16 +9,24 @@ use Rattle.machine.proofs.Waking.{to_wake, due_there, sched-jumped, queues-jumpe
 use Rattle.machine.proofs.machine.Machine.wake_due.Goals as goal
 
 pub make_all_ready-requires-clause-free : goal.make_all_ready-requires-clause-free
-make_all_ready-requires-clause-free c = rw c.as_slice.ensures.value (to_wake 1 c.args.self.now c.requires.agrees.0 c.requires.agrees.1 c.advance_into.new.self c.advance_into.new.due.items c.advance_into.ensures.advances)
+make_all_ready-requires-clause-free c =
+    rw c.as_slice.ensures.value (to_wake 1 c.args.self.now c.requires.agrees.0 c.requires.agrees.1
+    c.advance_into.new.self c.advance_into.new.due.items c.advance_into.ensures.advances)
 
 pub returns-clause-does : goal.returns-clause-does
 returns-clause-does c = λ log s h.
-    let is : c.as_slice.result.now ≡ tasks_of (due (at_next_tick s)) = c.as_slice.ensures.value ∙ c.advance_into.ensures.due s h.stands.rest.clock in
-    let ready = c.make_all_ready.ensures.ready (at_next_tick s) (sched-jumped c.args.self.now log s h 1) (rw is (due_there (at_next_tick s))) in
-    let left = c.make_all_ready.ensures.left (at_next_tick s) (queues-jumped c.args.self.now log s h 1) (rw is (due_there (at_next_tick s))) in
-    let gone = c.make_all_ready.ensures.gone (at_next_tick s) (groups-jumped c.args.self.now log s h 1) (rw is (due_there (at_next_tick s))) in
+    let is : c.as_slice.result.now ≡ tasks_of (due (at_next_tick s)) =
+    c.as_slice.ensures.value ∙ c.advance_into.ensures.due s h.stands.rest.clock in
+    let ready =
+    c.make_all_ready.ensures.ready (at_next_tick s) (sched-jumped c.args.self.now log s h 1) (rw is (due_there (at_next_tick s))) in
+    let left =
+    c.make_all_ready.ensures.left (at_next_tick s) (queues-jumped c.args.self.now log s h 1) (rw is (due_there (at_next_tick s))) in
+    let gone =
+    c.make_all_ready.ensures.gone (at_next_tick s) (groups-jumped c.args.self.now log s h 1) (rw is (due_there (at_next_tick s))) in
     let none = sym h.stands.rest.suspensions ∙ c.requires.awake in
-    woken c.args.self.now log s h c.as_slice.result.now c.make_all_ready.new.sched c.make_all_ready.new.queues c.advance_into.new.self c.make_all_ready.new.groups is ready left gone (c.advance_into.ensures.woken s h.stands.rest.clock (unsuspended_by s none)) none
+    woken c.args.self.now log s h c.as_slice.result.now c.make_all_ready.new.sched
+    c.make_all_ready.new.queues c.advance_into.new.self c.make_all_ready.new.groups is ready
+    left gone (c.advance_into.ensures.woken s h.stands.rest.clock (unsuspended_by s none)) none
 
 pub returns-clause-leaves : goal.returns-clause-leaves
 returns-clause-leaves c = record {

@@ -9,13 +9,21 @@ wrapped-at-requires c =
     omega (arith, has, head)
 
 pub bounds-self-inside-self-inside : goal.bounds-self-inside-self-inside
-bounds-self-inside-self-inside c = back_in c.self.invariant c.self.view_is c.args.queue c.wrapped-at.result c.requires.known c.requires.room c.wrapped-at.ensures.wrapped
+bounds-self-inside-self-inside c =
+    back_in c.self.invariant c.self.view_is c.args.queue c.wrapped-at.result
+    c.requires.known c.requires.room c.wrapped-at.ensures.wrapped
 
 pub invariant_of-self : goal.invariant_of-self
-invariant_of-self c = (put_back c.self.invariant c.self.view_is c.args.queue c.args.item c.wrapped-at.result c.requires.known c.requires.room c.wrapped-at.ensures.wrapped).is
+invariant_of-self c =
+    (put_back c.self.invariant c.self.view_is c.args.queue c.args.item c.wrapped-at.result
+    c.requires.known c.requires.room c.wrapped-at.ensures.wrapped).is
 
 pub returns-clause-items : goal.returns-clause-items
-returns-clause-items c = (put_back c.self.invariant c.self.view_is c.args.queue c.args.item c.wrapped-at.result c.requires.known c.requires.room c.wrapped-at.ensures.wrapped).items
+returns-clause-items c =
+    (put_back c.self.invariant c.self.view_is c.args.queue c.args.item c.wrapped-at.result
+    c.requires.known c.requires.room c.wrapped-at.ensures.wrapped).items
 
 pub returns-clause-sound : goal.returns-clause-sound
-returns-clause-sound c = (put_back c.self.invariant c.self.view_is c.args.queue c.args.item c.wrapped-at.result c.requires.known c.requires.room c.wrapped-at.ensures.wrapped).sound
+returns-clause-sound c =
+    (put_back c.self.invariant c.self.view_is c.args.queue c.args.item c.wrapped-at.result
+    c.requires.known c.requires.room c.wrapped-at.ensures.wrapped).sound

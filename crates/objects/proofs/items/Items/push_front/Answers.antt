@@ -14,13 +14,21 @@ wrapped-head-requires c =
     omega (arith, has, head)
 
 pub bounds-self-inside-self-inside : goal.bounds-self-inside-self-inside
-bounds-self-inside-self-inside c = front_in c.self.invariant c.self.view_is c.args.queue c.wrapped-head.result c.requires.known c.requires.room c.wrapped-head.ensures.wrapped
+bounds-self-inside-self-inside c =
+    front_in c.self.invariant c.self.view_is c.args.queue c.wrapped-head.result
+    c.requires.known c.requires.room c.wrapped-head.ensures.wrapped
 
 pub invariant_of-self : goal.invariant_of-self
-invariant_of-self c = (put_front c.self.invariant c.self.view_is c.args.queue c.args.item c.wrapped-head.result c.requires.known c.requires.room c.wrapped-head.ensures.wrapped).is
+invariant_of-self c =
+    (put_front c.self.invariant c.self.view_is c.args.queue c.args.item c.wrapped-head.result
+    c.requires.known c.requires.room c.wrapped-head.ensures.wrapped).is
 
 pub returns-clause-items : goal.returns-clause-items
-returns-clause-items c = (put_front c.self.invariant c.self.view_is c.args.queue c.args.item c.wrapped-head.result c.requires.known c.requires.room c.wrapped-head.ensures.wrapped).items
+returns-clause-items c =
+    (put_front c.self.invariant c.self.view_is c.args.queue c.args.item c.wrapped-head.result
+    c.requires.known c.requires.room c.wrapped-head.ensures.wrapped).items
 
 pub returns-clause-sound : goal.returns-clause-sound
-returns-clause-sound c = (put_front c.self.invariant c.self.view_is c.args.queue c.args.item c.wrapped-head.result c.requires.known c.requires.room c.wrapped-head.ensures.wrapped).sound
+returns-clause-sound c =
+    (put_front c.self.invariant c.self.view_is c.args.queue c.args.item c.wrapped-head.result
+    c.requires.known c.requires.room c.wrapped-head.ensures.wrapped).sound

@@ -6,8 +6,19 @@ use Rattle.objects.proofs.items.Items.restore.Goals as goal
 
 pub returns-clause-same : goal.returns-clause-same
 returns-clause-same c =
-    let arrays : Fields = record { pool = c.snapshot.inside.pool.items; bases = c.snapshot.inside.bases; lengths = c.snapshot.inside.lengths; heads = c.snapshot.inside.heads; counts = c.snapshot.inside.counts } in
-    ap (λ (front : List ℕ). objects_of (with_pool (front ++ drop c.len-used.result c.self.inside.pool) arrays)) (c.copy_from_slice.ensures.after ∙ c.as_slice.ensures.value) ∙ refilled c.snapshot.invariant _ ∙ c.snapshot.view_is
+    let arrays : Fields =
+    record {
+      pool = c.snapshot.inside.pool.items;
+      bases = c.snapshot.inside.bases;
+      lengths = c.snapshot.inside.lengths;
+      heads = c.snapshot.inside.heads;
+      counts = c.snapshot.inside.counts;
+    } in
+    ap (λ (front : List ℕ). objects_of (with_pool (front ++ drop c.len-used.result c.self.inside.pool) arrays))
+    (c.copy_from_slice.ensures.after ∙ c.as_slice.ensures.value)
+    ∙ refilled c.snapshot.invariant _ ∙ c.snapshot.view_is
 
 pub returns-clause-sound : goal.returns-clause-sound
-returns-clause-sound c = subst IsSound (sym (returns-clause-same c)) (sound_is c.snapshot.invariant.storage (refilled c.snapshot.invariant c.snapshot.invariant.back ∙ c.snapshot.view_is))
+returns-clause-sound c =
+    subst IsSound (sym (returns-clause-same c))
+    (sound_is c.snapshot.invariant.storage (refilled c.snapshot.invariant c.snapshot.invariant.back ∙ c.snapshot.view_is))

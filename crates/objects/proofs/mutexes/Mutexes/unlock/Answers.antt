@@ -4,9 +4,13 @@ use Rattle.objects.proofs.Holding.{mutex_freed, one_held}
 use Rattle.objects.proofs.mutexes.Mutexes.unlock.Goals as goal
 
 pub overflow_sub-self : goal.overflow_sub-self
-overflow_sub-self c = one_held c.self.inside.holders c.self.inside.held c.self.invariant c.args.object c.requires.known c.task.inside.number c.task.invariant
+overflow_sub-self c =
+    one_held c.self.inside.holders c.self.inside.held c.self.invariant
+    c.args.object c.requires.known c.task.inside.number c.task.invariant
     (ap (λ (hs : List (Option ℕ)). holder_in hs c.args.object) c.self.view_is ∙ c.requires.held ∙ ap Some (sym c.task.view_is))
 
 pub invariant_of-self : goal.invariant_of-self
-invariant_of-self c = mutex_freed c.self.inside.holders c.self.inside.held c.self.invariant c.args.object c.requires.known c.task.inside.number c.task.invariant
+invariant_of-self c =
+    mutex_freed c.self.inside.holders c.self.inside.held c.self.invariant
+    c.args.object c.requires.known c.task.inside.number c.task.invariant
     (ap (λ (hs : List (Option ℕ)). holder_in hs c.args.object) c.self.view_is ∙ c.requires.held ∙ ap Some (sym c.task.view_is))

@@ -10,7 +10,10 @@ use Rattle.objects.proofs.queues.Queues.drop_waiter.Goals as goal
 pub returns-clause-suspended : goal.returns-clause-suspended
 returns-clause-suspended c = λ s h free within.
     let q = c.self.inside in
-    let before : StandsFor (record { number = q.number; objects = objects_of_all q.items q.semaphores q.mutexes; waiting = q.waiting; lock = q.lock }) None s = subst (λ (v : Exchange). StandsFor v None s) (sym c.self.view_is) h in
+    let before : StandsFor
+    (record { number = q.number; objects = objects_of_all q.items q.semaphores q.mutexes; waiting = q.waiting; lock = q.lock })
+    None s =
+    subst (λ (v : Exchange). StandsFor v None s) (sym c.self.view_is) h in
     let none : q.lock ≡ None = ap (λ (v : Exchange). v.lock) c.self.view_is ∙ free in
     record {
       number = before.number;
@@ -23,7 +26,10 @@ returns-clause-suspended c = λ s h free within.
 pub returns-clause-stands : goal.returns-clause-stands
 returns-clause-stands c = λ s h free within.
     let q = c.self.inside in
-    let before : StandsFor (record { number = q.number; objects = objects_of_all q.items q.semaphores q.mutexes; waiting = q.waiting; lock = q.lock }) None s = subst (λ (v : Exchange). StandsFor v None s) (sym c.self.view_is) h in
+    let before : StandsFor
+    (record { number = q.number; objects = objects_of_all q.items q.semaphores q.mutexes; waiting = q.waiting; lock = q.lock })
+    None s =
+    subst (λ (v : Exchange). StandsFor v None s) (sym c.self.view_is) h in
     let none : q.lock ≡ None = ap (λ (v : Exchange). v.lock) c.self.view_is ∙ free in
     record {
       number = before.number;

@@ -7,11 +7,17 @@ use Rattle.objects.proofs.queues.Queues.is_waiting.Goals as goal
 pub returns-clause-stands : goal.returns-clause-stands
 returns-clause-stands c = λ s h.
     let q = c.self.inside in
-    let v : Exchange = record { number = q.number; objects = objects_of_all q.items q.semaphores q.mutexes; waiting = q.waiting; lock = q.lock } in
-    c.is_waiting.ensures.waiting ∙ stands_waiting v s c.args.task c.is_waiting.ensures.sound (subst (λ (v : Exchange). StandsFor v None s) (sym c.self.view_is) h)
+    let v : Exchange =
+    record { number = q.number; objects = objects_of_all q.items q.semaphores q.mutexes; waiting = q.waiting; lock = q.lock } in
+    c.is_waiting.ensures.waiting
+    ∙ stands_waiting v s c.args.task c.is_waiting.ensures.sound
+    (subst (λ (v : Exchange). StandsFor v None s) (sym c.self.view_is) h)
 
 pub returns-clause-placing : goal.returns-clause-placing
 returns-clause-placing c = λ s d h.
     let q = c.self.inside in
-    let v : Exchange = record { number = q.number; objects = objects_of_all q.items q.semaphores q.mutexes; waiting = q.waiting; lock = q.lock } in
-    c.is_waiting.ensures.waiting ∙ stands_placing v s d c.args.task c.is_waiting.ensures.sound (subst (λ (v : Exchange). StandsFor v (Some d) s) (sym c.self.view_is) h)
+    let v : Exchange =
+    record { number = q.number; objects = objects_of_all q.items q.semaphores q.mutexes; waiting = q.waiting; lock = q.lock } in
+    c.is_waiting.ensures.waiting
+    ∙ stands_placing v s d c.args.task c.is_waiting.ensures.sound
+    (subst (λ (v : Exchange). StandsFor v (Some d) s) (sym c.self.view_is) h)

@@ -7,5 +7,6 @@ use Rattle.objects.proofs.queues.Queues.lock.Goals as goal
 pub returns-clause-stands : goal.returns-clause-stands
 returns-clause-stands c = λ s d h nobody.
     let q = c.self.inside in
-    let v : Exchange = record { number = q.number; objects = objects_of_all q.items q.semaphores q.mutexes; waiting = q.waiting; lock = q.lock } in
+    let v : Exchange =
+    record { number = q.number; objects = objects_of_all q.items q.semaphores q.mutexes; waiting = q.waiting; lock = q.lock } in
     stands_locked v d s c.args.object (subst (λ (v : Exchange). StandsFor v d s) (sym c.self.view_is) h) nobody

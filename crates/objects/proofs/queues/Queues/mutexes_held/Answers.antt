@@ -9,9 +9,11 @@ use Rattle.objects.proofs.queues.Queues.mutexes_held.Goals as goal
 pub returns-clause-held : goal.returns-clause-held
 returns-clause-held c =
     let q = c.self.inside in
-    c.held_by.ensures.held ∙ sym (held_is q.items q.semaphores q.mutexes c.args.task c.held_by.ensures.many) ∙ ap (λ (v : Exchange). held_of v.objects c.args.task) c.self.view_is
+    c.held_by.ensures.held ∙ sym (held_is q.items q.semaphores q.mutexes c.args.task c.held_by.ensures.many)
+    ∙ ap (λ (v : Exchange). held_of v.objects c.args.task) c.self.view_is
 
 pub returns-clause-stands : goal.returns-clause-stands
 returns-clause-stands c = λ s d h.
     let held = λ (o : Object). is_same o.holder (Some c.args.task) in
-    returns-clause-held c ∙ count_alike held held no_object no_object refl refl c.args.self.now.objects s.objects (λ i. ap held (h.objects i))
+    returns-clause-held c
+    ∙ count_alike held held no_object no_object refl refl c.args.self.now.objects s.objects (λ i. ap held (h.objects i))

@@ -6,6 +6,15 @@ use Rattle.objects.proofs.queues.Queues.place.Goals as goal
 pub returns-clause-stands : goal.returns-clause-stands
 returns-clause-stands c = λ s h.
     let q = c.self.inside in
-    let before : StandsFor (record { number = q.number; objects = objects_of_all q.items q.semaphores q.mutexes; waiting = q.waiting; lock = q.lock }) (Some (record { task = c.args.task; list = c.args.list; priority = c.args.priority })) s =
-    subst (λ (v : Exchange). StandsFor v (Some (record { task = c.args.task; list = c.args.list; priority = c.args.priority })) s) (sym c.self.view_is) h in
-    record { number = before.number; objects = before.objects; waiters = c.wait.ensures.places s before.waiters; locked = before.locked; counts = before.counts }
+    let before : StandsFor
+    (record { number = q.number; objects = objects_of_all q.items q.semaphores q.mutexes; waiting = q.waiting; lock = q.lock })
+    (Some (record { task = c.args.task; list = c.args.list; priority = c.args.priority })) s =
+    subst (λ (v : Exchange). StandsFor v (Some (record { task = c.args.task; list = c.args.list; priority = c.args.priority })) s)
+    (sym c.self.view_is) h in
+    record {
+      number = before.number;
+      objects = before.objects;
+      waiters = c.wait.ensures.places s before.waiters;
+      locked = before.locked;
+      counts = before.counts;
+    }

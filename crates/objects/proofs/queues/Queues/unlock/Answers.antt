@@ -14,15 +14,18 @@ returns-in_err-lock-clause-stands c = λ s h.
 pub returns-clause-stands : goal.returns-clause-stands
 returns-clause-stands c = λ s h.
     let q = c.self.inside in
-    let v : Exchange = record { number = q.number; objects = objects_of_all q.items q.semaphores q.mutexes; waiting = q.waiting; lock = q.lock } in
+    let v : Exchange =
+    record { number = q.number; objects = objects_of_all q.items q.semaphores q.mutexes; waiting = q.waiting; lock = q.lock } in
     let is : q.lock ≡ Some c.in_ok-lock.lock = search rules in
     let before = subst (λ (v : Exchange). StandsFor v None s) (sym c.self.view_is) h in
-    stands_unlocked v c.unlock.new.self s c.in_ok-lock.lock before is (c.unlock.ensures.unlocks s (standing_locked v None s c.in_ok-lock.lock before is))
+    stands_unlocked v c.unlock.new.self s c.in_ok-lock.lock before is
+    (c.unlock.ensures.unlocks s (standing_locked v None s c.in_ok-lock.lock before is))
 
 pub returns-clause-awakened : goal.returns-clause-awakened
 returns-clause-awakened c = λ s h.
     let q = c.self.inside in
-    let v : Exchange = record { number = q.number; objects = objects_of_all q.items q.semaphores q.mutexes; waiting = q.waiting; lock = q.lock } in
+    let v : Exchange =
+    record { number = q.number; objects = objects_of_all q.items q.semaphores q.mutexes; waiting = q.waiting; lock = q.lock } in
     let is : q.lock ≡ Some c.in_ok-lock.lock = search rules in
     let before = subst (λ (v : Exchange). StandsFor v None s) (sym c.self.view_is) h in
     let locked = standing_locked v None s c.in_ok-lock.lock before is in
@@ -31,9 +34,11 @@ returns-clause-awakened c = λ s h.
 pub returns-clause-counted : goal.returns-clause-counted
 returns-clause-counted c =
     let q = c.self.inside in
-    let v : Exchange = record { number = q.number; objects = objects_of_all q.items q.semaphores q.mutexes; waiting = q.waiting; lock = q.lock } in
+    let v : Exchange =
+    record { number = q.number; objects = objects_of_all q.items q.semaphores q.mutexes; waiting = q.waiting; lock = q.lock } in
     let is : q.lock ≡ Some c.in_ok-lock.lock = search rules in
-    let counted = λ (w : Exchange). λ (lock : Lock). AreCounted lock w c.unlock.result.to_receive.items c.unlock.result.to_send.items in
+    let counted = λ (w : Exchange).
+    λ (lock : Lock). AreCounted lock w c.unlock.result.to_receive.items c.unlock.result.to_send.items in
     subst (λ (w : Exchange). IfSome w.lock (counted w)) c.self.view_is
     (subst (λ (l : Option Lock). IfSome l (counted v)) (sym is) (c.unlock.ensures.to_receive, c.unlock.ensures.to_send))
 
@@ -45,7 +50,8 @@ returns-in_err-lock-clause-left c =
 pub returns-clause-left : goal.returns-clause-left
 returns-clause-left c =
     let q = c.self.inside in
-    let v : Exchange = record { number = q.number; objects = objects_of_all q.items q.semaphores q.mutexes; waiting = q.waiting; lock = q.lock } in
+    let v : Exchange =
+    record { number = q.number; objects = objects_of_all q.items q.semaphores q.mutexes; waiting = q.waiting; lock = q.lock } in
     let is : q.lock ≡ Some c.in_ok-lock.lock = search rules in
     subst (λ (w : Exchange). record v { lock = None; waiting = c.unlock.new.self } ≡ after_unlock w.lock w)
     c.self.view_is

@@ -13,7 +13,8 @@ use Rattle.objects.proofs.waiting_lists.WaitingLists.drop_waiter.Goals as goal
 pub invariant_of-self : goal.invariant_of-self
 invariant_of-self c =
     let removed = c.remove.ensures.removed in
-    subst AreWaitingLists (sym removed) (are_waiting_without c.self.invariant c.args.task (subst (IsSound list_places 32) removed c.remove.ensures.sound))
+    subst AreWaitingLists (sym removed)
+    (are_waiting_without c.self.invariant c.args.task (subst (IsSound list_places 32) removed c.remove.ensures.sound))
 
 pub returns-clause-gone : goal.returns-clause-gone
 returns-clause-gone c =

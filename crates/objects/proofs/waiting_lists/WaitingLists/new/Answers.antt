@@ -12,7 +12,9 @@ none (suc m) zero = refl
 none (suc m) (suc n) = none m n
 
 pub invariant_of-result : goal.invariant_of-result
-invariant_of-result c = subst AreWaitingLists (sym c.new.ensures.empty) (are_waiting_empty list_places (subst (IsSound list_places 32) c.new.ensures.empty c.new.ensures.sound))
+invariant_of-result c =
+    subst AreWaitingLists (sym c.new.ensures.empty)
+    (are_waiting_empty list_places (subst (IsSound list_places 32) c.new.ensures.empty c.new.ensures.sound))
 
 pub returns-clause-empty : goal.returns-clause-empty
 returns-clause-empty c = ap mirrored c.new.ensures.empty ∙ mirrored-empty list_places
@@ -22,6 +24,8 @@ returns-clause-sound c = sound-mirrored c.new.ensures.sound
 
 pub returns-clause-stand : goal.returns-clause-stand
 returns-clause-stand c = λ s table nobody. record {
-  lists = λ list. ap (λ (ls : List (List (ℕ × ℕ))). waiting_in ls list) (returns-clause-empty c) ∙ none list_places (number_of list) ∙ sym (ap with_priorities (nobody list));
+  lists = λ list.
+      ap (λ (ls : List (List (ℕ × ℕ))). waiting_in ls list) (returns-clause-empty c)
+      ∙ none list_places (number_of list) ∙ sym (ap with_priorities (nobody list));
   table = table;
 }

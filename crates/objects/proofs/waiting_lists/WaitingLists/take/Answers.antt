@@ -12,10 +12,16 @@ loop-preserved c =
     let P : List ℕ → Type 0 = λ items. TakenOut old c.take_best.new.self list (c.loop.counter + 1) items in
     elim c.match-take_best.branch [
       | in-Some w ↦
-          let one = takes_next old c.loop.self list c.loop.counter taken c.in_order.ensures.sound c.loop.invariant w.in-Some.best w.in-Some.ensures.best c.take_best.new.self c.take_best.ensures.left c.take_best.ensures.sound w.in-Some.ensures.woken in
+          let one =
+          takes_next old c.loop.self list c.loop.counter taken c.in_order.ensures.sound
+          c.loop.invariant w.in-Some.best w.in-Some.ensures.best c.take_best.new.self
+          c.take_best.ensures.left c.take_best.ensures.sound w.in-Some.ensures.woken in
           let items = ap (λ t. t.items) w.taken-is ∙ w.push.ensures.items in
           subst P (sym items) (rw (← next) one)
       | in_default w ↦
-          let none = takes_no_more old c.loop.self list c.loop.counter taken c.in_order.ensures.sound c.loop.invariant w.in_default.ensures.best c.take_best.new.self c.take_best.ensures.left c.take_best.ensures.sound w.in_default.ensures.woken in
+          let none =
+          takes_no_more old c.loop.self list c.loop.counter taken c.in_order.ensures.sound
+          c.loop.invariant w.in_default.ensures.best c.take_best.new.self
+          c.take_best.ensures.left c.take_best.ensures.sound w.in_default.ensures.woken in
           subst P (sym (ap (λ t. t.items) w.taken-is)) (rw (← next) none)
     ]

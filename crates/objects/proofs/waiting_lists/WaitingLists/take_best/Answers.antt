@@ -11,10 +11,13 @@ pub returns-in_err-best-clause-left : goal.returns-in_err-best-clause-left
 returns-in_err-best-clause-left c = none_out c.args.self.now (number_of c.args.list) c.in_err-best.ensures.best
 
 pub returns-clause-left : goal.returns-clause-left
-returns-clause-left c = c.drop_waiter.ensures.gone ∙ first_out c.args.self.now (number_of c.args.list) c.in_ok-best.best c.best.ensures.sound c.in_ok-best.ensures.best
+returns-clause-left c =
+    c.drop_waiter.ensures.gone
+    ∙ first_out c.args.self.now (number_of c.args.list) c.in_ok-best.best c.best.ensures.sound c.in_ok-best.ensures.best
 
 pub returns-in_err-best-clause-wakes : goal.returns-in_err-best-clause-wakes
-returns-in_err-best-clause-wakes c = λ s d h at shut. stands_unwoken c.args.self.now s d c.args.list h at shut c.in_err-best.ensures.best
+returns-in_err-best-clause-wakes c = λ s d h at shut.
+    stands_unwoken c.args.self.now s d c.args.list h at shut c.in_err-best.ensures.best
 
 pub returns-clause-wakes : goal.returns-clause-wakes
 returns-clause-wakes c = λ s d h at shut.
@@ -22,12 +25,17 @@ returns-clause-wakes c = λ s d h at shut.
     (stands_woken c.args.self.now s d c.args.list h at shut c.in_ok-best.best c.in_ok-best.ensures.best)
 
 pub returns-in_err-best-clause-counts : goal.returns-in_err-best-clause-counts
-returns-in_err-best-clause-counts c = λ s d object receivers senders h at shut. counts_unwoken c.args.self.now s d c.args.list h.stand at shut object receivers senders h c.in_err-best.ensures.best
+returns-in_err-best-clause-counts c = λ s d object receivers senders h at shut.
+    counts_unwoken c.args.self.now s d c.args.list h.stand at shut object receivers senders h c.in_err-best.ensures.best
 
 pub returns-clause-counts : goal.returns-clause-counts
 returns-clause-counts c = λ s d object receivers senders h at shut.
-    subst (λ (v : List (List (ℕ × ℕ))). StandLocked v d object receivers senders (wake_best c.args.list s)) (sym c.drop_waiter.ensures.gone)
-    (counts_woken c.args.self.now s d c.args.list h.stand at shut object receivers senders h c.in_ok-best.best c.in_ok-best.ensures.best)
+    subst (λ (v : List (List (ℕ × ℕ))). StandLocked v d object receivers senders (wake_best c.args.list s))
+    (sym c.drop_waiter.ensures.gone)
+    (counts_woken c.args.self.now s d c.args.list h.stand at shut object
+    receivers senders h c.in_ok-best.best c.in_ok-best.ensures.best)
 
 pub returns-clause-woken : goal.returns-clause-woken
-returns-clause-woken c = λ s h. c.drop_waiter.ensures.readied s h (head_within c.args.self.now s c.args.list (h.lists c.args.list) c.in_ok-best.best c.in_ok-best.ensures.best)
+returns-clause-woken c = λ s h.
+    c.drop_waiter.ensures.readied s h
+    (head_within c.args.self.now s c.args.list (h.lists c.args.list) c.in_ok-best.best c.in_ok-best.ensures.best)

@@ -14,10 +14,14 @@ returns-clause-to_send c =
     ∙ senders_stay c.args.self.now c.args.object c.args.receivers c.args.senders
 
 pub returns-clause-awakened : goal.returns-clause-awakened
-returns-clause-awakened c = λ s h. awakened_are c.args.self.now s c.args.object c.args.receivers c.args.senders _ _ h c.take-to_receive.ensures.taken (returns-clause-to_send c)
+returns-clause-awakened c = λ s h.
+    awakened_are c.args.self.now s c.args.object c.args.receivers c.args.senders
+    _ _ h c.take-to_receive.ensures.taken (returns-clause-to_send c)
 
 pub returns-clause-woken : goal.returns-clause-woken
-returns-clause-woken c = λ s h. unlocks c.args.self.now s c.args.object c.args.receivers c.args.senders _ _ h c.take-to_receive.ensures.taken (returns-clause-to_send c)
+returns-clause-woken c = λ s h.
+    unlocks c.args.self.now s c.args.object c.args.receivers c.args.senders
+    _ _ h c.take-to_receive.ensures.taken (returns-clause-to_send c)
 
 pub returns-clause-unlocks : goal.returns-clause-unlocks
 returns-clause-unlocks c = λ s h.
@@ -25,7 +29,8 @@ returns-clause-unlocks c = λ s h.
     let js : List ℕ = c.take-to_send.result.items in
     let one = c.take-to_receive.ensures.woken (opened s) (stands_opened c.args.self.now s h.stand) in
     let two = c.take-to_send.ensures.woken (for_each make_ready is (opened s)) one in
-    subst (λ (t : State). WaitersStand c.take-to_send.new.self None t) (sym (returns-clause-woken c s h ∙ each_append is js (opened s))) two
+    subst (λ (t : State). WaitersStand c.take-to_send.new.self None t)
+    (sym (returns-clause-woken c s h ∙ each_append is js (opened s))) two
 
 pub returns-clause-left : goal.returns-clause-left
 returns-clause-left c =

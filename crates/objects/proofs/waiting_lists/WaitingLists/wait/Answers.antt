@@ -22,7 +22,8 @@ pub invariant_of-self : goal.invariant_of-self
 invariant_of-self c =
     let put = c.insert_sorted.ensures.put in
     let known = c.requires.priority in
-    subst AreWaitingLists (sym put) (are_waiting_put c.self.invariant c.list_id.result.number c.args.task _ c.list_id.ensures.known (omega (arith, known)) (subst (IsSound list_places 32) put c.insert_sorted.ensures.sound))
+    subst AreWaitingLists (sym put) (are_waiting_put c.self.invariant c.list_id.result.number c.args.task _
+    c.list_id.ensures.known (omega (arith, known)) (subst (IsSound list_places 32) put c.insert_sorted.ensures.sound))
 
 pub returns-clause-put : goal.returns-clause-put
 returns-clause-put c =
@@ -40,14 +41,18 @@ returns-clause-sound c = sound-mirrored c.insert_sorted.ensures.sound
 
 pub returns-clause-begins : goal.returns-clause-begins
 returns-clause-begins c = λ s h within priority.
-    let sound : IsSound list_places 32 c.args.self.now = subst (IsSound list_places 32) c.self.view_is (sound-mirrored c.self.invariant.sound) in
-    let known : number_of c.args.list < list_places = subst (λ (k : ℕ). k < list_places) c.list_id.ensures.number c.list_id.ensures.known in
+    let sound : IsSound list_places 32 c.args.self.now =
+    subst (IsSound list_places 32) c.self.view_is (sound-mirrored c.self.invariant.sound) in
+    let known : number_of c.args.list < list_places =
+    subst (λ (k : ℕ). k < list_places) c.list_id.ensures.number c.list_id.ensures.known in
     subst (λ (v : List (List (ℕ × ℕ))). WaitersStand v None (wait_in c.args.task c.args.list s)) (sym (returns-clause-put c))
     (stands_begun c.args.self.now s c.args.list c.args.priority c.args.task sound c.requires.free known h within priority)
 
 pub returns-clause-places : goal.returns-clause-places
 returns-clause-places c = λ s h.
-    let sound : IsSound list_places 32 c.args.self.now = subst (IsSound list_places 32) c.self.view_is (sound-mirrored c.self.invariant.sound) in
-    let known : number_of c.args.list < list_places = subst (λ (k : ℕ). k < list_places) c.list_id.ensures.number c.list_id.ensures.known in
+    let sound : IsSound list_places 32 c.args.self.now =
+    subst (IsSound list_places 32) c.self.view_is (sound-mirrored c.self.invariant.sound) in
+    let known : number_of c.args.list < list_places =
+    subst (λ (k : ℕ). k < list_places) c.list_id.ensures.number c.list_id.ensures.known in
     subst (λ (v : List (List (ℕ × ℕ))). WaitersStand v None s) (sym (returns-clause-put c))
     (stands_placed c.args.self.now s c.args.list c.args.priority c.args.task sound.as_many known h)

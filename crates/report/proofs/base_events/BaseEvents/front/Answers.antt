@@ -7,11 +7,13 @@ slice_bounds-result-end-2 c =
     let spelled = c.in-Some.spelled in
     let is = rw c.in-Some.is at c.self.invariant in
     let within : c.min-groups.result ≤ length spelled.ends.items = grind arith in
-    rw c.deref.ensures.value (groups_within c.self.inside.app.now c.self.inside.events.now spelled.text.items spelled.ends.items is c.min-groups.result c.end_of-end.result within c.end_of-end.ensures)
+    rw c.deref.ensures.value (groups_within c.self.inside.app.now c.self.inside.events.now spelled.text.items
+    spelled.ends.items is c.min-groups.result c.end_of-end.result within c.end_of-end.ensures)
 
 pub returns-clause-text : goal.returns-clause-text
 returns-clause-text c =
     let spelled = c.in-Some.spelled in
     let is = rw c.in-Some.is at c.self.invariant in
     let within : c.min-groups.result ≤ length spelled.ends.items = grind arith in
-    rw (← c.self.view_is, c.deref.ensures.value) (groups_text c.self.inside.app.now c.self.inside.events.now spelled.text.items spelled.ends.items is c.min-groups.result c.end_of-end.result within c.end_of-end.ensures)
+    rw (← c.self.view_is, c.deref.ensures.value) (groups_text c.self.inside.app.now c.self.inside.events.now
+    spelled.text.items spelled.ends.items is c.min-groups.result c.end_of-end.result within c.end_of-end.ensures)

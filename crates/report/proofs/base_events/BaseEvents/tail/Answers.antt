@@ -11,14 +11,16 @@ slice_bounds-result-count-in-Some c =
     let spelled = c.in-Some.spelled in
     let is = rw c.in-Some.is at c.self.invariant in
     let within : c.div_ceil-first.result ≤ length spelled.ends.items = grind arith in
-    rw c.deref.ensures.value (groups_low c.self.inside.app.now c.self.inside.events.now spelled.text.items spelled.ends.items is c.div_ceil-first.result c.end_of.result within c.end_of.ensures)
+    rw c.deref.ensures.value (groups_low c.self.inside.app.now c.self.inside.events.now spelled.text.items
+    spelled.ends.items is c.div_ceil-first.result c.end_of.result within c.end_of.ensures)
 
 pub slice_bounds-result-start-in-Some : goal.slice_bounds-result-start-in-Some
 slice_bounds-result-start-in-Some c =
     let spelled = c.in-Some.spelled in
     let is = rw c.in-Some.is at c.self.invariant in
     let within : c.div_ceil-first.result ≤ length spelled.ends.items = grind arith in
-    rw c.deref.ensures.value (groups_low c.self.inside.app.now c.self.inside.events.now spelled.text.items spelled.ends.items is c.div_ceil-first.result c.end_of.result within c.end_of.ensures)
+    rw c.deref.ensures.value (groups_low c.self.inside.app.now c.self.inside.events.now spelled.text.items
+    spelled.ends.items is c.div_ceil-first.result c.end_of.result within c.end_of.ensures)
 
 pub returns-in-Some : goal.returns-in-Some
 returns-in-Some c =

@@ -11,8 +11,10 @@ invariant_of-self c =
     let op = c.args.op_index in
     let label = c.of-label.result in
     let front =
-    spelled c.args.bytes.now _ (isr_front app c.args.handler op) c.args.at (omega (arith, c.requires)) c.put_isr_front-end.ensures.text in
+    spelled c.args.bytes.now _ (isr_front app c.args.handler op) c.args.at
+    (omega (arith, c.requires)) c.put_isr_front-end.ensures.text in
     let here =
-    subst (λ number. IsLabel label (isr_front app number op)) (sym c.handler.view_is) (subst (IsLabel label) front c.of-label.ensures) in
+    subst (λ number. IsLabel label (isr_front app number op))
+    (sym c.handler.view_is) (subst (IsLabel label) front c.of-label.ensures) in
     isr_kept app inside.runs inside.marks inside.calls inside.isrs c.self.invariant c.isr_place.result
     (record { owner = c.handler.inside.number; op_index = op; label = label }) here

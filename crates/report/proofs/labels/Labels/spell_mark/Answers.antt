@@ -9,6 +9,8 @@ invariant_of-self c =
     let app = inside.app.now in
     let label = c.of.result in
     let front =
-    spelled c.args.bytes.now _ (mark_front app c.args.task) c.args.at (omega (arith, c.requires)) c.put_mark_front-end.ensures.text in
-    let here = subst (λ number. IsLabel label (mark_front app number)) (sym c.task.view_is) (subst (IsLabel label) front c.of.ensures) in
+    spelled c.args.bytes.now _ (mark_front app c.args.task) c.args.at
+    (omega (arith, c.requires)) c.put_mark_front-end.ensures.text in
+    let here =
+    subst (λ number. IsLabel label (mark_front app number)) (sym c.task.view_is) (subst (IsLabel label) front c.of.ensures) in
     mark_kept app inside.runs inside.marks inside.calls inside.isrs c.self.invariant c.task.inside.number label here

@@ -7,4 +7,5 @@ invariant_of-self c =
     let fits : c.self.inside.first + 10 < 2 ^ 32 = omega (arith, c.self.view_is, c.requires) in
     let size : length c.self.inside.text ≡ 16 = omega (arith, c.self.told) in
     rw c.replaced-text.ensures
-    (counted_up c.self.inside.first c.self.inside.len c.self.inside.text fits (omega (arith, c.if-self-eq0.false)) size c.if-digit-ge-NINE.false c.self.invariant)
+    (counted_up c.self.inside.first c.self.inside.len c.self.inside.text fits
+    (omega (arith, c.if-self-eq0.false)) size c.if-digit-ge-NINE.false c.self.invariant)

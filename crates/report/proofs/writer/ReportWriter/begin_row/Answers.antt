@@ -6,7 +6,8 @@ pub returns-in_err-add_head-clause-text : goal.returns-in_err-add_head-clause-te
 returns-in_err-add_head-clause-text g c =
     let ending = c.args.ending in
     rw (← c.self.view_is)
-    (Adds_stopped _ _ _ (head_text c.self.inside.lines c.args.title ending.steps ending.ticks ending.end) _ _ _ c.from_residual.ensures.0
+    (Adds_stopped _ _ _ (head_text c.self.inside.lines c.args.title ending.steps ending.ticks ending.end)
+    _ _ _ c.from_residual.ensures.0
     (rw c.app.ensures at c.in_err-add_head.ensures.text))
 
 pub returns-clause-text : goal.returns-clause-text

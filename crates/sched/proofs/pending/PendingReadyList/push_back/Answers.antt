@@ -7,7 +7,8 @@ use Rattle.sched.proofs.pending.PendingReadyList.push_back.Goals as goal
 pub push_back-requires : goal.push_back-requires
 push_back-requires c =
     let i = c.args.task in
-    let free : place_of c.self.inside.lists i ≡ None = in_no_list c.self.invariant i (ap (is_among i) c.self.view_is ∙ c.requires.free) in
+    let free : place_of c.self.inside.lists i ≡ None =
+    in_no_list c.self.invariant i (ap (is_among i) c.self.view_is ∙ c.requires.free) in
     (search rules, (search rules, free))
 
 pub returns : goal.returns

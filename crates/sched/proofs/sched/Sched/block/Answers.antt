@@ -15,18 +15,24 @@ invariant_of-self c =
     let q = c.self.inside in
     let removed = c.remove.ensures.removed in
     let left : IsSched c.remove.new.self (without_task c.args.task q.pending) q.priorities q.base_priorities q.depth =
-    subst (λ (ls : List (List (ℕ × ℕ))). IsSched ls (without_task c.args.task q.pending) q.priorities q.base_priorities q.depth) (sym removed)
+    subst (λ (ls : List (List (ℕ × ℕ))). IsSched ls (without_task c.args.task q.pending) q.priorities q.base_priorities q.depth)
+    (sym removed)
     (sched_block c.self.invariant c.args.task (subst (IsSound 32 32) removed c.remove.ensures.sound)) in
-    subst (λ (ts : List ℕ). IsSched c.remove.new.self ts q.priorities q.base_priorities q.depth) (sym c.remove-2.ensures.removed) left
+    subst (λ (ts : List ℕ). IsSched c.remove.new.self ts q.priorities q.base_priorities q.depth)
+    (sym c.remove-2.ensures.removed) left
 
 pub returns-clause-schedule : goal.returns-clause-schedule
 returns-clause-schedule c =
     let q = c.self.inside in
-    ap₂ (λ (ls : List (List (ℕ × ℕ))) (ts : List ℕ). schedule_of ls ts q.current q.priorities q.base_priorities q.depth q.suspended) c.remove.ensures.removed c.remove-2.ensures.removed
+    ap₂ (λ (ls : List (List (ℕ × ℕ))) (ts : List ℕ). schedule_of ls ts q.current q.priorities q.base_priorities q.depth q.suspended)
+    c.remove.ensures.removed c.remove-2.ensures.removed
     ∙ schedule_block q.ready q.pending q.current q.priorities q.base_priorities q.depth q.suspended c.args.task
     ∙ ap (mine.block c.args.task) c.self.view_is
 
 pub returns-clause-placed : goal.returns-clause-placed
 returns-clause-placed c = λ s h.
-    let falling : IsFalling c.args.self.now.ready = subst (λ (v : Schedule). IsFalling v.ready) c.self.view_is (falling_at_home 0 c.self.inside.ready c.self.invariant.lists_are.at_home) in
-    subst (λ (v : Schedule). StandsFor v s) (sym (returns-clause-schedule c)) (stands_placed c.args.self.now s c.args.task falling h)
+    let falling : IsFalling c.args.self.now.ready =
+    subst (λ (v : Schedule). IsFalling v.ready) c.self.view_is
+    (falling_at_home 0 c.self.inside.ready c.self.invariant.lists_are.at_home) in
+    subst (λ (v : Schedule). StandsFor v s) (sym (returns-clause-schedule c))
+    (stands_placed c.args.self.now s c.args.task falling h)

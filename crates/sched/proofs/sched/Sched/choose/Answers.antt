@@ -8,4 +8,7 @@ use Rattle.sched.proofs.sched.Sched.choose.Goals as goal
 pub returns-clause-stands : goal.returns-clause-stands
 returns-clause-stands c =
     let q = c.self.inside in
-    does_choose (subst IsCalm c.self.view_is c.self.invariant.calm) (ap (λ current. schedule_of q.ready q.pending current q.priorities q.base_priorities q.depth q.suspended) c.first-self-inside.ensures.first ∙ ap mine.choose c.self.view_is)
+    does_choose (subst IsCalm c.self.view_is c.self.invariant.calm)
+    (ap (λ current. schedule_of q.ready q.pending current q.priorities q.base_priorities q.depth q.suspended)
+    c.first-self-inside.ensures.first
+    ∙ ap mine.choose c.self.view_is)

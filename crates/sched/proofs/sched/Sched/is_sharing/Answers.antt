@@ -20,7 +20,8 @@ returns-in-Some c =
     let q = c.self.inside in
     let task = c.in-Some.task in
     let p = c.list_of.result.number in
-    let home : priority_in q.priorities task ≡ p = ap (λ (s : Schedule). priority_in s.priorities task) c.self.view_is ∙ sym c.list_of.ensures.list in
+    let home : priority_in q.priorities task ≡ p =
+    ap (λ (s : Schedule). priority_in s.priorities task) c.self.view_is ∙ sym c.list_of.ensures.list in
     record {
       sharing =
           c.has_other.ensures.other

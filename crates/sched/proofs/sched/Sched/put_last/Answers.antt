@@ -11,7 +11,9 @@ use Rattle.sched.proofs.sched.Sched.put_last.Goals as goal
 pub push_back-requires-clause-free : goal.push_back-requires-clause-free
 push_back-requires-clause-free c =
     let q = c.self.inside in
-    let free = unready c.args.task (schedule_of q.ready q.pending q.current q.priorities q.base_priorities q.depth q.suspended) (ap (λ (s : Schedule). is_ready s c.args.task) c.self.view_is ∙ c.requires.free) in
+    let free =
+    unready c.args.task (schedule_of q.ready q.pending q.current q.priorities q.base_priorities q.depth q.suspended)
+    (ap (λ (s : Schedule). is_ready s c.args.task) c.self.view_is ∙ c.requires.free) in
     in_no_place c.self.invariant.lists_are.sound c.args.task free.0
 
 pub invariant_of-self : goal.invariant_of-self
@@ -20,8 +22,11 @@ invariant_of-self c =
     let task = c.args.task in
     let p = c.list_of-list.result.number in
     let put = c.push_back.ensures.put in
-    let free = unready task (schedule_of q.ready q.pending q.current q.priorities q.base_priorities q.depth q.suspended) (ap (λ (s : Schedule). is_ready s task) c.self.view_is ∙ c.requires.free) in
-    let home : p ≡ priority_in q.priorities task = c.list_of-list.ensures.list ∙ ap (λ (s : Schedule). priority_in s.priorities task) (sym c.self.view_is) in
+    let free =
+    unready task (schedule_of q.ready q.pending q.current q.priorities q.base_priorities q.depth q.suspended)
+    (ap (λ (s : Schedule). is_ready s task) c.self.view_is ∙ c.requires.free) in
+    let home : p ≡ priority_in q.priorities task =
+    c.list_of-list.ensures.list ∙ ap (λ (s : Schedule). priority_in s.priorities task) (sym c.self.view_is) in
     let below : p < length q.ready =
     let many = c.self.invariant.lists_are.sound.as_many in
     let known = c.list_of-list.ensures.known in
@@ -34,11 +39,13 @@ returns-clause-schedule c =
     let q = c.self.inside in
     let task = c.args.task in
     let p = c.list_of-list.result.number in
-    let home : p ≡ priority_in q.priorities task = c.list_of-list.ensures.list ∙ ap (λ (s : Schedule). priority_in s.priorities task) (sym c.self.view_is) in
+    let home : p ≡ priority_in q.priorities task =
+    c.list_of-list.ensures.list ∙ ap (λ (s : Schedule). priority_in s.priorities task) (sym c.self.view_is) in
     let below : p < length q.ready =
     let many = c.self.invariant.lists_are.sound.as_many in
     let known = c.list_of-list.ensures.known in
     omega (arith, many, known) in
-    ap (λ (ls : List (List (ℕ × ℕ))). schedule_of ls q.pending q.current q.priorities q.base_priorities q.depth q.suspended) c.push_back.ensures.put
+    ap (λ (ls : List (List (ℕ × ℕ))). schedule_of ls q.pending q.current q.priorities q.base_priorities q.depth q.suspended)
+    c.push_back.ensures.put
     ∙ schedule_push c.self.invariant.lists_are q.pending q.current q.base_priorities q.depth q.suspended task p home below
     ∙ ap (mine.make_ready task) c.self.view_is

@@ -41,21 +41,25 @@ app_with document entries start tickless limits = record {
   points = campaign_named (isr_names entries) document;
 }
 
-loaded : (document : Members) (entries : Entries) (start : ℕ) (tickless : Bool) (limits : Limits) (result : Result Application LoadError)
+loaded : (document : Members) (entries : Entries) (start : ℕ) (tickless : Bool)
+    (limits : Limits) (result : Result Application LoadError)
     → option_and_then (number_fault 0 4294967295 (at_section section.Start)) (data_at section.Start document) ≡ None
     → option_and_then (boolean_fault (at_section section.Tickless)) (data_at section.Tickless document) ≡ None
     → option_and_then (limits_fault tickless) (data_at section.Limits document) ≡ None → entries_fault document ≡ None
     → start ≡ number_or 0 (data_at section.Start document) → tickless ≡ tickless_named document
     → limits ≡ limits_named (data_at section.Limits document) → entries ≡ entries_of document
-    → Loads result (later_fault document entries) (app_with document entries start tickless limits) → Loads result (load_fault document) (app_named document)
-loaded document entries start tickless limits result none_start none_tickless none_limits none_entries is_start is_tickless is_limits are made =
+    → Loads result (later_fault document entries) (app_with document entries start tickless limits)
+    → Loads result (load_fault document) (app_named document)
+loaded document entries start tickless limits result none_start none_tickless
+    none_limits none_entries is_start is_tickless is_limits are made =
     let started = number_or 0 (data_at section.Start document) in
     let idle = tickless_named document in
     let limited = limits_named (data_at section.Limits document) in
     let none_limited : option_and_then (limits_fault idle) (data_at section.Limits document) ≡ None =
     subst (λ b. option_and_then (limits_fault b) (data_at section.Limits document) ≡ None) is_tickless none_limits in
     subst (λ check. Loads result check (app_named document))
-    (sym (passed (option_and_then (number_fault 0 4294967295 (at_section section.Start)) (data_at section.Start document)) _ none_start
+    (sym (passed (option_and_then (number_fault 0 4294967295 (at_section section.Start)) (data_at section.Start document))
+    _ none_start
     ∙ passed (option_and_then (boolean_fault (at_section section.Tickless)) (data_at section.Tickless document)) _ none_tickless
     ∙ passed (option_and_then (limits_fault idle) (data_at section.Limits document)) _ none_limited
     ∙ passed (entries_fault document) _ none_entries))
@@ -70,9 +74,11 @@ returns c =
     let start = c.in_ok-start.ensures.checks in
     let tickless = c.in_ok-tickless.ensures in
     let entries = c.in_ok-entries.ensures.checks in
-    loaded document (entries_view c.in_ok-entries.entries) c.in_ok-start.start c.in_ok-tickless.tickless c.in_ok-limits.limits c.app_of.result
+    loaded document (entries_view c.in_ok-entries.entries) c.in_ok-start.start
+    c.in_ok-tickless.tickless c.in_ok-limits.limits c.app_of.result
     (subst (λ d. option_and_then (number_fault 0 4294967295 (at_section section.Start)) d ≡ None) c.at_section-value.ensures
-    (subst (λ p. option_and_then (number_fault 0 4294967295 p) (data_of c.at_section-value.result) ≡ None) c.section.ensures start.0))
+    (subst (λ p. option_and_then (number_fault 0 4294967295 p) (data_of c.at_section-value.result) ≡ None)
+    c.section.ensures start.0))
     (subst (λ d. option_and_then (boolean_fault (at_section section.Tickless)) d ≡ None) c.at_section-value-2.ensures
     (subst (λ p. option_and_then (boolean_fault p) (data_of c.at_section-value-2.result) ≡ None) c.section-2.ensures tickless.0))
     c.in_ok-limits.ensures.0 entries.0 (start.1 ∙ ap (number_or 0) c.at_section-value.ensures)

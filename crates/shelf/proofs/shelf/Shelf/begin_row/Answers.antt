@@ -11,18 +11,28 @@ use Rattle.shelf.proofs.Begun.{has_begun}
 use Rattle.shelf.proofs.shelf.Shelf.begin_row.Goals as goal
 
 pub begin_row-requires-clause-way : goal.begin_row-requires-clause-way
-begin_row-requires-clause-way c = subst (λ (l : Limits). IsUnderWay c.args.app.now [] l c.go_to_stop-told.new.kernel) (sym (ap (λ (s : Shelved). s.limits) c.self.view_is)) c.go_to_stop-told.ensures.way
+begin_row-requires-clause-way c =
+    subst (λ (l : Limits). IsUnderWay c.args.app.now [] l c.go_to_stop-told.new.kernel)
+    (sym (ap (λ (s : Shelved). s.limits) c.self.view_is)) c.go_to_stop-told.ensures.way
 
 pub returns-clause-before : goal.returns-clause-before
 returns-clause-before c =
-    let told = c.go_to_stop-told.ensures.told ∙ ap (λ (s : Shelved). length (events_after c.args.app.now s.limits [] c.go_to_stop-told.new.kernel.steps)) (sym c.self.view_is) in
+    let told =
+    c.go_to_stop-told.ensures.told
+    ∙ ap (λ (s : Shelved). length (events_after c.args.app.now s.limits [] c.go_to_stop-told.new.kernel.steps))
+    (sym c.self.view_is) in
     ap (λ (told : ℕ). told + c.in_ok-beginning.beginning.before) told ∙ c.in_ok-beginning.ensures.before
     ∙ ap (λ (s : Shelved). length (events_after c.args.app.now s.limits [] (first_step c.args.point.now))) c.self.view_is
 
 pub overflow_add-result : goal.overflow_add-result
 overflow_add-result c =
-    let told = c.go_to_stop-told.ensures.told ∙ ap (λ (s : Shelved). length (events_after c.args.app.now s.limits [] c.go_to_stop-told.new.kernel.steps)) (sym c.self.view_is) in
-    let sum = c.in_ok-beginning.ensures.before ∙ ap (λ (s : Shelved). length (events_after c.args.app.now s.limits [] (first_step c.args.point.now))) c.self.view_is in
+    let told =
+    c.go_to_stop-told.ensures.told
+    ∙ ap (λ (s : Shelved). length (events_after c.args.app.now s.limits [] c.go_to_stop-told.new.kernel.steps))
+    (sym c.self.view_is) in
+    let sum =
+    c.in_ok-beginning.ensures.before
+    ∙ ap (λ (s : Shelved). length (events_after c.args.app.now s.limits [] (first_step c.args.point.now))) c.self.view_is in
     let few = shares_few c.args.app.now _ c.args.self.now c.self.view_is c.requires.shelf c.args.point.now c.requires.reached in
     let all = c.count_events.ensures in
     let fits = c.count_events.type_inv in
@@ -33,11 +43,13 @@ returns-clause-begun c =
     let row = c.in_ok-beginning.ensures in
     let beyond : c.in_ok-beginning.beginning.end ≡ None → last_step c.args.point.now < c.begin_row.new.kernel.steps = λ goes. (
     let there = row.there goes in
-    let under = steps_under c.args.app.now c.args.point.now c.self.inside.limits c.begin_row.new.kernel.steps (sym row.end ∙ goes) in
+    let under =
+    steps_under c.args.app.now c.args.point.now c.self.inside.limits c.begin_row.new.kernel.steps (sym row.end ∙ goes) in
     let seen = ap (λ (s : Shelved). s.limits.steps) c.self.view_is in
     let until = c.requires.beyond in
     omega arith) in
-    has_begun c.args.app.now c.args.point.now c.well_formed-2.ensures _ c.args.self.now.limits (ap (λ (s : Shelved). s.limits) c.self.view_is) _ _ _ _ row.way row.past beyond row.end row.events
+    has_begun c.args.app.now c.args.point.now c.well_formed-2.ensures _ c.args.self.now.limits
+    (ap (λ (s : Shelved). s.limits) c.self.view_is) _ _ _ _ row.way row.past beyond row.end row.events
 
 pub returns-clause-meter : goal.returns-clause-meter
 returns-clause-meter c = omega (arith, c.go_to_stop-told.ensures.there, c.in_ok-beginning.ensures.meter)

@@ -9,19 +9,26 @@ use Rattle.shelf.proofs.shelf.Shelf.go_to_stop.Goals as goal
 
 pub returns-clause-way : goal.returns-clause-way
 returns-clause-way c =
-    let stop = read_is c.args.app.now _ c.args.self.now c.self.view_is c.requires.shelf c.args.point.now c.requires.reached c.first_step.result c.first_step.ensures c.index-stop.result.now _ c.index-stop.ensures in
-    subst (λ (l : Limits). IsUnderWay c.args.app.now [] l c.restore.new.self) (ap (λ (s : Shelved). s.limits) c.self.view_is) (subst (IsUnderWay c.args.app.now [] c.self.inside.limits) (sym c.restore.ensures) stop.way)
+    let stop =
+    read_is c.args.app.now _ c.args.self.now c.self.view_is c.requires.shelf c.args.point.now c.requires.reached
+    c.first_step.result c.first_step.ensures c.index-stop.result.now _ c.index-stop.ensures in
+    subst (λ (l : Limits). IsUnderWay c.args.app.now [] l c.restore.new.self) (ap (λ (s : Shelved). s.limits) c.self.view_is)
+    (subst (IsUnderWay c.args.app.now [] c.self.inside.limits) (sym c.restore.ensures) stop.way)
 
 pub returns-clause-there : goal.returns-clause-there
 returns-clause-there c =
-    let stop = read_is c.args.app.now _ c.args.self.now c.self.view_is c.requires.shelf c.args.point.now c.requires.reached c.first_step.result c.first_step.ensures c.index-stop.result.now _ c.index-stop.ensures in
+    let stop =
+    read_is c.args.app.now _ c.args.self.now c.self.view_is c.requires.shelf c.args.point.now c.requires.reached
+    c.first_step.result c.first_step.ensures c.index-stop.result.now _ c.index-stop.ensures in
     let there = ap (λ (k : Machine). k.steps) c.restore.ensures ∙ stop.there in
     let parts = parts_of c.args.app.now _ c.args.self.now c.self.view_is c.requires.shelf c.args.point.now c.requires.reached in
     omega (arith, there, parts)
 
 pub returns-clause-told : goal.returns-clause-told
 returns-clause-told c =
-    let stop = read_is c.args.app.now _ c.args.self.now c.self.view_is c.requires.shelf c.args.point.now c.requires.reached c.first_step.result c.first_step.ensures c.index-stop.result.now _ c.index-stop.ensures in
+    let stop =
+    read_is c.args.app.now _ c.args.self.now c.self.view_is c.requires.shelf c.args.point.now c.requires.reached
+    c.first_step.result c.first_step.ensures c.index-stop.result.now _ c.index-stop.ensures in
     let there = ap (λ (k : Machine). k.steps) c.restore.ensures ∙ stop.there in
     stop.before ∙ ap (λ (n : ℕ). length (events_after c.args.app.now c.self.inside.limits [] n)) (sym there)
     ∙ ap (λ (s : Shelved). length (events_after c.args.app.now s.limits [] c.restore.new.self.steps)) c.self.view_is

@@ -15,14 +15,20 @@ pub returns-in_err-events-clause-refused : goal.returns-in_err-events-clause-ref
 returns-in_err-events-clause-refused c =
     let p = err_from_is_err_and c.from_residual-in_err-events.result c.from_residual-in_err-events.ensures.1 in
     let none = ap₂ (λ (told more : List Event). told ++ more) c.new-trail.ensures.before c.new-trail.ensures.told in
-    rw p.1 (whole_refused c.args.app.now c.args.self.now c.requires.shelf c.args.point.now c.requires.reached _ _ none c.in_ok-before.field-0 c.in_ok-before.ensures.row c.in_ok-before.ensures.before
-    c.args.meter.now c.run_reached.new.meter c.in_ok-before.ensures.meter (subst (λ (events : List Event). 0 < c.in_ok-before.field-0.before + length events) c.events.ensures c.in_err-events.ensures.memory))
+    rw p.1 (whole_refused c.args.app.now c.args.self.now c.requires.shelf c.args.point.now c.requires.reached
+    _ _ none c.in_ok-before.field-0 c.in_ok-before.ensures.row c.in_ok-before.ensures.before
+    c.args.meter.now c.run_reached.new.meter c.in_ok-before.ensures.meter
+    (subst (λ (events : List Event). 0 < c.in_ok-before.field-0.before + length events)
+    c.events.ensures c.in_err-events.ensures.memory))
 
 pub returns-clause-row : goal.returns-clause-row
 returns-clause-row c =
     let none = ap₂ (λ (told more : List Event). told ++ more) c.new-trail.ensures.before c.new-trail.ensures.told in (
       refl,
       refl,
-      whole_row c.args.app.now c.args.self.now c.requires.shelf c.args.point.now c.requires.reached _ _ none c.in_ok-before.field-0 c.in_ok-before.ensures.row c.in_ok-before.ensures.before
-          c.in_ok-events.events.items (c.in_ok-events.ensures.events ∙ ap (λ (events : List Event). take c.in_ok-before.field-0.before c.args.self.now.base.events ++ events) c.events.ensures),
+      whole_row c.args.app.now c.args.self.now c.requires.shelf c.args.point.now c.requires.reached
+          _ _ none c.in_ok-before.field-0 c.in_ok-before.ensures.row c.in_ok-before.ensures.before
+          c.in_ok-events.events.items (c.in_ok-events.ensures.events
+          ∙ ap (λ (events : List Event). take c.in_ok-before.field-0.before c.args.self.now.base.events ++ events)
+          c.events.ensures),
     )

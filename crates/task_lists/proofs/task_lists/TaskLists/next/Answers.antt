@@ -12,5 +12,7 @@ none_too (Some n) task e h = absurd cc
 
 pub returns-clause-outside : goal.returns-clause-outside
 returns-clause-outside g c = λ outside.
-    let nowhere = ap (λ (ls : List (List (ℕ × ℕ))). place_of ls c.node_of.result.number) c.self.view_is ∙ ap (place_of c.args.self.now) c.node_of.ensures.node ∙ outside in
+    let nowhere =
+    ap (λ (ls : List (List (ℕ × ℕ))). place_of ls c.node_of.result.number) c.self.view_is
+    ∙ ap (place_of c.args.self.now) c.node_of.ensures.node ∙ outside in
     none_too c.next.result c.task_of.result c.task_of.ensures.task (c.next.ensures.outside nowhere)
