@@ -32,7 +32,7 @@ use Rattle.soundness.proofs.InScripts.{Known, script_formed, stands_at, known_at
 use Rattle.soundness.proofs.Sound.{ready_reckoned}
 use Rattle.soundness.proofs.Frames.{keeps-before_step}
 use Rattle.soundness.proofs.Idling.{not_stuck_after}
-use Rattle.soundness.proofs.Reached.{reached_before_step, start_only}
+use Rattle.soundness.proofs.Stepped.{reached_before_step, start_only}
 use Rattle.model.specs.Step.{before_step}
 use Rattle.sched.proofs.Standing as on_sched
 use Rattle.objects.specs.declared.lock.Lock.{Lock}

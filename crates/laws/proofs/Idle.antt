@@ -48,7 +48,8 @@ use Rattle.soundness.proofs.Passing.{held-told, either_way, jumped, jump_come}
 use Rattle.soundness.proofs.Bits.{stays-set}
 use Rattle.soundness.proofs.Handled.{spares-handle}
 use Rattle.soundness.proofs.Frames.{Keeps, keeps_both, keeps-interrupt, keeps-wake_due}
-use Rattle.soundness.proofs.Reached.{reached_after, reached_before_step}
+use Rattle.soundness.proofs.Reached.{reached_after}
+use Rattle.soundness.proofs.Stepped.{reached_before_step}
 use Rattle.model.specs.Invariant.{Hold, Suspension, IsState, RunsIn}
 use Rattle.model.specs.Scripts.{IsWellFormed}
 use Rattle.model.proofs.Unlocking.{opened_by, current-all_ready}

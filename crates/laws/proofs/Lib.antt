@@ -5,6 +5,7 @@ pub mod Idle
 pub mod Sleeping
 pub mod Working
 pub mod Changes
+pub mod WakeTimes
 pub mod Tickets
 pub mod Held
 pub mod Priorities

@@ -15,5 +15,6 @@ pub mod Bits
 pub mod Daemon
 pub mod Going
 pub mod Obeyed
+pub mod Stepped
 pub mod Reached
 pub mod Idling

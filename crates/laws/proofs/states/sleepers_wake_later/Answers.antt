@@ -1,4 +1,4 @@
-use Rattle.laws.proofs.Changes.{wake_later}
+use Rattle.laws.proofs.WakeTimes.{wake_later}
 use Rattle.laws.proofs.states.sleepers_wake_later.Goals as goal
 
 pub returns : goal.returns

@@ -1,0 +1,692 @@
+-- What is true of every state that a run comes to is true after a step.
+use Rattle.std.proofs.Common.{ap₂, ◌≡◌, ◌≢◌, ◌<◌, ◌+◌, ◌-◌, ◌||◌, ◌&&◌, ◌⊎◌, inl, inr, ℕ, true, false, eqb, ltb, List, [], ◌∷◌}
+use Rattle.std.proofs.Common.{length, Option, Some, None, refl, ap, sym, subst, ◌∙◌, arith}
+use Rattle.std.specs.Prelude.{Bool}
+use Rattle.std.specs.Option.{IfSome, option_eq}
+use Rattle.std.proofs.lemmas.Bool.{ltb-true, lt-ltb}
+use Rattle.model.specs.declared.op.Op.{Op}
+use Rattle.model.specs.declared.event.Misuse.{Misuse}
+use Rattle.model.specs.declared.event.Misuse.TheVariants.{WhileSuspended, NotSuspended, EndedSuspended}
+use Rattle.model.specs.declared.op.Op.TheVariants.{Work, Delay, DelayUntil, Yield, Time, Mark, Expect, Repeat, End, If, Else, EndIf}
+use Rattle.model.specs.declared.op.Op.TheVariants.{Break, Stamp, Since, Await, Do, GiveMutex, MessagesWaiting, SpacesAvailable}
+use Rattle.model.specs.declared.op.Op.TheVariants.{SetBits, ClearBits, GetBits, WaitBits, Suspend, Resume, SuspendAll, ResumeAll}
+use Rattle.model.specs.declared.op.Op.TheVariants.{NextCommand, Obey}
+use Rattle.model.specs.declared.op.Access.{Access}
+use Rattle.model.specs.declared.op.Access.TheVariants.{Receive}
+use Rattle.model.specs.declared.op.Command.{Command}
+use Rattle.model.specs.declared.call.Condition.{Condition}
+use Rattle.model.specs.declared.call.Phase.{Phase}
+use Rattle.model.specs.declared.call.Phase.TheVariants.{Start, Try, Decide, Place, Unlock, Leave}
+use Rattle.model.specs.declared.event.Event.{Event}
+use Rattle.model.specs.declared.event.End as ending
+use Rattle.model.specs.declared.event.What.TheVariants as what
+use Rattle.model.specs.Application.{Application, Limits, script_of, op_at}
+use Rattle.model.specs.Scripts.{IsWellFormed, fits_object, is_wait}
+use Rattle.model.specs.State.{State, task_at, progress_at, status_at, call_at, bits_at, go_on, for_each}
+use Rattle.model.specs.Switching.{choose, is_ready, preempt, settle, is_scheduler_suspended, is_held, unless_held, write}
+use Rattle.model.specs.Waiting.{set_deadline, end_hold, unlock}
+use Rattle.model.specs.Ops.{answer, use_up}
+use Rattle.model.specs.Objects.{list_for}
+use Rattle.model.specs.Calls.{await, decide, leave_call}
+use Rattle.model.specs.Groups.{is_met, begin_set, set_bits, check, final_bits, wait_bits}
+use Rattle.model.specs.Suspension.{suspend_all, resume_all}
+use Rattle.model.specs.Daemon.{take_command, next_command, obeyed, obey, command_at}
+use Rattle.model.specs.Handlers.{handle, inject}
+use Rattle.model.specs.Step.{is_ended, judge, misused, act, act_unless, may_switch, misuse, act_if, act_current, before_step, step}
+use Rattle.model.specs.Invariant.{Hold, hold_of, InOne, OnObject, ForBits, ToSetBits, course, list_of_op, IsPhaseOf, IsSound, holds}
+use Rattle.model.specs.Invariant.{IsStranded, IsRunning, RunsIn, Suspension, suspension_of, IsState}
+use Rattle.model.proofs.Sorting.{by_test}
+use Rattle.model.proofs.Lists.{eqb-same}
+use Rattle.model.proofs.Statuses.{ready_free}
+use Rattle.soundness.proofs.Settled.{IsSettled, settled-settle, settled-preempt, when_held, when_free, held_by_call, held_by_none}
+use Rattle.soundness.proofs.InScripts.{script_formed, range_at, known_at}
+use Rattle.soundness.proofs.Frames.{keeps-settle, keeps-choose, keeps-answer, keeps-answer_bits, keeps-try, keeps-set_deadline}
+use Rattle.soundness.proofs.Frames.{keeps-use_up, keeps-preempt, keeps-take_command, keeps-obeyed, keeps-clear_by_daemon}
+use Rattle.soundness.proofs.Passing.{is_instant, lasts-act, lasts-leave_call, lasts-end_set, lasts-end_command, lasts-final_bits}
+use Rattle.soundness.proofs.Passing.{hold-idle, suspension-idle, hold-act, suspension-tick, suspensions-tick, suspends-all}
+use Rattle.soundness.proofs.Passing.{resumes-all}
+use Rattle.soundness.proofs.Sound.{runs, logged, settled, preempted, yielded, answered, used_up, expected, opened, closed, branched}
+use Rattle.soundness.proofs.Sound.{skipped, loop_left, stamped, since_stamped, plain, delayed, delayed_until}
+use Rattle.soundness.proofs.Handled.{and_left, and_right, ticked, idled, handled_between}
+use Rattle.soundness.proofs.Trying.{tried, gave}
+use Rattle.soundness.proofs.Called.{done_now, dated, dated_at, phase_free, course_of_one}
+use Rattle.soundness.proofs.Phases.{free, unsuspended, suspended_not, calm_where, calm_held, decided, decided_held, placed}
+use Rattle.soundness.proofs.Phases.{unlocked, unlocked_held, left, left_hold}
+use Rattle.soundness.proofs.Bits.{cleared, answered_bits, final_done, set_begun, begun_held, wait_begun, waits_held, set_ended}
+use Rattle.soundness.proofs.Bits.{wait_left}
+use Rattle.soundness.proofs.Daemon.{command_taken, cleared_by_daemon, set_ended_by_daemon}
+use Rattle.soundness.proofs.Going.{GoesOn, Continues, suspended_held, suspended_on, acted_on, resumed_on}
+use Rattle.soundness.proofs.Obeyed.{call_suspended, call_resumed, all_suspended, all_resumed}
+
+-- ---- a step that holds nothing at its end
+
+module _ (app : Application) (formed : IsWellFormed app) where
+  -- what the running task is, where nothing is held
+  abbrev IsOn : State → Option ℕ → Type 0
+  IsOn s None = is_scheduler_suspended s ≡ false
+  IsOn s (Some i) = (is_ready s i ≡ true) ⊎ IsStranded app s i
+
+  -- no call holds the scheduler, and nothing is locked
+  rests : (s : State) → IsSound app free s → hold_of s ≡ free → IsOn s s.current
+      → (is_scheduler_suspended s ≡ false → s.held_ticks ≡ 0) → IsState app s
+  rests s h same on ticks =
+      let none : s.call_hold ≡ false = ap (λ (x : Hold). x.held) same in
+      let unlocked_ : s.locked ≡ None = ap (λ (x : Hold). x.locked) same in
+      let off : (j : ℕ) → holds (call_at s j).phase ≡ false = λ j. phase_free free _ (call_at s j).phase refl (h.calls j).phase in
+      record {
+        sound = subst (λ x. IsSound app x s) (sym same) h;
+        runs = by_current s.current on none off;
+        alone = λ j t. let f = off j in absurd (cc);
+        locked = λ _. unlocked_;
+        apart = λ _. none;
+        held = ticks;
+      } where
+        by_current : (r : Option ℕ) → IsOn s r → s.call_hold ≡ false
+            → ((j : ℕ) → holds (call_at s j).phase ≡ false) → RunsIn app s r
+        by_current None on none off = ap₂ (λ (a b : Bool). a || b) none on
+        by_current (Some i) on none off =
+            record {
+              holding = off i ∙ sym none;
+              ready = λ _. on;
+              setting = λ held. let f : true ≡ false = sym held ∙ none in absurd (cc);
+              placing = λ e. let f : holds Place ≡ false = subst (λ phase. holds phase ≡ false) e (off i) in absurd (cc);
+            }
+
+  -- no `suspend_all` is in force, and the running task is Ready
+  pub at_rest : (s : State) → IsSound app free s → hold_of s ≡ free → suspension_of s ≡ unsuspended → IsSettled s → IsState app s
+  at_rest s h same calm on = rests s h same (by_current s.current on) (λ _. ap (λ (x : Suspension). x.held_ticks) calm) where
+    by_current : (r : Option ℕ) → IfSome r (λ task. is_ready s task ≡ true) → IsOn s r
+    by_current None on = suspended_not s calm
+    by_current (Some i) on = inl on
+
+  settled_at_rest : (s : State) → IsSound app free s → hold_of s ≡ free
+      → suspension_of s ≡ unsuspended → IsState app (unless_held settle s)
+  settled_at_rest s h same calm =
+      let none : is_held s ≡ false =
+      held_by_none s (ap (λ (x : Hold). x.held) same) (ap (λ (x : Suspension). x.suspensions) calm) in
+      subst (IsState app) (sym (when_free settle s none)) (at_rest (settle s) (settled app formed free s h)
+      ((keeps-settle s).hold ∙ same) ((keeps-settle s).suspension ∙ calm) (settled-settle s))
+
+  -- a `suspend_all` is in force, and the running task goes on
+  suspended_at_rest : (s : State) (i : ℕ) → IsSound app free s → hold_of s ≡ free → is_scheduler_suspended s ≡ true
+      → s.current ≡ Some i → GoesOn app i (task_at s i) → IsState app (unless_held settle s)
+  suspended_at_rest s i h same on runs_ goes =
+      let stays : IsState app s =
+      rests s h same (subst (IsOn s) (sym runs_) (elim goes [ inl r ↦ inl r | inr e ↦ inr (on, e) ])) (λ off. absurd (cc)) in
+      subst (IsState app) (sym (when_held settle s (suspended_held s on))) stays
+
+  still_held : (s : State) → IsState app s → s.call_hold ≡ true → IsState app (unless_held settle s)
+  still_held s h held = subst (IsState app) (sym (when_held settle s (held_by_call s held))) h
+
+  -- the events don't matter, nor the steps done, nor an end that the step brings about
+  told : (s : State) (log : List Event) (steps : ℕ) (stopped : Option ending.End)
+      → IsState app s → IsState app (record s { log = log; steps = steps; stopped = stopped })
+  told s log steps stopped h =
+      record {
+        sound = logged app formed (hold_of s) s log steps stopped h.sound;
+        runs = by_current s.current h.runs;
+        alone = h.alone;
+        locked = h.locked;
+        apart = h.apart;
+        held = h.held;
+      } where
+        by_current : (r : Option ℕ) → RunsIn app s r → RunsIn app (record s { log = log; steps = steps; stopped = stopped }) r
+        by_current None r = r
+        by_current (Some i) r = record { holding = r.holding; ready = r.ready; setting = r.setting; placing = r.placing }
+
+  not_left : (a b : Bool) → (a || b) ≡ false → a ≡ false
+  not_left false b e = refl
+  not_left true b e = absurd (cc)
+
+  not_right : (a b : Bool) → (a || b) ≡ false → b ≡ false
+  not_right false b e = e
+  not_right true b e = absurd (cc)
+
+  -- where nothing holds the scheduler
+  module _ (s : State) (h : IsState app s) (none : is_held s ≡ false) where
+    no_call_holds : s.call_hold ≡ false
+    no_call_holds = not_left s.call_hold _ none
+
+    calm_free : suspension_of s ≡ unsuspended
+    calm_free = let off : is_scheduler_suspended s ≡ false = not_right s.call_hold _ none in calm_where s off (h.held off)
+
+  hold_none : (s : State) → IsState app s → s.call_hold ≡ false → hold_of s ≡ free
+  hold_none s h none =
+      ap (λ l. record { held = s.call_hold; locked = l }) (h.locked none) ∙ ap (λ b. record { held = b; locked = None }) none
+
+  sound_free : (s : State) → IsState app s → s.call_hold ≡ false → IsSound app free s
+  sound_free s h none = subst (λ x. IsSound app x s) (hold_none s h none) h.sound
+
+  -- a step that changes no more than the end
+  ended_only : (s : State) (stopped : Option ending.End) → IsState app s
+      → IsState app (unless_held settle (record s { stopped = stopped }))
+  ended_only s stopped h =
+      let t : State = record s { stopped = stopped } in
+      let k : IsState app t = told s s.log s.steps stopped h in
+      by_test (is_held s)
+      (λ held. subst (IsState app) (sym (when_held settle t held)) k)
+      (λ none.
+      settled_at_rest t (sound_free t k (no_call_holds t k none)) (hold_none t k (no_call_holds t k none)) (calm_free t k none))
+
+  -- a judgement at the end of an op
+  judged_done : (i op_index : ℕ) (t : State) → IsState app (unless_held settle t)
+      → IsState app (unless_held settle (judge i op_index t))
+  unfolding judge
+  judged_done i op_index t h = by_test (is_scheduler_suspended t && is_ended (status_at t i))
+      (λ q. rw q (misused_ended (suspended_held t (and_left (is_scheduler_suspended t) (is_ended (status_at t i)) q))))
+      (λ q. rw q h) where
+        misused_ended : is_held t ≡ true → IsState app (unless_held settle (misused i op_index EndedSuspended t))
+        misused_ended held = ended_only t _ (subst (IsState app) (when_held settle t held) h)
+
+  -- ---- the ops
+
+  -- an op of one phase
+  acted : (s : State) (i : ℕ) (op : Op) → IsSound app free s → s.locked ≡ None → i < length s.tasks → is_ready s i ≡ true
+      → op_at app i (progress_at s i).op_index ≡ Some op → course (Some op) ≡ InOne → IsSound app free (act app i op s)
+  acted s i (Work n) h u l r is w =
+      ticked app formed free _ (used_up app formed free s i (Work n) h (ready_free (status_at s i) r) is n refl)
+      (ap (λ (x : Hold). x.locked) (keeps-use_up app i n s).hold ∙ u)
+  acted s i (Delay n) h u l r is w = delayed app formed free s i n h l r is
+  acted s i (DelayUntil n) h u l r is w = delayed_until app formed free s i n h l r is
+  acted s i Yield h u l r is w =
+      yielded app formed free _ (answered app formed free s i Yield h (ready_free (status_at s i) r) is (Some 0) refl)
+  acted s i Time h u l r is w = answered app formed free s i Time h (ready_free (status_at s i) r) is _ refl
+  acted s i (Mark n) h u l r is w =
+      plain app formed free (write (what.Mark i n) s) i (logged app formed free s _ s.steps s.stopped h)
+      (ready_free (status_at s i) r) (Mark n) is (progress_at s i).answer refl
+  acted s i (Expect c) h u l r is w = expected app formed free s i (Expect c) h (ready_free (status_at s i) r) is c refl
+  acted s i (Repeat n) h u l r is w = opened app formed free s i (Repeat n) h (ready_free (status_at s i) r) is n refl
+  acted s i End h u l r is w = closed app formed free s i End h (ready_free (status_at s i) r) is refl
+  acted s i (If c) h u l r is w = branched app formed free s i (If c) h (ready_free (status_at s i) r) is c refl
+  acted s i Else h u l r is w = skipped app formed free s i Else h (ready_free (status_at s i) r) is refl
+  acted s i EndIf h u l r is w = plain app formed free s i h (ready_free (status_at s i) r) EndIf is (progress_at s i).answer refl
+  acted s i Break h u l r is w = loop_left app formed free s i Break h (ready_free (status_at s i) r) is refl
+  acted s i Stamp h u l r is w = stamped app formed free s i Stamp h (ready_free (status_at s i) r) is refl
+  acted s i Since h u l r is w = since_stamped app formed free s i Since h (ready_free (status_at s i) r) is refl
+  acted s i (Await o a ticks) h u l r is w = absurd (cc)
+  acted s i (Do o a) h u l r is w =
+      done_now app formed free s i o a h u l r is
+      (and_left (fits_object app o a) _ (known_at app formed i (progress_at s i).op_index (Do o a) is))
+  acted s i (GiveMutex o) h u l r is w = gave app formed free s i o h u l r is
+  acted s i (MessagesWaiting o) h u l r is w =
+      answered app formed free s i (MessagesWaiting o) h (ready_free (status_at s i) r) is _ refl
+  acted s i (SpacesAvailable o) h u l r is w =
+      answered app formed free s i (SpacesAvailable o) h (ready_free (status_at s i) r) is _ refl
+  acted s i (SetBits g m) h u l r is w = absurd (cc)
+  acted s i (ClearBits g m) h u l r is w =
+      cleared app formed free s i (ClearBits g m) h (ready_free (status_at s i) r) is (λ n. refl) g m
+  acted s i (GetBits g) h u l r is w = answered app formed free s i (GetBits g) h (ready_free (status_at s i) r) is _ refl
+  acted s i (WaitBits g c ticks) h u l r is w = absurd (cc)
+  acted s i (Suspend j) h u l r is w = call_suspended app formed free s i h l r j is
+  acted s i (Resume j) h u l r is w = call_resumed app formed free s i h l r j is
+  acted s i SuspendAll h u l r is w = all_suspended app formed free s i h l r is
+  acted s i ResumeAll h u l r is w = all_resumed app formed free s i h l r is
+  acted s i (NextCommand o) h u l r is w = absurd (cc)
+  acted s i Obey h u l r is w = absurd (cc)
+
+  module _ (s : State) (i : ℕ) (h : IsState app s) (on : s.current ≡ Some i) where
+    running : IsRunning app s i
+    running = subst (RunsIn app s) on h.runs
+
+    there : i < length s.tasks
+    there = subst (λ r. IfSome r (λ task. task < length s.tasks)) on h.sound.table.current
+
+    -- where no call holds the scheduler, and the task has an op to do
+    ready_at : (op : Op) → s.call_hold ≡ false → op_at app i (progress_at s i).op_index ≡ Some op → is_ready s i ≡ true
+    ready_at op none is = elim (running.ready none) [ inl r ↦ r | inr x ↦ let f = x.1 in absurd (cc) ]
+
+    -- where nothing holds it
+    module _ (none : s.call_hold ≡ false) (off : is_scheduler_suspended s ≡ false) where
+      calm : suspension_of s ≡ unsuspended
+      calm = calm_where s off (h.held off)
+
+      suspensions_none : s.suspensions ≡ 0
+      suspensions_none = ap (λ (x : Suspension). x.suspensions) calm
+
+      rested : (op : Op) → op_at app i (progress_at s i).op_index ≡ Some op → course (Some op) ≡ InOne
+          → suspension_of (act app i op s) ≡ suspension_of s → IsState app (unless_held settle (act app i op s))
+      rested op is w kept =
+          settled_at_rest (act app i op s) (acted s i op (sound_free s h none) (h.locked none) there (ready_at op none is) is w)
+          (hold-act app i op s w ∙ hold_none s h none) (kept ∙ calm)
+
+      instant : (op : Op) → op_at app i (progress_at s i).op_index ≡ Some op → course (Some op) ≡ InOne
+          → is_instant op ≡ true → IsState app (unless_held settle (act app i op s))
+      instant op is w t = rested op is w (lasts-act app i op s t).suspension
+
+      worked : (n : ℕ) → op_at app i (progress_at s i).op_index ≡ Some (Work n)
+          → IsState app (unless_held settle (act app i (Work n) s))
+      worked n is =
+          let k = (keeps-use_up app i n s).suspension in
+          rested (Work n) is refl
+          (suspension-tick app (use_up app i n s) (ap (λ (x : Suspension). x.suspensions) k ∙ suspensions_none) ∙ k)
+
+      suspended_first : op_at app i (progress_at s i).op_index ≡ Some SuspendAll
+          → IsState app (unless_held settle (act app i SuspendAll s))
+      suspended_first is =
+          let r : is_ready s i ≡ true = ready_at SuspendAll none is in
+          let k = suspended_on app i s there r in
+          let e = (suspends-all app i s).suspensions in
+          let more : is_scheduler_suspended (suspend_all app i s) ≡ true =
+          lt-ltb 0 (suspend_all app i s).suspensions (omega arith) in
+          suspended_at_rest _ i (acted s i SuspendAll (sound_free s h none) (h.locked none) there r is refl)
+          (hold-act app i SuspendAll s refl ∙ hold_none s h none) more (k.current ∙ on) k.goes
+
+      -- ---- a call on an object
+
+      module _ (o : ℕ) (a : Access) (ticks : Option ℕ) (is : op_at app i (progress_at s i).op_index ≡ Some (Await o a ticks)) where
+        ready_now : is_ready s i ≡ true
+        ready_now = ready_at (Await o a ticks) none is
+
+        fit : fits_object app o a ≡ true
+        fit = and_left (fits_object app o a) _ (known_at app formed i (progress_at s i).op_index (Await o a ticks) is)
+
+        in_range : is_wait ticks ≡ true
+        in_range = range_at (progress_at s i).op_index (script_of app i) (Await o a ticks) (script_formed app formed i).ranges is
+
+        tried_again : IsState app (unless_held settle (await app i o a ticks Try s))
+        tried_again =
+            settled_at_rest _ (tried app formed free s i o a ticks (sound_free s h none) (h.locked none) there ready_now is fit)
+            ((keeps-try app i o a s).hold ∙ hold_none s h none) ((keeps-try app i o a s).suspension ∙ calm)
+
+        tried_first : IsState app (unless_held settle (await app i o a ticks Start s))
+        tried_first =
+            let t : State = set_deadline i ticks s in
+            let k = keeps-set_deadline i ticks s in
+            let at = dated_at s i ticks there in
+            let h1 : IsSound app free t =
+            dated app formed free s i ticks (sound_free s h none) (ready_free (status_at s i) ready_now) in_range in
+            let unlocked_ : t.locked ≡ None = ap (λ (x : Hold). x.locked) k.hold ∙ h.locked none in
+            let op_is : op_at app i (progress_at t i).op_index ≡ Some (Await o a ticks) = ap (op_at app i) at.1 ∙ is in
+            settled_at_rest _ (tried app formed free t i o a ticks h1 unlocked_ (rw k.tasks there) (at.0 ∙ ready_now) op_is fit)
+            ((keeps-try app i o a t).hold ∙ k.hold ∙ hold_none s h none)
+            ((keeps-try app i o a t).suspension ∙ k.suspension ∙ calm)
+
+      -- ---- the daemon
+
+      command_next : (o : ℕ) → op_at app i (progress_at s i).op_index ≡ Some (NextCommand o)
+          → IsState app (unless_held settle (take_command app i o s))
+      command_next o is =
+          let k = keeps-take_command app i o s in
+          let fit : fits_object app o Receive ≡ true = (known_at app formed i (progress_at s i).op_index (NextCommand o) is).2 in
+          settled_at_rest _
+          (command_taken app formed free s i o (sound_free s h none)
+          (h.locked none) there (ready_at (NextCommand o) none is) is fit)
+          (k.hold ∙ hold_none s h none) (k.suspension ∙ calm)
+
+      obeyed_next : (c : Command) → op_at app i (progress_at s i).op_index ≡ Some Obey
+          → IsState app (unless_held settle (obey app i c Start s))
+      obeyed_next c is =
+          let r : is_ready s i ≡ true = ready_at Obey none is in
+          let k = keeps-clear_by_daemon app i c.group c.mask s in
+          by_test c.clear
+          (λ t.
+          rw t (settled_at_rest _
+          (cleared_by_daemon app formed free s i c.group c.mask (sound_free s h none) (ready_free (status_at s i) r) is)
+          (k.hold ∙ hold_none s h none) (k.suspension ∙ calm)))
+          (λ t.
+          rw t (still_held _ (set_begun app formed s i Obey h.sound none (h.locked none) calm on there r is c.group c.mask refl)
+          (begun_held app formed s i Obey h.sound none (h.locked none) calm on there r is c.group c.mask)))
+
+      -- ---- calls on an event group
+
+      set_first : (g m : ℕ) → op_at app i (progress_at s i).op_index ≡ Some (SetBits g m)
+          → IsState app (unless_held settle (begin_set i g m s))
+      set_first g m is =
+          let r : is_ready s i ≡ true = ready_at (SetBits g m) none is in
+          still_held _ (set_begun app formed s i (SetBits g m) h.sound none (h.locked none) calm on there r is g m refl)
+          (begun_held app formed s i (SetBits g m) h.sound none (h.locked none) calm on there r is g m)
+
+      module _ (g : ℕ) (c : Condition) (ticks : Option ℕ)
+          (is : op_at app i (progress_at s i).op_index ≡ Some (WaitBits g c ticks)) where
+        waiting_ready : is_ready s i ≡ true
+        waiting_ready = ready_at (WaitBits g c ticks) none is
+
+        wait_range : is_wait ticks ≡ true
+        wait_range =
+            and_right _ (is_wait ticks)
+            (range_at (progress_at s i).op_index (script_of app i) (WaitBits g c ticks) (script_formed app formed i).ranges is)
+
+        checked : IsState app (unless_held settle (check app i g c ticks s))
+        unfolding check
+        checked = by_test (is_met (bits_at s g) c || option_eq eqb ticks (Some 0))
+            (λ t.
+            rw t (settled_at_rest _
+            (answered_bits app formed free s i (WaitBits g c ticks) (sound_free s h none)
+            (ready_free (status_at s i) waiting_ready) is (λ n. refl) g c)
+            ((keeps-answer_bits app i g c s).hold ∙ hold_none s h none) ((keeps-answer_bits app i g c s).suspension ∙ calm)))
+            (λ t.
+            rw t (still_held _
+            (wait_begun app formed s i (WaitBits g c ticks) h.sound none (h.locked none)
+            calm on there waiting_ready is g c ticks refl wait_range)
+            (waits_held app formed s i (WaitBits g c ticks) h.sound none (h.locked none) calm on there waiting_ready is g c ticks)))
+
+        final_next : IsState app (unless_held settle (final_bits app i g c (call_at s i).kept s))
+        final_next =
+            let k = lasts-final_bits app i g c (call_at s i).kept s in
+            settled_at_rest _
+            (final_done app formed free s i (WaitBits g c ticks) (sound_free s h none)
+            (ready_free (status_at s i) waiting_ready) is (λ n. refl) g c (call_at s i).kept)
+            (k.hold ∙ hold_none s h none) (k.suspension ∙ calm)
+
+    free_in : (phase : Phase) → (call_at s i).phase ≡ phase → holds phase ≡ false → s.call_hold ≡ false
+    free_in phase e off = sym running.holding ∙ ap holds e ∙ off
+
+    held_in : (phase : Phase) → (call_at s i).phase ≡ phase → holds phase ≡ true → s.call_hold ≡ true
+    held_in phase e on_ = sym running.holding ∙ ap holds e ∙ on_
+
+    -- the task is in a phase of its op
+    module _ (op : Op) (is : op_at app i (progress_at s i).op_index ≡ Some op) where
+      phase_of : (phase : Phase) → (call_at s i).phase ≡ phase → IsPhaseOf (hold_of s) (course (Some op)) phase
+      phase_of phase e =
+          subst (IsPhaseOf (hold_of s) (course (Some op))) e
+          (subst (λ o. IsPhaseOf (hold_of s) (course o) (call_at s i).phase) is (h.sound.calls i).phase)
+
+      not_there : (phase : Phase) → (call_at s i).phase ≡ phase
+          → (IsPhaseOf (hold_of s) (course (Some op)) phase → ⊥) → (P : Type 0) → P
+      not_there phase e f P = absurd (f (phase_of phase e))
+
+    pub start_only : (op : Op) → course (Some op) ≡ InOne → op_at app i (progress_at s i).op_index ≡ Some op → s.call_hold ≡ false
+    start_only op w is =
+        free_in Start
+        (course_of_one (hold_of s) (call_at s i).phase
+        (subst (λ way. IsPhaseOf (hold_of s) way (call_at s i).phase) (ap course is ∙ w) (h.sound.calls i).phase))
+        refl
+
+    module _ (off : is_scheduler_suspended s ≡ false) where
+      -- a call on an object decides, and comes to the phases after that
+      module _ (o : ℕ) (a : Access) (op : Op) (is : op_at app i (progress_at s i).op_index ≡ Some op)
+          (way : course (Some op) ≡ OnObject o) where
+        on_object : course (op_at app i (progress_at s i).op_index) ≡ OnObject o
+        on_object = ap course is ∙ way
+
+        decided_next : (call_at s i).phase ≡ Decide → list_of_op (Some op) ≡ Some (list_for o a)
+            → IsState app (unless_held settle (decide i o a s))
+        decided_next e listed =
+            let none = free_in Decide e refl in
+            let r : is_ready s i ≡ true = ready_at op none is in
+            still_held _ (decided app formed s i o a op h.sound none (h.locked none) (calm none off) on there r is way listed)
+            (decided_held app formed s i o a op h.sound none (h.locked none) (calm none off) on there r is way listed)
+
+        placed_next : (call_at s i).phase ≡ Place → IsState app (unless_held settle (go_on i Unlock s))
+        placed_next e = let held = held_in Place e refl in still_held _ (placed app formed s i o h on there on_object held e) held
+
+        unlocked_next : (call_at s i).phase ≡ Unlock → IsState app (unless_held settle (go_on i Leave (unlock s)))
+        unlocked_next e =
+            let held = held_in Unlock e refl in
+            still_held _ (unlocked app formed s i o h on there on_object held e)
+            (unlocked_held app formed s i o h on there on_object held e)
+
+        left_next : (call_at s i).phase ≡ Leave → IsState app (unless_held settle (leave_call i s))
+        left_next e =
+            let held = held_in Leave e refl in
+            settled_at_rest _ (left app formed s i o h on there on_object held e)
+            (left_hold app formed s i o h on there on_object held e)
+            ((lasts-leave_call i s).suspension ∙ calm_held app s h held)
+
+      -- the phase that is next, of a call on an object
+      next : (o : ℕ) (a : Access) (ticks : Option ℕ) → op_at app i (progress_at s i).op_index ≡ Some (Await o a ticks)
+          → (phase : Phase) → (call_at s i).phase ≡ phase → IsState app (unless_held settle (await app i o a ticks phase s))
+      next o a ticks is Start e = tried_first (free_in Start e refl) off o a ticks is
+      next o a ticks is Try e = tried_again (free_in Try e refl) off o a ticks is
+      next o a ticks is Decide e = decided_next o a (Await o a ticks) is refl e refl
+      next o a ticks is Place e = placed_next o a (Await o a ticks) is refl e
+      next o a ticks is Unlock e = unlocked_next o a (Await o a ticks) is refl e
+      next o a ticks is Leave e = left_next o a (Await o a ticks) is refl e
+
+      -- of the daemon's receive
+      next_of_command : (o : ℕ) → op_at app i (progress_at s i).op_index ≡ Some (NextCommand o) → (phase : Phase)
+          → (call_at s i).phase ≡ phase → IsState app (unless_held settle (next_command app i o phase s))
+      next_of_command o is Start e = command_next (free_in Start e refl) off o is
+      next_of_command o is Try e = command_next (free_in Try e refl) off o is
+      next_of_command o is Decide e = decided_next o Receive (NextCommand o) is refl e refl
+      next_of_command o is Place e = placed_next o Receive (NextCommand o) is refl e
+      next_of_command o is Unlock e = unlocked_next o Receive (NextCommand o) is refl e
+      next_of_command o is Leave e = left_next o Receive (NextCommand o) is refl e
+
+      -- of a command that it does
+      next_of_obey : (c : Command) → op_at app i (progress_at s i).op_index ≡ Some Obey → (phase : Phase)
+          → (call_at s i).phase ≡ phase → IsState app (unless_held settle (obey app i c phase s))
+      next_of_obey c is Start e = obeyed_next (free_in Start e refl) off c is
+      next_of_obey c is Leave e =
+          let held = held_in Leave e refl in
+          let at : IsPhaseOf (hold_of s) ToSetBits Leave = phase_of Obey is Leave e in
+          let ended : State = end_hold i Start s in
+          let done : State = obeyed app i false (bits_at s c.group) ended in
+          let same : hold_of ended ≡ free = ap (λ l. record { held = false; locked = l }) at.1 in
+          settled_at_rest (preempt done)
+          (preempted app formed free done (set_ended_by_daemon app formed s i h on there at.1 (bits_at s c.group) is))
+          ((keeps-preempt done).hold ∙ (keeps-obeyed app i false (bits_at s c.group) ended).hold ∙ same)
+          ((lasts-end_command app i c.group s).suspension ∙ calm_held app s h held)
+      next_of_obey c is Try e = absurd (phase_of Obey is Try e)
+      next_of_obey c is Decide e = absurd (phase_of Obey is Decide e)
+      next_of_obey c is Place e = absurd (phase_of Obey is Place e)
+      next_of_obey c is Unlock e = absurd (phase_of Obey is Unlock e)
+
+      -- of a set
+      next_of_set : (g m : ℕ) → op_at app i (progress_at s i).op_index ≡ Some (SetBits g m) → (phase : Phase)
+          → (call_at s i).phase ≡ phase → IsState app (unless_held settle (set_bits app i g m phase s))
+      next_of_set g m is Start e = set_first (free_in Start e refl) off g m is
+      next_of_set g m is Leave e =
+          let held = held_in Leave e refl in
+          let at : IsPhaseOf (hold_of s) ToSetBits Leave = phase_of (SetBits g m) is Leave e in
+          let done : State = answer app i (call_at s i).kept (end_hold i Start s) in
+          let same : hold_of (end_hold i Start s) ≡ free = ap (λ l. record { held = false; locked = l }) at.1 in
+          settled_at_rest (preempt done) (preempted app formed free done (set_ended app formed s i h on there at.1 g m is))
+          ((keeps-preempt done).hold ∙ (keeps-answer app i (call_at s i).kept (end_hold i Start s)).hold ∙ same)
+          ((lasts-end_set app i s).suspension ∙ calm_held app s h held)
+      next_of_set g m is Try e = absurd (phase_of (SetBits g m) is Try e)
+      next_of_set g m is Decide e = absurd (phase_of (SetBits g m) is Decide e)
+      next_of_set g m is Place e = absurd (phase_of (SetBits g m) is Place e)
+      next_of_set g m is Unlock e = absurd (phase_of (SetBits g m) is Unlock e)
+
+      -- of a wait for bits
+      next_of_wait : (g : ℕ) (c : Condition) (ticks : Option ℕ) → op_at app i (progress_at s i).op_index ≡ Some (WaitBits g c ticks)
+          → (phase : Phase) → (call_at s i).phase ≡ phase → IsState app (unless_held settle (wait_bits app i g c ticks phase s))
+      next_of_wait g c ticks is Start e = checked (free_in Start e refl) off g c ticks is
+      next_of_wait g c ticks is Leave e =
+          let held = held_in Leave e refl in
+          let at : IsPhaseOf (hold_of s) ForBits Leave = phase_of (WaitBits g c ticks) is Leave e in
+          let ended : State = end_hold i Try s in
+          let same : hold_of ended ≡ free = ap (λ l. record { held = false; locked = l }) at.1 in
+          let fits : IsPhaseOf free (course (op_at app i (progress_at s i).op_index)) Try =
+          subst (λ o. IsPhaseOf free (course o) Try) (sym is) tt in
+          settled_at_rest (choose ended) (wait_left app formed s i h on there at.1 fits)
+          ((keeps-choose ended).hold ∙ same) ((keeps-choose ended).suspension ∙ calm_held app s h held)
+      next_of_wait g c ticks is Try e = final_next (free_in Try e refl) off g c ticks is
+      next_of_wait g c ticks is Decide e = absurd (phase_of (WaitBits g c ticks) is Decide e)
+      next_of_wait g c ticks is Place e = absurd (phase_of (WaitBits g c ticks) is Place e)
+      next_of_wait g c ticks is Unlock e = absurd (phase_of (WaitBits g c ticks) is Unlock e)
+
+      -- no `suspend_all` is in force
+      calm_done : (op : Op) → op_at app i (progress_at s i).op_index ≡ Some op
+          → misuse s i op ≡ None → IsState app (unless_held settle (act app i op s))
+      calm_done (Work n) is e = worked (start_only (Work n) refl is) off n is
+      calm_done (Delay n) is e = instant (start_only (Delay n) refl is) off (Delay n) is refl refl
+      calm_done (DelayUntil n) is e = instant (start_only (DelayUntil n) refl is) off (DelayUntil n) is refl refl
+      calm_done Yield is e = instant (start_only Yield refl is) off Yield is refl refl
+      calm_done Time is e = instant (start_only Time refl is) off Time is refl refl
+      calm_done (Mark n) is e = instant (start_only (Mark n) refl is) off (Mark n) is refl refl
+      calm_done (Expect c) is e = instant (start_only (Expect c) refl is) off (Expect c) is refl refl
+      calm_done (Repeat n) is e = instant (start_only (Repeat n) refl is) off (Repeat n) is refl refl
+      calm_done End is e = instant (start_only End refl is) off End is refl refl
+      calm_done (If c) is e = instant (start_only (If c) refl is) off (If c) is refl refl
+      calm_done Else is e = instant (start_only Else refl is) off Else is refl refl
+      calm_done EndIf is e = instant (start_only EndIf refl is) off EndIf is refl refl
+      calm_done Break is e = instant (start_only Break refl is) off Break is refl refl
+      calm_done Stamp is e = instant (start_only Stamp refl is) off Stamp is refl refl
+      calm_done Since is e = instant (start_only Since refl is) off Since is refl refl
+      calm_done (Await o a ticks) is e = next o a ticks is (call_at s i).phase refl
+      calm_done (Do o a) is e = instant (start_only (Do o a) refl is) off (Do o a) is refl refl
+      calm_done (GiveMutex o) is e = instant (start_only (GiveMutex o) refl is) off (GiveMutex o) is refl refl
+      calm_done (MessagesWaiting o) is e = instant (start_only (MessagesWaiting o) refl is) off (MessagesWaiting o) is refl refl
+      calm_done (SpacesAvailable o) is e = instant (start_only (SpacesAvailable o) refl is) off (SpacesAvailable o) is refl refl
+      calm_done (SetBits g m) is e = next_of_set g m is (call_at s i).phase refl
+      calm_done (ClearBits g m) is e = instant (start_only (ClearBits g m) refl is) off (ClearBits g m) is refl refl
+      calm_done (GetBits g) is e = instant (start_only (GetBits g) refl is) off (GetBits g) is refl refl
+      calm_done (WaitBits g c ticks) is e = next_of_wait g c ticks is (call_at s i).phase refl
+      calm_done (Suspend j) is e = instant (start_only (Suspend j) refl is) off (Suspend j) is refl refl
+      calm_done (Resume j) is e = instant (start_only (Resume j) refl is) off (Resume j) is refl refl
+      calm_done SuspendAll is e = suspended_first (start_only SuspendAll refl is) off is
+      calm_done (NextCommand o) is e = next_of_command o is (call_at s i).phase refl
+      calm_done Obey is e = next_of_obey (command_at s i) is (call_at s i).phase refl
+      calm_done ResumeAll is e = let f : Some NotSuspended ≡ None = (rw off at e) in absurd (cc)
+
+    -- ---- while a `suspend_all` is in force
+
+    module _ (sus : is_scheduler_suspended s ≡ true) where
+      none_holds : s.call_hold ≡ false
+      none_holds = h.apart sus
+
+      -- one more or less, or as many
+      goes_on : (op : Op) → op_at app i (progress_at s i).op_index ≡ Some op
+          → course (Some op) ≡ InOne → is_scheduler_suspended (act app i op s) ≡ true
+          → Continues app i s (act app i op s) → IsState app (unless_held settle (act app i op s))
+      goes_on op is w still k =
+          suspended_at_rest (act app i op s) i
+          (acted s i op (sound_free s h none_holds) (h.locked none_holds) there (ready_at op none_holds is) is w)
+          (hold-act app i op s w ∙ hold_none s h none_holds) still (k.current ∙ on) k.goes
+
+      still_used : (n : ℕ) → is_scheduler_suspended (use_up app i n s) ≡ true
+      still_used n = ap (λ (x : Suspension). ltb 0 x.suspensions) (keeps-use_up app i n s).suspension ∙ sus
+
+      resumed_last : op_at app i (progress_at s i).op_index ≡ Some ResumeAll
+          → eqb s.suspensions 1 ≡ true → IsState app (unless_held settle (resume_all app i s))
+      resumed_last is one =
+          let k = resumes-all app i s in
+          let was : s.suspensions ≡ 1 = eqb-same s.suspensions 1 one in
+          let count = k.suspensions in
+          let none_left : (resume_all app i s).suspensions ≡ 0 = omega arith in
+          let calm_now : suspension_of (resume_all app i s) ≡ unsuspended =
+          ap₂ (λ (a b : ℕ). record { suspensions = a; held_ticks = b }) none_left (k.held was) in
+          settled_at_rest _
+          (acted s i ResumeAll (sound_free s h none_holds) (h.locked none_holds) there (ready_at ResumeAll none_holds is) is refl)
+          (k.hold ∙ hold_none s h none_holds) calm_now
+
+      resumed_more : op_at app i (progress_at s i).op_index ≡ Some ResumeAll
+          → eqb s.suspensions 1 ≡ false → IsState app (unless_held settle (resume_all app i s))
+      resumed_more is more =
+          let count = (resumes-all app i s).suspensions in
+          let some : 0 < s.suspensions = ltb-true 0 s.suspensions sus in
+          let apart : s.suspensions ≢ 1 = (λ e. let u : eqb s.suspensions 1 ≡ true = rw e refl in absurd (cc)) in
+          let left_over : is_scheduler_suspended (record s { suspensions = s.suspensions - 1 }) ≡ true =
+          lt-ltb 0 (s.suspensions - 1) (omega arith) in
+          let still : is_scheduler_suspended (resume_all app i s) ≡ true =
+          lt-ltb 0 (resume_all app i s).suspensions (omega arith) in
+          goes_on ResumeAll is refl still (resumed_on app i s more
+          (suspended_held (record s { suspensions = s.suspensions - 1 }) left_over) there (ready_at ResumeAll none_holds is))
+
+      still_on : (op : Op) → is_instant op ≡ true → is_scheduler_suspended (act app i op s) ≡ true
+      still_on op t = ap (λ (x : Suspension). ltb 0 x.suspensions) (lasts-act app i op s t).suspension ∙ sus
+
+      continued : (op : Op) → op_at app i (progress_at s i).op_index ≡ Some op → course (Some op) ≡ InOne
+          → may_switch op ≡ false → is_instant op ≡ true → op ≢ ResumeAll → IsState app (unless_held settle (act app i op s))
+      continued op is w q t ne =
+          goes_on op is w (still_on op t) (acted_on app i op s q ne sus still_used there (ready_at op none_holds is))
+
+      switches_not : (op : Op) → misuse s i op ≡ None → may_switch op ≡ false
+      switches_not op n = by_test (may_switch op)
+          (λ t. let f : Some WhileSuspended ≡ None = (rw (sus, t) at n) in absurd (cc))
+          (λ t. t)
+
+      suspended_done : (op : Op) → op_at app i (progress_at s i).op_index ≡ Some op
+          → may_switch op ≡ false → IsState app (unless_held settle (act app i op s))
+      suspended_done (Work n) is q =
+          goes_on (Work n) is refl (ap (λ (x : ℕ). ltb 0 x) (suspensions-tick app (use_up app i n s)) ∙ still_used n)
+          (acted_on app i (Work n) s refl (λ e. absurd (cc)) sus still_used there (ready_at (Work n) none_holds is))
+      suspended_done (Delay n) is q = absurd (cc)
+      suspended_done (DelayUntil n) is q = absurd (cc)
+      suspended_done Yield is q = absurd (cc)
+      suspended_done Time is q = continued Time is refl refl refl (λ e. absurd (cc))
+      suspended_done (Mark n) is q = continued (Mark n) is refl refl refl (λ e. absurd (cc))
+      suspended_done (Expect c) is q = continued (Expect c) is refl refl refl (λ e. absurd (cc))
+      suspended_done (Repeat n) is q = continued (Repeat n) is refl refl refl (λ e. absurd (cc))
+      suspended_done End is q = continued End is refl refl refl (λ e. absurd (cc))
+      suspended_done (If c) is q = continued (If c) is refl refl refl (λ e. absurd (cc))
+      suspended_done Else is q = continued Else is refl refl refl (λ e. absurd (cc))
+      suspended_done EndIf is q = continued EndIf is refl refl refl (λ e. absurd (cc))
+      suspended_done Break is q = continued Break is refl refl refl (λ e. absurd (cc))
+      suspended_done Stamp is q = continued Stamp is refl refl refl (λ e. absurd (cc))
+      suspended_done Since is q = continued Since is refl refl refl (λ e. absurd (cc))
+      suspended_done (Await o a ticks) is q = absurd (cc)
+      suspended_done (Do o a) is q = absurd (cc)
+      suspended_done (GiveMutex o) is q = absurd (cc)
+      suspended_done (MessagesWaiting o) is q = continued (MessagesWaiting o) is refl refl refl (λ e. absurd (cc))
+      suspended_done (SpacesAvailable o) is q = continued (SpacesAvailable o) is refl refl refl (λ e. absurd (cc))
+      suspended_done (SetBits g m) is q = absurd (cc)
+      suspended_done (ClearBits g m) is q = continued (ClearBits g m) is refl refl refl (λ e. absurd (cc))
+      suspended_done (GetBits g) is q = continued (GetBits g) is refl refl refl (λ e. absurd (cc))
+      suspended_done (WaitBits g c ticks) is q = absurd (cc)
+      suspended_done (Suspend j) is q = absurd (cc)
+      suspended_done (Resume j) is q = absurd (cc)
+      suspended_done SuspendAll is q =
+          goes_on SuspendAll is refl
+          (let e = (suspends-all app i s).suspensions in lt-ltb 0 (suspend_all app i s).suspensions (omega arith))
+          (suspended_on app i s there (ready_at SuspendAll none_holds is))
+      suspended_done (NextCommand o) is q = absurd (cc)
+      suspended_done Obey is q = absurd (cc)
+      suspended_done ResumeAll is q = by_test (eqb s.suspensions 1) (resumed_last is) (resumed_more is)
+
+    act_done : (op : Op) → op_at app i (progress_at s i).op_index ≡ Some op
+        → misuse s i op ≡ None → IsState app (unless_held settle (act app i op s))
+    act_done op is n = by_test (is_scheduler_suspended s)
+        (λ sus. suspended_done sus op is (switches_not sus op n))
+        (λ off. calm_done off op is n)
+
+    act_if_done : (op : Option Op) → op_at app i (progress_at s i).op_index ≡ op
+        → IsState app (unless_held settle (act_if app i op s))
+    act_if_done None is = ended_only s s.stopped h
+    act_if_done (Some op) is = act_unless_done (misuse s i op) refl where
+      act_unless_done : (kind : Option Misuse) → misuse s i op ≡ kind
+          → IsState app (unless_held settle (act_unless app i kind op s))
+      act_unless_done None e = judged_done i (progress_at s i).op_index (act app i op s) (act_done op is e)
+      act_unless_done (Some kind) e = ended_only s _ h
+
+  current_done : (limits : Limits) (s : State) (r : Option ℕ) → IsState app s
+      → s.current ≡ r → IsState app (unless_held settle (act_current app limits r s))
+  current_done limits s None h on =
+      let none : is_held s ≡ false = subst (RunsIn app s) on h.runs in
+      let off : s.call_hold ≡ false = no_call_holds s h none in
+      settled_at_rest _ (idled app formed free limits s (sound_free s h off) (h.locked off))
+      (hold-idle app limits s ∙ hold_none s h off)
+      (suspension-idle app limits s (ap (λ (x : Suspension). x.suspensions) (calm_free s h none)) ∙ calm_free s h none)
+  current_done limits s (Some i) h on = act_if_done s i h on (op_at app i (progress_at s i).op_index) refl
+
+  -- ---- handlers before a step
+
+  -- an injected handler
+  pub injected_between : (handler : ℕ) (s : State) → IsState app s → IsState app (inject app handler s)
+  unfolding inject
+  injected_between handler s h = by_test (is_held t)
+      (λ held. subst (IsState app) (sym (when_held preempt t held)) k)
+      (λ none. subst (IsState app) (sym (when_free preempt t none)) (preempted_at_rest none)) where
+        t : State
+        t = handle app handler s
+
+        k : IsState app t
+        k = handled_between app formed handler s h
+
+        preempted_at_rest : is_held t ≡ false → IsState app (preempt t)
+        preempted_at_rest none =
+            let off : t.call_hold ≡ false = no_call_holds t k none in
+            let same : hold_of t ≡ free = hold_none t k off in
+            at_rest (preempt t) (preempted app formed free t (sound_free t k off)) ((keeps-preempt t).hold ∙ same)
+            ((keeps-preempt t).suspension ∙ calm_free t k none) (settled-preempt t (by_current t.current k.runs off)) where
+              by_current : (r : Option ℕ) → RunsIn app t r → t.call_hold ≡ false → IfSome r (λ task. is_ready t task ≡ true)
+              by_current None r off = tt
+              by_current (Some i) r off =
+                  elim (r.ready off) [ inl on ↦ on | inr x ↦ let f = x.0 in let g = not_right t.call_hold _ none in absurd (cc) ]
+
+  all_injected : (handlers : List ℕ) (s : State) → IsState app s → IsState app (for_each (inject app) handlers s)
+  all_injected [] s h = h
+  all_injected (handler ∷ handlers) s h = all_injected handlers (inject app handler s) (injected_between handler s h)
+
+  pub reached_before_step : (handlers : List ℕ) (s : State) → IsState app s → IsState app (before_step app handlers s)
+  unfolding before_step
+  reached_before_step handlers s h = all_injected handlers (record s { log = [] }) (told s [] s.steps s.stopped h)
+
+  pub reached_step : (limits : Limits) (handlers : List ℕ) (s : State) → IsState app s → IsState app (step app limits handlers s)
+  unfolding step
+  reached_step limits handlers s h =
+      let r : State = before_step app handlers s in
+      let t : State = unless_held settle (act_current app limits r.current r) in
+      told t t.log (s.steps + 1) t.stopped (current_done limits r r.current (reached_before_step handlers s h) refl)
