@@ -1,19 +1,19 @@
 //! Items that come and go, counts, holders, tasks that wait and are woken.
-ghost use Rattle.objects.specs.Queues.{HasRoom};
+ghost use Rattle.objects.specs.Objects.{HasRoom};
 ghost use Rattle.std.specs.Prelude.{◌≡◌, ◌<◌};
 
 use model::{Access, ObjectId, ObjectKind, TaskId, WaitList};
-use objects::{NotHolder, Queues};
+use objects::{NotHolder, Objects};
 use std::process::Abort;
 
 /// Puts a task that waits nowhere into a list.
-fn put(rt: &impl Abort, queues: &mut Queues, list: WaitList, number: u8, priority: u8)
+fn put(rt: &impl Abort, objects: &mut Objects, list: WaitList, number: u8, priority: u8)
     requires { number < 32 }
 {
     let task = TaskId { number };
     assert!(rt; priority < 32);
-    assert!(rt; !queues.is_waiting(task), "task {number} is free");
-    queues.place(list, task, priority);
+    assert!(rt; !objects.is_waiting(task), "task {number} is free");
+    objects.place(list, task, priority);
 }
 
 const SEMAPHORE: ObjectId = ObjectId { number: 0 };
@@ -27,10 +27,10 @@ const SENDERS: WaitList = WaitList::ToSend(QUEUE);
 const MUTEX: ObjectId = ObjectId { number: 2 };
 
 /// A semaphore, a queue and a mutex.
-fn objects() -> Queues
+fn some_objects() -> Objects
     ensures { result.number ≡ 3 }
 {
-    Queues::new(&[
+    Objects::new(&[
         ObjectKind::Semaphore(2, 1),
         ObjectKind::Queue(2),
         ObjectKind::Mutex,
@@ -41,46 +41,46 @@ fn objects() -> Queues
 const LAST: ObjectId = ObjectId { number: 32 };
 
 /// As many of the longest queues as there are places.
-fn most_queues() -> Queues
+fn most_queues() -> Objects
     ensures { result.number ≡ 33 }
 {
-    Queues::new(&[ObjectKind::Queue(256); 33])
+    Objects::new(&[ObjectKind::Queue(256); 33])
 }
 
 /// Compares the greatest priority of those who wait to receive.
-fn has_best(rt: &impl Abort, queues: &Queues, expected: u8) {
+fn has_best(rt: &impl Abort, objects: &Objects, expected: u8) {
     assert!(rt;
-        queues.best_priority(RECEIVERS) == expected,
+        objects.best_priority(RECEIVERS) == expected,
         "{expected} is the best"
     );
 }
 
 /// Wakes those who wait to receive, one after the other, and compares who they are.
-fn wake_all(rt: &impl Abort, queues: &mut Queues, expected: &[u8]) {
+fn wake_all(rt: &impl Abort, objects: &mut Objects, expected: &[u8]) {
     for number in expected {
-        let woken = queues.wake_best(RECEIVERS);
+        let woken = objects.wake_best(RECEIVERS);
         assert!(rt; woken == TaskId::new(*number), "of {expected:?}");
-        assert!(rt; woken.is_none_or(|task| !queues.is_waiting(task)));
+        assert!(rt; woken.is_none_or(|task| !objects.is_waiting(task)));
     }
 }
 
 /// Compares whether a task waits.
-fn is_waiting(rt: &impl Abort, queues: &Queues, task: TaskId, expected: bool) {
+fn is_waiting(rt: &impl Abort, objects: &Objects, task: TaskId, expected: bool) {
     assert!(rt;
-        queues.is_waiting(task) == expected,
+        objects.is_waiting(task) == expected,
         "{task:?} waits: {expected}"
     );
 }
 
 /// Locks the queue, which is free.
-fn lock(rt: &impl Abort, queues: &mut Queues) {
-    assert!(rt; !queues.is_locked());
-    queues.lock(QUEUE);
+fn lock(rt: &impl Abort, objects: &mut Objects) {
+    assert!(rt; !objects.is_locked());
+    objects.lock(QUEUE);
 }
 
 /// Unlocks, and compares who is woken then.
-fn unlock(rt: &impl Abort, queues: &mut Queues, to_receive: &[TaskId], to_send: &[TaskId]) {
-    match queues.unlock() {
+fn unlock(rt: &impl Abort, objects: &mut Objects, to_receive: &[TaskId], to_send: &[TaskId]) {
+    match objects.unlock() {
         None => panic!(rt; "locked"),
         Some(unlocked) => {
             assert!(rt;
@@ -90,141 +90,141 @@ fn unlock(rt: &impl Abort, queues: &mut Queues, to_receive: &[TaskId], to_send: 
             assert!(rt; unlocked.to_send.as_slice() == to_send, "{to_send:?}");
         }
     }
-    assert!(rt; !queues.is_locked());
+    assert!(rt; !objects.is_locked());
 }
 
 #[test]
 fn the_best_is_first_and_equals_stay_in_order(rt: HostRuntime) {
-    let mut queues = objects();
+    let mut objects = some_objects();
     for (number, priority) in [(4, 1), (9, 31), (2, 1), (7, 0), (5, 1)] {
-        put(&rt, &mut queues, RECEIVERS, number, priority);
+        put(&rt, &mut objects, RECEIVERS, number, priority);
     }
-    has_best(&rt, &queues, 31);
-    wake_all(&rt, &mut queues, &[9]);
-    has_best(&rt, &queues, 1);
-    queues.drop_waiter(TaskId { number: 2 });
-    wake_all(&rt, &mut queues, &[4, 5, 7]);
-    assert!(rt; queues.wake_best(RECEIVERS).is_none());
+    has_best(&rt, &objects, 31);
+    wake_all(&rt, &mut objects, &[9]);
+    has_best(&rt, &objects, 1);
+    objects.drop_waiter(TaskId { number: 2 });
+    wake_all(&rt, &mut objects, &[4, 5, 7]);
+    assert!(rt; objects.wake_best(RECEIVERS).is_none());
 }
 
 #[test]
 fn an_unlock_takes_the_counted_ones(rt: HostRuntime) {
-    let mut queues = objects();
-    put(&rt, &mut queues, SENDERS, 1, 2);
-    put(&rt, &mut queues, SENDERS, 0, 3);
-    put(&rt, &mut queues, RECEIVERS, 8, 0);
-    lock(&rt, &mut queues);
+    let mut objects = some_objects();
+    put(&rt, &mut objects, SENDERS, 1, 2);
+    put(&rt, &mut objects, SENDERS, 0, 3);
+    put(&rt, &mut objects, RECEIVERS, 8, 0);
+    lock(&rt, &mut objects);
     for _ in 0..200_u8 {
-        queues.wake_best(RECEIVERS);
+        objects.wake_best(RECEIVERS);
     }
-    queues.wake_best(SENDERS);
+    objects.wake_best(SENDERS);
     let receiver = TaskId { number: 8 };
-    unlock(&rt, &mut queues, &[receiver], &[TaskId { number: 0 }]);
-    is_waiting(&rt, &queues, TaskId { number: 1 }, true);
+    unlock(&rt, &mut objects, &[receiver], &[TaskId { number: 0 }]);
+    is_waiting(&rt, &objects, TaskId { number: 1 }, true);
 }
 
 #[test]
 fn a_wake_through_the_locked_queue_waits_for_its_unlock(rt: HostRuntime) {
-    let mut queues = objects();
+    let mut objects = some_objects();
     let task = TaskId { number: 6 };
-    lock(&rt, &mut queues);
-    put(&rt, &mut queues, RECEIVERS, 6, 3);
-    assert!(rt; queues.wake_best(RECEIVERS).is_none());
-    is_waiting(&rt, &queues, task, true);
-    unlock(&rt, &mut queues, &[task], &[]);
-    queues.drop_waiter(task);
+    lock(&rt, &mut objects);
+    put(&rt, &mut objects, RECEIVERS, 6, 3);
+    assert!(rt; objects.wake_best(RECEIVERS).is_none());
+    is_waiting(&rt, &objects, task, true);
+    unlock(&rt, &mut objects, &[task], &[]);
+    objects.drop_waiter(task);
 }
 
 #[test]
 fn items_leave_in_order(rt: HostRuntime) {
-    let mut queues = objects();
-    succeed(&rt, &mut queues, None, QUEUE, Access::Send(8));
-    succeed(&rt, &mut queues, None, QUEUE, Access::SendFront(9));
-    assert!(rt; queues.waiting(QUEUE) == 2 && queues.spaces(QUEUE) == 0);
-    assert!(rt; !queues.possible(QUEUE, Access::Send(7)));
+    let mut objects = some_objects();
+    succeed(&rt, &mut objects, None, QUEUE, Access::Send(8));
+    succeed(&rt, &mut objects, None, QUEUE, Access::SendFront(9));
+    assert!(rt; objects.waiting(QUEUE) == 2 && objects.spaces(QUEUE) == 0);
+    assert!(rt; !objects.possible(QUEUE, Access::Send(7)));
 }
 
 #[test]
 fn the_last_place_has_room_too(rt: HostRuntime) {
-    let mut queues = most_queues();
-    succeed(&rt, &mut queues, None, LAST, Access::Send(8));
-    assert!(rt; queues.waiting(LAST) == 1 && queues.spaces(LAST) == 255);
-    assert!(rt; queues.waiting(QUEUE) == 0 && queues.spaces(QUEUE) == 256);
-    let snapshot = queues.snapshot(rt.alloc()).ok().expect(&rt, "memory");
-    put(&rt, &mut queues, WaitList::ToSend(LAST), 4, 1);
-    put(&rt, &mut queues, RECEIVERS, 9, 2);
-    assert!(rt; !queues.is_at(&snapshot));
-    assert!(rt; queues.wake_best(WaitList::ToSend(LAST)) == TaskId::new(4));
-    wake_all(&rt, &mut queues, &[9]);
-    assert!(rt; queues.is_at(&snapshot));
+    let mut objects = most_queues();
+    succeed(&rt, &mut objects, None, LAST, Access::Send(8));
+    assert!(rt; objects.waiting(LAST) == 1 && objects.spaces(LAST) == 255);
+    assert!(rt; objects.waiting(QUEUE) == 0 && objects.spaces(QUEUE) == 256);
+    let snapshot = objects.snapshot(rt.alloc()).ok().expect(&rt, "memory");
+    put(&rt, &mut objects, WaitList::ToSend(LAST), 4, 1);
+    put(&rt, &mut objects, RECEIVERS, 9, 2);
+    assert!(rt; !objects.is_at(&snapshot));
+    assert!(rt; objects.wake_best(WaitList::ToSend(LAST)) == TaskId::new(4));
+    wake_all(&rt, &mut objects, &[9]);
+    assert!(rt; objects.is_at(&snapshot));
     assert!(rt; !most_queues().is_at(&snapshot));
 }
 
 #[test]
 fn a_semaphore_counts_to_its_greatest(rt: HostRuntime) {
-    let mut queues = objects();
-    succeed(&rt, &mut queues, None, SEMAPHORE, Access::Give);
-    assert!(rt; !queues.possible(SEMAPHORE, Access::Give));
-    succeed(&rt, &mut queues, None, SEMAPHORE, Access::Take);
-    succeed(&rt, &mut queues, None, SEMAPHORE, Access::Take);
-    assert!(rt; !queues.possible(SEMAPHORE, Access::Take));
+    let mut objects = some_objects();
+    succeed(&rt, &mut objects, None, SEMAPHORE, Access::Give);
+    assert!(rt; !objects.possible(SEMAPHORE, Access::Give));
+    succeed(&rt, &mut objects, None, SEMAPHORE, Access::Take);
+    succeed(&rt, &mut objects, None, SEMAPHORE, Access::Take);
+    assert!(rt; !objects.possible(SEMAPHORE, Access::Take));
 }
 
 #[test]
 fn a_mutex_has_one_holder_who_gives_it_back(rt: HostRuntime) {
-    let mut queues = objects();
+    let mut objects = some_objects();
     let task = TaskId { number: 6 };
-    succeed(&rt, &mut queues, Some(task), MUTEX, Access::Lock);
-    assert!(rt; !queues.possible(MUTEX, Access::Lock));
-    has_holder(&rt, &queues, Some(task), 1);
-    assert!(rt; give(&mut queues, TaskId { number: 5 }) == Err(NotHolder));
-    assert!(rt; give(&mut queues, task) == Ok(()));
-    has_holder(&rt, &queues, None, 0);
+    succeed(&rt, &mut objects, Some(task), MUTEX, Access::Lock);
+    assert!(rt; !objects.possible(MUTEX, Access::Lock));
+    has_holder(&rt, &objects, Some(task), 1);
+    assert!(rt; give(&mut objects, TaskId { number: 5 }) == Err(NotHolder));
+    assert!(rt; give(&mut objects, task) == Ok(()));
+    has_holder(&rt, &objects, None, 0);
 }
 
 /// A task gives the mutex back.
-fn give(queues: &mut Queues, task: TaskId) -> Result<(), NotHolder> {
-    queues.give_mutex(task, MUTEX)
+fn give(objects: &mut Objects, task: TaskId) -> Result<(), NotHolder> {
+    objects.give_mutex(task, MUTEX)
 }
 
 /// Compares who holds the mutex, and how many mutexes the task 6 holds.
-fn has_holder(rt: &impl Abort, queues: &Queues, holder: Option<TaskId>, held: u8) {
-    assert!(rt; queues.holder(MUTEX) == holder, "{holder:?} holds it");
-    assert!(rt; queues.mutexes_held(TaskId { number: 6 }) == held, "{held}");
+fn has_holder(rt: &impl Abort, objects: &Objects, holder: Option<TaskId>, held: u8) {
+    assert!(rt; objects.holder(MUTEX) == holder, "{holder:?} holds it");
+    assert!(rt; objects.mutexes_held(TaskId { number: 6 }) == held, "{held}");
 }
 
 /// Makes a call that is possible, and answers 1. It is no `overwrite`.
 fn succeed(
     rt: &impl Abort,
-    queues: &mut Queues,
+    objects: &mut Objects,
     caller: Option<TaskId>,
     object: ObjectId,
     access: Access,
 )
-    requires { HasRoom queues.old object access }
-    ensures { queues.new.number ≡ queues.old.number }
+    requires { HasRoom objects.old object access }
+    ensures { objects.new.number ≡ objects.old.number }
 {
-    assert!(rt; queues.possible(object, access));
-    assert!(rt; queues.carry_out(caller, object, access) == Some(1));
+    assert!(rt; objects.possible(object, access));
+    assert!(rt; objects.carry_out(caller, object, access) == Some(1));
 }
 
 /// Receives an item from the queue, and compares it.
-fn receive(rt: &impl Abort, queues: &mut Queues, expected: u32)
-    requires { 1 < queues.old.number }
-    ensures { queues.new.number ≡ queues.old.number }
+fn receive(rt: &impl Abort, objects: &mut Objects, expected: u32)
+    requires { 1 < objects.old.number }
+    ensures { objects.new.number ≡ objects.old.number }
 {
-    assert!(rt; queues.possible(QUEUE, Access::Receive));
-    let item = queues.carry_out(None, QUEUE, Access::Receive);
+    assert!(rt; objects.possible(QUEUE, Access::Receive));
+    let item = objects.carry_out(None, QUEUE, Access::Receive);
     assert!(rt; item == Some(expected), "{expected} is received");
 }
 
 #[test]
 fn where_items_lie_and_who_has_waited_makes_no_difference(rt: HostRuntime) {
-    let mut queues = objects();
-    succeed(&rt, &mut queues, None, QUEUE, Access::Send(8));
-    let snapshot = queues.snapshot(rt.alloc()).ok().expect(&rt, "memory");
-    assert!(rt; queues.is_at(&snapshot));
-    let mut other = objects();
+    let mut objects = some_objects();
+    succeed(&rt, &mut objects, None, QUEUE, Access::Send(8));
+    let snapshot = objects.snapshot(rt.alloc()).ok().expect(&rt, "memory");
+    assert!(rt; objects.is_at(&snapshot));
+    let mut other = some_objects();
     succeed(&rt, &mut other, None, QUEUE, Access::Send(9));
     assert!(rt; !other.is_at(&snapshot));
     receive(&rt, &mut other, 9);

@@ -12,7 +12,7 @@ use Rattle.machine.specs.Logged.{Logged}
 use Rattle.machine.specs.Can.{Agrees}
 use Rattle.machine.proofs.Either.{suspensions_are, does_any, does_more}
 use Rattle.clock.specs.Timeline.{Timeline}
-use Rattle.objects.specs.Queues.{Exchange, HasRoom}
+use Rattle.objects.specs.Objects.{Objects, HasRoom}
 use Rattle.ops.specs.Can.{CanTick}
 use Rattle.machine.proofs.Acting.{agrees_after}
 
@@ -70,14 +70,14 @@ module _ (app : Application) (old new : Machine) (old_log new_log : Logged) (tas
       any_by_form count within (does_any count old new old_log new_log (act app task form) agrees d)
 
 pub can_tick_still : (app : Application) (k new : Machine) → CanTick app k → new.sched.depth ≡ k.sched.depth → new.clock ≡ k.clock
-    → new.queues ≡ k.queues → new.suspensions ≡ k.suspensions → (deed : State → State) → Moves k new deed → CanTick app new
-can_tick_still app k new c depth clock queues suspensions deed does = record {
+    → new.objects ≡ k.objects → new.suspensions ≡ k.suspensions → (deed : State → State) → Moves k new deed → CanTick app new
+can_tick_still app k new c depth clock objects suspensions deed does = record {
   advance = record {
     agrees = agrees_after k new [] [] c.advance.agrees deed (λ s h. does [] s h);
-    free = ap (λ (q : Exchange). q.lock) queues ∙ c.advance.free;
+    free = ap (λ (q : Objects). q.lock) objects ∙ c.advance.free;
     age = let e = ap (λ (t : Timeline). t.age) clock in let l = c.advance.age in omega arith;
     awake = suspensions ∙ c.advance.awake;
   };
   depth = depth ∙ c.depth;
-  objects = λ o a fit. subst (λ (q : Exchange). HasRoom q o a) (sym queues) (c.objects o a fit);
+  objects = λ o a fit. subst (λ (q : Objects). HasRoom q o a) (sym objects) (c.objects o a fit);
 }

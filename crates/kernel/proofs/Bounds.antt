@@ -36,7 +36,7 @@ use Rattle.soundness.proofs.Stepped.{reached_before_step, start_only}
 use Rattle.model.specs.Step.{before_step}
 use Rattle.sched.proofs.Standing as on_sched
 use Rattle.objects.specs.declared.lock.Lock.{Lock}
-use Rattle.objects.specs.Queues.{locked_by}
+use Rattle.objects.specs.Objects.{locked_by}
 use Rattle.soundness.proofs.Handled.{and_left, and_right}
 use Rattle.objects.proofs.Sizes.{has_room}
 use Rattle.machine.specs.declared.machine.Machine.{Machine}
@@ -179,9 +179,9 @@ module _ (app : Application) (formed : IsWellFormed app) (k : Machine) (state : 
   pub rooms : HasObjects app k
   rooms object access fit = by_stands stands where
     by_stands : Stands k state → HasRoom k object access
-    by_stands (Placed h) = has_room app (hold_of state) k.queues None state object access reached.sound h.rest.queues fit
+    by_stands (Placed h) = has_room app (hold_of state) k.objects None state object access reached.sound h.rest.objects fit
     by_stands (Placing task list b) =
-        has_room app (hold_of state) k.queues (Some (decider task list state)) state object access reached.sound b.queues fit
+        has_room app (hold_of state) k.objects (Some (decider task list state)) state object access reached.sound b.objects fit
 
   depth_in : k.sched.depth ≡ state.suspensions + (if state.call_hold then 1 else 0)
   depth_in = by_stands stands where
@@ -197,8 +197,8 @@ module _ (app : Application) (formed : IsWellFormed app) (k : Machine) (state : 
       by_stands (Placed h) = h
       by_stands (Placing task list b) = let held = b.held in absurd (cc)
 
-    no_lock : k.queues.lock ≡ None
-    no_lock = unlocked k.queues.lock state.locked placed.rest.queues.locked (reached.locked free)
+    no_lock : k.objects.lock ≡ None
+    no_lock = unlocked k.objects.lock state.locked placed.rest.objects.locked (reached.locked free)
 
   -- no `suspend_all` is in force
   module _ (awake : k.suspensions ≡ 0) where

@@ -338,31 +338,31 @@ module _ (k : Machine) (awake : Unlocked) (s : State) (h : StandsOpened k awake 
   pub is_awake_then : (op : ℕ) → op ≡ (progress_in k.progress i).op_index
       → is_among i (awake.to_receive.items ++ awake.to_send.items) ≡ true → situation.Awake op ≡ situation_of s i
   is_awake_then op e t =
-      told_awake op (is_same s.current (Some i)) (status_at s i) (sym (h.queues.woken i) ∙ t)
+      told_awake op (is_same s.current (Some i)) (status_at s i) (sym (h.objects.woken i) ∙ t)
       ∙ ap (λ (o : ℕ). situation_by o (is_same s.current (Some i)) (status_at s i)) (e ∙ at_op)
 
   -- It wasn't Awake.
   module _ (other : is_among i (awake.to_receive.items ++ awake.to_send.items) ≡ false) where
     not_awake : is_some (wait_if_awake (status_at s i)) ≡ false
-    not_awake = sym (h.queues.woken i) ∙ other
+    not_awake = sym (h.objects.woken i) ∙ other
 
     -- whether it waits
     abbrev Waits : Bool → Type 0
-    Waits b = b ≡ (is_some (wait_of (status_at h.queues.opened i)) || is_some (bits_wait (status_at s i)))
+    Waits b = b ≡ (is_some (wait_of (status_at h.objects.opened i)) || is_some (bits_wait (status_at s i)))
 
     waits_alike : (b : Bool) → Waits b → (is_some (wait_of (status_at s i)) || is_some (bits_wait (status_at s i))) ≡ b
     waits_alike b w =
-        ap (λ (u : Status). is_some (wait_of u) || is_some (bits_wait (status_at s i))) (sym (h.queues.others i not_awake)) ∙ sym w
+        ap (λ (u : Status). is_some (wait_of u) || is_some (bits_wait (status_at s i))) (sym (h.objects.others i not_awake)) ∙ sym w
 
     pub is_waiting_then : (op : ℕ) (until : Option ℕ) (b : Bool) → op ≡ (progress_in k.progress i).op_index
-        → b ≡ (is_some (wait_of (status_at h.queues.opened i)) || is_some (bits_wait (status_at s i))) → b ≡ true
+        → b ≡ (is_some (wait_of (status_at h.objects.opened i)) || is_some (bits_wait (status_at s i))) → b ≡ true
         → until ≡ option_map printed (wake_time_of (status_at s i)) → situation.Waits op until ≡ situation_of s i
     is_waiting_then op until b e w t u =
         told_waiting op (is_same s.current (Some i)) (status_at s i) until not_awake (waits_alike b w ∙ t) u
         ∙ ap (λ (o : ℕ). situation_by o (is_same s.current (Some i)) (status_at s i)) (e ∙ at_op)
 
     module _ (off : is_suspended k.sched i ≡ false) (unready : schedule.is_ready k.sched i ≡ false) (b : Bool)
-        (w : b ≡ (is_some (wait_of (status_at h.queues.opened i)) || is_some (bits_wait (status_at s i)))) (t : b ≡ false) where
+        (w : b ≡ (is_some (wait_of (status_at h.objects.opened i)) || is_some (bits_wait (status_at s i)))) (t : b ≡ false) where
       elsewhere : IsElsewhere (status_at s i)
       elsewhere =
           record {

@@ -232,10 +232,10 @@ waits_before : (k : Machine) (s : State) (task : ℕ) (list : WaitList) → Stan
 waits_before k s task list b = by_test (is_everybody_ended s)
     (λ t.
     let none : standing s list ≡ [] = ap in_order (standing_none list 0 s.tasks t) in
-    let joined : joined_by (Some (decider task list s)) list (waiting_in k.queues.waiting list) ≡ [] =
-    b.queues.waiters.lists list ∙ ap with_priorities none in
+    let joined : joined_by (Some (decider task list s)) list (waiting_in k.objects.waiting list) ≡ [] =
+    b.objects.waiters.lists list ∙ ap with_priorities none in
     let own : same_list list list ≡ true = same_list-refl list in
-    absurd (put_in_some (task, (task_at s task).priority) (waiting_in k.queues.waiting list) (rw own at joined)))
+    absurd (put_in_some (task, (task_at s task).priority) (waiting_in k.objects.waiting list) (rw own at joined)))
     (λ t. sym t)
 
 ready_before : (k : Machine) (s : State) (task : ℕ) (list : WaitList)

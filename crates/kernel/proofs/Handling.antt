@@ -309,7 +309,7 @@ guessed k n log s h =
       stands =
           record {
             sched = h.stands.sched;
-            rest = rest_again h.stands.rest h.stands.rest.clock h.stands.rest.queues h.stands.rest.groups;
+            rest = rest_again h.stands.rest h.stands.rest.clock h.stands.rest.objects h.stands.rest.groups;
           };
       log = h.log;
     }

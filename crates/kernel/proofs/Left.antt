@@ -25,7 +25,7 @@ use Rattle.clock.specs.StandsFor.{tasks_at}
 use Rattle.clock.specs.Timeline.{Timeline, is_asleep}
 use Rattle.clock.proofs.Standing as on_clock
 use Rattle.objects.specs.WaitersStand.{Decider}
-use Rattle.objects.specs.Queues as queues
+use Rattle.objects.specs.Objects as objects
 use Rattle.groups.specs.StandsFor.{bits_wait}
 use Rattle.machine.specs.declared.machine.Machine.{Machine}
 use Rattle.machine.specs.StandsFor.{StandsFor, StandsBefore, Stands, decider}
@@ -158,14 +158,14 @@ module _ (k : Machine) (s : State) (i : ℕ) (h : Stands k s) where
       (λ r a. asleep_on (status_at s i) (sym a ∙ t)) (λ r w. waits_on (status_at s i) w)
 
 module _ (k : Machine) (s : State) (i : ℕ) (q : Bool) (h : Stands k s)
-    (placed : (t : State) → queues.StandsFor k.queues None t → q ≡ is_some (wait_of (status_at t i)))
-    (placing : (t : State) (d : Decider) → queues.StandsFor k.queues (Some d) t
+    (placed : (t : State) → objects.StandsFor k.objects None t → q ≡ is_some (wait_of (status_at t i)))
+    (placing : (t : State) (d : Decider) → objects.StandsFor k.objects (Some d) t
     → q ≡ not (eqb i d.task) && is_some (wait_of (status_at t i))) where
   seen : Seen k s i q
   seen = by_stands h where
     by_stands : Stands k s → Seen k s i q
     by_stands (Placed p) =
-        Listed (on_sched.ready_same k.sched s i p.sched) (on_clock.asleep_same k.clock s i p.rest.clock) (placed s p.rest.queues)
+        Listed (on_sched.ready_same k.sched s i p.sched) (on_clock.asleep_same k.clock s i p.rest.clock) (placed s p.rest.objects)
     by_stands (Placing task list b) = by_test (eqb i task)
         (λ t.
         let same : i ≡ task = eqb-same i task t in
@@ -175,7 +175,7 @@ module _ (k : Machine) (s : State) (i : ℕ) (q : Bool) (h : Stands k s)
         (λ t.
         let apart : task ≢ i = (λ e. let u : eqb i task ≡ true = rw e (eqb-refl i) in absurd (cc)) in
         Listed (ready_beside task list k s b i apart) (asleep_beside task list k s b i apart)
-        (placing s (decider task list s) b.queues ∙ rw t refl))
+        (placing s (decider task list s) b.objects ∙ rw t refl))
 
   pub on_if_waiting : q ≡ true → is_ended (status_at s i) ≡ false
   on_if_waiting t = by_seen seen where

@@ -41,7 +41,7 @@ use Rattle.machine.proofs.Either.{any, current_is, elapsed_is, steps_are, stoppe
 use Rattle.kernel.proofs.Ending.{all_meant, begun, ends_not, is_everybody_ended, not_over_by, not_passed, on_by, stepped, stuck_by}
 use Rattle.kernel.proofs.Left.{any_left}
 use Rattle.machine.proofs.Switches.{settled_either, settled_idle, settled_on, unheld_by}
-use Rattle.machine.proofs.Waking.{groups-jumped, queues-jumped, sched-jumped, woken}
+use Rattle.machine.proofs.Waking.{groups-jumped, objects-jumped, sched-jumped, woken}
 
 -- ---- nothing is held
 
@@ -140,8 +140,8 @@ module _ (app : Application) (k : Machine) (z : k.sched.depth ≡ 0) (calm : k.s
 
     come : At (record k { clock = clock }) log (increment_tick s)
     come =
-        woken k log s h [] k.sched k.queues clock k.groups (due_next k.clock clock s [] a h.stands.rest.clock)
-        (sched-jumped k log s h 1) (queues-jumped k log s h 1) (groups-jumped k log s h 1)
+        woken k log s h [] k.sched k.objects clock k.groups (due_next k.clock clock s [] a h.stands.rest.clock)
+        (sched-jumped k log s h 1) (objects-jumped k log s h 1) (groups-jumped k log s h 1)
         (stands_advanced k.clock clock s [] a h.stands.rest.clock (rw free refl)) free
 
     elapsed_next : (increment_tick s).elapsed ≡ k.clock.age + k.clock.held + 1

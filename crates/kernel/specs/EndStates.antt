@@ -7,8 +7,8 @@ use Rattle.sched.specs.StandsFor as sched
 use Rattle.clock.specs.StandsFor as clock
 use Rattle.groups.specs.StandsFor as groups
 use Rattle.objects.specs.declared.waiting_lists.Unlocked.{Unlocked}
-use Rattle.objects.specs.Queues.{Exchange}
-use Rattle.objects.specs.Queues as queues
+use Rattle.objects.specs.Objects.{Objects}
+use Rattle.objects.specs.Objects as objects
 use Rattle.objects.specs.WaitersStand.{is_awake}
 use Rattle.machine.specs.declared.machine.Machine.{Machine}
 use Rattle.machine.specs.StandsFor.{StandsFor, progress_in}
@@ -23,11 +23,11 @@ pub record Settles (app : Application) (k : Machine) (s : State) : Type 0 where
   pub objects : length state.objects ≡ length app.objects
   pub same : end_state_of state ≡ end_state_of s
 
--- The Awake tasks are these, and the queues represent a state in which each of the others is doing what it did.
-pub record IsOpened (v : Exchange) (awake : Unlocked) (s : State) : Type 0 where
+-- The Awake tasks are these, and the objects represent a state in which each of the others is doing what it did.
+pub record IsOpened (v : Objects) (awake : Unlocked) (s : State) : Type 0 where
   pub woken : (task : ℕ) → is_among task (awake.to_receive.items ++ awake.to_send.items) ≡ is_awake s task
   pub opened : State
-  pub stands : queues.StandsFor v None opened
+  pub stands : objects.StandsFor v None opened
   pub others : (task : ℕ) → is_awake s task ≡ false → status_at opened task ≡ status_at s task
 
 -- The kernel represents the state, except that these, the Awake tasks, were taken out of the waiting lists.
@@ -35,5 +35,5 @@ pub record StandsOpened (k : Machine) (awake : Unlocked) (s : State) : Type 0 wh
   pub sched : sched.StandsFor k.sched s
   pub clock : clock.StandsFor k.clock s
   pub groups : groups.StandsFor k.groups s
-  pub queues : IsOpened k.queues awake s
+  pub objects : IsOpened k.objects awake s
   pub progress : (task : ℕ) → progress_in k.progress task ≡ progress_at s task

@@ -9,7 +9,7 @@ ghost use Rattle.model.specs.Invariant.{IsState, wait_of};
 ghost use Rattle.model.specs.Run.{IsRun, state_after};
 ghost use Rattle.task_lists.specs.Tasks.{is_among};
 ghost use Rattle.groups.specs.StandsFor.{StandsFor as GroupsStandFor, bits_wait};
-ghost use Rattle.objects.specs.Queues.{StandsFor as QueuesStandFor};
+ghost use Rattle.objects.specs.Objects.{StandsFor as ObjectsStandFor};
 ghost use Rattle.objects.specs.WaitersStand.{AtLocked};
 ghost use Rattle.machine.specs.StandsFor.{Stands, StandsFor};
 ghost use Rattle.ops.specs.Can.{CanPlace};
@@ -22,7 +22,7 @@ use crate::steps::finish;
 use arrayvec::ArrayVec;
 use machine::{Machine, StepLog, Trail, place_sleeper};
 use model::{App, Limits, Memory, Meter, ObjectId, Phase, Plan, Run, TaskId};
-use objects::{Queues, Taken, Unlocked};
+use objects::{Objects, Taken, Unlocked};
 use outcome::{EndState, HeldMutex, Situation};
 use std::alloc::Global;
 
@@ -35,7 +35,7 @@ fn place(machine: &mut Machine, task: TaskId)
     let deadline = machine.progress(task).call.deadline;
     machine.sched.block(task);
     let priority = machine.sched.priority(task);
-    machine.queues.place(machine.wait_list, task, priority);
+    machine.objects.place(machine.wait_list, task, priority);
     place_sleeper(&mut machine.clock, deadline, task);
     machine.set_phase(task, Phase::Unlock);
 }
@@ -63,10 +63,10 @@ fn nobody() -> Unlocked
 }
 
 /// Takes the Awake tasks out of the waiting lists, and answers them.
-fn take_awake(queues: &mut Queues) -> Unlocked
-    ensures { (s : State) → QueuesStandFor queues.old None s → AtLocked None s → IsOpened queues.new result s }
+fn take_awake(objects: &mut Objects) -> Unlocked
+    ensures { (s : State) → ObjectsStandFor objects.old None s → AtLocked None s → IsOpened objects.new result s }
 {
-    match queues.unlock() {
+    match objects.unlock() {
         Some(awake) => awake,
         None => nobody(),
     }
@@ -108,10 +108,10 @@ fn ready_situation(op_index: u16, is_running: bool) -> Situation
 
 /// Whether a task is in a waiting list, or waits for bits.
 fn is_waiting(machine: &Machine, task: TaskId) -> bool
-    ensures { (opened s : State) → QueuesStandFor machine.now.queues None opened → GroupsStandFor machine.now.groups s
+    ensures { (opened s : State) → ObjectsStandFor machine.now.objects None opened → GroupsStandFor machine.now.groups s
         → result ≡ is_some (wait_of (status_at opened task)) || is_some (bits_wait (status_at s task)) }
 {
-    machine.queues.is_waiting(task) || machine.groups.is_waiting(task)
+    machine.objects.is_waiting(task) || machine.groups.is_waiting(task)
 }
 
 /// What a task is doing; these were Awake.
@@ -165,16 +165,16 @@ fn push_held(held: &mut ArrayVec<HeldMutex, 33>, object: ObjectId, holder: Optio
 }
 
 /// The mutexes that are held, of this many objects.
-fn held_mutexes(queues: &Queues, count: usize) -> ArrayVec<HeldMutex, 33>
+fn held_mutexes(objects: &Objects, count: usize) -> ArrayVec<HeldMutex, 33>
     requires { count ≤ 33 }
-    ensures { (s : State) → QueuesStandFor queues.now None s → length s.objects ≡ count → result.items ≡ held_from 0 s.objects }
+    ensures { (s : State) → ObjectsStandFor objects.now None s → length s.objects ≡ count → result.items ≡ held_from 0 s.objects }
 {
     let mut held = ArrayVec::new();
     for number in 0..count {
         let object = ObjectId {
             number: number as u8,
         };
-        push_held(&mut held, object, queues.holder(object));
+        push_held(&mut held, object, objects.holder(object));
     }
     held
 }
@@ -186,8 +186,8 @@ fn end_state(machine: &mut Machine, app: &App) -> EndState
 {
     app.well_formed();
     settle_lists(machine, app);
-    let held = held_mutexes(&machine.queues, app.objects().len());
-    let awake = take_awake(&mut machine.queues);
+    let held = held_mutexes(&machine.objects, app.objects().len());
+    let awake = take_awake(&mut machine.objects);
     let situations = situations(machine, &awake, app.tasks().len());
     EndState { situations, held }
 }

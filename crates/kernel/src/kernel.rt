@@ -4,7 +4,7 @@ ghost use Rattle.model.specs.declared.call.WaitList as definitions;
 ghost use Rattle.model.specs.State.{State, call_at};
 ghost use Rattle.sched.specs.StandsFor.{StandsFor as ScheduleStandsFor, StandsBefore as ScheduleStandsBefore};
 ghost use Rattle.clock.specs.StandsFor.{StandsFor as ClockStandsFor, StandsBefore as ClockStandsBefore};
-ghost use Rattle.objects.specs.Queues.{StandsFor as QueuesStandFor};
+ghost use Rattle.objects.specs.Objects.{StandsFor as ObjectsStandFor};
 ghost use Rattle.groups.specs.StandsFor.{StandsFor as GroupsStandFor};
 ghost use Rattle.machine.specs.StandsFor.{Stands, StandsFor, StandsBefore, decider};
 ghost use Rattle.model.specs.declared.plan.Injection.{Injection};
@@ -20,7 +20,7 @@ use clock::Clock;
 use groups::Groups;
 use machine::{Machine, Snapshot, StepLog};
 use model::{App, End, HandlerId, Limits, Memory, Meter};
-use objects::Queues;
+use objects::Objects;
 use sched::Sched;
 use std::alloc::Global;
 use std::marker::Model;
@@ -133,15 +133,15 @@ impl Kernel {
         &self.machine.clock
     }
 
-    /// The queues, which represent each state that the kernel represents. A task that is still to be placed is in no
+    /// The objects, which represent each state that the kernel represents. A task that is still to be placed is in no
     /// waiting list.
-    pub fn queues(&self) -> &Queues
-        ensures stands { (s : State) → StandsFor self.now s → QueuesStandFor result.now None s }
+    pub fn objects(&self) -> &Objects
+        ensures stands { (s : State) → StandsFor self.now s → ObjectsStandFor result.now None s }
         ensures before { (task : ℕ) (list : definitions.WaitList) (s : State)
             → StandsBefore task list self.now s
-            → QueuesStandFor result.now (Some (decider task list s)) s }
+            → ObjectsStandFor result.now (Some (decider task list s)) s }
     {
-        &self.machine.queues
+        &self.machine.objects
     }
 
     /// The event groups, which represent each state that the kernel represents, also where a task is still to be placed in

@@ -20,7 +20,7 @@ use model::{App, End, Limits, TaskId};
 fn has_waiter(machine: &Machine) -> bool
     ensures { (s : State) → StandsFor machine.now s → result ≡ list_any is_blocked s.tasks }
 {
-    machine.queues.has_waiter() || machine.groups.has_waiter() || machine.sched.has_suspended()
+    machine.objects.has_waiter() || machine.groups.has_waiter() || machine.sched.has_suspended()
 }
 
 /// Whether every task is Ended, the endless ones too: nobody is Ready, sleeps, waits or is suspended.

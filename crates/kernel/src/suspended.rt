@@ -55,7 +55,7 @@ pub(crate) fn is_ended(machine: &Machine, task: TaskId) -> bool
     if machine.clock.is_asleep(task) {
         return false;
     }
-    if machine.queues.is_waiting(task) {
+    if machine.objects.is_waiting(task) {
         return false;
     }
     if machine.groups.is_waiting(task) {

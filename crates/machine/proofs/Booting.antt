@@ -44,8 +44,8 @@ use Rattle.groups.proofs.Kept as bits_kept
 use Rattle.model.specs.Invariant.{Hold, Suspension, IsTable}
 use Rattle.model.proofs.Resets.{call-reset}
 use Rattle.model.proofs.Statuses.{free_unwoken}
-use Rattle.objects.specs.Queues as queues
-use Rattle.objects.specs.Queues.{Exchange, SameWaits}
+use Rattle.objects.specs.Objects as objects
+use Rattle.objects.specs.Objects.{Objects, SameWaits}
 use Rattle.objects.specs.WaitersStand.{AtLocked}
 use Rattle.objects.proofs.Awake.{at_locked-nobody}
 use Rattle.objects.proofs.Kept.{stands_same}
@@ -294,9 +294,9 @@ module _ (app : Application) where
     locked = ap (λ (hold : Hold). hold.locked) (keeps-all_ready (with_ops 0 app.tasks) (nobody_ready app)).hold;
   }
 
-  pub queues_at_reset : (v : Exchange) → queues.StandsFor v None (reset app)
-      → IsTable (nobody_ready app) → queues.StandsFor v None (nobody_ready app)
-  queues_at_reset v h table =
+  pub objects_at_reset : (v : Objects) → objects.StandsFor v None (reset app)
+      → IsTable (nobody_ready app) → objects.StandsFor v None (nobody_ready app)
+  objects_at_reset v h table =
       let same = same_at_reset in
       stands_same (reset app) (nobody_ready app)
       (record {

@@ -32,8 +32,8 @@ use Rattle.clock.specs.Timeline.{Timeline, is_asleep}
 use Rattle.clock.proofs.Standing as on_clock
 use Rattle.clock.proofs.Standing.{SleepsAlike, asleep_same, ticks_of}
 use Rattle.objects.specs.WaitersStand.{AtLocked}
-use Rattle.objects.specs.Queues as queues
-use Rattle.objects.specs.Queues.{Exchange, SameWaits}
+use Rattle.objects.specs.Objects as objects
+use Rattle.objects.specs.Objects.{Objects, SameWaits}
 use Rattle.objects.proofs.Kept.{stands_same, same_free, same_ticket, same_progress, same_ready}
 use Rattle.objects.proofs.Awake.{at_locked_same}
 use Rattle.groups.specs.EventGroups.{EventGroups}
@@ -156,15 +156,15 @@ kept_of s = (s.suspensions, s.steps, s.stopped)
 -- The clock represents the new state; each task is where it was in its script, and what is kept beside the parts stays.
 module _ {k : Machine} {s new : State} {v : Schedule} {t : Timeline} (h : RestStandsFor k s) (on : clock.StandsFor t new)
     (progress : (i : ℕ) → progress_at new i ≡ progress_at s i) (kept : kept_of new ≡ kept_of s) where
-  -- the queues and the groups are given too; the guess at the next interrupt may be another
-  pub rest_with : {q : Exchange} {g : EventGroups} {next : ℕ} → queues.StandsFor q None new
+  -- the objects and the groups are given too; the guess at the next interrupt may be another
+  pub rest_with : {q : Objects} {g : EventGroups} {next : ℕ} → objects.StandsFor q None new
       → AtLocked None new → groups.StandsFor g new
-      → RestStandsFor (record k { sched = v; clock = t; queues = q; groups = g; next_interrupt = next }) new
+      → RestStandsFor (record k { sched = v; clock = t; objects = q; groups = g; next_interrupt = next }) new
   rest_with left locked there = record {
     progress = λ i. h.progress i ∙ sym (progress i);
     full = h.full;
     clock = on;
-    queues = left;
+    objects = left;
     groups = there;
     suspensions = h.suspensions ∙ sym (ap (λ (x : Kept). x.0) kept);
     awake = locked;
@@ -173,25 +173,25 @@ module _ {k : Machine} {s new : State} {v : Schedule} {t : Timeline} (h : RestSt
     placed = h.placed;
   }
 
-  -- the queues are given, and the same tasks wait for bits
-  pub rest_with_queues : {q : Exchange} → queues.StandsFor q None new → AtLocked None new
-      → SameBitWaits s new → RestStandsFor (record k { sched = v; clock = t; queues = q }) new
-  rest_with_queues left locked bits = rest_with left locked (on_groups.stands_same k.groups s new h.groups bits on.table)
+  -- the objects are given, and the same tasks wait for bits
+  pub rest_with_objects : {q : Objects} → objects.StandsFor q None new → AtLocked None new
+      → SameBitWaits s new → RestStandsFor (record k { sched = v; clock = t; objects = q }) new
+  rest_with_objects left locked bits = rest_with left locked (on_groups.stands_same k.groups s new h.groups bits on.table)
 
   -- the groups are given, and the same tasks wait at objects
   pub rest_with_groups : {g : EventGroups} → SameWaits s new → groups.StandsFor g new
       → RestStandsFor (record k { sched = v; clock = t; groups = g }) new
   rest_with_groups waits there =
-      rest_with (stands_same s new waits k.queues None h.queues on.table) (at_locked_same None s new waits h.awake) there
+      rest_with (stands_same s new waits k.objects None h.objects on.table) (at_locked_same None s new waits h.awake) there
 
   -- the same tasks wait
   pub rest_with_clock : SameWaits s new → SameBitWaits s new → RestStandsFor (record k { sched = v; clock = t }) new
   rest_with_clock waits bits = rest_with_groups waits (on_groups.stands_same k.groups s new h.groups bits on.table)
 
 -- Other parts represent the same state, and the guess may be another.
-pub rest_again : {k : Machine} {s : State} {v : Schedule} {t : Timeline} {q : Exchange} {g : EventGroups} {next : ℕ}
-    → RestStandsFor k s → clock.StandsFor t s → queues.StandsFor q None s → groups.StandsFor g s
-    → RestStandsFor (record k { sched = v; clock = t; queues = q; groups = g; next_interrupt = next }) s
+pub rest_again : {k : Machine} {s : State} {v : Schedule} {t : Timeline} {q : Objects} {g : EventGroups} {next : ℕ}
+    → RestStandsFor k s → clock.StandsFor t s → objects.StandsFor q None s → groups.StandsFor g s
+    → RestStandsFor (record k { sched = v; clock = t; objects = q; groups = g; next_interrupt = next }) s
 rest_again h on left there = rest_with h on (λ _. refl) refl left h.awake there
 
 -- A task's progress changes, in the kernel and in its state, and is not in Place; the same tasks wait.
@@ -206,7 +206,7 @@ rest_moved {k} {s} {new} h on kept i t l few is off waits bits =
       progress = λ j. progress-set k.progress s.tasks i t h.progress m l j ∙ sym (ap (λ ts. (get_or ts j no_task).progress) is);
       full = rw length-set h.full;
       clock = on;
-      queues = stands_same s new waits k.queues None h.queues on.table;
+      objects = stands_same s new waits k.objects None h.objects on.table;
       groups = on_groups.stands_same k.groups s new h.groups bits on.table;
       suspensions = h.suspensions ∙ sym (ap (λ (x : Kept). x.0) kept);
       awake = at_locked_same None s new waits h.awake;
@@ -215,7 +215,7 @@ rest_moved {k} {s} {new} h on kept i t l few is off waits bits =
       placed = each-set no_progress (λ _ (p : Progress). p.call.phase ≢ Place) k.progress i t.progress off h.placed;
     }
 
--- what the clock, the queues and the groups see of a state
+-- what the clock, the objects and the groups see of a state
 abbrev pub Seen : Type 0
 Seen = List Task × ℕ × (ℕ × ℕ) × List Object × (ℕ → ℕ) × Option ℕ
 
@@ -233,7 +233,7 @@ rest_unseen {k} {s} {new} h table same suspended steps stopped =
       progress = λ i. h.progress i ∙ ap (λ ts. (get_or ts i no_task).progress) (sym tasks);
       full = h.full;
       clock = clock-same k.clock s new h.clock tasks (ap (λ (x : Seen). x.1) same) (ap (λ (x : Seen). x.2) same) table;
-      queues = stands_same s new waits k.queues None h.queues table;
+      objects = stands_same s new waits k.objects None h.objects table;
       groups = on_groups.stands_same k.groups s new h.groups (bits_kept.same_parts s new tasks (ap (λ (x : Seen). x.4) same)) table;
       suspensions = suspended;
       awake = at_locked_same None s new waits h.awake;

@@ -16,7 +16,7 @@ use Rattle.machine.specs.StandsFor.{StandsBefore, Stands, AtAny, DoesAny, decide
 use Rattle.machine.specs.Logged.{Logged}
 use Rattle.machine.specs.Can.{StandsForSome}
 use Rattle.machine.specs.StandsFor.Stands.{Placed, Placing}
-use Rattle.objects.specs.Queues.{SameWaits}
+use Rattle.objects.specs.Objects.{SameWaits}
 use Rattle.objects.proofs.Kept.{stands_same}
 use Rattle.objects.proofs.Awake.{at_locked_same}
 use Rattle.machine.proofs.Parts.{same_parts, stands-unseen}
@@ -58,7 +58,7 @@ begun_before k s task list b log steps n stopped end e same_end =
             awake = b.clock.awake;
             table = table;
           };
-      queues = stands_same s new same k.queues (Some (decider task list s)) b.queues table;
+      objects = stands_same s new same k.objects (Some (decider task list s)) b.objects table;
       groups = on_groups.stands_same k.groups s new b.groups (bits_kept.same_parts s new refl refl) table;
       suspensions = b.suspensions;
       awake = at_locked_same (Some (decider task list s)) s new same b.awake;

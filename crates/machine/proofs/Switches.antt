@@ -122,7 +122,7 @@ module _ (k : Machine) (log new_log : List Event) (s : State) (v : Schedule) (be
     (b : before ≡ k.sched.current) (told : new_log ≡ log ++ change k.steps k.clock.now before v.current) where
   changed : (new : State) → sched.StandsFor v new → RestStandsFor k new → Tells s new → At (record k { sched = v }) new_log new
   changed new on rest tells = record {
-    stands = record { sched = on; rest = rest_again rest rest.clock rest.queues rest.groups };
+    stands = record { sched = on; rest = rest_again rest rest.clock rest.objects rest.groups };
     log = told ∙ rw (h.log, b, h.stands.sched.current, h.stands.rest.steps, h.stands.rest.clock.now, on.current) (sym tells);
   }
 

@@ -26,8 +26,8 @@ use Rattle.clock.specs.StandsFor.{at_next_tick, at_jump}
 use Rattle.clock.specs.Timeline.{Timeline, Jumps, is_asleep}
 use Rattle.clock.proofs.Standing.{due_asleep, due_once}
 use Rattle.objects.specs.WaitersStand.{AtLocked}
-use Rattle.objects.specs.Queues as queues
-use Rattle.objects.specs.Queues.{Exchange}
+use Rattle.objects.specs.Objects as objects
+use Rattle.objects.specs.Objects.{Objects}
 use Rattle.objects.proofs.Kept.{stands_same}
 use Rattle.objects.proofs.Awake.{at_locked-all_ready}
 use Rattle.groups.specs.StandsFor as groups
@@ -181,23 +181,23 @@ module _ (k : Machine) (log : List Event) (s : State) (h : At k log s) (ticks : 
       on_groups.stands_same k.groups s (at_jump ticks s) h.stands.rest.groups
       (bits_kept.same_parts s (at_jump ticks s) refl refl) sched-jumped.table
 
-  pub queues-jumped : queues.StandsFor k.queues None (at_jump ticks s)
-  queues-jumped =
+  pub objects-jumped : objects.StandsFor k.objects None (at_jump ticks s)
+  objects-jumped =
       stands_same s (at_jump ticks s) (same_parts s (at_jump ticks s) refl refl refl)
-      k.queues None h.stands.rest.queues sched-jumped.table
+      k.objects None h.stands.rest.objects sched-jumped.table
 
-  pub jumped : (ds : List ℕ) (v : Schedule) (q : Exchange) (t : Timeline) (g : EventGroups)
+  pub jumped : (ds : List ℕ) (v : Schedule) (q : Objects) (t : Timeline) (g : EventGroups)
       → ds ≡ tasks_of (due (at_jump ticks s)) → sched.StandsFor v (for_each make_ready ds (at_jump ticks s))
-      → queues.StandsFor q None (for_each make_ready ds (at_jump ticks s))
+      → objects.StandsFor q None (for_each make_ready ds (at_jump ticks s))
       → groups.StandsFor g (for_each make_ready ds (at_jump ticks s)) → clock.StandsFor t (jump ticks s)
-      → At (record k { sched = v; clock = t; queues = q; groups = g }) log (jump ticks s)
+      → At (record k { sched = v; clock = t; objects = q; groups = g }) log (jump ticks s)
   unfolding jump wake_due
   jumped ds v q t g is ready left bits awake =
       let next : State = at_jump ticks s in
       let come_at : AtLocked None next = record { awake = h.stands.rest.awake.awake; to_place = tt } in
       let come : jump ticks s ≡ for_each make_ready ds next = ap (λ (x : List ℕ). for_each make_ready x next) (sym is) in
       let on : clock.StandsFor t (for_each make_ready ds next) = subst (clock.StandsFor t) come awake in
-      subst (At (record k { sched = v; clock = t; queues = q; groups = g }) log) (sym come) (record {
+      subst (At (record k { sched = v; clock = t; objects = q; groups = g }) log) (sym come) (record {
         stands =
             record {
               sched = ready;
@@ -209,13 +209,13 @@ module _ (k : Machine) (log : List Event) (s : State) (h : At k log s) (ticks : 
       })
 
 module _ (k : Machine) (log : List Event) (s : State) (h : At k log s) where
-  pub woken : (ds : List ℕ) (v : Schedule) (q : Exchange) (t : Timeline) (g : EventGroups)
+  pub woken : (ds : List ℕ) (v : Schedule) (q : Objects) (t : Timeline) (g : EventGroups)
       → ds ≡ tasks_of (due (at_next_tick s)) → sched.StandsFor v (for_each make_ready ds (at_next_tick s))
-      → queues.StandsFor q None (for_each make_ready ds (at_next_tick s))
+      → objects.StandsFor q None (for_each make_ready ds (at_next_tick s))
       → groups.StandsFor g (for_each make_ready ds (at_next_tick s)) → clock.StandsFor t (increment_tick s)
-      → s.suspensions ≡ 0 → At (record k { sched = v; clock = t; queues = q; groups = g }) log (increment_tick s)
+      → s.suspensions ≡ 0 → At (record k { sched = v; clock = t; objects = q; groups = g }) log (increment_tick s)
   unfolding increment_tick advance jump
   woken ds v q t g is ready left bits awake none =
       let come : increment_tick s ≡ jump 1 s = rw none refl in
-      subst (At (record k { sched = v; clock = t; queues = q; groups = g }) log) (sym come)
+      subst (At (record k { sched = v; clock = t; objects = q; groups = g }) log) (sym come)
       (jumped k log s h 1 ds v q t g is ready left bits (subst (clock.StandsFor t) come awake))

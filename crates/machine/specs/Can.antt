@@ -9,7 +9,7 @@ use Rattle.model.specs.Suspension.{can_resume}
 use Rattle.model.specs.Run.{end_of, state_after}
 use Rattle.lists.specs.Lists.{Each}
 use Rattle.sched.specs.Schedule.{Schedule, is_ready}
-use Rattle.objects.specs.Queues as objects
+use Rattle.objects.specs.Objects as objects
 use Rattle.machine.specs.declared.machine.Machine.{Machine}
 use Rattle.machine.specs.StandsFor.{StandsFor, Stands, progress_in}
 
@@ -29,12 +29,12 @@ pub record Runs (k : Machine) (task : ℕ) : Type 0 where
 
 -- The object is there, and has room for what the call puts in, where nothing is in it.
 abbrev pub HasRoom : Machine → ℕ → Access → Type 0
-HasRoom k object access = objects.HasRoom k.queues object access
+HasRoom k object access = objects.HasRoom k.objects object access
 
 -- The time can rise by a tick.
 pub record CanAdvance (k : Machine) : Type 0 where
   pub agrees : Agrees k
-  pub free : k.queues.lock ≡ None
+  pub free : k.objects.lock ≡ None
   pub age : k.clock.age < 2 ^ 62
   pub awake : k.suspensions ≡ 0
 

@@ -10,7 +10,7 @@ use Rattle.model.specs.Switching.{is_same}
 use Rattle.sched.specs.StandsFor as sched
 use Rattle.clock.specs.StandsFor as clock
 use Rattle.objects.specs.WaitersStand.{Decider, AtLocked}
-use Rattle.objects.specs.Queues as queues
+use Rattle.objects.specs.Objects as objects
 use Rattle.groups.specs.StandsFor as groups
 use Rattle.machine.specs.declared.machine.Machine.{Machine}
 use Rattle.machine.specs.Logged.{Logged}
@@ -28,7 +28,7 @@ pub record RestStandsFor (k : Machine) (s : State) : Type 0 where
   pub progress : (task : ℕ) → progress_in k.progress task ≡ progress_at s task
   pub full : length k.progress ≡ 32
   pub clock : clock.StandsFor k.clock s
-  pub queues : queues.StandsFor k.queues None s
+  pub objects : objects.StandsFor k.objects None s
   pub groups : groups.StandsFor k.groups s
   pub suspensions : k.suspensions ≡ s.suspensions
   pub awake : AtLocked None s
@@ -37,13 +37,13 @@ pub record RestStandsFor (k : Machine) (s : State) : Type 0 where
   pub placed : (task : ℕ) → (progress_in k.progress task).call.phase ≢ Place
 
 -- Where each task is in its script is kept as it is. The scheduler represents who is Ready and who runs, and the clock
--- the time and who wakes when. The queues represent what they hold, who waits at them, and which one is locked, and the groups
+-- the time and who wakes when. The objects represent what they hold, who waits at them, and which one is locked, and the groups
 -- their bits and who waits for them. How many `suspend_all` are in force is kept as it is.
 pub record StandsFor (k : Machine) (s : State) : Type 0 where
   pub sched : sched.StandsFor k.sched s
   pub rest : RestStandsFor k s
 
--- what the queues have still to place: the task, with the priority that it has
+-- what the objects have still to place: the task, with the priority that it has
 abbrev pub decider : ℕ → WaitList → State → Decider
 decider task list s = record { task = task; list = list; priority = (task_at s task).priority }
 
@@ -52,7 +52,7 @@ decider task list s = record { task = task; list = list; priority = (task_at s t
 pub record StandsBefore (task : ℕ) (list : WaitList) (k : Machine) (s : State) : Type 0 where
   pub sched : sched.StandsBefore task k.sched s
   pub clock : clock.StandsBefore task (call_at s task).deadline k.clock s
-  pub queues : queues.StandsFor k.queues (Some (decider task list s)) s
+  pub objects : objects.StandsFor k.objects (Some (decider task list s)) s
   pub groups : groups.StandsFor k.groups s
   pub suspensions : k.suspensions ≡ s.suspensions
   pub awake : AtLocked (Some (decider task list s)) s

@@ -40,7 +40,7 @@ impl Machine {
         ensures amid { result ≡ true → IsPlaced self.old self.new task }
         ensures depth { self.new.sched.depth ≡ self.old.sched.depth }
         ensures clock { self.new.clock ≡ self.old.clock }
-        ensures queues { self.new.queues ≡ self.old.queues }
+        ensures objects { self.new.objects ≡ self.old.objects }
         ensures suspensions { self.new.suspensions ≡ self.old.suspensions }
     {
         self.set_op_index(task, op_index);
@@ -60,7 +60,7 @@ impl Machine {
         ensures amid { result ≡ true → IsPlaced self.old self.new task }
         ensures depth { self.new.sched.depth ≡ self.old.sched.depth }
         ensures clock { self.new.clock ≡ self.old.clock }
-        ensures queues { self.new.queues ≡ self.old.queues }
+        ensures objects { self.new.objects ≡ self.old.objects }
         ensures suspensions { self.new.suspensions ≡ self.old.suspensions }
     {
         let next = self.progress(task).op_index + 1;
@@ -77,7 +77,7 @@ impl Machine {
             (answer app.now task given) }
         ensures depth { self.new.sched.depth ≡ self.old.sched.depth }
         ensures clock { self.new.clock ≡ self.old.clock }
-        ensures queues { self.new.queues ≡ self.old.queues }
+        ensures objects { self.new.objects ≡ self.old.objects }
     {
         let op_index = self.progress(task).op_index;
         self.write(log, called(task, op_index, given));
@@ -94,7 +94,7 @@ impl Machine {
             (answer app.now task (Some number)) }
         ensures depth { self.new.sched.depth ≡ self.old.sched.depth }
         ensures clock { self.new.clock ≡ self.old.clock }
-        ensures queues { self.new.queues ≡ self.old.queues }
+        ensures objects { self.new.objects ≡ self.old.objects }
     {
         self.answer_given(app, task, Some(number), log);
     }

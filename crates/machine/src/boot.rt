@@ -19,7 +19,7 @@ use crate::progress::Progress;
 use clock::Clock;
 use groups::Groups;
 use model::{App, ObjectId, TaskDefinition, TaskId, WaitList};
-use objects::Queues;
+use objects::Objects;
 use sched::Sched;
 
 /// What is kept where no wait at an object has begun yet.
@@ -106,7 +106,7 @@ impl Machine {
             progress: progress_of(app.tasks(), app.start()),
             sched: Sched::new(priorities_of(app.tasks())),
             clock: Clock::new(app.start()),
-            queues: Queues::new(app.objects()),
+            objects: Objects::new(app.objects()),
             groups: Groups::new(),
             suspensions: 0,
             wait_list: NO_WAIT_LIST,

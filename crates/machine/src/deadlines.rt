@@ -57,7 +57,7 @@ impl Machine {
         requires can { IsInCall self.old task }
         requires time { self.old.clock.now + 2 ^ 32 < 2 ^ 63 }
         ensures does { Moves self.old self.new (set_deadline task ticks) }
-        ensures parts { (self.new.sched ≡ self.old.sched) × (self.new.queues ≡ self.old.queues) }
+        ensures parts { (self.new.sched ≡ self.old.sched) × (self.new.objects ≡ self.old.objects) }
         ensures op_index { (progress_in self.new.progress task).op_index ≡ (progress_in self.old.progress task).op_index }
         ensures clock { self.new.clock ≡ self.old.clock }
         ensures deadline { (progress_in self.new.progress task).call.deadline

@@ -11,7 +11,7 @@ use crate::progress::Progress;
 use clock::Clock;
 use groups::Groups;
 use model::{CallProgress, Condition, End, Event, Loop, Phase, TaskId, WaitList, What};
-use objects::Queues;
+use objects::Objects;
 use sched::Sched;
 
 /// The state of a kernel between two steps: FreeRTOS's scheduler and its tick, over tasks that follow scripts (profile).
@@ -20,7 +20,7 @@ pub struct Machine {
     pub progress: [Progress; 32],
     pub sched: Sched,
     pub clock: Clock,
-    pub queues: Queues,
+    pub objects: Objects,
     pub groups: Groups,
     /// How many `suspend_all` are in force.
     pub suspensions: u32,
@@ -87,7 +87,7 @@ impl Machine {
             progress: self.progress,
             sched: self.sched.copy(),
             clock: self.clock.copy(),
-            queues: self.queues.copy(),
+            objects: self.objects.copy(),
             groups: self.groups.copy(),
             suspensions: self.suspensions,
             wait_list: self.wait_list,
@@ -104,7 +104,7 @@ impl Machine {
         self.progress = other.progress;
         self.sched.set_from(&other.sched);
         self.clock.set_from(&other.clock);
-        self.queues.set_from(&other.queues);
+        self.objects.set_from(&other.objects);
         self.groups.set_from(&other.groups);
         self.suspensions = other.suspensions;
         self.wait_list = other.wait_list;

@@ -6,7 +6,7 @@ use crate::progress::Progress;
 use clock::Clock;
 use groups::Groups;
 use model::{End, Memory, WaitList};
-use objects::QueuesSnapshot;
+use objects::ObjectsSnapshot;
 use sched::Sched;
 use std::alloc::Global;
 use std::marker::Model;
@@ -20,7 +20,7 @@ pub struct Snapshot {
     tasks: usize,
     sched: Sched,
     clock: Clock,
-    queues: QueuesSnapshot,
+    objects: ObjectsSnapshot,
     groups: Groups,
     suspensions: u32,
     wait_list: WaitList,
@@ -37,7 +37,7 @@ impl Model for Snapshot {
 
     ghost Value = { declared.Machine };
 
-    ghost view = { λ s. record { progress = s.progress; sched = s.sched; clock = s.clock; queues = s.queues; groups = s.groups; suspensions = s.suspensions; wait_list = s.wait_list; next_interrupt = s.next_interrupt; steps = s.steps; stopped = s.stopped } };
+    ghost view = { λ s. record { progress = s.progress; sched = s.sched; clock = s.clock; objects = s.objects; groups = s.groups; suspensions = s.suspensions; wait_list = s.wait_list; next_interrupt = s.next_interrupt; steps = s.steps; stopped = s.stopped } };
 
     ghost invariant = { λ s. (s.tasks ≤ 32) × AreBlankFrom s.tasks s.progress };
 }
@@ -58,23 +58,23 @@ impl Machine {
     pub fn snapshot(&self, alloc: Global) -> Result<Snapshot, Memory>
         ensures { IfOk result (λ snapshot. snapshot ≡ self.now) }
     {
-        let queues = self.queues.snapshot(alloc)?;
-        Ok(self.snapshot_with(queues))
+        let objects = self.objects.snapshot(alloc)?;
+        Ok(self.snapshot_with(objects))
     }
 
     /// As `snapshot`, in a box.
     pub fn boxed_snapshot(&self, alloc: Global) -> Result<Box<Snapshot>, Memory>
         ensures { IfOk result (λ snapshot. snapshot.value ≡ self.now) }
     {
-        let queues = self.queues.snapshot(alloc)?;
-        let snapshot = Box::new(alloc, self.snapshot_with(queues))?;
+        let objects = self.objects.snapshot(alloc)?;
+        let snapshot = Box::new(alloc, self.snapshot_with(objects))?;
         Ok(snapshot)
     }
 
     /// The kernel as it is now, with what its queues are.
     #[inline(always)]
-    fn snapshot_with(&self, queues: QueuesSnapshot) -> Snapshot
-        requires { queues ≡ self.now.queues }
+    fn snapshot_with(&self, objects: ObjectsSnapshot) -> Snapshot
+        requires { objects ≡ self.now.objects }
         ensures { result ≡ self.now }
     {
         Snapshot {
@@ -82,7 +82,7 @@ impl Machine {
             tasks: tasks_of(&self.progress),
             sched: self.sched.copy(),
             clock: self.clock.copy(),
-            queues,
+            objects,
             groups: self.groups.copy(),
             suspensions: self.suspensions,
             wait_list: self.wait_list,
@@ -99,7 +99,7 @@ impl Machine {
         self.progress = snapshot.progress;
         self.sched.set_from(&snapshot.sched);
         self.clock.set_from(&snapshot.clock);
-        self.queues.restore(&snapshot.queues);
+        self.objects.restore(&snapshot.objects);
         self.groups.set_from(&snapshot.groups);
         self.suspensions = snapshot.suspensions;
         self.wait_list = snapshot.wait_list;
@@ -124,7 +124,7 @@ impl Machine {
         self.clock.is_same(&snapshot.clock)
             && self.sched.is_same(&snapshot.sched)
             && is_same_progress(&self.progress, &snapshot.progress, snapshot.tasks)
-            && self.queues.is_at(&snapshot.queues)
+            && self.objects.is_at(&snapshot.objects)
             && self.groups.is_same(&snapshot.groups)
     }
 }

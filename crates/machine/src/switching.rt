@@ -6,7 +6,7 @@ ghost use Rattle.model.specs.Time.{increment_tick, jump};
 ghost use Rattle.sched.specs.StandsFor.{StandsFor as ScheduleStandsFor};
 ghost use Rattle.sched.specs.Schedule as schedule;
 ghost use Rattle.clock.specs.StandsFor.{StandsFor as ClockStandsFor};
-ghost use Rattle.objects.specs.Queues.{StandsFor as QueuesStandFor};
+ghost use Rattle.objects.specs.Objects.{StandsFor as ObjectsStandFor};
 ghost use Rattle.groups.specs.StandsFor.{StandsFor as GroupsStandFor};
 ghost use Rattle.machine.specs.StandsFor.{StandsFor, Stands, Does, DoesAny, Moves, change};
 ghost use Rattle.machine.specs.Can.{CanAdvance, CanJump, AreThere, AreToWake, Leaves};
@@ -16,27 +16,27 @@ use crate::machine::Machine;
 use clock::Clock;
 use groups::Groups;
 use model::{TaskId, What};
-use objects::Queues;
+use objects::Objects;
 use sched::Sched;
 
 /// Each of these tasks wakes at its time: it becomes Ready, one after the other, and no longer waits, if it did.
-fn make_all_ready(sched: &mut Sched, queues: &mut Queues, groups: &mut Groups, tasks: &[TaskId])
+fn make_all_ready(sched: &mut Sched, objects: &mut Objects, groups: &mut Groups, tasks: &[TaskId])
     requires free { AreToWake sched.old tasks.now }
-    requires unlocked { queues.old.lock ≡ None }
+    requires unlocked { objects.old.lock ≡ None }
     ensures ready { (s : State) → ScheduleStandsFor sched.old s
         → AreThere s tasks.now
         → ScheduleStandsFor sched.new (for_each make_ready tasks.now s) }
-    ensures left { (s : State) → QueuesStandFor queues.old None s
+    ensures left { (s : State) → ObjectsStandFor objects.old None s
         → AreThere s tasks.now
-        → QueuesStandFor queues.new None (for_each make_ready tasks.now s) }
+        → ObjectsStandFor objects.new None (for_each make_ready tasks.now s) }
     ensures gone { (s : State) → GroupsStandFor groups.old s → AreThere s tasks.now
         → GroupsStandFor groups.new (for_each make_ready tasks.now s) }
     ensures depth { sched.new.depth ≡ sched.old.depth }
-    ensures number { queues.new.number ≡ queues.old.number }
-    ensures objects { queues.new.objects ≡ queues.old.objects }
+    ensures number { objects.new.number ≡ objects.old.number }
+    ensures objects { objects.new.objects ≡ objects.old.objects }
 {
     for task in tasks {
-        queues.drop_waiter(*task);
+        objects.drop_waiter(*task);
         groups.drop_waiter(*task);
         sched.wake(*task);
     }
@@ -141,7 +141,7 @@ impl Machine {
         requires room { 0 < (L.logged log.old).room }
         requires free { self.old.sched.depth ≡ 0 }
         ensures does { Does 1 self.old (L.logged log.old) self.new (L.logged log.new) preempt }
-        ensures queues { self.new.queues ≡ self.old.queues }
+        ensures objects { self.new.objects ≡ self.old.objects }
     {
         let before = self.sched.current();
         if self.sched.preempt() {
@@ -191,7 +191,7 @@ impl Machine {
         self.clock.advance_into(&mut due);
         make_all_ready(
             &mut self.sched,
-            &mut self.queues,
+            &mut self.objects,
             &mut self.groups,
             due.as_slice(),
         );
@@ -209,7 +209,7 @@ impl Machine {
         self.clock.jump_into(ticks, &mut due);
         make_all_ready(
             &mut self.sched,
-            &mut self.queues,
+            &mut self.objects,
             &mut self.groups,
             due.as_slice(),
         );

@@ -19,7 +19,7 @@ use Rattle.model.proofs.Lists.{HasKey, eqb-refl, eqb-same, list_has}
 use Rattle.model.proofs.Tables.{each-set}
 use Rattle.model.proofs.Unlocking.{none_awake, is_locked-own, none_left}
 use Rattle.objects.specs.WaitersStand.{AtLocked, Decider}
-use Rattle.objects.specs.Queues.{SameWaits}
+use Rattle.objects.specs.Objects.{SameWaits}
 use Rattle.objects.proofs.Deciding.{others_as_before, waits_now}
 use Rattle.objects.proofs.Keys.{same_list-true, waiting_key}
 use Rattle.objects.proofs.Kept.{same_go_on}

@@ -12,7 +12,7 @@ use Rattle.model.specs.Objects.{allows, object_after}
 use Rattle.model.proofs.Tables.{held_after, each-set}
 use Rattle.objects.specs.Items.{object_in}
 use Rattle.objects.specs.WaitersStand.{Decider}
-use Rattle.objects.specs.Queues.{Exchange, HasRoom, StandsFor}
+use Rattle.objects.specs.Objects.{Objects, HasRoom, StandsFor}
 
 -- the room that is left, and whether there is any
 pub some_room : (left n size : ℕ) → left + n ≡ size → nat_lt 0 left ≡ nat_lt n size
@@ -36,7 +36,7 @@ there_held [] o task e = absurd cc
 there_held (x ∷ xs) zero task e = omega arith
 there_held (x ∷ xs) (suc o) task e = let h = there_held xs o task e in omega (arith, h)
 
-module _ (v : Exchange) (d : Option Decider) (s : State) (o : ℕ) (h : StandsFor v d s) (known : o < length v.objects) where
+module _ (v : Objects) (d : Option Decider) (s : State) (o : ℕ) (h : StandsFor v d s) (known : o < length v.objects) where
   -- an object is another now
   stands_put : o < length s.objects → (x : Object) → IfSome x.holder (λ i. i < length s.tasks)
       → StandsFor (record v { objects = set v.objects o x }) d (with_object o x s)
@@ -63,12 +63,12 @@ module _ (v : Exchange) (d : Option Decider) (s : State) (o : ℕ) (h : StandsFo
   }
 
   -- a possible call is carried out
-  pub stands_carried : (new : Exchange) (caller : Option ℕ) (a : Access) → o < v.number
+  pub stands_carried : (new : Objects) (caller : Option ℕ) (a : Access) → o < v.number
       → new ≡ record v { objects = set v.objects o (object_after caller a (object_in v.objects o)) }
       → IfSome caller (λ i. i < length s.tasks)
       → StandsFor new d (with_object o (object_after caller a (object_at s o)) s)
   stands_carried new caller a there e l =
-      subst (λ (w : Exchange). StandsFor w d (with_object o (object_after caller a (object_at s o)) s)) (sym e)
+      subst (λ (w : Objects). StandsFor w d (with_object o (object_after caller a (object_at s o)) s)) (sym e)
       (subst (λ (x : Object).
       StandsFor (record v { objects = set v.objects o (object_after caller a x) })
       d (with_object o (object_after caller a (object_at s o)) s))
@@ -77,12 +77,12 @@ module _ (v : Exchange) (d : Option Decider) (s : State) (o : ℕ) (h : StandsFo
       (held_after caller a (object_at s o) (length s.tasks) l (h.waiters.table.holders o))))
 
   -- a mutex that a task holds is freed
-  pub stands_freed : (new : Exchange) (task : ℕ) → (object_at s o).holder ≡ Some task
+  pub stands_freed : (new : Objects) (task : ℕ) → (object_at s o).holder ≡ Some task
       → new ≡ record v { objects = set v.objects o (record (object_in v.objects o) { holder = None }) }
       → StandsFor new d (with_object o (record (object_at s o) { holder = None }) s)
   stands_freed new task held e =
       let freed : Object → Object = λ x. record x { holder = None } in
-      subst (λ (w : Exchange). StandsFor w d (with_object o (freed (object_at s o)) s)) (sym e)
+      subst (λ (w : Objects). StandsFor w d (with_object o (freed (object_at s o)) s)) (sym e)
       (subst
       (λ (x : Object). StandsFor (record v { objects = set v.objects o (freed x) }) d (with_object o (freed (object_at s o)) s))
       (sym (h.objects o))

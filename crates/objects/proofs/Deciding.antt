@@ -1,4 +1,4 @@
--- A task that begins to wait, while its object is locked: the queues stay until it is placed.
+-- A task that begins to wait, while its object is locked: the objects stay until it is placed.
 use Rattle.std.proofs.Common.{◌≡◌, ◌≢◌, ℕ, ◌<◌, true, false, Bool, Option, Some, None, List, [], ◌∷◌, length, set, sym, ◌∙◌, ap}
 use Rattle.std.proofs.Common.{subst, refl, eqb}
 use Rattle.std.proofs.Math.ListN.{length-set}
@@ -26,16 +26,16 @@ use Rattle.model.proofs.Tables.{table-set, ticket_at}
 use Rattle.objects.specs.declared.lock.Lock.{Lock}
 use Rattle.objects.specs.Items.{object_in}
 use Rattle.objects.specs.WaitersStand.{Decider, FirstAwake, is_awake, standing}
-use Rattle.objects.specs.Queues.{Counts, CountsNobody, Exchange, StandsFor}
+use Rattle.objects.specs.Objects.{Counts, CountsNobody, Objects, StandsFor}
 use Rattle.objects.proofs.Free.{absent}
 use Rattle.objects.proofs.Keys.{standing_key}
 use Rattle.objects.proofs.Kept.{same_progress, stands_same}
 use Rattle.objects.proofs.Placing.{stands_decided}
 use Rattle.objects.proofs.Standing.{stands_awakened}
 
--- ---- what the queues don't see
+-- ---- what the objects don't see
 
-pub stands_unseen : (v : Exchange) (d : Option Decider) (s : State)
+pub stands_unseen : (v : Objects) (d : Option Decider) (s : State)
     (time elapsed steps : ℕ) (held : Bool) (stopped : Option End) (log : List Event)
     → StandsFor v d s
     → StandsFor v d (record s { time = time; elapsed = elapsed; call_hold = held; steps = steps; stopped = stopped; log = log })
@@ -50,20 +50,20 @@ stands_unseen v d s time elapsed steps held stopped log h =
     })
 
 -- A task goes on with its call, or in its script.
-pub stands_staying : (v : Exchange) (d : Option Decider) (s : State) (i : ℕ) (p : Progress)
+pub stands_staying : (v : Objects) (d : Option Decider) (s : State) (i : ℕ) (p : Progress)
     → StandsFor v d s → StandsFor v d (with_progress i p s)
 stands_staying v d s i p h =
     stands_same s (with_progress i p s) (same_progress i p s) v d h
     (table-set s i (record (task_at s i) { progress = p }) h.waiters.table
     (ticket_at s.next_ticket i s.tasks h.waiters.table.tickets))
 
-pub stands_gone_on : (v : Exchange) (d : Option Decider) (s : State) (i : ℕ) (phase : Phase)
+pub stands_gone_on : (v : Objects) (d : Option Decider) (s : State) (i : ℕ) (phase : Phase)
     → StandsFor v d s → StandsFor v d (go_on i phase s)
 stands_gone_on v d s i phase h =
     stands_staying v d s i (record (progress_at s i) { call = record (call_at s i) { phase = phase } }) h
 
 -- Who is woken stays in its list.
-pub stands_awaken : (v : Exchange) (d : Option Decider) (s : State) (i : ℕ)
+pub stands_awaken : (v : Objects) (d : Option Decider) (s : State) (i : ℕ)
     → StandsFor v d s → IfSome v.lock (Counts (awaken i s)) → StandsFor v d (awaken i s)
 stands_awaken v d s i h counts =
     record {
@@ -142,7 +142,7 @@ locked_begun : (s : State) (i : ℕ) (q : WaitList) → (wait_in i q s).locked �
 unfolding wait_in
 locked_begun s i q = refl
 
-pub stands_begins : (v : Exchange) (s : State) (i : ℕ) (q : WaitList) → StandsFor v None s
+pub stands_begins : (v : Objects) (s : State) (i : ℕ) (q : WaitList) → StandsFor v None s
     → i < length s.tasks → wait_of (status_at s i) ≡ None → CountsNobody v
     → StandsFor v (Some (record { task = i; list = q; priority = (task_at s i).priority })) (wait_in i q s)
 stands_begins v s i q h l none nobody = record {
@@ -155,7 +155,7 @@ stands_begins v s i q h l none nobody = record {
 
 -- ---- the decision
 
-module _ (v : Exchange) (s : State) (i o : ℕ) (h : StandsFor v None (record s { locked = Some o })) where
+module _ (v : Objects) (s : State) (i o : ℕ) (h : StandsFor v None (record s { locked = Some o })) where
   -- to wait
   pub stands_deciding : (a : Access) → i < length s.tasks → wait_of (status_at s i) ≡ None → CountsNobody v
       → StandsFor v (Some (record { task = i; list = list_for o a; priority = (task_at s i).priority }))

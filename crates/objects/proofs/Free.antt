@@ -22,7 +22,7 @@ use Rattle.objects.specs.Places.{list_places}
 use Rattle.objects.specs.WaitingLists.{number_of, waiting_in}
 use Rattle.task_lists.specs.Tasks.{insert_by_priority}
 use Rattle.objects.specs.WaitersStand.{Decider, standing}
-use Rattle.objects.specs.Queues.{Exchange, StandsFor}
+use Rattle.objects.specs.Objects.{Objects, StandsFor}
 use Rattle.objects.proofs.Keys.{same_list-refl, same_list-true, standing_key}
 use Rattle.objects.proofs.Counting.{Distinct, distinct_from, stands_once}
 use Rattle.objects.proofs.Waking.{apart_inserted, apart_priorities}
@@ -89,7 +89,7 @@ no_wait s i list none = ap (option_and_then (wait_key list)) none
 
 -- ---- nobody is to be placed
 
-module _ (v : Exchange) (s : State) (h : StandsFor v None s) (i : ℕ) where
+module _ (v : Objects) (s : State) (h : StandsFor v None s) (i : ℕ) where
   pub absent : wait_of (status_at s i) ≡ None → (list : WaitList) → Apart (Some i) (waiting_in v.waiting list)
   absent none list = subst (Apart (Some i)) (sym (h.waiters.lists list)) (standing_apart s i list (no_wait s i list none))
 
@@ -99,7 +99,7 @@ module _ (v : Exchange) (s : State) (h : StandsFor v None s) (i : ℕ) where
 
 -- ---- one is still to be placed
 
-module _ (v : Exchange) (s : State) (d : Decider) (h : StandsFor v (Some d) s) where
+module _ (v : Objects) (s : State) (d : Decider) (h : StandsFor v (Some d) s) where
   own : insert_by_priority (d.task, d.priority) (waiting_in v.waiting d.list) ≡ with_priorities (standing s d.list)
   own = let was = h.waiters.lists d.list in rw (same_list-refl d.list) at was
 
@@ -152,11 +152,11 @@ waiting_is v s i sound listed = wait_cases (wait_of (status_at s i)) (λ o. is_s
     ap (option_and_then (wait_key w.list)) is ∙ (let t = same_list-refl w.list in rw t refl) in
     ap is_some (sound.one_place i (number_of w.list) (listed w.list ∙ standing_has s i w.list (key w.priority w.ticket) keyed)))
 
-pub stands_waiting : (v : Exchange) (s : State) (i : ℕ) → IsSound list_places 32 v.waiting
+pub stands_waiting : (v : Objects) (s : State) (i : ℕ) → IsSound list_places 32 v.waiting
     → StandsFor v None s → is_some (place_of v.waiting i) ≡ is_some (wait_of (status_at s i))
 stands_waiting v s i sound h = waiting_is v.waiting s i sound (λ list. ap (has_node i) (h.waiters.lists list))
 
-pub stands_placing : (v : Exchange) (s : State) (d : Decider) (i : ℕ) → IsSound list_places 32 v.waiting
+pub stands_placing : (v : Objects) (s : State) (d : Decider) (i : ℕ) → IsSound list_places 32 v.waiting
     → StandsFor v (Some d) s → is_some (place_of v.waiting i) ≡ (not (i == d.task) && is_some (wait_of (status_at s i)))
 stands_placing v s d i sound h = by_test (i == d.task)
     (λ t. rw t (ap is_some (subst (λ (k : ℕ). place_of v.waiting k ≡ None) (sym (eqb-same i d.task t)) (still_free v s d h))))

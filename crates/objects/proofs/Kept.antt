@@ -1,4 +1,4 @@
--- Changes of a state that leave the waits as they are: the queues still represent it.
+-- Changes of a state that leave the waits as they are: the objects still represent it.
 use Rattle.std.proofs.Common.{length, ◌≡◌, ℕ, suc, ◌+◌, List, [], ◌∷◌, Option, Some, None, refl, ap, sym, subst, ◌∙◌, get_or}
 use Rattle.std.specs.List.{AllByRecursion}
 use Rattle.std.specs.Option.{IfSome, is_some, option_and_then}
@@ -18,11 +18,11 @@ use Rattle.task_lists.specs.Priorities.{with_priorities}
 use Rattle.objects.specs.declared.lock.Lock.{Lock}
 use Rattle.objects.specs.Items.{object_in}
 use Rattle.objects.specs.WaitersStand.{Decider, FirstAwake, is_awake, standing}
-use Rattle.objects.specs.Queues.{Counts, Exchange, SameWaits, StandsFor}
+use Rattle.objects.specs.Objects.{Counts, Objects, SameWaits, StandsFor}
 use Rattle.objects.proofs.Keys.{standing_key}
 use Rattle.objects.proofs.Counting.{awake_agree}
 
--- ---- what the queues represent
+-- ---- what the objects represent
 
 -- two tables whose tasks have the same keys
 keyed_alike : (f : Task → Option Key) → f no_task ≡ None → (o : ℕ) (ts us : List Task)
@@ -51,7 +51,7 @@ module _ (s t : State) (same : SameWaits s t) where
   counts_same None h = tt
   counts_same (Some l) h = (first_same l.receivers (ToReceive l.object) h.0, first_same l.senders (ToSend l.object) h.1)
 
-  pub stands_same : (v : Exchange) (d : Option Decider) → StandsFor v d s → IsTable t → StandsFor v d t
+  pub stands_same : (v : Objects) (d : Option Decider) → StandsFor v d s → IsTable t → StandsFor v d t
   stands_same v d h table = record {
     number = ap length same.objects ∙ h.number;
     objects = λ o. h.objects o ∙ sym (ap (λ (os : List Object). object_in os o) same.objects);

@@ -1,4 +1,4 @@
--- The lock of an object, over the whole of the queues.
+-- The lock of an object, over the whole of the objects.
 use Rattle.std.proofs.Common.{length, ◌≡◌, ℕ, false, Option, Some, None, List, [], ◌∷◌, ◌++◌, sym, ◌∙◌, ap, subst, refl, eqb}
 use Rattle.std.specs.Option.{IfSome, is_some, option_map, unwrap_or}
 use Rattle.std.proofs.lemmas.Option.{same_Some}
@@ -17,7 +17,7 @@ use Rattle.objects.specs.Items.{object_in}
 use Rattle.task_lists.specs.Priorities.{with_priorities}
 use Rattle.objects.specs.WaitingLists.{first_priority, waiting_in}
 use Rattle.objects.specs.WaitersStand.{AtLocked, Decider, FirstAwake, StandLocked, WaitersStand, one_more, opened, standing}
-use Rattle.objects.specs.Queues.{Counts, Exchange, StandsFor, counted, counted_by, locked_by}
+use Rattle.objects.specs.Objects.{Counts, Objects, StandsFor, counted, counted_by, locked_by}
 use Rattle.objects.proofs.Keys.{waiters_all}
 use Rattle.objects.proofs.Counting.{stands_received, stands_sent}
 use Rattle.objects.proofs.Unlocking.{stands_opened, unlocks}
@@ -28,7 +28,7 @@ none_awake : (s : State) → ((task : ℕ) → wait_if_awake (status_at s task) 
 none_awake s h [] = tt
 none_awake s h (e ∷ es) = (ap is_some (h e.task), none_awake s h es)
 
-pub stands_locked : (v : Exchange) (d : Option Decider) (s : State) (o : ℕ)
+pub stands_locked : (v : Objects) (d : Option Decider) (s : State) (o : ℕ)
     → StandsFor v d s → ((task : ℕ) → wait_if_awake (status_at s task) ≡ None)
     → StandsFor (record v { lock = Some (record { object = o; receivers = 0; senders = 0 }) }) d (record s { locked = Some o })
 stands_locked v d s o h nobody =
@@ -52,7 +52,7 @@ stands_locked v d s o h nobody =
     }
 
 -- what holds of the lists then
-pub standing_locked : (v : Exchange) (d : Option Decider) (s : State) (l : Lock) → StandsFor v d s
+pub standing_locked : (v : Objects) (d : Option Decider) (s : State) (l : Lock) → StandsFor v d s
     → v.lock ≡ Some l → StandLocked v.waiting d l.object l.receivers l.senders s
 standing_locked v d s l h e =
     let counts : Counts s l = subst (λ (o : Option Lock). IfSome o (Counts s)) e h.counts in
@@ -64,12 +64,12 @@ pub objects-all_ready : (js : List ℕ) (s : State) → (for_each make_ready js 
 objects-all_ready [] s = refl
 objects-all_ready (j ∷ js) s = objects-all_ready js (make_ready j s)
 
-pub stands_unlocked_none : (v : Exchange) (s : State) → StandsFor v None s → v.lock ≡ None → StandsFor v None (unlock s)
+pub stands_unlocked_none : (v : Objects) (s : State) → StandsFor v None s → v.lock ≡ None → StandsFor v None (unlock s)
 unfolding unlock
 stands_unlocked_none v s h e =
     subst (λ (x : Option ℕ). StandsFor v None (for_one unlock_object x s)) (sym (ap locked_by e) ∙ h.locked) h
 
-pub stands_unlocked : (v : Exchange) (w : List (List (ℕ × ℕ))) (s : State) (l : Lock) → StandsFor v None s
+pub stands_unlocked : (v : Objects) (w : List (List (ℕ × ℕ))) (s : State) (l : Lock) → StandsFor v None s
     → v.lock ≡ Some l → WaitersStand w None (unlock s)
     → StandsFor (record { number = v.number; objects = v.objects; waiting = w; lock = None }) None (unlock s)
 unfolding unlock
@@ -206,7 +206,7 @@ best_priority_is v s list h at none =
 
 -- nobody was woken since
 
-module _ (v : Exchange) (s : State) (l : Lock) (h : StandsFor v None s) (e : v.lock ≡ Some l)
+module _ (v : Objects) (s : State) (l : Lock) (h : StandsFor v None s) (e : v.lock ≡ Some l)
     (no_receivers : l.receivers ≡ 0) (no_senders : l.senders ≡ 0) where
   none_woken : StandLocked v.waiting None l.object 0 0 s
   none_woken =

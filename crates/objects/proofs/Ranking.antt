@@ -8,7 +8,7 @@ use Rattle.model.specs.Invariant.{IsTable}
 use Rattle.model.proofs.Sorting.{by_test}
 use Rattle.model.proofs.Tables.{table-make_ready, table-set, ticket_at}
 use Rattle.objects.specs.WaitersStand.{AtLocked, Decider}
-use Rattle.objects.specs.Queues.{Exchange, SameWaits, StandsFor}
+use Rattle.objects.specs.Objects.{Objects, SameWaits, StandsFor}
 use Rattle.objects.proofs.Awake.{at_locked_same}
 use Rattle.objects.proofs.Kept.{same, same_both, same_task, same_to_back, stands_same}
 
@@ -17,8 +17,8 @@ pub record KeepsWaits (old new : State) : Type 0 where
   pub same : SameWaits old new
   pub table : IsTable old → IsTable new
 
--- then the queues represent the new state too, and who is Awake waited at the locked object
-pub stands_kept : (v : Exchange) (d : Option Decider) (s t : State) → KeepsWaits s t → StandsFor v d s → StandsFor v d t
+-- then the objects represent the new state too, and who is Awake waited at the locked object
+pub stands_kept : (v : Objects) (d : Option Decider) (s t : State) → KeepsWaits s t → StandsFor v d s → StandsFor v d t
 stands_kept v d s t k h = stands_same s t k.same v d h (k.table h.waiters.table)
 
 pub at_locked_kept : (d : Option Decider) (s t : State) → KeepsWaits s t → AtLocked d s → AtLocked d t
@@ -61,7 +61,7 @@ kept-set_priority s i priority =
     (λ e. rw e (kept s))
     (λ e. rw e (kept_both s t (to_back i t) (kept-task s i (record (task_at s i) { priority = priority }) refl) (kept-to_back t i)))
 
-pub stands_ranked : (v : Exchange) (d : Option Decider) (s : State) (i priority : ℕ)
+pub stands_ranked : (v : Objects) (d : Option Decider) (s : State) (i priority : ℕ)
     → StandsFor v d s → StandsFor v d (set_priority i priority s)
 stands_ranked v d s i priority = stands_kept v d s (set_priority i priority s) (kept-set_priority s i priority)
 

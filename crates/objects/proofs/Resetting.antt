@@ -1,4 +1,4 @@
--- The queues at reset.
+-- The objects at reset.
 use Rattle.std.proofs.Common.{◌≡◌, ℕ, zero, suc, ◌≤◌, inl, inr, List, [], ◌∷◌, Option, None, refl, ap, sym, ◌∙◌, arith, length}
 use Rattle.std.proofs.Common.{get_or, map, replicate}
 use Rattle.std.specs.List.{AllByRecursion}
@@ -24,9 +24,9 @@ use Rattle.objects.specs.Places.{object_places}
 use Rattle.objects.specs.Items.{object_in}
 use Rattle.objects.specs.Semaphores.{Counts, count_in, max_count_in}
 use Rattle.objects.specs.Mutexes.{holder_in}
-use Rattle.objects.specs.Objects.{objects_of_all}
+use Rattle.objects.specs.Together.{objects_of_all}
 use Rattle.objects.specs.WaitersStand.{WaitersStand, standing}
-use Rattle.objects.specs.Queues.{StandsFor}
+use Rattle.objects.specs.Objects.{StandsFor}
 use Rattle.objects.proofs.Keys.{standing_key}
 use Rattle.objects.proofs.Locking.{objects-all_ready}
 use Rattle.objects.proofs.Together.{object_is, object_past}

@@ -12,7 +12,7 @@ use Rattle.model.specs.Invariant.{Hold, IsObject, IsSound}
 use Rattle.model.proofs.Lists.{eqb-same}
 use Rattle.objects.specs.Items.{object_in}
 use Rattle.objects.specs.WaitersStand.{Decider}
-use Rattle.objects.specs.Queues.{CanHold, Exchange, HasRoom, StandsFor}
+use Rattle.objects.specs.Objects.{CanHold, Objects, HasRoom, StandsFor}
 
 -- an object of a kind that a call fits
 room : (kind : Option ObjectKind) (a : Access) (x : Object)
@@ -36,8 +36,8 @@ there [] o a t = absurd cc
 there (kind ∷ kinds) zero a t = omega arith
 there (kind ∷ kinds) (suc o) a t = let h = there kinds o a t in omega (arith, h)
 
--- An object of which an op speaks is there, and has the room that its call wants, in the queues that represent a state of a run.
-pub has_room : (app : Application) (hold : Hold) (v : Exchange) (d : Option Decider) (s : State) (o : ℕ) (a : Access)
+-- An object of which an op speaks is there, and has the room that its call wants, in the objects that represent a state of a run.
+pub has_room : (app : Application) (hold : Hold) (v : Objects) (d : Option Decider) (s : State) (o : ℕ) (a : Access)
     → IsSound app hold s → StandsFor v d s → fits_object app o a ≡ true → HasRoom v o a
 has_room app hold v d s o a h stands known = (
   let below = there app.objects o a known in let many = h.objects in let same = stands.number in omega (arith, below, many, same),

@@ -7,13 +7,13 @@ use Rattle.model.specs.State.{Object, no_object}
 use Rattle.model.specs.Switching.{is_same}
 use Rattle.model.proofs.Sorting.{by_test}
 use Rattle.objects.specs.Places.{object_places}
-use Rattle.objects.specs.declared.queues.Queues.TheInside.{Inside}
-use Rattle.objects.specs.contracts.queues.Queues.{the_view}
+use Rattle.objects.specs.declared.objects.Objects.TheInside.{Inside}
+use Rattle.objects.specs.contracts.objects.Objects.{the_view}
 use Rattle.objects.specs.Items.{holding, object_in}
 use Rattle.objects.specs.Semaphores.{AreSemaphores, Counts, count_in, max_count_in}
 use Rattle.objects.specs.Mutexes.{count_held, holder_in}
-use Rattle.objects.specs.Objects.{held_of, object_of_all, objects_of_all}
-use Rattle.objects.specs.Queues.{Exchange}
+use Rattle.objects.specs.Together.{held_of, object_of_all, objects_of_all}
+use Rattle.objects.specs.Objects.{Objects}
 use Rattle.objects.proofs.Listed.{get_or-listed, length-listed, listed-set}
 
 module _ (queues : List Object) (semaphores : Counts) (mutexes : List (Option ℕ)) where
@@ -26,18 +26,18 @@ module _ (queues : List Object) (semaphores : Counts) (mutexes : List (Option �
   unfolding objects_of_all
   object_past o past = get_or_past (objects_of_all queues semaphores mutexes) o no_object (rw length-listed past)
 
--- The queues, as a clause sees them, and an object of this number.
-module _ (q : Inside) (v : Exchange) (is : the_view q ≡ v) (n o : ℕ) (same : n ≡ o) (known : n < object_places) where
+-- The objects, as a clause sees them, and an object of this number.
+module _ (q : Inside) (v : Objects) (is : the_view q ≡ v) (n o : ℕ) (same : n ≡ o) (known : n < object_places) where
   pub seen : object_of_all q.items q.semaphores q.mutexes n ≡ object_in v.objects o
   seen =
       sym (object_is q.items q.semaphores q.mutexes n known)
-      ∙ ap (λ (w : Exchange). object_in w.objects n) is ∙ ap (object_in v.objects) same
+      ∙ ap (λ (w : Objects). object_in w.objects n) is ∙ ap (object_in v.objects) same
 
   pub many_seen : o < length v.objects
   unfolding objects_of_all
   many_seen =
       let many : length v.objects ≡ object_places =
-      ap (λ (w : Exchange). length w.objects) (sym is)
+      ap (λ (w : Objects). length w.objects) (sym is)
       ∙ length-listed (object_of_all q.items q.semaphores q.mutexes) object_places in
       omega (arith, many, same, known)
 
@@ -55,7 +55,7 @@ module _ (q : Inside) (v : Exchange) (is : the_view q ≡ v) (n o : ℕ) (same :
       ∙ ap (set (objects_of_all q.items q.semaphores q.mutexes) n) (own ∙ ap f seen) in
       ap (λ (os : List Object). record { number = q.number; objects = os; waiting = q.waiting; lock = q.lock })
       (here ∙ ap (λ (k : ℕ). set (objects_of_all q.items q.semaphores q.mutexes) k (f (object_in v.objects o))) same)
-      ∙ ap (λ (w : Exchange). record w { objects = set w.objects o (f (object_in v.objects o)) }) is
+      ∙ ap (λ (w : Objects). record w { objects = set w.objects o (f (object_in v.objects o)) }) is
 
   -- ---- a queue has other items
 

@@ -3,7 +3,7 @@ pub mod Items
 pub mod Rings
 pub mod Semaphores
 pub mod Mutexes
-pub mod Objects
+pub mod Together
 pub mod WaitingLists
 pub mod WaitersStand
-pub mod Queues
+pub mod Objects

@@ -6,12 +6,12 @@ mod items;
 pub mod laws;
 mod lock;
 mod mutexes;
-mod queues;
+mod objects;
 mod semaphores;
 mod waiting_lists;
 
 pub use lock::Lock;
-pub use queues::{NotHolder, Queues, QueuesSnapshot};
+pub use objects::{NotHolder, Objects, ObjectsSnapshot};
 pub use waiting_lists::{Taken, Unlocked};
 
 /// How many objects the tables have room for: the 32 that a file may have, and one more, for a queue that is in no file.

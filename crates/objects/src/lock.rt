@@ -1,7 +1,7 @@
 //! The lock of an object.
 ghost use Rattle.std.specs.Prelude.{◌≡◌};
 ghost use Rattle.objects.specs.WaitersStand as waiting;
-ghost use Rattle.objects.specs.Queues.{counted};
+ghost use Rattle.objects.specs.Objects.{counted};
 
 use model::{ObjectId, WaitList};
 

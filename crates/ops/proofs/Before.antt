@@ -29,8 +29,8 @@ use Rattle.clock.proofs.Standing as on_clock
 use Rattle.objects.specs.WaitingLists.{waiting_in}
 use Rattle.task_lists.specs.Tasks.{insert_by_priority}
 use Rattle.objects.specs.WaitersStand.{AtLocked, Decider, standing}
-use Rattle.objects.specs.Queues as queues
-use Rattle.objects.specs.Queues.{Exchange}
+use Rattle.objects.specs.Objects as objects
+use Rattle.objects.specs.Objects.{Objects}
 use Rattle.objects.proofs.Keys.{same_list-true, same_list-refl}
 use Rattle.objects.proofs.Awake.{at_locked-stored, at_locked-wake_best}
 use Rattle.groups.specs.StandsFor.{SameBitWaits}
@@ -53,19 +53,19 @@ priority-kept : (ts : List Task) (i : ℕ) (t : Task) → t.priority ≡ (get_or
     → (j : ℕ) → (get_or (set ts i t) j no_task).priority ≡ (get_or ts j no_task).priority
 priority-kept ts i t e = each-set no_task (λ j (u : Task). u.priority ≡ (get_or ts j no_task).priority) ts i t e (λ j. refl)
 
--- The scheduler, the clock and the queues are given, and the same tasks wait for bits;
+-- The scheduler, the clock and the objects are given, and the same tasks wait for bits;
 -- each task is where it was in its script, and what is kept beside the parts stays.
-before_with : {task : ℕ} {list : WaitList} {k : Machine} {s new : State} {v : Schedule} {t : Timeline} {q : Exchange}
+before_with : {task : ℕ} {list : WaitList} {k : Machine} {s new : State} {v : Schedule} {t : Timeline} {q : Objects}
     → StandsBefore task list k s → sched.StandsBefore task v new → clock.StandsBefore task (call_at s task).deadline t new
-    → queues.StandsFor q (Some (decider task list s)) new → AtLocked (Some (decider task list s)) new → SameBitWaits s new
+    → objects.StandsFor q (Some (decider task list s)) new → AtLocked (Some (decider task list s)) new → SameBitWaits s new
     → ((i : ℕ) → progress_at new i ≡ progress_at s i) → (task_at new task).priority ≡ (task_at s task).priority
     → kept_of new ≡ kept_of s → new.current ≡ s.current → new.call_hold ≡ s.call_hold
-    → StandsBefore task list (record k { sched = v; clock = t; queues = q }) new
+    → StandsBefore task list (record k { sched = v; clock = t; objects = q }) new
 before_with {task} {list} {k} {s} {new} {v} {t} {q} b on awake there locked bits progress priority kept current held = record {
   sched = on;
   clock = subst (λ (p : Progress). clock.StandsBefore task p.call.deadline t new) (sym (progress task)) awake;
-  queues =
-      subst (λ (n : ℕ). queues.StandsFor q (Some (record { task = task; list = list; priority = n })) new) (sym priority) there;
+  objects =
+      subst (λ (n : ℕ). objects.StandsFor q (Some (record { task = task; list = list; priority = n })) new) (sym priority) there;
   groups = on_groups.stands_same k.groups s new b.groups bits on.table;
   suspensions = b.suspensions ∙ sym (ap (λ (x : Kept). x.0) kept);
   awake = subst (λ (n : ℕ). AtLocked (Some (record { task = task; list = list; priority = n })) new) (sym priority) locked;
@@ -114,12 +114,12 @@ module _ (task : ℕ) (list : WaitList) (k : Machine) (s : State) (b : StandsBef
   pub stands_there : (m : Key) × (option_and_then (wait_key list) (wait_of (status_at s task)) ≡ Some m)
   stands_there =
       let own : same_list list list ≡ true = same_list-refl list in
-      let joined : insert_by_priority (task, (task_at s task).priority) (waiting_in k.queues.waiting list)
+      let joined : insert_by_priority (task, (task_at s task).priority) (waiting_in k.objects.waiting list)
       ≡ with_priorities (standing s list) =
-      rw own at (b.queues.waiters.lists list) in
+      rw own at (b.objects.waiters.lists list) in
       let node : has_task task (standing s list) ≡ true =
       sym (has_node-with_priorities task (standing s list)) ∙ ap (has_node task) (sym joined)
-      ∙ has_node-inserted task (task_at s task).priority (waiting_in k.queues.waiting list) in
+      ∙ has_node-inserted task (task_at s task).priority (waiting_in k.objects.waiting list) in
       keyed_at (λ (t : Task). option_and_then (wait_key list) (wait_of t.status)) s.tasks task (standing s list)
       (list_has (λ (t : Task). option_and_then (wait_key list) (wait_of t.status)) s.tasks) node
 
@@ -151,8 +151,8 @@ module _ (task : ℕ) (list : WaitList) (k : Machine) (s : State) (b : StandsBef
       sym (has_node-without_other task i (lined_up k.sched) (λ e. ne (sym e))) ∙ on_sched.ready_same gone s i stands
 
   -- an object changes
-  pub stored_before : (o : ℕ) (x : Object) (q : Exchange) → queues.StandsFor q (Some (decider task list s)) (with_object o x s)
-      → StandsBefore task list (record k { queues = q }) (with_object o x s)
+  pub stored_before : (o : ℕ) (x : Object) (q : Objects) → objects.StandsFor q (Some (decider task list s)) (with_object o x s)
+      → StandsBefore task list (record k { objects = q }) (with_object o x s)
   stored_before o x q there =
       let table : IsTable (with_object o x s) = there.waiters.table in
       let on : sched.StandsBefore task k.sched (with_object o x s) =
@@ -181,9 +181,9 @@ module _ (task : ℕ) (list : WaitList) (k : Machine) (s : State) (b : StandsBef
       (bits_kept.same_object o x s) (λ _. refl) refl refl refl refl
 
   -- someone is Awake, perhaps itself
-  pub awakened_before : (i : ℕ) → i < length s.tasks → (q : Exchange)
-      → queues.StandsFor q (Some (decider task list s)) (awaken i s) → AtLocked (Some (decider task list s)) (awaken i s)
-      → SameBitWaits s (awaken i s) → StandsBefore task list (record k { queues = q }) (awaken i s)
+  pub awakened_before : (i : ℕ) → i < length s.tasks → (q : Objects)
+      → objects.StandsFor q (Some (decider task list s)) (awaken i s) → AtLocked (Some (decider task list s)) (awaken i s)
+      → SameBitWaits s (awaken i s) → StandsBefore task list (record k { objects = q }) (awaken i s)
   awakened_before i l q there locked bits =
       let t : Task = record (task_at s i) { status = awake_status (status_at s i) } in
       let table : IsTable (awaken i s) = there.waiters.table in
@@ -206,43 +206,44 @@ module _ (task : ℕ) (tl : WaitList) (k : Machine) (s : State) (b : StandsBefor
   pub free_before : schedule.is_ready k.sched i ≡ false
   free_before = ready_beside task tl k s b i apart_there ∙ (waits_there s list i is).unready
 
-  pub woken_before : (v : Schedule) (t : Timeline) (q : Exchange)
+  pub woken_before : (v : Schedule) (t : Timeline) (q : Objects)
       → (task ≢ i → i < length s.tasks → sched.StandsBefore task v (make_ready i s))
       → (task ≢ i → i < length s.tasks → clock.StandsBefore task (call_at s task).deadline t (make_ready i s))
-      → queues.StandsFor q (Some (decider task tl s)) (wake_best list s)
-      → StandsBefore task tl (record k { sched = v; clock = t; queues = q }) (wake_best list s)
+      → objects.StandsFor q (Some (decider task tl s)) (wake_best list s)
+      → StandsBefore task tl (record k { sched = v; clock = t; objects = q }) (wake_best list s)
   woken_before v t q on awake there =
       let l = (waits_there s list i is).within in
       let one = wakes_it s list i is in
       let d : Option Decider = Some (decider task tl s) in
-      let left = subst (queues.StandsFor q d) one there in
+      let left = subst (objects.StandsFor q d) one there in
       let locked = subst (AtLocked d) one (at_locked-wake_best d list s b.awake) in
       let bits = subst (SameBitWaits s) one (bits_elsewhere.same_wake_best list s) in
       let priority = priority-kept s.tasks i (record (task_at s i) { status = Ready s.next_ticket }) refl task in
-      subst (StandsBefore task tl (record k { sched = v; clock = t; queues = q })) (sym one)
+      subst (StandsBefore task tl (record k { sched = v; clock = t; objects = q })) (sym one)
       (before_with b (on apart_there l) (awake apart_there l) left locked bits (progress-ready s i) priority refl refl refl)
 
 -- in either case whoever is woken isn't Ready in the scheduler
 pub woken_free_any : (k : Machine) (s : State) (list : WaitList) (i : ℕ) → Stands k s
-    → ((d : Option Decider) → queues.StandsFor k.queues d s → AtLocked d s
+    → ((d : Option Decider) → objects.StandsFor k.objects d s → AtLocked d s
     → Some i ≡ (if is_locked s.locked list then None else best s list))
     → schedule.is_ready k.sched i ≡ false
-woken_free_any k s list i (Placed h) is = woken_free k s h list i (is None h.rest.queues h.rest.awake)
-woken_free_any k s list i (Placing task tl b) is = free_before task tl k s b list i (is (Some (decider task tl s)) b.queues b.awake)
+woken_free_any k s list i (Placed h) is = woken_free k s h list i (is None h.rest.objects h.rest.awake)
+woken_free_any k s list i (Placing task tl b) is =
+    free_before task tl k s b list i (is (Some (decider task tl s)) b.objects b.awake)
 
 -- or nobody does
 module _ (task : ℕ) (tl : WaitList) (k : Machine) (s : State) (b : StandsBefore task tl k s)
     (list : WaitList) (is : None ≡ (if is_locked s.locked list then None else best s list))
-    (q : Exchange) (there : queues.StandsFor q (Some (decider task tl s)) (wake_best list s)) where
-  pub unwoken_before : StandsBefore task tl (record k { queues = q }) (wake_best list s)
+    (q : Objects) (there : objects.StandsFor q (Some (decider task tl s)) (wake_best list s)) where
+  pub unwoken_before : StandsBefore task tl (record k { objects = q }) (wake_best list s)
   unwoken_before = by_case (unwoken s list is) where
-    by_case : Unwoken s list → StandsBefore task tl (record k { queues = q }) (wake_best list s)
-    by_case (Nobody one) = subst (StandsBefore task tl (record k { queues = q })) (sym one)
-        (before_with b b.sched b.clock (subst (queues.StandsFor q (Some (decider task tl s))) one there)
+    by_case : Unwoken s list → StandsBefore task tl (record k { objects = q }) (wake_best list s)
+    by_case (Nobody one) = subst (StandsBefore task tl (record k { objects = q })) (sym one)
+        (before_with b b.sched b.clock (subst (objects.StandsFor q (Some (decider task tl s))) one there)
         b.awake (bits_kept.same s) (λ _. refl) refl refl refl refl)
     by_case (Counted i l one) =
-        subst (StandsBefore task tl (record k { queues = q })) (sym one)
-        (awakened_before task tl k s b i l q (subst (queues.StandsFor q (Some (decider task tl s))) one there)
+        subst (StandsBefore task tl (record k { objects = q })) (sym one)
+        (awakened_before task tl k s b i l q (subst (objects.StandsFor q (Some (decider task tl s))) one there)
         (subst (AtLocked (Some (decider task tl s))) one (at_locked-wake_best (Some (decider task tl s)) list s b.awake))
         (subst (SameBitWaits s) one (bits_elsewhere.same_wake_best list s)))
 

@@ -10,8 +10,8 @@ use Rattle.model.specs.Waiting.{wake_best}
 use Rattle.model.specs.Objects.{allows, object_after, list_woken, possible, answer_to, reply, fulfil, attempt}
 use Rattle.objects.specs.Items.{object_in}
 use Rattle.objects.specs.WaitersStand.{Decider}
-use Rattle.objects.specs.Queues as queues
-use Rattle.objects.specs.Queues.{CanHold, Exchange}
+use Rattle.objects.specs.Objects as objects
+use Rattle.objects.specs.Objects.{CanHold, Objects}
 use Rattle.machine.specs.declared.machine.Machine.{Machine}
 use Rattle.machine.specs.StandsFor.{Stands, At, AtAny, decider, DoesAny, progress_in}
 use Rattle.machine.specs.StandsFor.Stands.{Placed, Placing}
@@ -29,16 +29,16 @@ use Rattle.machine.specs.Logged.{Logged}
 
 -- ---- what is in an object
 
-pub objects_are : (k : Machine) (s : State) → Stands k s → (o : ℕ) → object_in k.queues.objects o ≡ object_at s o
-objects_are k s (Placed h) o = h.rest.queues.objects o
-objects_are k s (Placing task list b) o = b.queues.objects o
+pub objects_are : (k : Machine) (s : State) → Stands k s → (o : ℕ) → object_in k.objects.objects o ≡ object_at s o
+objects_are k s (Placed h) o = h.rest.objects.objects o
+objects_are k s (Placing task list b) o = b.objects.objects o
 
 pub answers : (k : Machine) (s : State) (o : ℕ) (a : Access) (given : Option ℕ)
-    → Stands k s → given ≡ reply (object_in k.queues.objects o) a → given ≡ answer_to s o a
+    → Stands k s → given ≡ reply (object_in k.objects.objects o) a → given ≡ answer_to s o a
 answers k s o a given h e = e ∙ ap (λ (x : Object). reply x a) (objects_are k s h o)
 
 pub is_possible : (k : Machine) (s : State) (o : ℕ) (a : Access) (b : Bool)
-    → Stands k s → allows (object_in k.queues.objects o) a ≡ b → possible s o a ≡ b
+    → Stands k s → allows (object_in k.objects.objects o) a ≡ b → possible s o a ≡ b
 is_possible k s o a b h e = ap (λ (x : Object). allows x a) (sym (objects_are k s h o)) ∙ e
 
 -- ---- for what there is room
@@ -72,15 +72,15 @@ size_set (y ∷ ys) zero (suc j) x e = refl
 size_set (y ∷ ys) (suc o) zero x e = refl
 size_set (y ∷ ys) (suc o) (suc j) x e = size_set ys o j x e
 
-pub room_still : (k : Machine) (q : Exchange) (caller : Option ℕ) (o : ℕ) (a : Access)
-    → q ≡ record k.queues { objects = set k.queues.objects o (object_after caller a (object_in k.queues.objects o)) }
-    → (j : ℕ) (b : Access) → HasRoom k j b → HasRoom (record k { queues = q }) j b
+pub room_still : (k : Machine) (q : Objects) (caller : Option ℕ) (o : ℕ) (a : Access)
+    → q ≡ record k.objects { objects = set k.objects.objects o (object_after caller a (object_in k.objects.objects o)) }
+    → (j : ℕ) (b : Access) → HasRoom k j b → HasRoom (record k { objects = q }) j b
 room_still k q caller o a is j b room = (
-  let same = ap (λ (v : Exchange). v.number) is in let below = room.0 in omega (arith, same, below),
-  room_by_size b (object_in k.queues.objects j) (object_in q.objects j)
-      (ap (λ (v : Exchange). (object_in v.objects j).size) is
-      ∙ size_set k.queues.objects o j (object_after caller a (object_in k.queues.objects o))
-      (same_size caller a (object_in k.queues.objects o)))
+  let same = ap (λ (v : Objects). v.number) is in let below = room.0 in omega (arith, same, below),
+  room_by_size b (object_in k.objects.objects j) (object_in q.objects j)
+      (ap (λ (v : Objects). (object_in v.objects j).size) is
+      ∙ size_set k.objects.objects o j (object_after caller a (object_in k.objects.objects o))
+      (same_size caller a (object_in k.objects.objects o)))
       room.1,
 )
 
@@ -97,31 +97,31 @@ caller_within k s (Placing task list b) (Some i) r =
     let L : Option ℕ → Type 0 = λ o. IfSome o (λ j. j < length s.tasks) in
     subst L (sym b.sched.current ∙ r) b.sched.table.current
 
-module _ (k : Machine) (q : Exchange) (caller : Option ℕ) (o : ℕ) (a : Access) (calls : IsCaller k caller)
-    (stores : (s : State) (d : Option Decider) → queues.StandsFor k.queues d s → IfSome caller (λ i. i < length s.tasks)
-    → queues.StandsFor q d (with_object o (object_after caller a (object_at s o)) s)) where
+module _ (k : Machine) (q : Objects) (caller : Option ℕ) (o : ℕ) (a : Access) (calls : IsCaller k caller)
+    (stores : (s : State) (d : Option Decider) → objects.StandsFor k.objects d s → IfSome caller (λ i. i < length s.tasks)
+    → objects.StandsFor q d (with_object o (object_after caller a (object_at s o)) s)) where
   abbrev stored : State → State
   stored s = with_object o (object_after caller a (object_at s o)) s
 
   pub stored_placed : (log : List Event) (s : State) → At k log s
-      → At (record k { queues = q }) log (with_object o (object_after caller a (object_at s o)) s)
+      → At (record k { objects = q }) log (with_object o (object_after caller a (object_at s o)) s)
   stored_placed log s p =
       stored_at k log s p o (object_after caller a (object_at s o)) q
-      (stores s None p.stands.rest.queues (caller_within k s (Placed p.stands) caller calls))
+      (stores s None p.stands.rest.objects (caller_within k s (Placed p.stands) caller calls))
 
   pub stored_any : (log : List Event) (s : State) → AtAny k log s
-      → AtAny (record k { queues = q }) log (with_object o (object_after caller a (object_at s o)) s)
+      → AtAny (record k { objects = q }) log (with_object o (object_after caller a (object_at s o)) s)
   stored_any log s h = either k log s h
-      (λ p. any (record k { queues = q }) log (stored s) (stored_placed log s p))
+      (λ p. any (record k { objects = q }) log (stored s) (stored_placed log s p))
       (λ task list b.
       record {
         stands =
             Placing task list (stored_before task list k s b o (object_after caller a (object_at s o)) q
-            (stores s (Some (decider task list s)) b.queues (caller_within k s h.stands caller calls)));
+            (stores s (Some (decider task list s)) b.objects (caller_within k s h.stands caller calls)));
         log = h.log;
       })
 
-  pub stored_some : StandsForSome k → StandsForSome (record k { queues = q })
+  pub stored_some : StandsForSome k → StandsForSome (record k { objects = q })
   stored_some h = let there = stored_any (h.0).log h.0 (record { stands = h.1; log = refl }) in (stored h.0, there.stands)
 
   -- and one waiter is woken, or nobody

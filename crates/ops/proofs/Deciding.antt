@@ -29,8 +29,8 @@ use Rattle.clock.specs.StandsFor as clock
 use Rattle.clock.specs.Timeline.{Timeline}
 use Rattle.clock.proofs.Standing as on_clock
 use Rattle.objects.specs.WaitersStand.{AtLocked}
-use Rattle.objects.specs.Queues as queues
-use Rattle.objects.specs.Queues.{CountsNobody, Exchange, SameWaits, locked_by}
+use Rattle.objects.specs.Objects as objects
+use Rattle.objects.specs.Objects.{CountsNobody, Objects, SameWaits, locked_by}
 use Rattle.objects.proofs.Kept.{stands_same, same_progress}
 use Rattle.objects.proofs.Awake.{nobody_awake, at_locked_same, at_locked-locked, at_locked-decides, at_locked-placed}
 use Rattle.objects.proofs.Deciding.{stands_deciding}
@@ -43,7 +43,7 @@ use Rattle.machine.specs.declared.machine.Machine.{Machine}
 use Rattle.machine.specs.StandsFor.{StandsBefore, At, AtAny, decider, progress_in, with_progress}
 use Rattle.machine.specs.StandsFor.Stands.{Placing}
 use Rattle.ops.specs.Can.{CanDecide, CanLeave}
-use Rattle.machine.proofs.Parts.{clock-same, progress-set, rest_unseen, rest_with_queues, same_parts, same_alike, sched-same}
+use Rattle.machine.proofs.Parts.{clock-same, progress-set, rest_unseen, rest_with_objects, same_parts, same_alike, sched-same}
 use Rattle.machine.proofs.Acting.{within}
 use Rattle.machine.proofs.Continuing.{recalled}
 use Rattle.ops.specs.InCall.{IsSilent}
@@ -167,10 +167,10 @@ module _ (s : State) (i : ℕ) (list : WaitList) (object : ℕ) (l : i < length 
       begun_within refl refl refl (record { key = refl; wake_time = refl }) table)
 
 -- The queue is locked, and the scheduler held.
-module _ (k : Machine) (log : List Event) (s : State) (h : At k log s) (i o : ℕ) (c : CanDecide k i) (v : Schedule) (q : Exchange)
+module _ (k : Machine) (log : List Event) (s : State) (h : At k log s) (i o : ℕ) (c : CanDecide k i) (v : Schedule) (q : Objects)
     (calm : IsCalm k.sched) (holds : s.call_hold ≡ false → sched.StandsFor v (record s { call_hold = true }))
     (held : v ≡ record k.sched { depth = k.sched.depth + 1 })
-    (locks : ((j : ℕ) → wait_if_awake (status_at s j) ≡ None) → queues.StandsFor q None (record s { locked = Some o })) where
+    (locks : ((j : ℕ) → wait_if_awake (status_at s j) ≡ None) → objects.StandsFor q None (record s { locked = Some o })) where
   l : i < length s.tasks
   l = within k log s h i c.runs.current
 
@@ -178,19 +178,19 @@ module _ (k : Machine) (log : List Event) (s : State) (h : At k log s) (i o : �
   free = not_held s.suspensions s.call_hold k.sched.depth h.stands.sched.depth c.depth
 
   unlocked : s.locked ≡ None
-  unlocked = sym h.stands.rest.queues.locked ∙ ap locked_by c.free
+  unlocked = sym h.stands.rest.objects.locked ∙ ap locked_by c.free
 
   ready : is_ready s i ≡ true
   ready = sym (on_sched.ready_same k.sched s i h.stands.sched) ∙ c.runs.ready
 
-  locking : queues.StandsFor q None (record s { locked = Some o })
+  locking : objects.StandsFor q None (record s { locked = Some o })
   locking = locks (nobody_awake None s unlocked h.stands.rest.awake)
 
   -- and the call goes on: nobody waits
   abbrev shut : State
   shut = record s { call_hold = true; locked = Some o }
 
-  pub held_at : At (record k { sched = v; queues = q }) log shut
+  pub held_at : At (record k { sched = v; objects = q }) log shut
   held_at =
       let on = holds free in
       let table : IsTable shut =
@@ -203,7 +203,7 @@ module _ (k : Machine) (log : List Event) (s : State) (h : At k log s) (i o : �
         stands = record {
           sched = sched-same on table refl refl refl;
           rest =
-              rest_with_queues h.stands.rest c (λ _. refl) refl (stands_same there shut same q None locking table)
+              rest_with_objects h.stands.rest c (λ _. refl) refl (stands_same there shut same q None locking table)
               locked (bits_kept.same_parts s shut refl refl);
         };
         log = h.log;
@@ -220,10 +220,10 @@ module _ (k : Machine) (log : List Event) (s : State) (h : At k log s) (i o : �
     unfolding list
     after = decided s i list o l
 
-    in_place : queues.StandsFor q (Some (decider i list after)) after
+    in_place : objects.StandsFor q (Some (decider i list after)) after
     unfolding list after
     in_place =
-        subst (λ (n : ℕ). queues.StandsFor q (Some (record { task = i; list = list_for o a; priority = n })) after)
+        subst (λ (n : ℕ). objects.StandsFor q (Some (record { task = i; list = list_for o a; priority = n })) after)
         (sym (priority_decided s i list o l))
         (stands_deciding q s i o locking a l (ready_free (status_at s i) ready) nobody)
 
@@ -249,17 +249,17 @@ module _ (k : Machine) (log : List Event) (s : State) (h : At k log s) (i o : �
         (λ u. let apart : j ≢ i = (λ e. let w : eqb j i ≡ true = rw e (eqb-refl i) in absurd (cc)) in
         rw (get_or-set_other k.progress i j p _ apart) (h.stands.rest.progress j ∙ sym (progress_others s i list o l j apart)))
 
-    pub waits : AtAny (with_progress i p (record k { sched = v; queues = q; wait_list = next }))
+    pub waits : AtAny (with_progress i p (record k { sched = v; objects = q; wait_list = next }))
         log (lock i o Place (wait_in i (list_for o a) s))
     unfolding list after
     waits =
-        let new : Machine = with_progress i p (record k { sched = v; queues = q; wait_list = next }) in
+        let new : Machine = with_progress i p (record k { sched = v; objects = q; wait_list = next }) in
         let kept = begun_free s i list o l in
         record {
           stands = Placing i list (record {
             sched = sched_there;
             clock = clock_there;
-            queues = in_place;
+            objects = in_place;
             groups = groups_then;
             suspensions = h.stands.rest.suspensions ∙ sym (begun_suspensions s i list o l);
             awake = awake_there;
@@ -324,11 +324,11 @@ module _ (new : Machine) (log : List Event) (s : State) (i o : ℕ) (a : Access)
 -- ---- a task is placed
 
 module _ (k : Machine) (log : List Event) (s : State) (i : ℕ) (list : WaitList) (b : StandsBefore i list k s)
-    (told : log ≡ s.log) (v : Schedule) (q : Exchange) (t : Timeline) (new : Machine)
-    (on : sched.StandsFor v s) (there : queues.StandsFor q None s) (awake : clock.StandsFor t s)
+    (told : log ≡ s.log) (v : Schedule) (q : Objects) (t : Timeline) (new : Machine)
+    (on : sched.StandsFor v s) (there : objects.StandsFor q None s) (awake : clock.StandsFor t s)
     (is : new
     ≡ with_progress i (record (progress_in k.progress i) { call = record (progress_in k.progress i).call { phase = Unlock } })
-    (record k { sched = v; queues = q; clock = t })) where
+    (record k { sched = v; objects = q; clock = t })) where
   l_then : i < length s.tasks
   l_then = let L : Option ℕ → Type 0 = λ o. IfSome o (λ j. j < length s.tasks) in subst L b.current on.table.current
 
@@ -357,8 +357,8 @@ module _ (k : Machine) (log : List Event) (s : State) (i : ℕ) (list : WaitList
       let shown = stands_same s later same q None there in
       let one : p ≡ record (progress_in k.progress i) { call = record (progress_in k.progress i).call { phase = Unlock } } =
       ap (λ (x : Progress). record x { call = record x.call { phase = Unlock } }) (sym (b.progress i)) in
-      let is_new : new ≡ with_progress i p (record k { sched = v; queues = q; clock = t }) =
-      is ∙ ap (λ (x : Progress). with_progress i x (record k { sched = v; queues = q; clock = t })) (sym one) in
+      let is_new : new ≡ with_progress i p (record k { sched = v; objects = q; clock = t }) =
+      is ∙ ap (λ (x : Progress). with_progress i x (record k { sched = v; objects = q; clock = t })) (sym one) in
       let table : IsTable later = kept_table in
       subst (λ (x : Machine). At x log later) (sym is_new) (record {
         stands = record {
@@ -369,7 +369,7 @@ module _ (k : Machine) (log : List Event) (s : State) (i : ℕ) (list : WaitList
             clock =
                 on_clock.stands_kept t s later i u awake l_then refl refl refl
                 (same_alike (status_at s i) (status_at s i) refl) table;
-            queues = shown table;
+            objects = shown table;
             groups = on_groups.stands_same k.groups s later b.groups (bits_kept.same_task i u s refl (λ _. refl)) table;
             suspensions = b.suspensions;
             awake = at_locked_same None s later same (at_locked-placed (Some (decider i list s)) s b.awake);

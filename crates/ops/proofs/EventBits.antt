@@ -34,7 +34,7 @@ use Rattle.sched.proofs.Standing as on_sched
 use Rattle.clock.specs.StandsFor as clock
 use Rattle.clock.specs.Timeline.{Timeline, is_asleep}
 use Rattle.clock.proofs.Standing as on_clock
-use Rattle.objects.specs.Queues.{SameWaits}
+use Rattle.objects.specs.Objects.{SameWaits}
 use Rattle.objects.proofs.Kept.{same, same_both, same_ready, same_ticket}
 use Rattle.objects.proofs.Counting.{Distinct, distinct_from}
 use Rattle.groups.specs.EventGroups.{EventGroups}
@@ -74,7 +74,7 @@ module _ (k : Machine) (log : List Event) (s : State) (h : At k log s) (group : 
   -- It has the same.
   unput_at : groups.StandsFor g s → At (record k { groups = g }) log s
   unput_at there = record {
-    stands = record { sched = h.stands.sched; rest = rest_again h.stands.rest h.stands.rest.clock h.stands.rest.queues there };
+    stands = record { sched = h.stands.sched; rest = rest_again h.stands.rest h.stands.rest.clock h.stands.rest.objects there };
     log = h.log;
   }
 

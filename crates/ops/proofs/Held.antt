@@ -20,7 +20,7 @@ use Rattle.clock.specs.StandsFor as clock
 use Rattle.clock.specs.StandsFor.{before_held}
 use Rattle.clock.specs.Timeline.{Timeline}
 use Rattle.objects.specs.declared.lock.Lock.{Lock}
-use Rattle.objects.specs.Queues.{locked_by}
+use Rattle.objects.specs.Objects.{locked_by}
 use Rattle.groups.proofs.Kept as bits_kept
 use Rattle.machine.specs.declared.machine.Machine.{Machine}
 use Rattle.machine.specs.StandsFor.{StandsFor, At, Moves}
@@ -96,8 +96,8 @@ module _ (k now : Machine) (can : CanApply k) (n : ℕ) (does : Moves k now (λ 
     agrees = (apply_held n first, there.stands);
     free =
         let same : (apply_held n first).locked ≡ first.locked = ap (λ (x : Hold). x.locked) (applies n first).hold in
-        let none : locked_by k.queues.lock ≡ None = ap locked_by can.free in
-        unlocked now.queues.lock (there.stands.rest.queues.locked ∙ same ∙ sym can.agrees.1.rest.queues.locked ∙ none);
+        let none : locked_by k.objects.lock ≡ None = ap locked_by can.free in
+        unlocked now.objects.lock (there.stands.rest.objects.locked ∙ same ∙ sym can.agrees.1.rest.objects.locked ∙ none);
     age =
         let a = (applies n first).elapsed in
         let b = there.stands.rest.clock.age in

@@ -16,7 +16,7 @@ use Rattle.model.specs.Step.{act_unless, misuse, misused, own_misuse}
 use Rattle.soundness.proofs.Passing.{acts_calm}
 use Rattle.model.specs.Waiting.{wake_best}
 use Rattle.std.proofs.lemmas.Bool.{lt-ltb, eq-eqb, ne_eqb}
-use Rattle.objects.specs.Queues.{Exchange}
+use Rattle.objects.specs.Objects.{Objects}
 use Rattle.objects.proofs.Ranking.{stands_ranked, at_locked-ranked}
 use Rattle.clock.proofs.Unmoved.{stands_prioritised}
 use Rattle.sched.specs.StandsFor as sched
@@ -26,7 +26,7 @@ use Rattle.machine.specs.declared.machine.Machine.{Machine}
 use Rattle.machine.specs.StandsFor.{At}
 use Rattle.machine.specs.Can.{Agrees, Runs}
 use Rattle.ops.specs.Can.{CanDecide, Reranks}
-use Rattle.machine.proofs.Parts.{kept_of, rest_with_queues}
+use Rattle.machine.proofs.Parts.{kept_of, rest_with_objects}
 use Rattle.machine.proofs.Waking.{progress-ready}
 
 -- ---- a task has another priority
@@ -67,14 +67,14 @@ pub ranked_at : (k : Machine) (log : List Event) (s : State) → At k log s → 
     → sched.StandsFor v (set_priority i priority s) → At (record k { sched = v }) log (set_priority i priority s)
 ranked_at k log s h i priority v on =
     let c = stands_prioritised k.clock s i priority h.stands.rest.clock in
-    let left = stands_ranked k.queues None s i priority h.stands.rest.queues in
+    let left = stands_ranked k.objects None s i priority h.stands.rest.objects in
     let locked = at_locked-ranked None s i priority h.stands.rest.awake in
     record {
       stands =
           record {
             sched = on;
             rest =
-                rest_with_queues h.stands.rest c (progress-set_priority s i priority)
+                rest_with_objects h.stands.rest c (progress-set_priority s i priority)
                 (kept-set_priority s i priority) left locked (bits_kept.same_set_priority i priority s);
           };
       log = h.log ∙ sym (log-set_priority s i priority);
@@ -90,7 +90,7 @@ pub still_decides : (old new : Machine) (i : ℕ) → Reranks old new → CanDec
 still_decides old new i r c agrees = record {
   runs = still_running old new i r c.runs;
   agrees = agrees;
-  free = ap (λ (q : Exchange). q.lock) r.queues ∙ c.free;
+  free = ap (λ (q : Objects). q.lock) r.objects ∙ c.free;
   depth = r.depth ∙ c.depth;
 }
 

@@ -29,8 +29,8 @@ use Rattle.clock.specs.StandsFor as clock
 use Rattle.clock.specs.Timeline.{Timeline}
 use Rattle.clock.proofs.Standing as on_clock
 use Rattle.objects.specs.WaitersStand.{AtLocked}
-use Rattle.objects.specs.Queues as queues
-use Rattle.objects.specs.Queues.{Exchange, SameWaits}
+use Rattle.objects.specs.Objects as objects
+use Rattle.objects.specs.Objects.{Objects, SameWaits}
 use Rattle.objects.proofs.Kept.{stands_same, same_task}
 use Rattle.objects.proofs.Awake.{at_locked_same}
 use Rattle.groups.specs.StandsFor as groups
@@ -98,10 +98,10 @@ suspended_within s i t = there_if can_resume refl s i t
 
 module _ (k : Machine) (log : List Event) (s : State) (h : At k log s) (i : ℕ) where
   pub suspended_at : can_suspend (status_at s i) ≡ true
-      → (v : Schedule) (t : Timeline) (q : Exchange) (g : EventGroups) → sched.StandsFor v (with_status i Suspended s)
-      → clock.StandsFor t (with_status i Suspended s) → queues.StandsFor q None (with_status i Suspended s)
+      → (v : Schedule) (t : Timeline) (q : Objects) (g : EventGroups) → sched.StandsFor v (with_status i Suspended s)
+      → clock.StandsFor t (with_status i Suspended s) → objects.StandsFor q None (with_status i Suspended s)
       → groups.StandsFor g (with_status i Suspended s)
-      → At (record k { sched = v; clock = t; queues = q; groups = g }) log (suspend i s)
+      → At (record k { sched = v; clock = t; objects = q; groups = g }) log (suspend i s)
   unfolding suspend
   suspended_at can v t q g on awake left gone =
       let u : Task = record (task_at s i) { status = Suspended } in
@@ -284,10 +284,11 @@ module _ (k : Machine) (s : State) (i : ℕ) (t : can_resume (status_at s i) ≡
             subst (λ (u : Task). clock.StandsBefore task u.progress.call.deadline k.clock new) (sym own)
             (on_clock.stands_before_kept k.clock s new task i (call_at s task).deadline (resumed_task s i) b.clock l refl refl
             refl (ready_alike (status_at s i) s.next_ticket (ap wake_time_of (is_suspended (status_at s i) t))) table);
-        queues =
-            subst (λ (u : Task). queues.StandsFor k.queues (Some (record { task = task; list = list; priority = u.priority })) new)
-            (sym own) (stands_same s new same k.queues
-            (Some (record { task = task; list = list; priority = (task_at s task).priority })) b.queues table);
+        objects =
+            subst
+            (λ (u : Task). objects.StandsFor k.objects (Some (record { task = task; list = list; priority = u.priority })) new)
+            (sym own) (stands_same s new same k.objects
+            (Some (record { task = task; list = list; priority = (task_at s task).priority })) b.objects table);
         groups =
             on_groups.stands_same k.groups s new b.groups (subst (groups.SameBitWaits s) one (bits_kept.same_resume i s)) table;
         suspensions = b.suspensions;

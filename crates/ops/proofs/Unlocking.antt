@@ -20,8 +20,8 @@ use Rattle.sched.proofs.Standing as on_sched
 use Rattle.clock.specs.StandsFor as clock
 use Rattle.clock.specs.Timeline.{Timeline}
 use Rattle.objects.specs.WaitersStand.{AreAwakened, AtLocked, opened}
-use Rattle.objects.specs.Queues as queues
-use Rattle.objects.specs.Queues.{Exchange, locked_by}
+use Rattle.objects.specs.Objects as objects
+use Rattle.objects.specs.Objects.{Objects, locked_by}
 use Rattle.objects.proofs.Awake.{at_locked-unlock}
 use Rattle.objects.proofs.Unlocking.{each_append}
 use Rattle.objects.proofs.Counting.{Distinct, distinct_from}
@@ -30,7 +30,7 @@ use Rattle.groups.proofs.Elsewhere as bits_elsewhere
 use Rattle.machine.specs.declared.machine.Machine.{Machine}
 use Rattle.machine.specs.StandsFor.{StandsFor, At}
 use Rattle.machine.specs.Can.{AreThere, AreToWake}
-use Rattle.machine.proofs.Parts.{clock-same, rest_again, rest_with_queues, sched-same}
+use Rattle.machine.proofs.Parts.{clock-same, rest_again, rest_with_objects, sched-same}
 use Rattle.machine.proofs.Waking.{kept-all_ready, progress-all_ready, log-all_ready}
 use Rattle.ops.proofs.Waits.{unready_awake, awake_unsuspended}
 
@@ -132,34 +132,34 @@ module _ (k : Machine) (log : List Event) (s : State) (h : At k log s) where
   clock_opened = clock-same k.clock s (opened s) h.stands.rest.clock refl refl refl sched_opened.table
 
   -- some were Awake
-  pub unlocked_at : (is : List ℕ) (v : Schedule) (t : Timeline) (q : Exchange)
+  pub unlocked_at : (is : List ℕ) (v : Schedule) (t : Timeline) (q : Objects)
       → unlock s ≡ for_each make_ready is (opened s) → sched.StandsFor v (for_each make_ready is (opened s))
-      → clock.StandsFor t (for_each make_ready is (opened s)) → queues.StandsFor q None (unlock s)
-      → At (record k { sched = v; clock = t; queues = q }) log (unlock s)
+      → clock.StandsFor t (for_each make_ready is (opened s)) → objects.StandsFor q None (unlock s)
+      → At (record k { sched = v; clock = t; objects = q }) log (unlock s)
   unlocked_at is v t q e on awake there =
-      let left = subst (queues.StandsFor q None) e there in
+      let left = subst (objects.StandsFor q None) e there in
       let locked = subst (AtLocked None) e (at_locked-unlock None s h.stands.rest.awake) in
       let bits = subst (SameBitWaits s) e (bits_elsewhere.same_unlock s) in
-      subst (At (record k { sched = v; clock = t; queues = q }) log) (sym e) (record {
+      subst (At (record k { sched = v; clock = t; objects = q }) log) (sym e) (record {
         stands =
             record {
               sched = on;
               rest =
-                  rest_with_queues h.stands.rest awake (progress-all_ready is (opened s))
+                  rest_with_objects h.stands.rest awake (progress-all_ready is (opened s))
                   (kept-all_ready is (opened s)) left locked bits;
             };
         log = h.log ∙ sym (log-all_ready is (opened s));
       })
 
   -- nothing was locked
-  pub still_unlocked : k.queues.lock ≡ None → (q : Exchange)
-      → queues.StandsFor q None (unlock s) → At (record k { queues = q }) log (unlock s)
+  pub still_unlocked : k.objects.lock ≡ None → (q : Objects)
+      → objects.StandsFor q None (unlock s) → At (record k { objects = q }) log (unlock s)
   unfolding unlock
   still_unlocked none q there =
-      let is : None ≡ s.locked = sym (ap locked_by none) ∙ h.stands.rest.queues.locked in
-      let back : queues.StandsFor q None s =
-      subst (λ (o : Option ℕ). queues.StandsFor q None (for_one unlock_object o s)) (sym is) there in
-      let k2 : Machine = record k { queues = q } in
+      let is : None ≡ s.locked = sym (ap locked_by none) ∙ h.stands.rest.objects.locked in
+      let back : objects.StandsFor q None s =
+      subst (λ (o : Option ℕ). objects.StandsFor q None (for_one unlock_object o s)) (sym is) there in
+      let k2 : Machine = record k { objects = q } in
       subst (λ (o : Option ℕ). At k2 log (for_one unlock_object o s)) is (record {
         stands = record { sched = h.stands.sched; rest = rest_again h.stands.rest h.stands.rest.clock back h.stands.rest.groups };
         log = h.log;

@@ -32,8 +32,8 @@ use Rattle.clock.specs.Timeline.{Timeline}
 use Rattle.clock.proofs.Standing as on_clock
 use Rattle.clock.proofs.Standing.{SleepsAlike}
 use Rattle.objects.specs.WaitersStand.{AtLocked}
-use Rattle.objects.specs.Queues as queues
-use Rattle.objects.specs.Queues.{Exchange}
+use Rattle.objects.specs.Objects as objects
+use Rattle.objects.specs.Objects.{Objects}
 use Rattle.objects.proofs.Awake.{at_locked-stored, at_locked-wake_best}
 use Rattle.groups.specs.StandsFor.{SameBitWaits}
 use Rattle.groups.proofs.Kept as bits_kept
@@ -41,7 +41,7 @@ use Rattle.groups.proofs.Elsewhere as bits_elsewhere
 use Rattle.machine.specs.declared.machine.Machine.{Machine}
 use Rattle.machine.specs.StandsFor.{StandsFor, At, progress_in}
 use Rattle.machine.specs.Can.{Runs}
-use Rattle.machine.proofs.Parts.{clock-same, progress-kept, rest_again, rest_with_queues, sched-same}
+use Rattle.machine.proofs.Parts.{clock-same, progress-kept, rest_again, rest_with_objects, sched-same}
 use Rattle.sched.proofs.LinedUp.{ready_woken}
 use Rattle.machine.proofs.Waking.{progress-ready}
 
@@ -160,18 +160,18 @@ module _ (k : Machine) (s : State) (h : StandsFor k s) (list : WaitList) (i : �
   pub woken_free : schedule.is_ready k.sched i ≡ false
   woken_free = on_sched.ready_same k.sched s i h.sched ∙ (waits_there s list i is).unready
 
-  pub woken_at : (log : List Event) → log ≡ s.log → (v : Schedule) (t : Timeline) (q : Exchange)
+  pub woken_at : (log : List Event) → log ≡ s.log → (v : Schedule) (t : Timeline) (q : Objects)
       → (i < length s.tasks → sched.StandsFor v (make_ready i s))
-      → (i < length s.tasks → clock.StandsFor t (make_ready i s)) → queues.StandsFor q None (wake_best list s)
-      → At (record k { sched = v; clock = t; queues = q }) log (wake_best list s)
+      → (i < length s.tasks → clock.StandsFor t (make_ready i s)) → objects.StandsFor q None (wake_best list s)
+      → At (record k { sched = v; clock = t; objects = q }) log (wake_best list s)
   woken_at log same v t q on awake left =
       let l = (waits_there s list i is).within in
       let one = wakes_it s list i is in
-      let there = subst (queues.StandsFor q None) one left in
+      let there = subst (objects.StandsFor q None) one left in
       let locked = subst (AtLocked None) one (at_locked-wake_best None list s h.rest.awake) in
       let bits = subst (SameBitWaits s) one (bits_elsewhere.same_wake_best list s) in
-      subst (At (record k { sched = v; clock = t; queues = q }) log) (sym one) (record {
-        stands = record { sched = on l; rest = rest_with_queues h.rest (awake l) (progress-ready s i) refl there locked bits };
+      subst (At (record k { sched = v; clock = t; objects = q }) log) (sym one) (record {
+        stands = record { sched = on l; rest = rest_with_objects h.rest (awake l) (progress-ready s i) refl there locked bits };
         log = same;
       })
 
@@ -226,10 +226,10 @@ awake_alike Suspended = record { key = refl; wake_time = refl }
 awake_alike Ended = record { key = refl; wake_time = refl }
 
 module _ (k : Machine) (log : List Event) (s : State) (h : At k log s) (list : WaitList)
-    (is : None ≡ (if is_locked s.locked list then None else best s list)) (q : Exchange)
-    (left : queues.StandsFor q None (wake_best list s)) where
-  awakened_at : (i : ℕ) → i < length s.tasks → queues.StandsFor q None (awaken i s) → AtLocked None (awaken i s)
-      → SameBitWaits s (awaken i s) → At (record k { queues = q }) log (awaken i s)
+    (is : None ≡ (if is_locked s.locked list then None else best s list)) (q : Objects)
+    (left : objects.StandsFor q None (wake_best list s)) where
+  awakened_at : (i : ℕ) → i < length s.tasks → objects.StandsFor q None (awaken i s) → AtLocked None (awaken i s)
+      → SameBitWaits s (awaken i s) → At (record k { objects = q }) log (awaken i s)
   awakened_at i l there locked bits =
       let t : Task = record (task_at s i) { status = awake_status (status_at s i) } in
       let table : IsTable (awaken i s) = there.waiters.table in
@@ -242,24 +242,24 @@ module _ (k : Machine) (log : List Event) (s : State) (h : At k log s) (list : W
               (ap (λ (o : Option ℕ). option_map (λ n. record { priority = (task_at s i).priority; ticket = n }) o)
               (awake_unready (status_at s i)))
               refl refl table (awake_resumes (status_at s i));
-          rest = rest_with_queues h.stands.rest c (progress-kept s.tasks i t refl) refl there locked bits;
+          rest = rest_with_objects h.stands.rest c (progress-kept s.tasks i t refl) refl there locked bits;
         };
         log = h.log;
       }
 
-  pub unwoken_at : At (record k { queues = q }) log (wake_best list s)
+  pub unwoken_at : At (record k { objects = q }) log (wake_best list s)
   unwoken_at = by_case (unwoken s list is) where
-    by_case : Unwoken s list → At (record k { queues = q }) log (wake_best list s)
-    by_case (Nobody one) = subst (At (record k { queues = q }) log) (sym one) (record {
+    by_case : Unwoken s list → At (record k { objects = q }) log (wake_best list s)
+    by_case (Nobody one) = subst (At (record k { objects = q }) log) (sym one) (record {
       stands =
           record {
             sched = h.stands.sched;
-            rest = rest_again h.stands.rest h.stands.rest.clock (subst (queues.StandsFor q None) one left) h.stands.rest.groups;
+            rest = rest_again h.stands.rest h.stands.rest.clock (subst (objects.StandsFor q None) one left) h.stands.rest.groups;
           };
       log = h.log;
     })
     by_case (Counted i l one) =
-        subst (At (record k { queues = q }) log) (sym one) (awakened_at i l (subst (queues.StandsFor q None) one left)
+        subst (At (record k { objects = q }) log) (sym one) (awakened_at i l (subst (objects.StandsFor q None) one left)
         (subst (AtLocked None) one (at_locked-wake_best None list s h.stands.rest.awake))
         (subst (SameBitWaits s) one (bits_elsewhere.same_wake_best list s)))
 
@@ -279,8 +279,8 @@ still_runs k new i j r off on current same =
 -- ---- a call is done
 
 -- an object changes
-pub stored_at : (k : Machine) (log : List Event) (s : State) → At k log s → (o : ℕ) (x : Object) (q : Exchange)
-    → queues.StandsFor q None (with_object o x s) → At (record k { queues = q }) log (with_object o x s)
+pub stored_at : (k : Machine) (log : List Event) (s : State) → At k log s → (o : ℕ) (x : Object) (q : Objects)
+    → objects.StandsFor q None (with_object o x s) → At (record k { objects = q }) log (with_object o x s)
 stored_at k log s h o x q there =
     let new : State = with_object o x s in
     let table : IsTable new = there.waiters.table in
@@ -289,7 +289,7 @@ stored_at k log s h o x q there =
       stands = record {
         sched = sched-same h.stands.sched table refl refl refl;
         rest =
-            rest_with_queues h.stands.rest c (λ _. refl) refl there
+            rest_with_objects h.stands.rest c (λ _. refl) refl there
             (at_locked-stored None o x s h.stands.rest.awake) (bits_kept.same_object o x s);
       };
       log = h.log;

@@ -46,7 +46,7 @@ HasObjects app k = (object : ℕ) (access : Access) → fits_object app object a
 -- The held ticks can be applied.
 pub record CanApply (k : Machine) : Type 0 where
   pub agrees : Agrees k
-  pub free : k.queues.lock ≡ None
+  pub free : k.objects.lock ≡ None
   pub age : k.clock.age + k.clock.held < 2 ^ 62
   pub awake : k.suspensions ≡ 0
 
@@ -73,7 +73,7 @@ pub record Can (app : Application) (k : Machine) (task : ℕ) (op : Op) : Type 0
 pub record CanTry (k : Machine) (task object : ℕ) (access : Access) : Type 0 where
   pub runs : Runs k task
   pub agrees : Agrees k
-  pub free : k.queues.lock ≡ None
+  pub free : k.objects.lock ≡ None
   pub depth : k.sched.depth ≡ 0
   pub room : HasRoom k object access
 
@@ -85,7 +85,7 @@ IsShort ticks = IfSome ticks (λ n. n < 2 ^ 32)
 pub record CanDecide (k : Machine) (task : ℕ) : Type 0 where
   pub runs : Runs k task
   pub agrees : Agrees k
-  pub free : k.queues.lock ≡ None
+  pub free : k.objects.lock ≡ None
   pub depth : k.sched.depth ≡ 0
 
 -- It can be placed.
@@ -126,7 +126,7 @@ CanWaitBits k task ticks _ = CanDecide k task
 pub record CanHold (app : Application) (k : Machine) (task : ℕ) (op : Op) : Type 0 where
   pub runs : Runs k task
   pub agrees : Agrees k
-  pub free : k.queues.lock ≡ None
+  pub free : k.objects.lock ≡ None
   pub age : k.clock.age + k.clock.held < 2 ^ 62
   pub held : k.clock.held < 4294967295
   pub suspensions : k.suspensions < 4294967295
@@ -143,4 +143,4 @@ pub record Reranks (old new : Machine) : Type 0 where
   pub ready : (task : ℕ) → is_ready new.sched task ≡ is_ready old.sched task
   pub op_index : (task : ℕ) → (progress_in new.progress task).op_index ≡ (progress_in old.progress task).op_index
   pub clock : new.clock ≡ old.clock
-  pub queues : new.queues ≡ old.queues
+  pub objects : new.objects ≡ old.objects

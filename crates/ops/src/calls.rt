@@ -55,7 +55,7 @@ fn try_call<L: Log>(
     ensures { Does 2 machine.old (L.logged log.old) machine.new (L.logged log.new)
         (try app.now task object access) }
 {
-    if machine.queues.possible(object, access) {
+    if machine.objects.possible(object, access) {
         let answer = fulfil(machine, Some(task), object, access);
         machine.answer_given(app, task, answer, log);
         machine.preempt(log);
@@ -73,7 +73,7 @@ fn need_not_wait(machine: &Machine, task: TaskId, object: ObjectId, access: Acce
     ensures { (s : State) → StandsFor machine.now s
         → result ≡ definitions.possible s object access || waiting.is_expired s task }
 {
-    machine.queues.possible(object, access) || is_expired(machine, task)
+    machine.objects.possible(object, access) || is_expired(machine, task)
 }
 
 /// The scheduler is held and the object locked. The task begins to wait where its call still isn't possible and its
@@ -102,7 +102,7 @@ fn pass_on(machine: &mut Machine, task: TaskId, object: ObjectId)
     ensures held { machine.new.sched.depth ≡ 1 }
 {
     machine.sched.hold();
-    machine.queues.lock(object);
+    machine.objects.lock(object);
     machine.set_phase(task, Phase::Unlock);
 }
 
@@ -115,7 +115,7 @@ fn begin_wait(machine: &mut Machine, task: TaskId, object: ObjectId, access: Acc
     ensures held { machine.new.sched.depth ≡ 1 }
 {
     machine.sched.hold();
-    machine.queues.lock(object);
+    machine.objects.lock(object);
     machine.wait_list = list_for(object, access);
     machine.set_wait(task, Phase::Place, true);
 }
@@ -132,7 +132,7 @@ fn place(machine: &mut Machine, task: TaskId)
     let deadline = machine.progress(task).call.deadline;
     machine.sched.block(task);
     let priority = machine.sched.priority(task);
-    machine.queues.place(machine.wait_list, task, priority);
+    machine.objects.place(machine.wait_list, task, priority);
     place_sleeper(&mut machine.clock, deadline, task);
     machine.set_phase(task, Phase::Unlock);
 }
@@ -148,7 +148,7 @@ fn unlock_and_wake(machine: &mut Machine)
     ensures progress { machine.new.progress ≡ machine.old.progress }
     ensures suspensions { machine.new.suspensions ≡ machine.old.suspensions }
 {
-    if let Some(unlocked) = machine.queues.unlock() {
+    if let Some(unlocked) = machine.objects.unlock() {
         wake_all(
             &mut machine.sched,
             &mut machine.clock,
@@ -170,7 +170,7 @@ fn unlock(machine: &mut Machine, task: TaskId)
     ensures remains { Remains machine.old machine.new task }
     ensures depth { machine.new.sched.depth ≡ machine.old.sched.depth }
 {
-    if !machine.queues.unlock_if_none_woken() {
+    if !machine.objects.unlock_if_none_woken() {
         unlock_and_wake(machine);
     }
     machine.set_phase(task, Phase::Leave);

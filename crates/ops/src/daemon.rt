@@ -28,7 +28,7 @@ fn take_command<L: Log>(
     ensures { Does 1 machine.old (L.logged log.old) machine.new (L.logged log.new)
         (take_command app.now task queue) }
 {
-    if machine.queues.possible(queue, Access::Receive) {
+    if machine.objects.possible(queue, Access::Receive) {
         let item = fulfil(machine, Some(task), queue, Access::Receive);
         machine.received(app, task, item);
         machine.preempt(log);

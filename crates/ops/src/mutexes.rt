@@ -77,7 +77,7 @@ pub(crate) fn inherit(machine: &mut Machine, task: TaskId, object: ObjectId)
     ensures reranks { Reranks machine.old machine.new }
     ensures suspensions { machine.new.suspensions ≡ machine.old.suspensions }
 {
-    if let Some(holder) = machine.queues.holder(object) {
+    if let Some(holder) = machine.objects.holder(object) {
         inherit_from(machine, task, holder);
     }
 }
@@ -85,13 +85,13 @@ pub(crate) fn inherit(machine: &mut Machine, task: TaskId, object: ObjectId)
 /// The holder of this mutex alone has its base priority again, or the best waiter's where that is greater.
 fn fall_back(machine: &mut Machine, object: ObjectId, holder: TaskId)
     requires depth { machine.old.sched.depth ≡ 0 }
-    requires free { machine.old.queues.lock ≡ None }
+    requires free { machine.old.objects.lock ≡ None }
     ensures does { (log : List Event) (s : State) → At machine.old log s → holder < length s.tasks
         → At machine.new log (definitions.fall_back object holder s) }
     ensures reranks { Reranks machine.old machine.new }
 {
-    if machine.queues.mutexes_held(holder) == 1 {
-        let best = machine.queues.best_priority(WaitList::ToReceive(object));
+    if machine.objects.mutexes_held(holder) == 1 {
+        let best = machine.objects.best_priority(WaitList::ToReceive(object));
         let base = machine.sched.base_priority(holder);
         set_priority(machine, holder, base.max(best));
     }
@@ -101,14 +101,14 @@ fn fall_back(machine: &mut Machine, object: ObjectId, holder: TaskId)
 #[cold]
 pub(crate) fn after_timeout(machine: &mut Machine, task: TaskId, object: ObjectId)
     requires depth { machine.old.sched.depth ≡ 0 }
-    requires free { machine.old.queues.lock ≡ None }
+    requires free { machine.old.objects.lock ≡ None }
     ensures does { Moves machine.old machine.new (definitions.after_timeout task object) }
     ensures reranks { Reranks machine.old machine.new }
 {
     if !machine.progress(task).call.inherited {
         return;
     }
-    if let Some(holder) = machine.queues.holder(object) {
+    if let Some(holder) = machine.objects.holder(object) {
         fall_back(machine, object, holder);
     }
 }
@@ -120,7 +120,7 @@ fn disinherit(machine: &mut Machine, task: TaskId)
         → At machine.new log (definitions.disinherit task s) }
     ensures reranks { Reranks machine.old machine.new }
 {
-    if machine.queues.mutexes_held(task) == 0 {
+    if machine.objects.mutexes_held(task) == 0 {
         let priority = machine.sched.base_priority(task);
         set_priority(machine, task, priority);
     }
@@ -139,7 +139,7 @@ pub fn give_mutex<L: Log>(
     ensures { Does 2 machine.old (L.logged log.old) machine.new (L.logged log.new)
         (λ s. act_unless app.now task (misuse s task (op.GiveMutex object)) (op.GiveMutex object) s) }
 {
-    match machine.queues.give_mutex(task, object) {
+    match machine.objects.give_mutex(task, object) {
         Ok(()) => let_go(machine, app, task, object, log),
         Err(NotHolder) => machine.misuse(task, Misuse::NotHolder),
     }

@@ -51,7 +51,7 @@ pub(crate) fn wake_best(machine: &mut Machine, list: WaitList)
     ensures leaves { Leaves machine.old machine.new }
     ensures runs { (task : ℕ) → Runs machine.old task → Runs machine.new task }
 {
-    if let Some(task) = machine.queues.wake_best(list) {
+    if let Some(task) = machine.objects.wake_best(list) {
         machine.clock.wake(task);
         machine.sched.wake(task);
     }
@@ -68,7 +68,7 @@ pub(crate) fn fulfil(
     access: Access,
 ) -> Option<u32>
     requires stands { StandsForSome machine.old }
-    requires possible { allows (object_in machine.old.queues.objects object) access ≡ true }
+    requires possible { allows (object_in machine.old.objects.objects object) access ≡ true }
     requires caller { IsCaller machine.old caller }
     requires room { HasRoom machine.old object access }
     ensures does { Moves machine.old machine.new (fulfil caller object access) }
@@ -79,7 +79,7 @@ pub(crate) fn fulfil(
 {
     // Through a reference, since the borrow checker takes a value that is passed on twice for moved.
     let caller = &caller;
-    let answer = machine.queues.carry_out(*caller, object, access);
+    let answer = machine.objects.carry_out(*caller, object, access);
     if let Some(list) = list_woken(*caller, object, access) {
         wake_best(machine, list);
     }
@@ -102,7 +102,7 @@ pub fn attempt(
     ensures leaves { Leaves machine.old machine.new }
     ensures runs { (task : ℕ) → Runs machine.old task → Runs machine.new task }
 {
-    if machine.queues.possible(object, access) {
+    if machine.objects.possible(object, access) {
         fulfil(machine, caller, object, access)
     } else {
         refusal(access)
@@ -142,7 +142,7 @@ pub fn messages_waiting<L: Log>(
     ensures { Does 1 machine.old (L.logged log.old) machine.new (L.logged log.new)
         (act app.now task (op.MessagesWaiting queue)) }
 {
-    let waiting = machine.queues.waiting(queue) as u32;
+    let waiting = machine.objects.waiting(queue) as u32;
     machine.answer(app, task, waiting, log);
 }
 
@@ -159,6 +159,6 @@ pub fn spaces_available<L: Log>(
     ensures { Does 1 machine.old (L.logged log.old) machine.new (L.logged log.new)
         (act app.now task (op.SpacesAvailable queue)) }
 {
-    let spaces = machine.queues.spaces(queue) as u32;
+    let spaces = machine.objects.spaces(queue) as u32;
     machine.answer(app, task, spaces, log);
 }

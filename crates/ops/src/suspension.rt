@@ -18,19 +18,19 @@ pub fn can_suspend(machine: &Machine, task: TaskId) -> bool
 {
     machine.sched.is_ready(task)
         || machine.clock.is_asleep(task)
-        || machine.queues.is_waiting(task)
+        || machine.objects.is_waiting(task)
         || machine.groups.is_waiting(task)
 }
 
 /// The task is in no list any more, if it was in one.
 fn suspend(machine: &mut Machine, task: TaskId)
-    requires free { machine.old.queues.lock ≡ None }
+    requires free { machine.old.objects.lock ≡ None }
     ensures does { Moves machine.old machine.new (definitions.suspend task) }
     ensures depth { machine.new.sched.depth ≡ machine.old.sched.depth }
 {
     if can_suspend(machine, task) {
         machine.clock.wake(task);
-        machine.queues.drop_waiter(task);
+        machine.objects.drop_waiter(task);
         machine.groups.drop_waiter(task);
         machine.sched.suspend(task);
     }

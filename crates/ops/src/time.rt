@@ -20,7 +20,7 @@ pub fn use_up(machine: &mut Machine, app: &App, task: TaskId, ticks: u32)
     ensures does { Moves machine.old machine.new (use_up app.now task ticks) }
     ensures depth { machine.new.sched.depth ≡ machine.old.sched.depth }
     ensures clock { machine.new.clock ≡ machine.old.clock }
-    ensures queues { machine.new.queues ≡ machine.old.queues }
+    ensures objects { machine.new.objects ≡ machine.old.objects }
     ensures suspensions { machine.new.suspensions ≡ machine.old.suspensions }
 {
     let used = machine.progress(task).used + 1;

@@ -4,7 +4,7 @@ use Rattle.kernel.proofs.acting.work.Goals as goal
 pub tick_interrupt-requires-clause-can : goal.tick_interrupt-requires-clause-can
 tick_interrupt-requires-clause-can g c =
     can_tick_still c.args.app.now c.args.machine.now c.use_up.new.machine c.requires.can.tick c.use_up.ensures.depth
-    c.use_up.ensures.clock c.use_up.ensures.queues c.use_up.ensures.suspensions _ c.use_up.ensures.does
+    c.use_up.ensures.clock c.use_up.ensures.objects c.use_up.ensures.suspensions _ c.use_up.ensures.does
 
 pub returns : goal.returns
 returns g c = record {

@@ -9,11 +9,11 @@ returns c = λ s reached h.
     let settled = c.settle_lists.ensures s reached h in
     let t = settled.state in
     let rest = settled.stands.rest in
-    let held = c.held_mutexes-held.ensures t rest.queues (settled.objects ∙ ap length (sym c.objects.ensures)) in
-    let opened = c.take_awake-awake.ensures t rest.queues rest.awake in
+    let held = c.held_mutexes-held.ensures t rest.objects (settled.objects ∙ ap length (sym c.objects.ensures)) in
+    let opened = c.take_awake-awake.ensures t rest.objects rest.awake in
     let told =
     c.situations-situations.ensures t
-    (record { sched = settled.stands.sched; clock = rest.clock; groups = rest.groups; queues = opened; progress = rest.progress })
+    (record { sched = settled.stands.sched; clock = rest.clock; groups = rest.groups; objects = opened; progress = rest.progress })
     (settled.tasks ∙ ap length (sym c.tasks.ensures)) in
     let both : List Situation → List HeldMutex → EndState = λ xs ys. record { situations = xs; held = ys } in
     ap₂ both told held ∙ settled.same

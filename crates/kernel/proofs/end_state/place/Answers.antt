@@ -4,7 +4,7 @@ use Rattle.model.specs.declared.call.WaitList.{WaitList}
 use Rattle.model.specs.State.{Progress, State}
 use Rattle.sched.specs.Schedule.{Schedule, priority_in}
 use Rattle.clock.specs.StandsFor as clock
-use Rattle.objects.specs.Queues as queues
+use Rattle.objects.specs.Objects as objects
 use Rattle.objects.proofs.Free.{still_free}
 use Rattle.machine.specs.StandsFor.{Stands, StandsBefore, StandsFor, decider}
 use Rattle.machine.specs.StandsFor.Stands.{Placed, Placing}
@@ -15,8 +15,8 @@ use Rattle.kernel.proofs.end_state.place.Goals as goal
 
 pub place-requires-clause-free : goal.place-requires-clause-free
 place-requires-clause-free c =
-    still_free c.args.machine.now.queues c.requires.state
-    (decider c.args.task c.requires.list c.requires.state) c.requires.stands.queues
+    still_free c.args.machine.now.objects c.requires.state
+    (decider c.args.task c.requires.list c.requires.state) c.requires.stands.objects
 
 pub returns : goal.returns
 returns c = λ s h.
@@ -43,9 +43,9 @@ returns c = λ s h.
           (c.block.ensures.placed s own.sched)
           (c.place.ensures.stands s (subst
           (λ (w : WaitList).
-          queues.StandsFor k.queues (Some (record { task = i; list = w; priority = c.priority-priority.result })) s)
+          objects.StandsFor k.objects (Some (record { task = i; list = w; priority = c.priority-priority.result })) s)
           (sym own.wait_list)
-          (subst (λ (n : ℕ). queues.StandsFor k.queues (Some (record { task = i; list = list; priority = n })) s)
-          (sym priority) own.queues)))
+          (subst (λ (n : ℕ). objects.StandsFor k.objects (Some (record { task = i; list = list; priority = n })) s)
+          (sym priority) own.objects)))
           (c.place_sleeper.ensures s (subst (λ (d : Option ℕ). clock.StandsBefore i d k.clock s) (sym until) own.clock))
           c.set_phase.ensures).stands

@@ -22,4 +22,4 @@ returns-in-None c =
     let here : c.is_waiting.result ≡ false = search rules in
     λ s h.
     is_ended_then c.args.machine.now c.args.awake.now s h c.args.task other off unready c.is_waiting.result
-    (c.is_waiting.ensures h.queues.opened s h.queues.stands h.groups) here (c.in-None.ensures.stands s h.clock)
+    (c.is_waiting.ensures h.objects.opened s h.objects.stands h.groups) here (c.in-None.ensures.stands s h.clock)

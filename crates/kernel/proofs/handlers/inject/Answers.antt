@@ -1,5 +1,5 @@
 use Rattle.std.proofs.Common.{arith, ◌∙◌, subst, sym}
-use Rattle.objects.specs.Queues.{HasRoom, Exchange}
+use Rattle.objects.specs.Objects.{HasRoom, Objects}
 use Rattle.kernel.proofs.Handling.{injected_free, injected_held, room_after}
 use Rattle.kernel.proofs.handlers.inject.Goals as goal
 
@@ -15,7 +15,7 @@ returns-then-not-is_held-clause-does g c = record {
 
 pub returns-then-not-is_held-clause-objects : goal.returns-then-not-is_held-clause-objects
 returns-then-not-is_held-clause-objects g c = λ o a fit.
-    subst (λ (q : Exchange). HasRoom q o a) (sym c.preempt.ensures.queues)
+    subst (λ (q : Objects). HasRoom q o a) (sym c.preempt.ensures.objects)
     (room_after c.args.app.now c.args.machine.now c.handle.new.machine c.requires.objects c.handle.ensures.leaves o a fit)
 
 pub returns-else-not-is_held-clause-does : goal.returns-else-not-is_held-clause-does

@@ -1,6 +1,6 @@
 use Rattle.std.proofs.Common.{[], ap, sym, subst, arith}
 use Rattle.clock.specs.Timeline.{Timeline}
-use Rattle.objects.specs.Queues.{Exchange, HasRoom}
+use Rattle.objects.specs.Objects.{Objects, HasRoom}
 use Rattle.machine.proofs.Acting.{agrees_after}
 use Rattle.kernel.proofs.suspended.work_on.Goals as goal
 
@@ -10,7 +10,7 @@ held_tick_interrupt-requires-clause-agrees g c =
 
 pub held_tick_interrupt-requires-clause-objects : goal.held_tick_interrupt-requires-clause-objects
 held_tick_interrupt-requires-clause-objects g c = λ o a fit.
-    subst (λ (q : Exchange). HasRoom q o a) (sym c.use_up.ensures.queues) (c.requires.can.objects o a fit)
+    subst (λ (q : Objects). HasRoom q o a) (sym c.use_up.ensures.objects) (c.requires.can.objects o a fit)
 
 pub held_tick_interrupt-requires-clause-some : goal.held_tick_interrupt-requires-clause-some
 held_tick_interrupt-requires-clause-some g c = let e = c.use_up.ensures.suspensions in let l = c.requires.some in omega arith

@@ -5,8 +5,8 @@ use Rattle.model.specs.Objects.{list_for}
 use Rattle.model.specs.Waiting.{wait_in}
 use Rattle.model.specs.Calls.{lock}
 use Rattle.sched.specs.StandsFor as sched
-use Rattle.objects.specs.Queues as queues
-use Rattle.objects.specs.Queues.{CountsNobody}
+use Rattle.objects.specs.Objects as objects
+use Rattle.objects.specs.Objects.{CountsNobody}
 use Rattle.machine.specs.declared.machine.Machine.{Machine}
 use Rattle.machine.specs.StandsFor.{AtAny}
 use Rattle.ops.proofs.Deciding.{waits}
@@ -18,8 +18,8 @@ returns-clause-does c = λ log s h.
     let holds : s.call_hold ≡ false → sched.StandsFor c.hold.new.self (record s { call_hold = true }) = λ free.
     c.hold.ensures.stands s h.stands.sched free in
     let locks : ((j : ℕ) → wait_if_awake (status_at s j) ≡ None)
-    → queues.StandsFor c.lock.new.self None (record s { locked = Some c.args.object }) = λ nobody.
-    c.lock.ensures.stands s None h.stands.rest.queues nobody in
+    → objects.StandsFor c.lock.new.self None (record s { locked = Some c.args.object }) = λ nobody.
+    c.lock.ensures.stands s None h.stands.rest.objects nobody in
     subst (λ (x : Machine).
     AtAny x log (lock c.args.task c.args.object Place (wait_in c.args.task (list_for c.args.object c.args.access) s)))
     (sym c.set_wait.ensures)

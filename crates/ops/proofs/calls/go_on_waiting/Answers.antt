@@ -2,7 +2,7 @@ use Rattle.std.proofs.Common.{[], ap, sym, subst, refl, ◌∙◌, arith}
 use Rattle.model.specs.declared.call.Phase.TheVariants.{Start, Try, Decide, Place, Unlock, Leave}
 use Rattle.model.specs.State.{Progress}
 use Rattle.sched.specs.Schedule.{Schedule, is_ready}
-use Rattle.objects.specs.Queues.{Exchange}
+use Rattle.objects.specs.Objects.{Objects}
 use Rattle.ops.specs.Can.{CanGoOn}
 use Rattle.machine.proofs.Acting.{agrees_after}
 use Rattle.machine.proofs.Either.{all_placed, any, does_any, does_more, moves_any}
@@ -22,7 +22,7 @@ try_call-requires-clause-can g c =
       };
       agrees =
           agrees_after c.args.machine.now c.set_deadline.new.self [] [] can.0.agrees _ (λ s h. c.set_deadline.ensures.does [] s h);
-      free = ap (λ (q : Exchange). q.lock) c.set_deadline.ensures.parts.1 ∙ can.0.free;
+      free = ap (λ (q : Objects). q.lock) c.set_deadline.ensures.parts.1 ∙ can.0.free;
       depth = ap (λ (v : Schedule). v.depth) c.set_deadline.ensures.parts.0 ∙ can.0.depth;
       room = rw c.set_deadline.ensures.parts.1 can.0.room;
     }

@@ -4,7 +4,7 @@ use Rattle.model.specs.declared.call.WaitList.{WaitList}
 use Rattle.model.specs.State.{Progress}
 use Rattle.sched.specs.Schedule.{Schedule, priority_in}
 use Rattle.clock.specs.StandsFor as clock
-use Rattle.objects.specs.Queues as queues
+use Rattle.objects.specs.Objects as objects
 use Rattle.objects.proofs.Free.{still_free}
 use Rattle.machine.specs.StandsFor.{StandsBefore, decider}
 use Rattle.machine.proofs.Either.{either}
@@ -13,8 +13,8 @@ use Rattle.ops.proofs.calls.place.Goals as goal
 
 pub place-requires-clause-free : goal.place-requires-clause-free
 place-requires-clause-free c =
-    still_free c.args.machine.now.queues c.requires.state
-    (decider c.args.task c.requires.list c.requires.state) c.requires.stands.queues
+    still_free c.args.machine.now.objects c.requires.state
+    (decider c.args.task c.requires.list c.requires.state) c.requires.stands.objects
 
 pub returns-clause-does : goal.returns-clause-does
 returns-clause-does c = λ log s h.
@@ -35,9 +35,9 @@ returns-clause-does c = λ log s h.
     placed_at k log s i list own h.log c.block.new.self c.place.new.self c.place_sleeper.new.clock c.set_phase.new.self
     (c.block.ensures.placed s own.sched)
     (c.place.ensures.stands s (subst
-    (λ (w : WaitList). queues.StandsFor k.queues (Some (record { task = i; list = w; priority = c.priority-priority.result })) s)
+    (λ (w : WaitList). objects.StandsFor k.objects (Some (record { task = i; list = w; priority = c.priority-priority.result })) s)
     (sym own.wait_list)
-    (subst (λ (n : ℕ). queues.StandsFor k.queues (Some (record { task = i; list = list; priority = n })) s)
-    (sym priority) own.queues)))
+    (subst (λ (n : ℕ). objects.StandsFor k.objects (Some (record { task = i; list = list; priority = n })) s)
+    (sym priority) own.objects)))
     (c.place_sleeper.ensures s (subst (λ (d : Option ℕ). clock.StandsBefore i d k.clock s) (sym until) own.clock))
     c.set_phase.ensures)

@@ -17,8 +17,8 @@ returns-clause-does c = λ log s h.
       | else-not-unlock_if_none_woken w ↦
           let none = w.if-not-unlock_if_none_woken.false in
           rw w.machine-is (unlocked_at k log s h [] k.sched k.clock c.unlock_if_none_woken.new.self
-          (c.unlock_if_none_woken.ensures.woken s none h.stands.rest.queues) (sched_opened k log s h)
-          (clock_opened k log s h) (c.unlock_if_none_woken.ensures.stands s none h.stands.rest.queues))
+          (c.unlock_if_none_woken.ensures.woken s none h.stands.rest.objects) (sched_opened k log s h)
+          (clock_opened k log s h) (c.unlock_if_none_woken.ensures.stands s none h.stands.rest.objects))
     ] in
     gone_on c.if-not-unlock_if_none_woken.machine c.set_phase.new.self log (unlock s) there c.args.task
     (there.stands.sched.current ∙ current-unlock s ∙ sym h.stands.sched.current ∙ c.requires.current)

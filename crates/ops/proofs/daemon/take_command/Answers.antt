@@ -18,7 +18,7 @@ returns-then-possible g c = record {
       let told = (g.L.Log.logged c.preempt.new.log).told in
       let there = c.preempt.ensures.does.at _ (c.received.ensures.does _ _ (c.fulfil-item.ensures.does _ s h)) in
       took app c.preempt.new.self told s i c.args.queue
-      (sym (c.possible.ensures.stands s None h.stands.rest.queues) ∙ c.if-possible.true)
+      (sym (c.possible.ensures.stands s None h.stands.rest.objects) ∙ c.if-possible.true)
       (subst (λ (a : Option ℕ). At c.preempt.new.self told (preempt (received app i a (fulfil (Some i) c.args.queue Receive s))))
       (c.fulfil-item.ensures.answer s (Placed h.stands)) there);
   few = c.preempt.ensures.does.few;
@@ -29,7 +29,7 @@ pub returns : goal.returns
 returns g c = record {
   at = λ s h.
       took_none c.args.app.now c.set_phase.new.self (g.L.Log.logged c.args.log.now).told s c.args.task
-      c.args.queue (sym (c.possible.ensures.stands s None h.stands.rest.queues) ∙ c.if-possible.false)
+      c.args.queue (sym (c.possible.ensures.stands s None h.stands.rest.objects) ∙ c.if-possible.false)
       (gone_on c.args.machine.now c.set_phase.new.self (g.L.Log.logged c.args.log.now).told s h
       c.args.task c.requires.can.runs.current Decide c.set_phase.ensures (λ e. absurd (cc)));
   few = omega arith;

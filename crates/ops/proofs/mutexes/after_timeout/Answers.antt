@@ -15,12 +15,12 @@ returns-in-Some-clause-does c = λ log s h.
     let own =
     ap (λ (p : Progress). p.call.inherited) (c.behind-machine.view_is ∙ c.progress.ensures ∙ h.stands.rest.progress c.args.task) in
     timed_out (At c.fall_back.new.machine log) s c.args.task c.args.object c.in-Some.holder
-    (sym own ∙ c.if-not-progress.false) (c.in-Some.ensures.stands s _ h.stands.rest.queues)
-    (c.fall_back.ensures.does log s h (c.in-Some.ensures.known s _ h.stands.rest.queues))
+    (sym own ∙ c.if-not-progress.false) (c.in-Some.ensures.stands s _ h.stands.rest.objects)
+    (c.fall_back.ensures.does log s h (c.in-Some.ensures.known s _ h.stands.rest.objects))
 
 pub returns-in_default-clause-does : goal.returns-in_default-clause-does
 returns-in_default-clause-does c = λ log s h.
     let own =
     ap (λ (p : Progress). p.call.inherited) (c.behind-machine.view_is ∙ c.progress.ensures ∙ h.stands.rest.progress c.args.task) in
     timed_out_free (At c.args.machine.now log) s c.args.task c.args.object
-    (sym own ∙ c.if-not-progress.false) (c.in_default.ensures.stands s _ h.stands.rest.queues) h
+    (sym own ∙ c.if-not-progress.false) (c.in_default.ensures.stands s _ h.stands.rest.objects) h

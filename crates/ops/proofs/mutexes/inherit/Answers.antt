@@ -7,8 +7,8 @@ use Rattle.ops.proofs.mutexes.inherit.Goals as goal
 pub returns-in-Some-clause-does : goal.returns-in-Some-clause-does
 returns-in-Some-clause-does c = λ log s h.
     inherited (At c.inherit_from.new.machine log) s c.args.task c.args.object c.in-Some.holder
-    (c.in-Some.ensures.stands s _ h.stands.rest.queues)
-    (c.inherit_from.ensures.does log s h (c.in-Some.ensures.known s _ h.stands.rest.queues))
+    (c.in-Some.ensures.stands s _ h.stands.rest.objects)
+    (c.inherit_from.ensures.does log s h (c.in-Some.ensures.known s _ h.stands.rest.objects))
 
 pub returns-in-Some-clause-can : goal.returns-in-Some-clause-can
 returns-in-Some-clause-can c =
@@ -19,4 +19,4 @@ returns-in-Some-clause-can c =
 pub returns-in_default-clause-does : goal.returns-in_default-clause-does
 returns-in_default-clause-does c = λ log s h.
     inherited_nothing (At c.args.machine.now log) s c.args.task c.args.object
-    (c.in_default.ensures.stands s _ h.stands.rest.queues) h
+    (c.in_default.ensures.stands s _ h.stands.rest.objects) h

@@ -15,5 +15,5 @@ returns-clause-reranks c =
       ready = c.set_priority.ensures.ready;
       op_index = λ j. refl;
       clock = refl;
-      queues = refl;
+      objects = refl;
     }

@@ -7,7 +7,7 @@ pub returns : goal.returns
 returns g c = record {
   at = λ s h.
       subst (λ (n : ℕ). At c.answer.new.self (g.L.Log.logged c.answer.new.log).told (answer c.args.app.now c.args.task (Some n) s))
-      (c.waiting-waiting.ensures.stands s None h.stands.rest.queues) (c.answer.ensures.does.at s h);
+      (c.waiting-waiting.ensures.stands s None h.stands.rest.objects) (c.answer.ensures.does.at s h);
   few = c.answer.ensures.does.few;
   before = c.answer.ensures.does.before;
 }

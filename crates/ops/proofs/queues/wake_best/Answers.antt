@@ -16,12 +16,12 @@ wake-requires-in-Some c =
 pub returns-in-Some-clause-does : goal.returns-in-Some-clause-does
 returns-in-Some-clause-does c = λ log s h.
     woken_at c.args.machine.now s h.stands c.args.list c.in-Some.task
-    (c.in-Some.ensures.ready s _ h.stands.rest.queues h.stands.rest.awake)
+    (c.in-Some.ensures.ready s _ h.stands.rest.objects h.stands.rest.awake)
     log h.log c.wake-in-Some.new.self c.wake.new.self c.wake_best.new.self
     (λ l.
     c.wake-in-Some.ensures.stands s h.stands.sched l (there_unsuspended s c.args.list c.in-Some.task
-    (waits_there s c.args.list c.in-Some.task (c.in-Some.ensures.ready s _ h.stands.rest.queues h.stands.rest.awake))))
-    (c.wake.ensures.stands s h.stands.rest.clock) (c.in-Some.ensures.stands s _ h.stands.rest.queues h.stands.rest.awake)
+    (waits_there s c.args.list c.in-Some.task (c.in-Some.ensures.ready s _ h.stands.rest.objects h.stands.rest.awake))))
+    (c.wake.ensures.stands s h.stands.rest.clock) (c.in-Some.ensures.stands s _ h.stands.rest.objects h.stands.rest.awake)
 
 pub returns-in-Some-clause-any : goal.returns-in-Some-clause-any
 returns-in-Some-clause-any c = λ log s h. either c.args.machine.now log s h
@@ -29,11 +29,11 @@ returns-in-Some-clause-any c = λ log s h. either c.args.machine.now log s h
     (λ task list b. record {
       stands =
           Placing task list (woken_before task list c.args.machine.now s b c.args.list c.in-Some.task
-          (c.in-Some.ensures.ready s _ b.queues b.awake) c.wake-in-Some.new.self c.wake.new.self c.wake_best.new.self
+          (c.in-Some.ensures.ready s _ b.objects b.awake) c.wake-in-Some.new.self c.wake.new.self c.wake_best.new.self
           (λ ne l.
           c.wake-in-Some.ensures.placing s task b.sched ne l (there_unsuspended s c.args.list c.in-Some.task
-          (waits_there s c.args.list c.in-Some.task (c.in-Some.ensures.ready s _ b.queues b.awake))))
-          (λ ne l. c.wake.ensures.placing s task _ b.clock ne l) (c.in-Some.ensures.stands s _ b.queues b.awake));
+          (waits_there s c.args.list c.in-Some.task (c.in-Some.ensures.ready s _ b.objects b.awake))))
+          (λ ne l. c.wake.ensures.placing s task _ b.clock ne l) (c.in-Some.ensures.stands s _ b.objects b.awake));
       log = h.log ∙ sym (log-wake_best c.args.list s);
     })
 
@@ -46,8 +46,8 @@ returns-in-Some-clause-runs c = λ j r.
 
 pub returns-in_default-clause-does : goal.returns-in_default-clause-does
 returns-in_default-clause-does c = λ log s h.
-    unwoken_at c.args.machine.now log s h c.args.list (c.in_default.ensures.ready s _ h.stands.rest.queues h.stands.rest.awake)
-    c.wake_best.new.self (c.in_default.ensures.stands s _ h.stands.rest.queues h.stands.rest.awake)
+    unwoken_at c.args.machine.now log s h c.args.list (c.in_default.ensures.ready s _ h.stands.rest.objects h.stands.rest.awake)
+    c.wake_best.new.self (c.in_default.ensures.stands s _ h.stands.rest.objects h.stands.rest.awake)
 
 pub returns-in_default-clause-any : goal.returns-in_default-clause-any
 returns-in_default-clause-any c = λ log s h. either c.args.machine.now log s h
@@ -55,7 +55,7 @@ returns-in_default-clause-any c = λ log s h. either c.args.machine.now log s h
     (λ task list b. record {
       stands =
           Placing task list (unwoken_before task list c.args.machine.now s b
-          c.args.list (c.in_default.ensures.ready s _ b.queues b.awake)
-          c.wake_best.new.self (c.in_default.ensures.stands s _ b.queues b.awake));
+          c.args.list (c.in_default.ensures.ready s _ b.objects b.awake)
+          c.wake_best.new.self (c.in_default.ensures.stands s _ b.objects b.awake));
       log = h.log ∙ sym (log-wake_best c.args.list s);
     })

@@ -18,7 +18,7 @@ returns-then-is_waiting c = λ s h. c.if-is_waiting.true ∙ sym (elim c.if-is_a
   ]
   | else-is_asleep w ↦
       waiting_can (status_at s c.args.task)
-      (sym (w.is_waiting.ensures.stands s h.rest.queues) ∙ sym w.value-is ∙ c.if-is_waiting.true)
+      (sym (w.is_waiting.ensures.stands s h.rest.objects) ∙ sym w.value-is ∙ c.if-is_waiting.true)
 ])
 
 pub returns-else-is_waiting : goal.returns-else-is_waiting
@@ -31,6 +31,6 @@ returns-else-is_waiting c = λ s h. c.is_waiting-else-is_waiting.ensures.stands 
         (sym (c.is_ready.ensures.ready ∙ ready_same c.args.machine.now.sched s c.args.task h.sched) ∙ v.if-is_ready.false)
         (sym (asleep_is c.args.machine.now.clock s h.rest.clock c.args.task)
         ∙ sym v.is_asleep.ensures.asleep ∙ sym v.value-is ∙ w.if-is_asleep.false)
-        (sym (w.is_waiting.ensures.stands s h.rest.queues) ∙ sym w.value-is ∙ c.if-is_waiting.false)
+        (sym (w.is_waiting.ensures.stands s h.rest.objects) ∙ sym w.value-is ∙ c.if-is_waiting.false)
   ]
 ]

@@ -9,7 +9,7 @@ returns-then-can_suspend-clause-does c = λ log s h.
     suspended_at c.args.machine.now log s h c.args.task can c.suspend.new.self
     c.wake.new.self c.drop_waiter.new.self c.drop_waiter-then-can_suspend.new.self
     (c.suspend.ensures.stands s h.stands.sched l) (c.wake.ensures.suspended s h.stands.rest.clock l)
-    (c.drop_waiter.ensures.suspended s h.stands.rest.queues c.requires.free l)
+    (c.drop_waiter.ensures.suspended s h.stands.rest.objects c.requires.free l)
     (c.drop_waiter-then-can_suspend.ensures.suspended s h.stands.rest.groups l)
 
 pub returns-else-can_suspend-clause-does : goal.returns-else-can_suspend-clause-does

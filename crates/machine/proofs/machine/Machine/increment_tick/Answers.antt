@@ -1,5 +1,5 @@
 use Rattle.std.proofs.Common.{[], sym, ◌∙◌}
-use Rattle.machine.proofs.Waking.{sched-jumped, queues-jumped, groups-jumped, unsuspended_by, woken}
+use Rattle.machine.proofs.Waking.{sched-jumped, objects-jumped, groups-jumped, unsuspended_by, woken}
 use Rattle.machine.proofs.machine.Machine.increment_tick.Goals as goal
 
 pub returns-then-not-advance_if_none_due-clause-does : goal.returns-then-not-advance_if_none_due-clause-does
@@ -10,8 +10,8 @@ pub returns-else-not-advance_if_none_due-clause-does : goal.returns-else-not-adv
 returns-else-not-advance_if_none_due-clause-does c = λ log s h.
     let none = c.if-not-advance_if_none_due.false in
     let now = c.advance_if_none_due.ensures in
-    woken c.args.self.now log s h [] c.args.self.now.sched c.args.self.now.queues c.advance_if_none_due.new.self
+    woken c.args.self.now log s h [] c.args.self.now.sched c.args.self.now.objects c.advance_if_none_due.new.self
     c.args.self.now.groups (now.due s none h.stands.rest.clock) (sched-jumped c.args.self.now log s h 1)
-    (queues-jumped c.args.self.now log s h 1) (groups-jumped c.args.self.now log s h 1)
+    (objects-jumped c.args.self.now log s h 1) (groups-jumped c.args.self.now log s h 1)
     (now.woken s none h.stands.rest.clock (unsuspended_by s (sym h.stands.rest.suspensions ∙ c.requires.awake)))
     (sym h.stands.rest.suspensions ∙ c.requires.awake)

@@ -4,8 +4,8 @@ use Rattle.model.specs.Order.{tasks_of}
 use Rattle.model.specs.Time.{due}
 use Rattle.clock.specs.StandsFor.{at_jump}
 use Rattle.objects.specs.Items.{object_in}
-use Rattle.objects.specs.Queues.{CanHold}
-use Rattle.machine.proofs.Waking.{to_wake, due_there, sched-jumped, queues-jumped, groups-jumped, jumped}
+use Rattle.objects.specs.Objects.{CanHold}
+use Rattle.machine.proofs.Waking.{to_wake, due_there, sched-jumped, objects-jumped, groups-jumped, jumped}
 use Rattle.machine.proofs.machine.Machine.jump.Goals as goal
 
 pub make_all_ready-requires-clause-free : goal.make_all_ready-requires-clause-free
@@ -22,11 +22,11 @@ returns-clause-does c = λ log s h.
     (sched-jumped c.args.self.now log s h c.args.ticks) (rw is (due_there (at_jump c.args.ticks s))) in
     let left =
     c.make_all_ready.ensures.left (at_jump c.args.ticks s)
-    (queues-jumped c.args.self.now log s h c.args.ticks) (rw is (due_there (at_jump c.args.ticks s))) in
+    (objects-jumped c.args.self.now log s h c.args.ticks) (rw is (due_there (at_jump c.args.ticks s))) in
     let gone =
     c.make_all_ready.ensures.gone (at_jump c.args.ticks s)
     (groups-jumped c.args.self.now log s h c.args.ticks) (rw is (due_there (at_jump c.args.ticks s))) in
-    jumped c.args.self.now log s h c.args.ticks c.as_slice.result.now c.make_all_ready.new.sched c.make_all_ready.new.queues
+    jumped c.args.self.now log s h c.args.ticks c.as_slice.result.now c.make_all_ready.new.sched c.make_all_ready.new.objects
     c.jump_into.new.self c.make_all_ready.new.groups is ready left gone (c.jump_into.ensures.woken s h.stands.rest.clock)
 
 pub returns-clause-leaves : goal.returns-clause-leaves

@@ -3,7 +3,7 @@ use Rattle.sched.specs.Schedule.{Schedule, is_suspended, lined_up}
 use Rattle.clock.specs.StandsFor.{tasks_at}
 use Rattle.model.specs.Step.{nobody_ready}
 use Rattle.soundness.proofs.Reached.{reached_nobody}
-use Rattle.machine.proofs.Booting.{none_ready, none_due, priority_at, base_priority_at, queues_at_reset, nobody_awake-reset}
+use Rattle.machine.proofs.Booting.{none_ready, none_due, priority_at, base_priority_at, objects_at_reset, nobody_awake-reset}
 use Rattle.machine.proofs.Booting.{none_placing, ended_reset, nobody_suspended}
 use Rattle.model.specs.Suspension.{can_resume}
 use Rattle.groups.specs.StandsFor.{bits_wait}
@@ -43,8 +43,8 @@ returns-clause-stands c =
         };
         steps = refl;
         stopped = refl;
-        queues =
-            queues_at_reset c.args.app.now c.new-3.result
+        objects =
+            objects_at_reset c.args.app.now c.new-3.result
             (c.new-3.ensures.stands c.args.app.now (sym c.objects.ensures) c.well_formed-2.ensures.few) table;
         groups =
             c.new-4.ensures.stands _ table (λ group. refl)

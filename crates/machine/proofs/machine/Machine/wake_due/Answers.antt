@@ -4,8 +4,8 @@ use Rattle.model.specs.Order.{tasks_of}
 use Rattle.model.specs.Time.{due}
 use Rattle.clock.specs.StandsFor.{at_next_tick}
 use Rattle.objects.specs.Items.{object_in}
-use Rattle.objects.specs.Queues.{CanHold}
-use Rattle.machine.proofs.Waking.{to_wake, due_there, sched-jumped, queues-jumped, groups-jumped, unsuspended_by, woken}
+use Rattle.objects.specs.Objects.{CanHold}
+use Rattle.machine.proofs.Waking.{to_wake, due_there, sched-jumped, objects-jumped, groups-jumped, unsuspended_by, woken}
 use Rattle.machine.proofs.machine.Machine.wake_due.Goals as goal
 
 pub make_all_ready-requires-clause-free : goal.make_all_ready-requires-clause-free
@@ -20,12 +20,13 @@ returns-clause-does c = λ log s h.
     let ready =
     c.make_all_ready.ensures.ready (at_next_tick s) (sched-jumped c.args.self.now log s h 1) (rw is (due_there (at_next_tick s))) in
     let left =
-    c.make_all_ready.ensures.left (at_next_tick s) (queues-jumped c.args.self.now log s h 1) (rw is (due_there (at_next_tick s))) in
+    c.make_all_ready.ensures.left (at_next_tick s)
+    (objects-jumped c.args.self.now log s h 1) (rw is (due_there (at_next_tick s))) in
     let gone =
     c.make_all_ready.ensures.gone (at_next_tick s) (groups-jumped c.args.self.now log s h 1) (rw is (due_there (at_next_tick s))) in
     let none = sym h.stands.rest.suspensions ∙ c.requires.awake in
     woken c.args.self.now log s h c.as_slice.result.now c.make_all_ready.new.sched
-    c.make_all_ready.new.queues c.advance_into.new.self c.make_all_ready.new.groups is ready
+    c.make_all_ready.new.objects c.advance_into.new.self c.make_all_ready.new.groups is ready
     left gone (c.advance_into.ensures.woken s h.stands.rest.clock (unsuspended_by s none)) none
 
 pub returns-clause-leaves : goal.returns-clause-leaves
