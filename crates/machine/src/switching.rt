@@ -167,10 +167,10 @@ impl Machine {
         }
     }
 
-    /// A tick of the clock: who is due becomes Ready, in the order in which they began to sleep.
+    /// A tick of the clock, where no `suspend_all` is in force: who is due becomes Ready, in the order in which they began to sleep.
     // The step is twice in the program, so the compiler doesn't inline this by itself.
     #[inline(always)]
-    pub fn increment_tick(&mut self)
+    pub fn advance(&mut self)
         requires { CanAdvance self.old }
         ensures does { Moves self.old self.new increment_tick }
         ensures leaves { Leaves self.old self.new }

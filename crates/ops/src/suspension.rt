@@ -115,7 +115,7 @@ fn apply_one(machine: &mut Machine)
     ensures leaves { Leaves machine.old machine.new }
 {
     machine.clock.release();
-    machine.increment_tick();
+    machine.advance();
 }
 
 /// The ticks that are held are applied, one after another.

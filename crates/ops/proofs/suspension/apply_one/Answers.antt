@@ -3,8 +3,8 @@ use Rattle.clock.specs.Timeline.{Timeline}
 use Rattle.ops.proofs.Held.{released, applied_now}
 use Rattle.ops.proofs.suspension.apply_one.Goals as goal
 
-pub increment_tick-requires : goal.increment_tick-requires
-increment_tick-requires c =
+pub advance-requires : goal.advance-requires
+advance-requires c =
     let can = c.requires.can in
     let s = can.agrees.0 in
     let back =
@@ -21,10 +21,10 @@ pub returns-clause-does : goal.returns-clause-does
 returns-clause-does c = λ log s h.
     let some = c.requires.some in
     let e = h.stands.rest.clock.age in
-    applied_now c.increment_tick.new.self log s (sym h.stands.rest.suspensions ∙ c.requires.can.awake) (omega arith)
-    (c.increment_tick.ensures.does log _
+    applied_now c.advance.new.self log s (sym h.stands.rest.suspensions ∙ c.requires.can.awake) (omega arith)
+    (c.advance.ensures.does log _
     (released c.args.machine.now log s h c.release.new.self (c.release.ensures.stands s h.stands.rest.clock)))
 
 pub returns-clause-leaves : goal.returns-clause-leaves
 returns-clause-leaves c =
-    record { depth = c.increment_tick.ensures.leaves.depth; objects = c.increment_tick.ensures.leaves.objects }
+    record { depth = c.advance.ensures.leaves.depth; objects = c.advance.ensures.leaves.objects }

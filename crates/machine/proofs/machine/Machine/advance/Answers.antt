@@ -1,6 +1,6 @@
 use Rattle.std.proofs.Common.{[], sym, ◌∙◌}
 use Rattle.machine.proofs.Waking.{sched-jumped, objects-jumped, groups-jumped, unsuspended_by, woken}
-use Rattle.machine.proofs.machine.Machine.increment_tick.Goals as goal
+use Rattle.machine.proofs.machine.Machine.advance.Goals as goal
 
 pub returns-then-not-advance_if_none_due-clause-does : goal.returns-then-not-advance_if_none_due-clause-does
 returns-then-not-advance_if_none_due-clause-does c = λ log s h.
