@@ -36,7 +36,6 @@ fn base_run_of(file: &str) -> Job<'_> {
     Job::Run {
         file,
         at: None,
-        handler: None,
         state: false,
     }
 }
@@ -89,7 +88,6 @@ fn sinks_that_take_a_byte_a_call(rt: HostRuntime) {
     let job = Job::Run {
         file: "app.toml",
         at: None,
-        handler: None,
         state: false,
     };
     check_byte_by_byte(&rt, alloc, &job, ONE_MARK, 0, (ONE_MARK_REPORT, ""));

@@ -1,6 +1,6 @@
 //! The words of the command line that name a job.
 
-use campaign::Options;
+use campaign::{At, Options};
 use jobs::{Job, job_named};
 use report::{Ends, Shard, View};
 
@@ -97,11 +97,20 @@ const NAMED: [Named; 11] = [
 #[test]
 fn words_that_name_a_job(rt: HostRuntime) {
     for named in NAMED {
-        let job = Job::Run {
-            file: named.file,
-            at: named.at,
-            handler: named.handler,
-            state: named.state,
+        let file = named.file;
+        let state = named.state;
+        let job = match (named.at, named.handler) {
+            (None, None) => Job::Run {
+                file,
+                at: None,
+                state,
+            },
+            (Some(step), Some(handler)) => Job::Run {
+                file,
+                at: Some(At { step, handler }),
+                state,
+            },
+            _ => Job::RunUnpaired { file },
         };
         assert!(rt; job_named(rt.alloc(), named.words).ok() == Some(job));
     }

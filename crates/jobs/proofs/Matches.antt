@@ -19,7 +19,7 @@ use Rattle.campaign.specs.Options.{bad_option}
 use Rattle.report.specs.Shards.{Shard}
 use Rattle.report.specs.declared.view.View.{View}
 use Rattle.jobs.specs.declared.acting.Job.{Job}
-use Rattle.jobs.specs.declared.acting.Job.TheVariants.{Campaign, Run}
+use Rattle.jobs.specs.declared.acting.Job.TheVariants.{Campaign, Run, RunUnpaired}
 use Rattle.jobs.specs.Words.{IsJobOf, IsNoNumber, NamesNoOptions, faults_of, faults_without, number_in, number_of, rtosim_app}
 use Rattle.jobs.specs.Words.{shard_in_rows, value_faults, view_in}
 
@@ -60,7 +60,8 @@ none_if false = refl
 no_fault : (named : Option (List ℕ × List Row)) (job : Job) → IsJobOf named job → value_faults named ≡ []
 no_fault None job is = absurd is
 no_fault (Some named) job (inl is) = rw is.0 refl
-no_fault (Some named) (Run file at handler state) (inr is) = absurd is.1
+no_fault (Some named) (Run file at state) (inr is) = absurd is.1
+no_fault (Some named) (RunUnpaired file) (inr is) = absurd is.1
 no_fault (Some named) (Campaign file view shard options quiet) (inr is) =
     rw (is.1.1, is.1.2) (none_if (bytes_eq named.0 (codes "campaign")))
 

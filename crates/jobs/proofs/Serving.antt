@@ -12,13 +12,13 @@ use Rattle.campaign.proofs.Faulty.{campaign_serves_file_fault, reading_failed, s
 use Rattle.byte_io.specs.declared.read.ReadFault.{ReadFault}
 use Rattle.byte_io.specs.declared.read.ReadFault.TheVariants as read
 use Rattle.jobs.specs.declared.acting.Job.{Job}
-use Rattle.jobs.specs.declared.acting.Job.TheVariants.{Run, Campaign}
+use Rattle.jobs.specs.declared.acting.Job.TheVariants.{Run, RunUnpaired, Campaign}
 use Rattle.jobs.specs.declared.acting.JobFault.{JobFault}
 use Rattle.jobs.specs.declared.acting.JobFault.TheVariants.{Serve, TooLarge, Unpaired}
 use Rattle.jobs.specs.EndStates.{EndStateServed}
 use Rattle.jobs.proofs.EndStates.{end_state_file_fault}
 use Rattle.jobs.specs.Acting.{RunServed, CampaignServed, Served, Does, DoesOverFile, FailsToRead, LacksFile, OpensAndDoes, ReadsFor}
-use Rattle.jobs.specs.Acting.{injection_of, is_unpaired, most_bytes}
+use Rattle.jobs.specs.Acting.{is_unpaired, most_bytes}
 
 -- A file that could not be opened.
 pub lacks_file : (old : Option (List ℕ)) (wf : Bool) (f : ServeFault)
@@ -46,8 +46,9 @@ module _ (input other : Option (List ℕ)) (as_known : (bytes : List ℕ) → Kn
 
   served_as_known : (job : Job) (outcome : Result Bool ServeFault)
       → Served job input rf old new wf outcome → Served job other rf old new wf outcome
-  served_as_known (Run file at handler false) outcome h = run_as_known (injection_of (Run file at handler false)) outcome h
-  served_as_known (Run file at handler true) outcome h = end_state_as_known (injection_of (Run file at handler true)) outcome h
+  served_as_known (Run file at false) outcome h = run_as_known at outcome h
+  served_as_known (Run file at true) outcome h = end_state_as_known at outcome h
+  served_as_known (RunUnpaired file) outcome h = absurd h
   served_as_known (Campaign file view shard options quiet) outcome h = campaign_as_known view shard outcome h
 
   does_as_known : (job : Job) (outcome : Result Bool JobFault)
@@ -113,29 +114,31 @@ does_over_all job input bytes rf old new wf outcome reads h = rw reads.0 (does_a
 
 -- A fault of reading is one of what is asked for.
 served_fault : (job : Job) (file : Option (List ℕ)) (rf wf : Bool) (old : Option (List ℕ)) (e : ReadFault)
-    → (e ≡ read.Memory → file ≢ Some [])
+    → is_unpaired job ≡ false → (e ≡ read.Memory → file ≢ Some [])
     → rf ≡ is_read_fault {A = Bool} (Err (of_reading e)) → wf ≡ false → Served job file rf old old wf (Err (of_reading e))
-served_fault (Run name at handler false) file rf wf old read.Failed some failed working =
-    serves_file_fault (injection_of (Run name at handler false)) file rf wf
+served_fault (Run name at false) file rf wf old read.Failed paired some failed working =
+    serves_file_fault at file rf wf
     old Read (reading_failed file read.Failed some) failed refl working
-served_fault (Run name at handler false) file rf wf old read.Memory some failed working =
-    serves_file_fault (injection_of (Run name at handler false)) file rf wf
+served_fault (Run name at false) file rf wf old read.Memory paired some failed working =
+    serves_file_fault at file rf wf
     old Memory (reading_failed file read.Memory some) failed refl working
-served_fault (Run name at handler true) file rf wf old read.Failed some failed working =
-    end_state_file_fault (injection_of (Run name at handler true)) file rf wf
+served_fault (Run name at true) file rf wf old read.Failed paired some failed working =
+    end_state_file_fault at file rf wf
     old Read (reading_failed file read.Failed some) failed refl working
-served_fault (Run name at handler true) file rf wf old read.Memory some failed working =
-    end_state_file_fault (injection_of (Run name at handler true)) file rf wf
+served_fault (Run name at true) file rf wf old read.Memory paired some failed working =
+    end_state_file_fault at file rf wf
     old Memory (reading_failed file read.Memory some) failed refl working
-served_fault (Campaign name view shard options quiet) file rf wf old read.Failed some failed working =
+served_fault (RunUnpaired name) file rf wf old e paired some failed working = absurd (cc)
+served_fault (Campaign name view shard options quiet) file rf wf old read.Failed paired some failed working =
     campaign_serves_file_fault view shard file rf wf old Read (reading_failed file read.Failed some) failed refl working
-served_fault (Campaign name view shard options quiet) file rf wf old read.Memory some failed working =
+served_fault (Campaign name view shard options quiet) file rf wf old read.Memory paired some failed working =
     campaign_serves_file_fault view shard file rf wf old Memory (reading_failed file read.Memory some) failed refl working
 
 pub fails_to_read : (job : Job) (file : Option (List ℕ)) (rf wf : Bool) (old : Option (List ℕ)) (fault : ServeFault)
     → FailsToRead job file rf (Serve fault) → wf ≡ false → Does job file rf old old wf (Err (Serve fault))
-fails_to_read job file rf wf old Read h working = (h.0, served_fault job file rf wf old read.Failed (λ e. absurd (cc)) h.1 working)
-fails_to_read job file rf wf old Memory h working = (h.0, served_fault job file rf wf old read.Memory (λ e. h.2) h.1 working)
+fails_to_read job file rf wf old Read h working =
+    (h.0, served_fault job file rf wf old read.Failed h.0 (λ e. absurd (cc)) h.1 working)
+fails_to_read job file rf wf old Memory h working = (h.0, served_fault job file rf wf old read.Memory h.0 (λ e. h.2) h.1 working)
 fails_to_read job file rf wf old NotToml h working = absurd h
 fails_to_read job file rf wf old (Load fault) h working = absurd h
 fails_to_read job file rf wf old UnknownHandler h working = absurd h

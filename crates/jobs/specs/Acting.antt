@@ -1,7 +1,6 @@
 -- What doing a job comes to; the program's status and fault lines.
 use Rattle.std.specs.Prelude.{◌≡◌, ◌≢◌, ◌⊎◌, ◌==◌, ◌<◌, ◌≤◌, ◌*◌, ◌^◌, ℕ, length, IfSome, Bool, true, false, List, [], ◌∷◌, ◌++◌}
 use Rattle.std.specs.Prelude.{codes, decimal, Option, Some, None, Result, Ok, Err}
-use Rattle.std.specs.Option.{option_map_or}
 use Rattle.std.specs.Io.KnownBytes.{Appends, Keeps}
 use Rattle.byte_io.specs.Bytes.{SentFront}
 use Rattle.byte_io.specs.Line.{joined_line}
@@ -21,7 +20,7 @@ use Rattle.jobs.specs.EndStates.{EndStateServed}
 use Rattle.report.specs.Shards.{Shard}
 use Rattle.report.specs.declared.view.View.{View}
 use Rattle.jobs.specs.declared.acting.Job.{Job}
-use Rattle.jobs.specs.declared.acting.Job.TheVariants.{Run, Campaign}
+use Rattle.jobs.specs.declared.acting.Job.TheVariants.{Run, RunUnpaired, Campaign}
 use Rattle.jobs.specs.declared.acting.JobFault.{JobFault}
 use Rattle.jobs.specs.declared.acting.JobFault.TheVariants.{Unpaired, TooLarge, Serve}
 
@@ -29,28 +28,22 @@ use Rattle.jobs.specs.declared.acting.JobFault.TheVariants.{Unpaired, TooLarge, 
 
 -- the name of the file that a job reads
 abbrev pub file_of : Job → List ℕ
-file_of (Run file at handler state) = file.now
+file_of (Run file at state) = file.now
+file_of (RunUnpaired file) = file.now
 file_of (Campaign file view shard options quiet) = file.now
 
 -- the name of the handler that a job injects; empty where it has none
 abbrev pub handler_of : Job → List ℕ
-handler_of (Run file at handler state) = option_map_or (λ name. name.now) handler []
+handler_of (Run file (Some at) state) = at.handler.now
+handler_of (Run file None state) = []
+handler_of (RunUnpaired file) = []
 handler_of (Campaign file view shard options quiet) = []
 
--- The job has a step and no handler, or a handler and no step.
+-- A step was named for the job and no handler, or a handler and no step.
 abbrev pub is_unpaired : Job → Bool
-is_unpaired (Run file (Some step) None state) = true
-is_unpaired (Run file None (Some handler) state) = true
-is_unpaired (Run file (Some step) (Some handler) state) = false
-is_unpaired (Run file None None state) = false
+is_unpaired (Run file at state) = false
+is_unpaired (RunUnpaired file) = true
 is_unpaired (Campaign file view shard options quiet) = false
-
--- the injection that a job asks for, where it has both
-abbrev pub injection_of : Job → Option At
-injection_of (Run file (Some step) (Some handler) state) = Some (record { step = step; handler = handler })
-injection_of (Run file (Some step) None state) = None
-injection_of (Run file None handler state) = None
-injection_of (Campaign file view shard options quiet) = None
 
 -- Every row of a campaign, or of a part of it, passes.
 abbrev pub all_pass : Totals → Bool
@@ -76,10 +69,11 @@ CampaignServed view shard input read_failed old new write_failed (Err fault) =
 -- What a job asks for is served, and passes or not.
 abbrev pub Served : Job → (input : Option (List ℕ)) → (read_failed : Bool) → (old new : Option (List ℕ)) → (write_failed : Bool)
     → Result Bool ServeFault → Type 0
-Served (Run file at handler false) input read_failed old new write_failed outcome =
-    RunServed (injection_of (Run file at handler false)) input read_failed old new write_failed outcome
-Served (Run file at handler true) input read_failed old new write_failed outcome =
-    EndStateServed (injection_of (Run file at handler true)) input read_failed old new write_failed outcome
+Served (Run file at false) input read_failed old new write_failed outcome =
+    RunServed at input read_failed old new write_failed outcome
+Served (Run file at true) input read_failed old new write_failed outcome =
+    EndStateServed at input read_failed old new write_failed outcome
+Served (RunUnpaired file) input read_failed old new write_failed outcome = ⊥
 Served (Campaign file view shard options quiet) input read_failed old new write_failed outcome =
     CampaignServed view shard input read_failed old new write_failed outcome
 

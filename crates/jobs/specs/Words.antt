@@ -15,6 +15,7 @@ use Rattle.clap.specs.declared.builder.arg.Arg.{Arg}
 use Rattle.clap.specs.declared.builder.command.Command.{Command}
 use Rattle.clap.specs.declared.builder.command.Command.TheViews.{out-Command as fields_of}
 use Rattle.model.specs.Scripts.{last_point}
+use Rattle.campaign.specs.declared.at.At.{At}
 use Rattle.campaign.specs.declared.options.BadOption.{BadOption}
 use Rattle.campaign.specs.declared.options.Options.{Options}
 use Rattle.campaign.specs.Options.{bad_option}
@@ -24,7 +25,7 @@ use Rattle.report.specs.declared.view.Ends.{Ends}
 use Rattle.report.specs.declared.view.View.{View}
 use Rattle.jobs.specs.Shown.{ends_of, shard_named}
 use Rattle.jobs.specs.declared.acting.Job.{Job}
-use Rattle.jobs.specs.declared.acting.Job.TheVariants.{Run, Campaign}
+use Rattle.jobs.specs.declared.acting.Job.TheVariants.{Run, RunUnpaired, Campaign}
 
 -- ---- the command
 
@@ -132,14 +133,25 @@ abbrev pub is_given : Option Text → Bool
 is_given None = false
 is_given (Some text) = bytes_eq text (codes "true")
 
--- The job is to run the file that the words of `run` name, with the step and the handler that they name. It writes the end state
--- too, or doesn't.
+-- The words of `run` name the step and the handler of this injection; or they name neither, and there is none.
+abbrev pub NamesInjection : List Row → Option At → Type 0
+NamesInjection rows (Some at) = IsStepOf rows (Some at.step) × (first_of (codes "handler") rows ≡ Some at.handler.now)
+NamesInjection rows None = IsStepOf rows None × (first_of (codes "handler") rows ≡ None)
+
+-- They name one of the two alone.
+abbrev pub NamesHalf : List Row → Type 0
+NamesHalf rows =
+    ((step : ℕ) × IsStepOf rows (Some step) × (first_of (codes "handler") rows ≡ None))
+    ⊎ ((handler : Text) × IsStepOf rows None × (first_of (codes "handler") rows ≡ Some handler))
+
+-- The job is to run the file that the words of `run` name, with the injection that they name. It writes the end state too, or
+-- doesn't. Or it is that of words that name half of an injection.
 abbrev pub IsRunOf : List Row → Job → Type 0
-IsRunOf rows (Run file at handler state) =
+IsRunOf rows (Run file at state) =
     (first_of (codes "FILE") rows ≡ Some file.now)
-    × IsStepOf rows at
-    × (first_of (codes "handler") rows ≡ option_map (λ name. name.now) handler)
+    × NamesInjection rows at
     × (is_given (first_of (codes "state") rows) ≡ state)
+IsRunOf rows (RunUnpaired file) = (first_of (codes "FILE") rows ≡ Some file.now) × NamesHalf rows
 IsRunOf rows (Campaign file view shard options quiet) = ⊥
 
 -- the number of an option
@@ -175,7 +187,8 @@ shard_in_rows rows = shard_of_words (first_of (codes "shard") rows)
 -- The job is the campaign of the file that the words of `campaign` name, with the view, the shard and the options that they name,
 -- quiet or not.
 abbrev pub IsCampaignOf : List Row → Job → Type 0
-IsCampaignOf rows (Run file at handler state) = ⊥
+IsCampaignOf rows (Run file at state) = ⊥
+IsCampaignOf rows (RunUnpaired file) = ⊥
 IsCampaignOf rows (Campaign file view shard options quiet) =
     (first_of (codes "FILE") rows ≡ Some file.now) × (view_in rows ≡ Some view)
     × (shard_in_rows rows ≡ Some shard) × AreOptionsOf rows options

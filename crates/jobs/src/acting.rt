@@ -22,13 +22,16 @@ use std::thread::Threads;
 /// What the program is to do.
 #[derive(Clone, Copy, PartialEq, Eq)]
 pub enum Job<'a> {
-    /// Write the report of the run of this file's application: the base run, or row 0, where the handler of this name is
-    /// injected before this step. A step and a handler go together. The end state is written too, or isn't.
+    /// Write the report of the run of this file's application: the base run, or row 0, with this injection. The end state is
+    /// written too, or isn't.
     Run {
         file: &'a str,
-        at: Option<u32>,
-        handler: Option<&'a str>,
+        at: Option<At<'a>>,
         state: bool,
+    },
+    /// Nothing but to open this file: a run was asked for with a step and no handler, or with a handler and no step.
+    RunUnpaired {
+        file: &'a str,
     },
     /// Write what the view shows of the campaign of this file, or of this part of it, worked off as the options say. Where it is quiet,
     /// nobody learns how far it has come.
@@ -44,7 +47,7 @@ pub enum Job<'a> {
 /// Why a job was not done, or not as a whole.
 #[derive(Clone, Copy)]
 pub enum JobFault {
-    /// The job has a step and no handler, or a handler and no step.
+    /// A step is named and no handler, or a handler and no step.
     Unpaired,
     /// The job's file is larger than 64 MiB (profile).
     TooLarge,
@@ -61,14 +64,14 @@ impl From<ServeFault> for JobFault {
 }
 
 impl<'a> Job<'a> {
-    ghost use Rattle.jobs.specs.Acting.{file_of, handler_of, injection_of, is_unpaired, name_told};
+    ghost use Rattle.jobs.specs.Acting.{file_of, handler_of, is_unpaired, name_told};
 
     /// The name of the file that it reads.
     pub fn file(&self) -> &'a str
         ensures { result.now ≡ file_of self.now }
     {
         match self {
-            Job::Run { file, .. } | Job::Campaign { file, .. } => *file,
+            Job::Run { file, .. } | Job::RunUnpaired { file } | Job::Campaign { file, .. } => *file,
         }
     }
 
@@ -77,8 +80,8 @@ impl<'a> Job<'a> {
         ensures { result.now ≡ handler_of self.now }
     {
         match self {
-            Job::Run { handler, .. } => handler.unwrap_or(""),
-            Job::Campaign { .. } => "",
+            Job::Run { at: Some(at), .. } => at.handler,
+            _ => "",
         }
     }
 
@@ -92,19 +95,13 @@ impl<'a> Job<'a> {
         }
     }
 
-    // The injection that it asks for, if it asks for one. The error is `Unpaired`.
-    fn injection(&self) -> Result<Option<At<'a>>, JobFault>
-        ensures { MatchResult result
-            (λ at. (is_unpaired self.now ≡ false) × (at ≡ injection_of self.now))
-            (λ fault. (is_unpaired self.now ≡ true) × (fault ≡ job_fault.Unpaired)) }
+    // Whether its step and its handler don't go together.
+    fn is_unpaired(&self) -> bool
+        ensures { result ≡ is_unpaired self.now }
     {
-        let Job::Run { at, handler, .. } = self else {
-            return Ok(None);
-        };
-        match (*at, *handler) {
-            (None, None) => Ok(None),
-            (Some(step), Some(handler)) => Ok(Some(At { step, handler })),
-            _ => Err(JobFault::Unpaired),
+        match self {
+            Job::RunUnpaired { .. } => true,
+            Job::Run { .. } | Job::Campaign { .. } => false,
         }
     }
 }
@@ -210,10 +207,18 @@ fn serve_job<T: Threads + Wait + Sync, W: Sink, G: Gate + Sync>(
     ensures { Does job.now (Some bytes.now) false
         (W.held writer.old) (W.held writer.new) (W.has_failed writer.new) result }
 {
-    let at = job.injection()?;
     let served = match job {
-        Job::Run { state: false, .. } => serve_run_at(alloc, at, bytes, writer),
-        Job::Run { state: true, .. } => serve_end_state_at(alloc, at, bytes, writer),
+        Job::RunUnpaired { .. } => return Err(JobFault::Unpaired),
+        Job::Run {
+            at,
+            state: false,
+            ..
+        } => serve_run_at(alloc, *at, bytes, writer),
+        Job::Run {
+            at,
+            state: true,
+            ..
+        } => serve_end_state_at(alloc, *at, bytes, writer),
         Job::Campaign {
             view,
             shard,
@@ -257,7 +262,7 @@ fn all_for<R: Source>(alloc: Global, job: &Job<'_>, reader: &mut R) -> Result<Ve
         (λ fault. FailsToRead job.now (R.left reader.old) (R.has_failed reader.new) (job_fault.Serve fault)) }
     ensures unread { is_unpaired job.now ≡ true → R.left reader.new ≡ R.left reader.old }
 {
-    if job.injection().is_err() {
+    if job.is_unpaired() {
         return Ok(Vec::new(alloc));
     }
     match read_all(alloc, reader) {
@@ -309,7 +314,7 @@ fn bytes_for<R: Source>(alloc: Global, job: &Job<'_>, reader: &mut R) -> Result<
     ensures few { IfOk result (λ bytes. length bytes.items ≤ most_bytes) }
     ensures unread { is_unpaired job.now ≡ true → R.left reader.new ≡ R.left reader.old }
 {
-    if job.injection().is_err() {
+    if job.is_unpaired() {
         return Ok(Vec::new(alloc));
     }
     match read_at_most(alloc, reader, MOST) {

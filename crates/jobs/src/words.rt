@@ -7,7 +7,7 @@ ghost use Rattle.jobs.specs.Words.{file_rule, at_rule, handler_rule, state_rule,
 
 use crate::acting::Job;
 use crate::shown::{ends_of, shard_named};
-use campaign::Options;
+use campaign::{At, Options};
 use clap::error::ErrorKind;
 use clap::{Arg, ArgAction, ArgMatches, Command, Error, value_parser};
 use report::{Ends, Shard, View};
@@ -261,15 +261,21 @@ fn run_job<'a>(matches: &ArgMatches<'a>) -> Option<Job<'a>>
     ensures none { IsNone result → NamesNoRun (rows_of (found_of matches.now)) }
 {
     let file = text(matches, "FILE")?;
-    let at = step_of(matches)?;
-    let handler = text(matches, "handler");
+    let step = step_of(matches)?;
     let state = is_given(matches, "state");
-    Some(Job::Run {
-        file,
-        at,
-        handler,
-        state,
-    })
+    match (step, text(matches, "handler")) {
+        (None, None) => Some(Job::Run {
+            file,
+            at: None,
+            state,
+        }),
+        (Some(step), Some(handler)) => Some(Job::Run {
+            file,
+            at: Some(At { step, handler }),
+            state,
+        }),
+        _ => Some(Job::RunUnpaired { file }),
+    }
 }
 
 // Whether a flag is given.
