@@ -69,8 +69,8 @@ impl From<LoadError> for ServeFault {
     }
 }
 
-/// The application of a file.
-pub(crate) fn app_in(alloc: Global, bytes: &[u8]) -> Result<App, ServeFault>
+/// The application of a file of these bytes.
+pub fn app_in(alloc: Global, bytes: &[u8]) -> Result<App, ServeFault>
     ensures app { MatchResult result (IsFileOf bytes.now) (HasFileFault bytes.now) }
     ensures read { is_read_fault result ≡ false }
     ensures write { is_write_fault result ≡ false }

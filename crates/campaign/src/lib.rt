@@ -35,7 +35,7 @@ mod writing;
 
 pub use at::At;
 pub use campaign_report::Report;
-pub use file::ServeFault;
+pub use file::{ServeFault, app_in};
 pub use gate::{Gate, NoGate};
 pub use making::{Finished, campaign};
 pub use one_run::{serve_run, serve_run_of};

@@ -3,31 +3,16 @@ ghost use Rattle.std.specs.Prelude.{◌≡◌, ℕ, List, Some, false, IfOk, Mat
 ghost use Rattle.model.specs.Run.{IsRow, IsRun, plan_of, state_after};
 ghost use Rattle.outcome.specs.EndStates.{end_state_of};
 ghost use Rattle.campaign.specs.OneRun.{IsAsked, IsRunFault};
-ghost use Rattle.campaign.specs.Serving.{HasFileFault, IsFileOf, is_read_fault, is_write_fault};
+ghost use Rattle.campaign.specs.Serving.{IsFileOf};
 ghost use Rattle.jobs.specs.EndStates.{EndStateServed, ServesEndState, end_state_of_run};
 
 use byte_io::Sink;
-use campaign::{At, ServeFault};
+use campaign::{At, ServeFault, app_in};
 use kernel::run_to_end_state;
 use model::{App, End, Memory, Meter, Plan, Point, Run};
 use outcome::EndState;
 use report::{Title, write_run_and_end_state};
-use script::FromDocument;
 use std::alloc::Global;
-
-// The application of a file.
-fn app_in(alloc: Global, bytes: &[u8]) -> Result<App, ServeFault>
-    ensures app { MatchResult result (IsFileOf bytes.now) (HasFileFault bytes.now) }
-    ensures read { is_read_fault result ≡ false }
-    ensures write { is_write_fault result ≡ false }
-{
-    let document = match toml::table_from_slice(alloc, bytes) {
-        Ok(document) => document,
-        Err(error) if error.is_memory() => return Err(ServeFault::Memory),
-        Err(_) => return Err(ServeFault::NotToml),
-    };
-    Ok(App::from_document(alloc, &document)?)
-}
 
 // The run of this plan, and its end state.
 fn ended_run(alloc: Global, app: &App, plan: &Plan) -> Result<(Run, EndState), Memory>
