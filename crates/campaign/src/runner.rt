@@ -155,10 +155,7 @@ impl Runner {
         ensures table { self.new.table ≡ self.old.table }
         ensures passed { IsNoted (all_of self.old.trail) self.old.kernel self.old.passed.items self.new.passed.items }
     {
-        let Ok(kernel) = self.kernel.snapshot(self.alloc) else {
-            return;
-        };
-        let Ok(kernel) = Box::new(self.alloc, kernel) else {
+        let Ok(kernel) = self.kernel.boxed_snapshot(self.alloc) else {
             return;
         };
         let from = self.trail.len();

@@ -79,6 +79,13 @@ impl Kernel {
         self.machine.snapshot(alloc)
     }
 
+    /// As `snapshot`, in a box.
+    pub fn boxed_snapshot(&self, alloc: Global) -> Result<Box<Snapshot>, Memory>
+        ensures { IfOk result (λ snapshot. snapshot.value ≡ self.now) }
+    {
+        self.machine.boxed_snapshot(alloc)
+    }
+
     /// Becomes the kernel of a snapshot, in place. It takes no memory.
     pub fn restore(&mut self, snapshot: &Snapshot)
         ensures { self.new ≡ snapshot.now }

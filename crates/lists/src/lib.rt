@@ -1,9 +1,11 @@
 //! Doubly linked lists over a fixed number of nodes, which take no memory.
 //!
 //! A table has `L` lists and `N` nodes. A node is named by its number, is in one list at most, and has
-//! a value there. Each call takes constant time, with these exceptions. `Table::new` and
+//! a value there. Each call takes constant time, with these exceptions. `Table::new`, `Table::copy` and
 //! `Table::set_from` write the whole table, and `Table::is_same` reads it. `Table::insert_sorted` walks
 //! along its list from the first node, and `Table::insert_sorted_from_back` from the last.
+//!
+//! Tables are compared four numbers at a time. So are lists of numbers by `are_same`, and bytes by `are_same_bytes`.
 #![tactic(auto)]
 
 mod ids;

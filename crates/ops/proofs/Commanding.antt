@@ -41,7 +41,7 @@ same_after app task object Decide s a b = refl
 same_after app task object Place s a b = refl
 same_after app task object Unlock s a b = refl
 same_after app task object Leave s a b = refl
-same_after app task object Try s a b = refl
+same_after app task object Try s a b = absurd (b refl)
 
 module _ (app : Application) (old new : Machine) (old_log new_log : Logged) (task : ℕ) where
   phase_is : (s : State) → AtAny old old_log.told s → (progress_in old.progress task).call.phase ≡ (call_at s task).phase
