@@ -114,9 +114,8 @@ impl Loops {
     }
 
     /// The innermost loop is left, if one is open.
-    // Apart, so that the turns of a loop, of which few are its last, don't bear it.
-    #[cold]
-    #[inline(never)]
+    // A call would cost more than what it does.
+    #[inline(always)]
     pub(crate) fn leave(&mut self)
         ensures { self.new ≡ drop 1 self.old }
     {

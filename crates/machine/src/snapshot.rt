@@ -71,7 +71,7 @@ impl Machine {
         Ok(snapshot)
     }
 
-    /// The kernel as it is now, with what its queues are.
+    /// The kernel as it is now, with this snapshot of its objects.
     #[inline(always)]
     fn snapshot_with(&self, objects: ObjectsSnapshot) -> Snapshot
         requires { objects ≡ self.now.objects }
