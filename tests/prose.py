@@ -1,5 +1,5 @@
 """Cases of tests/check about the documents: no sentence is too long, each link leads somewhere, README is short, and what it shows and
-counts is so; and about documents and comments: their words are plain.
+counts is so; about documents and comments: their words are plain; and about definitions and proofs: no line is too wide.
 
     tests/prose.py    prints each sentence that is too long, and each word that isn't plain, with its file and line"""
 import glob
@@ -11,6 +11,7 @@ from cases import case, equal, holds
 from running import ROOT, stored
 
 MOST_WORDS = 40
+MOST_COLUMNS = 132
 README_LINES = 130
 BEGINS_A_BLOCK = re.compile(r"^\s*(#+|[-*]|\d+\.)\s")
 # Words that stop a reader: a program or a value prints, reports, says or shows; it is, lies or holds, and represents or means.
@@ -125,6 +126,13 @@ def sentences_are_counted_by_their_words():
 @case
 def documents_and_comments_have_plain_words():
     equal(places_not_plain(), [])
+
+
+@case
+def no_line_of_a_definition_or_a_proof_has_more_than_132_columns():
+    names = sorted(os.path.relpath(it, ROOT) for kind in ("specs", "proofs") for it in glob.glob(f"{ROOT}/crates/*/{kind}/**/*.antt", recursive=True))
+    assert len(names) > 900, f"{len(names)} files"
+    equal([f"{name}:{number}" for name in names for number, line in enumerate(text_of(name).splitlines(), 1) if len(line) > MOST_COLUMNS], [])
 
 
 @case
