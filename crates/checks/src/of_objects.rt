@@ -190,7 +190,10 @@ fn give(objects: &mut Objects, task: TaskId) -> Result<(), NotHolder> {
 /// Compares who holds the mutex, and how many mutexes the task 6 holds.
 fn has_holder(rt: &impl Abort, objects: &Objects, holder: Option<TaskId>, held: u8) {
     assert!(rt; objects.holder(MUTEX) == holder, "{holder:?} holds it");
-    assert!(rt; objects.mutexes_held(TaskId { number: 6 }) == held, "{held}");
+    assert!(rt;
+        objects.mutexes_held(TaskId { number: 6 }) == held,
+        "{held}"
+    );
 }
 
 /// Makes a call that is possible, and answers 1. It is no `overwrite`.
