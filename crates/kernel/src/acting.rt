@@ -22,7 +22,8 @@ use ops::script::{branch, close_turn, end_if, expect, leave_loop, mark, open_loo
 use ops::suspension::{call_resume, call_suspend};
 use ops::time::{call_yield, delay, delay_until, since, stamp, time, use_up};
 
-/// What may come behind a step that reported nothing, and is done with the step's parts at hand.
+/// What may come behind a step, and is done next with the step's parts at hand. Where that isn't `Suspended`, the step has to have
+/// reported nothing.
 #[derive(Clone, Copy, PartialEq)]
 pub(crate) enum Following {
     /// Nothing: any other step.
@@ -33,6 +34,8 @@ pub(crate) enum Following {
     Command,
     /// The op to which its task has come amid its script, while nothing else changed.
     NextOp,
+    /// Those that come while a `suspend_all` is in force.
+    Suspended,
 }
 
 impl Following {
@@ -126,7 +129,7 @@ pub(crate) fn act<L: Log>(
             wait_bits(machine, app, task, group, condition, ticks, log);
             return Following::Steps;
         }
-        Op::Expect(condition) => return Following::op_if(expect(machine, app, task, condition)),
+        Op::Expect(ref condition) => return Following::op_if(expect(machine, app, task, condition)),
         Op::Repeat(turns) => return Following::op_if(open_loop(machine, app, task, turns)),
         Op::End => return Following::op_if(close_turn(machine, app, task)),
         Op::If(condition) => return Following::op_if(branch(machine, app, task, condition)),
@@ -148,7 +151,10 @@ pub(crate) fn act<L: Log>(
         Op::GetBits(group) => get_bits(machine, app, task, group, log),
         Op::Suspend(other) => call_suspend(machine, app, task, other, log),
         Op::Resume(other) => call_resume(machine, app, task, other, log),
-        Op::SuspendAll => call_suspend_all(machine, app, task, log),
+        Op::SuspendAll => {
+            call_suspend_all(machine, app, task, log);
+            return Following::Suspended;
+        }
         Op::ResumeAll => machine.misuse(task, Misuse::NotSuspended),
         Op::NextCommand(queue) => {
             return Following::command_if(next_command(machine, app, task, queue, log));

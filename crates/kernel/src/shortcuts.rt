@@ -9,11 +9,13 @@ use crate::bits::{letting_go, pass_bits};
 use crate::commands::pass_command;
 use crate::in_call::{deciding, pass_call, pass_leave};
 use crate::quiet::{may_be_quiet, pass_quiet_steps, ticks_to_work};
+use crate::suspended::go_on_while_suspended;
 use machine::{Machine, Trail};
 use model::{App, Injection, Limits, TaskId};
 
 /// Does the steps after one that reported nothing, if they are such as are done one after another (see `pass_on`), and the one
-/// in which a call lets go of the scheduler. It does none where an op is done that nothing may follow.
+/// in which a call lets go of the scheduler; or those that come while a `suspend_all` is in force. It does none where an op is done that
+/// nothing may follow.
 #[inline(always)]
 pub(crate) fn pass_more(
     kernel: &mut Machine,
@@ -29,7 +31,14 @@ pub(crate) fn pass_more(
     ensures { GoesOn app.now limits.now until kernel.old kernel.new (all_of trail.old) (all_of trail.new) }
 {
     app.well_formed();
-    if following == Following::Nothing || following == Following::NextOp || !trail.is_silent() {
+    if following == Following::Nothing || following == Following::NextOp {
+        return;
+    }
+    if following == Following::Suspended {
+        go_on_while_suspended(kernel, app, injections, until, limits, trail);
+        return;
+    }
+    if !trail.is_silent() {
         return;
     }
     if following == Following::Command {

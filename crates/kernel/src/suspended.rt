@@ -130,7 +130,7 @@ fn act_on<L: Log>(machine: &mut Machine, app: &App, task: TaskId, op: &Op, log: 
         Op::Mark(number) => mark(machine, app, task, number, log),
         Op::Stamp => stamp(machine, app, task),
         Op::Since => since(machine, app, task, log),
-        Op::Expect(condition) => {
+        Op::Expect(ref condition) => {
             expect(machine, app, task, condition);
         }
         Op::Repeat(turns) => {

@@ -26,9 +26,10 @@ pub fn mark<L: Log>(machine: &mut Machine, app: &App, task: TaskId, number: u32,
 }
 
 /// `expect`: the run ends where the condition doesn't hold of the last answer.
-pub fn expect(machine: &mut Machine, app: &App, task: TaskId, condition: AnswerCondition) -> bool
+// The condition isn't copied, since most steps need no room for one.
+pub fn expect(machine: &mut Machine, app: &App, task: TaskId, condition: &AnswerCondition) -> bool
     requires runs { Runs machine.old task }
-    ensures does { Moves machine.old machine.new (expect app.now task condition) }
+    ensures does { Moves machine.old machine.new (expect app.now task condition.now) }
     ensures amid { result ≡ true → IsPlaced machine.old machine.new task }
 {
     let progress = machine.progress(task);
