@@ -18,7 +18,7 @@ use Rattle.machine.proofs.Acting.{agrees_after}
 
 -- Where no `suspend_all` is in force, an op that is no misuse does what it does.
 pub freely : (app : Application) (old new : Machine) (old_log new_log : Logged) (task : ℕ) (op : Op)
-    → old.suspensions ≡ 0 → ((s : State) → own_misuse s task op ≡ None) → op ≢ SuspendAll
+    → old.sched.suspensions ≡ 0 → ((s : State) → own_misuse s task op ≡ None) → op ≢ SuspendAll
     → DoesAny 65 old old_log new new_log (act app task op)
     → DoesAny 65 old old_log new new_log (λ s. act_unless app task (misuse s task op) op s)
 freely app old new old_log new_log task op none fine ne d = record {
@@ -56,7 +56,8 @@ other_op op other e = true≢false (ap is_suspend_all (sym e) ∙ other)
 
 -- the same of an op that is known by its form
 module _ (app : Application) (old new : Machine) (old_log new_log : Logged) (task : ℕ) (op form : Op) (is : op ≡ form)
-    (none : old.suspensions ≡ 0) (fine : (s : State) → own_misuse s task form ≡ None) (other : is_suspend_all form ≡ false) where
+    (none : old.sched.suspensions ≡ 0) (fine : (s : State) → own_misuse s task form ≡ None)
+    (other : is_suspend_all form ≡ false) where
   pub any_by_form : (count : ℕ) → count ≤ 65 → DoesAny count old old_log new new_log (act app task form)
       → DoesAny 65 old old_log new new_log (λ s. act_unless app task (misuse s task op) op s)
   any_by_form count within d =
@@ -70,7 +71,8 @@ module _ (app : Application) (old new : Machine) (old_log new_log : Logged) (tas
       any_by_form count within (does_any count old new old_log new_log (act app task form) agrees d)
 
 pub can_tick_still : (app : Application) (k new : Machine) → CanTick app k → new.sched.depth ≡ k.sched.depth → new.clock ≡ k.clock
-    → new.objects ≡ k.objects → new.suspensions ≡ k.suspensions → (deed : State → State) → Moves k new deed → CanTick app new
+    → new.objects ≡ k.objects → new.sched.suspensions ≡ k.sched.suspensions → (deed : State → State) → Moves k new deed
+    → CanTick app new
 can_tick_still app k new c depth clock objects suspensions deed does = record {
   advance = record {
     agrees = agrees_after k new [] [] c.advance.agrees deed (λ s h. does [] s h);

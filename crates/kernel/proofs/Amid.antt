@@ -195,9 +195,9 @@ silently k new old_log new_log deed does begun silent s h =
     (does.at s (subst (λ (es : List Event). AtAny k es s) (sym begun) h))
 
 -- Each `suspend_all` in force holds the scheduler.
-pub suspensions_hold : (k : Machine) (s : State) → Stands k s → k.suspensions ≤ k.sched.depth
-suspensions_hold k s (Placed h) = let d = h.sched.depth in let n = h.rest.suspensions in omega arith
-suspensions_hold k s (Placing task list b) = let d = b.sched.depth in let n = b.suspensions in omega arith
+pub suspensions_hold : (k : Machine) (s : State) → Stands k s → k.sched.suspensions ≤ k.sched.depth
+suspensions_hold k s (Placed h) = let d = h.sched.depth in let n = h.sched.suspensions in omega arith
+suspensions_hold k s (Placing task list b) = let d = b.sched.depth in let n = b.sched.suspensions in omega arith
 
 -- ---- the step
 
@@ -210,8 +210,8 @@ module _ (app : Application) (limits : Limits) (k new : Machine) (task : ℕ) (o
   pub still_runs : new.sched.current ≡ Some task
   still_runs = ap (λ (v : Schedule). v.current) same_sched ∙ at.current
 
-  pub still_awake : new.suspensions ≡ 0
-  still_awake = ap (λ (x : Machine). x.suspensions) placed.1 ∙ at.awake
+  pub still_awake : new.sched.suspensions ≡ 0
+  still_awake = ap (λ (v : Schedule). v.suspensions) same_sched ∙ at.awake
 
   still_ready : is_ready_in new.sched task ≡ true
   still_ready = ap (λ (v : Schedule). is_ready_in v task) same_sched ∙ (can_of_script app k task op script can).runs.ready

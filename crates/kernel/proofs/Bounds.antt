@@ -201,7 +201,7 @@ module _ (app : Application) (formed : IsWellFormed app) (k : Machine) (state : 
     no_lock = unlocked k.objects.lock state.locked placed.rest.objects.locked (reached.locked free)
 
   -- no `suspend_all` is in force
-  module _ (awake : k.suspensions ≡ 0) where
+  module _ (awake : k.sched.suspensions ≡ 0) where
     calm : state.suspensions ≡ 0
     calm = sym (suspensions_are k state stands) ∙ awake
 
@@ -310,7 +310,7 @@ module _ (app : Application) (formed : IsWellFormed app) (k : Machine) (state : 
             let H : Progress → Type 0 = λ p. p.previous_wake ≤ k.clock.now in
             subst H (sym same) (rw (now_is k state stands) lower)
 
-        can : k.suspensions ≡ 0 → IsBrief op → Can app k task op
+        can : k.sched.suspensions ≡ 0 → IsBrief op → Can app k task op
         can awake brief = record {
           runs = runs_on free;
           tick = can_tick awake free;
@@ -322,21 +322,21 @@ module _ (app : Application) (formed : IsWellFormed app) (k : Machine) (state : 
           time = let l = time_low in omega arith;
         }
 
-        can_decide : k.suspensions ≡ 0 → CanDecide k task
+        can_decide : k.sched.suspensions ≡ 0 → CanDecide k task
         can_decide awake =
             record { runs = runs_on free; agrees = (state, placed free); free = no_lock free; depth = not_held awake free }
 
-      brief_can : k.suspensions ≡ 0 → IsBrief op → Can app k task op
+      brief_can : k.sched.suspensions ≡ 0 → IsBrief op → Can app k task op
       brief_can awake brief = can (start_only app formed state task reached on op brief at_op) awake brief
 
-      can_leave : k.suspensions ≡ 0 → (call_at state task).phase ≡ Leave → CanLeave k task
+      can_leave : k.sched.suspensions ≡ 0 → (call_at state task).phase ≡ Leave → CanLeave k task
       can_leave awake e =
           record { call = in_call Leave e (λ q. absurd (cc)); held = held_once awake (held_in Leave e refl); awake = awake }
 
     -- a call on an object that waits there, at most for this many ticks
     module _ (object : ℕ) (access : Access) (ticks : Option ℕ) (op : Op)
         (is : op_at app task (progress_in k.progress task).op_index ≡ Some op) (way : course (Some op) ≡ OnObject object)
-        (fit : fits_object app object access ≡ true) (range : is_wait ticks ≡ true) (awake : k.suspensions ≡ 0) where
+        (fit : fits_object app object access ≡ true) (range : is_wait ticks ≡ true) (awake : k.sched.suspensions ≡ 0) where
       can_try : state.call_hold ≡ false → CanTry k task object access
       can_try free =
           record {
@@ -388,7 +388,7 @@ module _ (app : Application) (formed : IsWellFormed app) (k : Machine) (state : 
 
     -- a set of bits, by an op of that course
     sets : (op : Op) → op_at app task (progress_in k.progress task).op_index ≡ Some op → course (Some op) ≡ ToSetBits
-        → k.suspensions ≡ 0 → (phase : Phase) → (call_at state task).phase ≡ phase → CanSetBits k task phase
+        → k.sched.suspensions ≡ 0 → (phase : Phase) → (call_at state task).phase ≡ phase → CanSetBits k task phase
     sets op is goes awake Start e = can_decide op is (free_in Start e refl) awake
     sets op is goes awake Leave e =
         let can = can_leave op is awake e in
@@ -411,7 +411,7 @@ module _ (app : Application) (formed : IsWellFormed app) (k : Machine) (state : 
     -- a wait for bits
     waits : (group : ℕ) (condition : Condition) (ticks : Option ℕ)
         → op_at app task (progress_in k.progress task).op_index ≡ Some (WaitBits group condition ticks)
-        → k.suspensions ≡ 0 → (phase : Phase) → (call_at state task).phase ≡ phase → CanWaitBits k task ticks phase
+        → k.sched.suspensions ≡ 0 → (phase : Phase) → (call_at state task).phase ≡ phase → CanWaitBits k task ticks phase
     waits group c ticks is awake Start e = (
       can_decide (WaitBits group c ticks) is (free_in Start e refl) awake,
       short ticks (and_right _ (is_wait ticks) (in_range (WaitBits group c ticks) is)),
@@ -423,7 +423,8 @@ module _ (app : Application) (formed : IsWellFormed app) (k : Machine) (state : 
     waits group c ticks is awake Place e = absurd (fits_phase (WaitBits group c ticks) is Place e)
     waits group c ticks is awake Unlock e = absurd (fits_phase (WaitBits group c ticks) is Unlock e)
 
-    can_op : k.suspensions ≡ 0 → (op : Op) → op_at app task (progress_in k.progress task).op_index ≡ Some op → CanOp app k task op
+    can_op : k.sched.suspensions ≡ 0 → (op : Op) → op_at app task (progress_in k.progress task).op_index ≡ Some op
+        → CanOp app k task op
     can_op awake (Work n) is = brief_can (Work n) is awake refl
     can_op awake (Delay n) is = brief_can (Delay n) is awake refl
     can_op awake (DelayUntil n) is = brief_can (DelayUntil n) is awake refl
@@ -467,7 +468,7 @@ module _ (app : Application) (formed : IsWellFormed app) (k : Machine) (state : 
         (sets Obey is refl awake (call_at state task).phase refl)
 
     -- a `suspend_all` is in force
-    can_hold : 0 < k.suspensions → state.suspensions < 1000000 → (op : Op)
+    can_hold : 0 < k.sched.suspensions → state.suspensions < 1000000 → (op : Op)
         → op_at app task (progress_in k.progress task).op_index ≡ Some op → CanHold app k task op
     can_hold some few op is =
         let free : state.call_hold ≡ false =
@@ -495,7 +496,7 @@ module _ (app : Application) (formed : IsWellFormed app) (k : Machine) (state : 
   idle_free : k.sched.current ≡ None → state.call_hold ≡ false
   idle_free idle = or_left state.call_hold (is_scheduler_suspended state) (idle_held idle)
 
-  idle_awake : k.sched.current ≡ None → k.suspensions ≡ 0
+  idle_awake : k.sched.current ≡ None → k.sched.suspensions ≡ 0
   idle_awake idle =
       let most = ltb-false 0 state.suspensions (or_right state.call_hold (is_scheduler_suspended state) (idle_held idle)) in
       suspensions_are k state stands ∙ (let none : state.suspensions ≡ 0 = omega arith in none)
@@ -566,11 +567,11 @@ module _ (app : Application) (formed : IsWellFormed app) {limits : Limits} (k : 
       runs_there app new (before_step app handlers now) (hold_of (before_step app handlers now))
       h (reached_before_step app formed handlers now c.sound).sound
 
-  pub can_do : (task : TaskId) → k.sched.current ≡ Some task → k.suspensions ≡ 0 → (op : Op)
+  pub can_do : (task : TaskId) → k.sched.current ≡ Some task → k.sched.suspensions ≡ 0 → (op : Op)
       → op_at app task (progress_in k.progress task).op_index ≡ Some op → CanOp app k task op
   can_do task runs awake op at = can_op app formed k now c.sound c.stands early_now little_now task runs awake op at
 
-  pub held_in_call : (task : TaskId) → k.sched.current ≡ Some task → k.suspensions ≡ 0 → (phase : Phase)
+  pub held_in_call : (task : TaskId) → k.sched.current ≡ Some task → k.sched.suspensions ≡ 0 → (phase : Phase)
       → (progress_in k.progress task).call.phase ≡ phase → holds phase ≡ true → k.sched.depth ≡ 1
   held_in_call task runs awake phase e t =
       held_once app formed k now c.sound c.stands early_now little_now awake

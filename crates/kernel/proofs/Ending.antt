@@ -496,7 +496,7 @@ each_of false false false false e = (refl, refl, refl, refl)
 -- or an endless task is left alone: a call holds nothing then.
 pub not_over_undecided : (app : Application) (limits : Limits) (k : Machine) (s : State) (task : ℕ) → Stands k s
     → IsState app s → k.sched.current ≡ Some task → (progress_in k.progress task).call.phase ≡ Decide
-    → k.suspensions ≡ 0 → is_some k.stopped ≡ false → is_endless app task && are_all_ended app s ≡ false
+    → k.sched.suspensions ≡ 0 → is_some k.stopped ≡ false → is_endless app task && are_all_ended app s ≡ false
     → is_at_tick_limit app limits s ≡ false → is_over app limits s ≡ false
 not_over_undecided app limits k s task h is runs decides none on more early =
     let current : s.current ≡ Some task = sym (current_is k s h) ∙ runs in

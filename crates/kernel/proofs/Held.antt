@@ -35,22 +35,22 @@ use Rattle.ops.proofs.Held.{with_ticks}
 
 module _ (k : Machine) (log : List Event) (s : State) (h : At k log s) where
   -- a tick is held
-  pub tick_held : (t : Timeline) → 0 < k.suspensions → clock.StandsFor t (increment_tick s)
+  pub tick_held : (t : Timeline) → 0 < k.sched.suspensions → clock.StandsFor t (increment_tick s)
       → At (record k { clock = t }) log (increment_tick s)
   unfolding increment_tick
   tick_held t some on =
-      let n = h.stands.rest.suspensions in
+      let n = h.stands.sched.suspensions in
       let is : is_scheduler_suspended s ≡ true = lt-ltb 0 s.suspensions (omega arith) in
       rw is (with_ticks k log s h t (s.elapsed + 1) (s.held_ticks + 1) (rw is at on))
 
 -- ---- who came to its end
 
 module _ (k : Machine) (log : List Event) (s : State) (h : At k log s) (i op_index : ℕ) where
-  pub judged : 0 < k.suspensions → is_ended (status_at s i) ≡ true
+  pub judged : 0 < k.sched.suspensions → is_ended (status_at s i) ≡ true
       → At (record k { stopped = Some (ending.Misuse i op_index EndedSuspended) }) log (judge i op_index s)
   unfolding judge
   judged some t =
-      let n = h.stands.rest.suspensions in
+      let n = h.stands.sched.suspensions in
       let is : is_scheduler_suspended s ≡ true = lt-ltb 0 s.suspensions (omega arith) in
       rw (is, t) (stopped_at k log s h (ending.Misuse i op_index EndedSuspended) (ending.Misuse i op_index EndedSuspended) refl)
 
@@ -58,10 +58,10 @@ module _ (k : Machine) (log : List Event) (s : State) (h : At k log s) (i op_ind
   unfolding judge
   passed t = by_test (is_scheduler_suspended s) (λ u. rw (u, t) h) (λ u. rw u h)
 
-  pub passed_free : k.suspensions ≤ 0 → At k log (judge i op_index s)
+  pub passed_free : k.sched.suspensions ≤ 0 → At k log (judge i op_index s)
   unfolding judge
   passed_free none =
-      let n = h.stands.rest.suspensions in
+      let n = h.stands.sched.suspensions in
       let is : is_scheduler_suspended s ≡ false = le-ltb 0 s.suspensions (omega arith) in
       rw is h
 
@@ -219,8 +219,9 @@ no_misuse s i = by_test (is_scheduler_suspended s) (λ t. rw t refl) (λ t. rw t
 pub not_suspended : (s : State) (i : ℕ) → s.suspensions ≡ 0 → misuse s i ResumeAll ≡ Some NotSuspended
 not_suspended s i none = rw none refl
 
-pub suspended_by : (k : Machine) (log : List Event) (s : State) → At k log s → 0 < k.suspensions → is_scheduler_suspended s ≡ true
-suspended_by k log s h some = let n = h.stands.rest.suspensions in lt-ltb 0 s.suspensions (omega arith)
+pub suspended_by : (k : Machine) (log : List Event) (s : State) → At k log s → 0 < k.sched.suspensions
+    → is_scheduler_suspended s ≡ true
+suspended_by k log s h some = let n = h.stands.sched.suspensions in lt-ltb 0 s.suspensions (omega arith)
 
 module _ (app : Application) (new : Machine) (log : List Event) (s : State) (i : ℕ) (op : Op) where
   pub misused_at : (kind : Misuse) → misuse s i op ≡ Some kind

@@ -20,4 +20,4 @@ pub record IsLettingGo (app : Application) (k : Machine) (task : ℕ) (op : Op) 
   pub at : op_at app task (progress_in k.progress task).op_index ≡ Some op
   pub bits : is_for_bits op ≡ true
   pub reached : (progress_in k.progress task).call.phase ≡ Leave
-  pub awake : k.suspensions ≡ 0
+  pub awake : k.sched.suspensions ≡ 0

@@ -33,7 +33,7 @@ pub record CanIdle (app : Application) (limits : Limits) (k : Machine) : Type 0 
 pub record CanAct (app : Application) (limits : Limits) (k : Machine) : Type 0 where
   pub idle : k.sched.current ≡ None → CanIdle app limits k
   pub op : (task : TaskId) (op : Op) → k.sched.current ≡ Some task → op_at app task (progress_in k.progress task).op_index ≡ Some op
-      → (k.suspensions ≡ 0 → CanOp app k task op) × (0 < k.suspensions → CanHold app k task op)
+      → (k.sched.suspensions ≡ 0 → CanOp app k task op) × (0 < k.sched.suspensions → CanHold app k task op)
 
 -- The kernel represents a sound state, whichever handlers have led to it, which isn't at an end under these limits.
 pub record CanStep (app : Application) (limits : Limits) (k : Machine) : Type 0 where

@@ -14,6 +14,6 @@ pub record IsToSet (app : Application) (k : Machine) (task : ℕ) (command : Com
   pub current : k.sched.current ≡ Some task
   pub at : op_at app task (progress_in k.progress task).op_index ≡ Some Obey
   pub reached : (progress_in k.progress task).call.phase ≡ Start
-  pub awake : k.suspensions ≡ 0
+  pub awake : k.sched.suspensions ≡ 0
   pub received : command ≡ command_of (unwrap_or (progress_in k.progress task).answer 0)
   pub sets : command.clear ≡ false

@@ -23,7 +23,7 @@ pub record IsInPhase (app : Application) (k : Machine) (task object : ℕ) (acce
   pub at : op_at app task (progress_in k.progress task).op_index ≡ Some op
   pub on : IsCallOn op object access ticks
   pub reached : (progress_in k.progress task).call.phase ≡ phase
-  pub awake : k.suspensions ≡ 0
+  pub awake : k.sched.suspensions ≡ 0
 
 -- The running task's call lets go of the scheduler next.
 abbrev pub IsLeaving : Application → Machine → ℕ → Type 0

@@ -21,9 +21,10 @@ is_of_script _ = false
 pub record IsAt (app : Application) (k : Machine) (task : ℕ) (op : Op) : Type 0 where
   pub current : k.sched.current ≡ Some task
   pub at : op_at app task (progress_in k.progress task).op_index ≡ Some op
-  pub awake : k.suspensions ≡ 0
+  pub awake : k.sched.suspensions ≡ 0
 
 -- No task is, while no `suspend_all` is in force.
 abbrev pub IsAtNone : Application → Machine → Type 0
 IsAtNone app k =
-    (task : ℕ) → k.sched.current ≡ Some task → k.suspensions ≡ 0 → op_at app task (progress_in k.progress task).op_index ≡ None
+    (task : ℕ) → k.sched.current ≡ Some task → k.sched.suspensions ≡ 0
+    → op_at app task (progress_in k.progress task).op_index ≡ None

@@ -103,7 +103,7 @@ pub(crate) fn act<L: Log>(
 ) -> Following
     requires room { 65 ≤ (L.logged log.old).room }
     requires can { CanOp app.now machine.old task op.now }
-    requires awake { machine.old.suspensions ≡ 0 }
+    requires awake { machine.old.sched.suspensions ≡ 0 }
     ensures does { DoesAny 65 machine.old (L.logged log.old) machine.new (L.logged log.new)
         (λ s. act_unless app.now task (misuse s task op.now) op.now s) }
     ensures amid { result ≡ following.NextOp → IsPlaced machine.old machine.new task }

@@ -88,7 +88,7 @@ fn op_letting_go<'a>(machine: &Machine, app: &'a App, task: TaskId) -> Option<&'
     requires reached { (progress_in machine.now.progress task).call.phase ≡ Leave }
     ensures { IfSome result (λ op. IsLettingGo app.now machine.now task op.now) }
 {
-    if machine.suspensions > 0 {
+    if machine.sched.suspensions() > 0 {
         return None;
     }
     let Some(op) = op_of(app, task, machine.progress(task).op_index) else {

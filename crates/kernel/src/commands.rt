@@ -29,7 +29,7 @@ fn set_received(machine: &Machine, app: &App, task: TaskId) -> Option<Command>
     requires runs { machine.now.sched.current ≡ Some task }
     ensures { IfSome result (λ command. IsToSet app.now machine.now task command) }
 {
-    if machine.suspensions > 0 || phase(machine, task) != Phase::Start {
+    if machine.sched.suspensions() > 0 || phase(machine, task) != Phase::Start {
         return None;
     }
     let Some(op) = op_of(app, task, machine.progress(task).op_index) else {

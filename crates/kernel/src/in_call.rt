@@ -182,7 +182,7 @@ pub(crate) fn pass_call(
     if is_at_tick_limit(kernel, app, limits) {
         return None;
     }
-    if kernel.suspensions > 0 || until.saturating_sub(kernel.steps) < 3 {
+    if kernel.sched.suspensions() > 0 || until.saturating_sub(kernel.steps) < 3 {
         return None;
     }
     let Some(op) = op_of(app, task, kernel.progress(task).op_index) else {

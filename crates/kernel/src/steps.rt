@@ -58,7 +58,7 @@ fn current_op<'a>(machine: &Machine, app: &'a App) -> Option<(TaskId, &'a Op)>
     let Some(task) = machine.sched.current() else {
         return None;
     };
-    if machine.suspensions > 0 {
+    if machine.sched.suspensions() > 0 {
         return None;
     }
     match op_of(app, task, machine.progress(task).op_index) {
@@ -88,7 +88,7 @@ fn act_otherwise<L: Log>(
         idle(machine, app, limits, log);
         return Following::Steps;
     };
-    if machine.suspensions > 0 {
+    if machine.sched.suspensions() > 0 {
         act_while_suspended(machine, app, task, log);
     }
     Following::Nothing
@@ -162,7 +162,7 @@ fn step_at<L: Log>(
     ensures before { (L.logged log.new).before ≡ (L.logged log.old).before }
     ensures silent { result ≡ following.NextOp → L.logged log.new ≡ L.logged log.old }
     ensures runs { result ≡ following.NextOp → machine.new.sched.current ≡ Some task }
-    ensures awake { result ≡ following.NextOp → machine.new.suspensions ≡ 0 }
+    ensures awake { result ≡ following.NextOp → machine.new.sched.suspensions ≡ 0 }
     ensures on { result ≡ following.NextOp → (s : State) → Stands machine.old s → is_over app.now limits.now s ≡ false
         → is_over app.now limits.now (step app.now limits.now [] s) ≡ false }
 {
@@ -202,7 +202,7 @@ fn step_otherwise<L: Log>(
     ensures before { (L.logged log.new).before ≡ (L.logged log.old).before }
 {
     app.well_formed();
-    if machine.suspensions == 0 && machine.sched.current().is_some() {
+    if machine.sched.suspensions() == 0 && machine.sched.current().is_some() {
         return step_onto(machine, app, &[], limits, log);
     }
     let following = act_otherwise(machine, app, limits, log);
@@ -247,7 +247,7 @@ fn op_if_going<'a>(
     limits: &Limits,
 ) -> Option<(TaskId, Option<&'a Op>)>
     requires there { IfSome machine.now.sched.current (λ task. task < length app.now.tasks) }
-    requires depth { machine.now.suspensions ≤ machine.now.sched.depth }
+    requires depth { machine.now.sched.suspensions ≤ machine.now.sched.depth }
     ensures going { IfSome result (λ found. (s : State) → Stands machine.now s → IsState app.now s
         → is_over app.now limits.now s ≡ false) }
     ensures some { IfSome result (λ found. IfSome found.1 (λ op. IsAt app.now machine.now found.0 op.now)) }
@@ -467,7 +467,7 @@ fn steps_otherwise(
     app.well_formed();
     limits.well_formed();
     let following = step_otherwise(kernel, app, limits, trail);
-    if kernel.suspensions > 0 {
+    if kernel.sched.suspensions() > 0 {
         go_on_while_suspended(kernel, app, injections, until, limits, trail);
     }
     following

@@ -69,7 +69,7 @@ pub(crate) fn is_ended(machine: &Machine, task: TaskId) -> bool
 fn judge(machine: &mut Machine, task: TaskId, op_index: u16)
     ensures { Moves machine.old machine.new (judge task op_index) }
 {
-    if machine.suspensions > 0 && is_ended(machine, task) {
+    if machine.sched.suspensions() > 0 && is_ended(machine, task) {
         machine.stopped = Some(End::Misuse(task, op_index, Misuse::EndedSuspended));
     }
 }
@@ -92,7 +92,7 @@ fn held_tick_interrupt<L: Log>(machine: &mut Machine, app: &App, log: &mut L)
     requires room { 64 ≤ (L.logged log.old).room }
     requires agrees { Agrees machine.old }
     requires objects { HasObjects app.now machine.old }
-    requires some { 0 < machine.old.suspensions }
+    requires some { 0 < machine.old.sched.suspensions }
     requires few { machine.old.clock.held < 4294967295 }
     ensures { Does 64 machine.old (L.logged log.old) machine.new (L.logged log.new)
         (tick_interrupt app.now) }
@@ -106,7 +106,7 @@ fn held_tick_interrupt<L: Log>(machine: &mut Machine, app: &App, log: &mut L)
 fn work_on<L: Log>(machine: &mut Machine, app: &App, task: TaskId, ticks: u32, log: &mut L)
     requires room { 64 ≤ (L.logged log.old).room }
     requires can { CanHold app.now machine.old task (op.Work ticks) }
-    requires some { 0 < machine.old.suspensions }
+    requires some { 0 < machine.old.sched.suspensions }
     ensures { Does 64 machine.old (L.logged log.old) machine.new (L.logged log.new)
         (act app.now task (op.Work ticks)) }
 {
@@ -119,7 +119,7 @@ fn work_on<L: Log>(machine: &mut Machine, app: &App, task: TaskId, ticks: u32, l
 fn act_on<L: Log>(machine: &mut Machine, app: &App, task: TaskId, op: &Op, log: &mut L)
     requires room { 64 ≤ (L.logged log.old).room }
     requires can { CanHold app.now machine.old task op.now }
-    requires some { 0 < machine.old.suspensions }
+    requires some { 0 < machine.old.sched.suspensions }
     requires stays { may_switch op.now ≡ false }
     ensures { Does 64 machine.old (L.logged log.old) machine.new (L.logged log.new)
         (act app.now task op.now) }
@@ -173,7 +173,7 @@ fn act_unless_it_switches<L: Log>(
 )
     requires room { 64 ≤ (L.logged log.old).room }
     requires can { CanHold app.now machine.old task op.now }
-    requires some { 0 < machine.old.suspensions }
+    requires some { 0 < machine.old.sched.suspensions }
     ensures { Does 64 machine.old (L.logged log.old) machine.new (L.logged log.new)
         (λ s. act_unless app.now task (misuse s task op.now) op.now s) }
 {
@@ -200,7 +200,7 @@ pub(crate) fn act_while_suspended<L: Log>(
     requires runs { machine.old.sched.current ≡ Some task }
     requires can { (op : Op) → op_at app.now task (progress_in machine.old.progress task).op_index ≡ Some op
         → CanHold app.now machine.old task op }
-    requires some { 0 < machine.old.suspensions }
+    requires some { 0 < machine.old.sched.suspensions }
     ensures { (limits : Limits) → DoesAny 65 machine.old (L.logged log.old) machine.new (L.logged log.new)
         (λ s. act_current app.now limits s.current s) }
 {
@@ -214,9 +214,9 @@ pub(crate) fn act_while_suspended<L: Log>(
 #[inline(always)]
 fn running_while_suspended(machine: &Machine) -> Option<TaskId>
     ensures runs { IfSome result (λ task. machine.now.sched.current ≡ Some task) }
-    ensures some { IfSome result (λ task. 0 < machine.now.suspensions) }
+    ensures some { IfSome result (λ task. 0 < machine.now.sched.suspensions) }
 {
-    if machine.suspensions == 0 {
+    if machine.sched.suspensions() == 0 {
         return None;
     }
     machine.sched.current()
@@ -234,7 +234,7 @@ fn step_while_suspended<L: Log>(
 )
     requires going { CanStep app.now limits.now machine.old }
     requires runs { machine.old.sched.current ≡ Some task }
-    requires some { 0 < machine.old.suspensions }
+    requires some { 0 < machine.old.sched.suspensions }
     requires begun { (L.logged log.old).told ≡ [] }
     requires room { 128 ≤ (L.logged log.old).room }
     ensures stands { (s : State) → Stands machine.old s → Stands machine.new (step app.now limits.now [] s) }

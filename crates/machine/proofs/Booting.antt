@@ -233,6 +233,7 @@ sched_chosen v s h = by_test (is_same (choice s) s.current)
       priorities = g.priorities;
       base_priorities = g.base_priorities;
       depth = g.depth;
+      suspensions = g.suspensions;
       suspended = g.suspended;
       table = record { tickets = g.table.tickets; few = g.table.few; current = choice_within s; holders = g.table.holders };
     })
@@ -243,6 +244,7 @@ sched_chosen v s h = by_test (is_same (choice s) s.current)
       priorities = g.priorities;
       base_priorities = g.base_priorities;
       depth = g.depth;
+      suspensions = g.suspensions;
       suspended = g.suspended;
       table = record { tickets = g.table.tickets; few = g.table.few; current = choice_within s; holders = g.table.holders };
     })

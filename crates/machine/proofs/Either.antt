@@ -38,9 +38,9 @@ module _ (k : Machine) (s : State) where
   elapsed_is (Placed h) = h.rest.clock.age
   elapsed_is (Placing task list b) = b.clock.age
 
-  pub suspensions_are : Stands k s → k.suspensions ≡ s.suspensions
-  suspensions_are (Placed h) = h.rest.suspensions
-  suspensions_are (Placing task list b) = b.suspensions
+  pub suspensions_are : Stands k s → k.sched.suspensions ≡ s.suspensions
+  suspensions_are (Placed h) = h.sched.suspensions
+  suspensions_are (Placing task list b) = b.sched.suspensions
 
   pub now_is : Stands k s → k.clock.now ≡ s.time
   now_is (Placed h) = h.rest.clock.now

@@ -23,10 +23,10 @@ use Rattle.model.proofs.Tables.{ticket_at, table-set, table-make_ready, each-set
 use Rattle.model.proofs.Statuses.{ready_awake, ready_free}
 use Rattle.task_lists.specs.Priorities.{with_priorities}
 use Rattle.sched.specs.StandsFor as sched
-use Rattle.sched.specs.StandsFor.{depth_of}
 use Rattle.sched.specs.Schedule.{Schedule, block}
 use Rattle.sched.specs.Schedule as schedule
 use Rattle.sched.proofs.Standing as on_sched
+use Rattle.sched.proofs.Standing.{depth_by, holds_of}
 use Rattle.clock.specs.StandsFor as clock
 use Rattle.clock.specs.Timeline.{Timeline, is_asleep}
 use Rattle.clock.proofs.Standing as on_clock
@@ -64,15 +64,17 @@ progress-kept ts i t e = each-set no_task (λ j (u : Task). u.progress ≡ (get_
 
 -- ---- the scheduler
 
--- The scheduler represents each state of the same tasks, where the same one runs and it is held as often.
+-- The scheduler represents each state of the same tasks, where the same one runs, as many `suspend_all` are in force, and a call
+-- holds it as before.
 pub sched-same : {v : Schedule} {s new : State} → sched.StandsFor v s → IsTable new
-    → new.tasks ≡ s.tasks → new.current ≡ s.current → depth_of new ≡ depth_of s → sched.StandsFor v new
-sched-same h table tasks current depth = record {
+    → new.tasks ≡ s.tasks → new.current ≡ s.current → holds_of new ≡ holds_of s → sched.StandsFor v new
+sched-same h table tasks current holds = record {
   ready = h.ready ∙ sym (ap (λ ts. with_priorities (list_by ready_key ts)) tasks);
   current = h.current ∙ sym current;
   priorities = λ i. h.priorities i ∙ sym (ap (λ ts. (get_or ts i no_task).priority) tasks);
   base_priorities = λ i. h.base_priorities i ∙ sym (ap (λ ts. (get_or ts i no_task).base_priority) tasks);
-  depth = h.depth ∙ sym depth;
+  depth = h.depth ∙ sym (ap depth_by holds);
+  suspensions = h.suspensions ∙ sym (ap (λ (p : ℕ × Bool). p.0) holds);
   suspended = λ i. h.suspended i ∙ sym (ap (λ ts. can_resume (get_or ts i no_task).status) tasks);
   table = table;
 }
@@ -148,10 +150,10 @@ same_parts s new tasks objects locked = record {
 
 -- what the kernel keeps of a state beside its parts
 abbrev pub Kept : Type 0
-Kept = ℕ × ℕ × Option End
+Kept = ℕ × Option End
 
 abbrev pub kept_of : State → Kept
-kept_of s = (s.suspensions, s.steps, s.stopped)
+kept_of s = (s.steps, s.stopped)
 
 -- The clock represents the new state; each task is where it was in its script, and what is kept beside the parts stays.
 module _ {k : Machine} {s new : State} {v : Schedule} {t : Timeline} (h : RestStandsFor k s) (on : clock.StandsFor t new)
@@ -166,10 +168,9 @@ module _ {k : Machine} {s new : State} {v : Schedule} {t : Timeline} (h : RestSt
     clock = on;
     objects = left;
     groups = there;
-    suspensions = h.suspensions ∙ sym (ap (λ (x : Kept). x.0) kept);
     awake = locked;
-    steps = h.steps ∙ sym (ap (λ (x : Kept). x.1) kept);
-    stopped = h.stopped ∙ sym (ap (λ (x : Kept). x.2) kept);
+    steps = h.steps ∙ sym (ap (λ (x : Kept). x.0) kept);
+    stopped = h.stopped ∙ sym (ap (λ (x : Kept). x.1) kept);
     placed = h.placed;
   }
 
@@ -208,10 +209,9 @@ rest_moved {k} {s} {new} h on kept i t l few is off waits bits =
       clock = on;
       objects = stands_same s new waits k.objects None h.objects on.table;
       groups = on_groups.stands_same k.groups s new h.groups bits on.table;
-      suspensions = h.suspensions ∙ sym (ap (λ (x : Kept). x.0) kept);
       awake = at_locked_same None s new waits h.awake;
-      steps = h.steps ∙ sym (ap (λ (x : Kept). x.1) kept);
-      stopped = h.stopped ∙ sym (ap (λ (x : Kept). x.2) kept);
+      steps = h.steps ∙ sym (ap (λ (x : Kept). x.0) kept);
+      stopped = h.stopped ∙ sym (ap (λ (x : Kept). x.1) kept);
       placed = each-set no_progress (λ _ (p : Progress). p.call.phase ≢ Place) k.progress i t.progress off h.placed;
     }
 
@@ -223,10 +223,10 @@ abbrev pub seen : State → Seen
 seen s = (s.tasks, s.time, ticks_of s, s.objects, s.group_bits, s.locked)
 
 -- Nothing changes that they see.
-pub rest_unseen : {k : Machine} {s new : State} {v : Schedule} {n m : ℕ} {e : Option End} → RestStandsFor k s
-    → IsTable new → seen new ≡ seen s → n ≡ new.suspensions → m ≡ new.steps → e ≡ new.stopped
-    → RestStandsFor (record k { sched = v; suspensions = n; steps = m; stopped = e }) new
-rest_unseen {k} {s} {new} h table same suspended steps stopped =
+pub rest_unseen : {k : Machine} {s new : State} {v : Schedule} {n : ℕ} {e : Option End} → RestStandsFor k s
+    → IsTable new → seen new ≡ seen s → n ≡ new.steps → e ≡ new.stopped
+    → RestStandsFor (record k { sched = v; steps = n; stopped = e }) new
+rest_unseen {k} {s} {new} h table same steps stopped =
     let tasks = ap (λ (x : Seen). x.0) same in
     let waits = same_parts s new tasks (ap (λ (x : Seen). x.3) same) (ap (λ (x : Seen). x.5) same) in
     record {
@@ -235,7 +235,6 @@ rest_unseen {k} {s} {new} h table same suspended steps stopped =
       clock = clock-same k.clock s new h.clock tasks (ap (λ (x : Seen). x.1) same) (ap (λ (x : Seen). x.2) same) table;
       objects = stands_same s new waits k.objects None h.objects table;
       groups = on_groups.stands_same k.groups s new h.groups (bits_kept.same_parts s new tasks (ap (λ (x : Seen). x.4) same)) table;
-      suspensions = suspended;
       awake = at_locked_same None s new waits h.awake;
       steps = steps;
       stopped = stopped;
@@ -252,7 +251,7 @@ stands-unseen k s h log steps n stopped end same same_end =
     let table : IsTable new = record { tickets = old.tickets; few = old.few; current = old.current; holders = old.holders } in
     record {
       sched = sched-same h.sched table refl refl refl;
-      rest = rest_unseen h.rest table refl h.rest.suspensions same same_end;
+      rest = rest_unseen h.rest table refl same same_end;
     }
 
 -- other events alone

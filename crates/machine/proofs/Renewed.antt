@@ -44,6 +44,7 @@ begun_before k s task list b log steps n stopped end e same_end =
             priorities = b.sched.priorities;
             base_priorities = b.sched.base_priorities;
             depth = b.sched.depth;
+            suspensions = b.sched.suspensions;
             suspended = b.sched.suspended;
             table = table;
           };
@@ -60,7 +61,6 @@ begun_before k s task list b log steps n stopped end e same_end =
           };
       objects = stands_same s new same k.objects (Some (decider task list s)) b.objects table;
       groups = on_groups.stands_same k.groups s new b.groups (bits_kept.same_parts s new refl refl) table;
-      suspensions = b.suspensions;
       awake = at_locked_same (Some (decider task list s)) s new same b.awake;
       progress = b.progress;
       full = b.full;

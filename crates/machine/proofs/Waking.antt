@@ -46,6 +46,9 @@ use Rattle.machine.proofs.Parts.{apart_back, kept_of, progress-kept, rest_with, 
 pub depth_woken : (v new : Schedule) (i : ℕ) → new ≡ schedule.wake i v → new.depth ≡ v.depth
 depth_woken v new i is = ap (λ (w : Schedule). w.depth) is ∙ by_test (eqb v.depth 0) (λ t. rw t refl) (λ t. rw t refl)
 
+pub suspensions_woken : (v new : Schedule) (i : ℕ) → new ≡ schedule.wake i v → new.suspensions ≡ v.suspensions
+suspensions_woken v new i is = ap (λ (w : Schedule). w.suspensions) is ∙ by_test (eqb v.depth 0) (λ t. rw t refl) (λ t. rw t refl)
+
 -- Who sleeps isn't Ready, and nobody sleeps twice, so that all who are due can become Ready.
 pub to_wake : (ticks : ℕ) (k : Machine) (s : State) → StandsFor k s
     → (new : Timeline) (ds : List ℕ) → Jumps ticks k.clock new ds → AreToWake k.sched ds

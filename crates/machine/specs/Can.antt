@@ -36,7 +36,7 @@ pub record CanAdvance (k : Machine) : Type 0 where
   pub agrees : Agrees k
   pub free : k.objects.lock ≡ None
   pub age : k.clock.age < 2 ^ 62
-  pub awake : k.suspensions ≡ 0
+  pub awake : k.sched.suspensions ≡ 0
 
 -- It can rise by this many at once: before the last of them nobody's wake time comes.
 pub record CanJump (ticks : ℕ) (k : Machine) : Type 0 where

@@ -30,15 +30,14 @@ pub record RestStandsFor (k : Machine) (s : State) : Type 0 where
   pub clock : clock.StandsFor k.clock s
   pub objects : objects.StandsFor k.objects None s
   pub groups : groups.StandsFor k.groups s
-  pub suspensions : k.suspensions ≡ s.suspensions
   pub awake : AtLocked None s
   pub steps : k.steps ≡ s.steps
   pub stopped : k.stopped ≡ s.stopped
   pub placed : (task : ℕ) → (progress_in k.progress task).call.phase ≢ Place
 
--- Where each task is in its script is kept as it is. The scheduler represents who is Ready and who runs, and the clock
--- the time and who wakes when. The objects represent what they hold, who waits at them, and which one is locked, and the groups
--- their bits and who waits for them. How many `suspend_all` are in force is kept as it is.
+-- Where each task is in its script is kept as it is. The scheduler represents who is Ready, who runs and what holds it, and the
+-- clock the time and who wakes when. The objects represent what they hold, who waits at them, and which one is locked, and the
+-- groups their bits and who waits for them.
 pub record StandsFor (k : Machine) (s : State) : Type 0 where
   pub sched : sched.StandsFor k.sched s
   pub rest : RestStandsFor k s
@@ -54,7 +53,6 @@ pub record StandsBefore (task : ℕ) (list : WaitList) (k : Machine) (s : State)
   pub clock : clock.StandsBefore task (call_at s task).deadline k.clock s
   pub objects : objects.StandsFor k.objects (Some (decider task list s)) s
   pub groups : groups.StandsFor k.groups s
-  pub suspensions : k.suspensions ≡ s.suspensions
   pub awake : AtLocked (Some (decider task list s)) s
   pub progress : (other : ℕ) → progress_in k.progress other ≡ progress_at s other
   pub full : length k.progress ≡ 32

@@ -41,7 +41,7 @@ impl Machine {
         ensures depth { self.new.sched.depth ≡ self.old.sched.depth }
         ensures clock { self.new.clock ≡ self.old.clock }
         ensures objects { self.new.objects ≡ self.old.objects }
-        ensures suspensions { self.new.suspensions ≡ self.old.suspensions }
+        ensures suspensions { self.new.sched.suspensions ≡ self.old.sched.suspensions }
     {
         self.set_op_index(task, op_index);
         if op_index as usize == app.op_count(task) {
@@ -61,7 +61,7 @@ impl Machine {
         ensures depth { self.new.sched.depth ≡ self.old.sched.depth }
         ensures clock { self.new.clock ≡ self.old.clock }
         ensures objects { self.new.objects ≡ self.old.objects }
-        ensures suspensions { self.new.suspensions ≡ self.old.suspensions }
+        ensures suspensions { self.new.sched.suspensions ≡ self.old.sched.suspensions }
     {
         let next = self.progress(task).op_index + 1;
         self.go_to(app, task, next)

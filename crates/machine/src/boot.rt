@@ -108,7 +108,6 @@ impl Machine {
             clock: Clock::new(app.start()),
             objects: Objects::new(app.objects()),
             groups: Groups::new(),
-            suspensions: 0,
             wait_list: NO_WAIT_LIST,
             next_interrupt: 0,
             steps: 0,

@@ -22,8 +22,6 @@ pub struct Machine {
     pub clock: Clock,
     pub objects: Objects,
     pub groups: Groups,
-    /// How many `suspend_all` are in force.
-    pub suspensions: u32,
     /// The list in which the last wait at an object has begun, and into which its task is put.
     pub wait_list: WaitList,
     /// The index of the base interrupt that is taken for the next. It is a guess, which is tested before it is used.
@@ -89,7 +87,6 @@ impl Machine {
             clock: self.clock.copy(),
             objects: self.objects.copy(),
             groups: self.groups.copy(),
-            suspensions: self.suspensions,
             wait_list: self.wait_list,
             next_interrupt: self.next_interrupt,
             steps: self.steps,
@@ -106,7 +103,6 @@ impl Machine {
         self.clock.set_from(&other.clock);
         self.objects.set_from(&other.objects);
         self.groups.set_from(&other.groups);
-        self.suspensions = other.suspensions;
         self.wait_list = other.wait_list;
         self.next_interrupt = other.next_interrupt;
         self.steps = other.steps;

@@ -22,7 +22,6 @@ pub struct Snapshot {
     clock: Clock,
     objects: ObjectsSnapshot,
     groups: Groups,
-    suspensions: u32,
     wait_list: WaitList,
     next_interrupt: u32,
     steps: u32,
@@ -37,7 +36,7 @@ impl Model for Snapshot {
 
     ghost Value = { declared.Machine };
 
-    ghost view = { λ s. record { progress = s.progress; sched = s.sched; clock = s.clock; objects = s.objects; groups = s.groups; suspensions = s.suspensions; wait_list = s.wait_list; next_interrupt = s.next_interrupt; steps = s.steps; stopped = s.stopped } };
+    ghost view = { λ s. record { progress = s.progress; sched = s.sched; clock = s.clock; objects = s.objects; groups = s.groups; wait_list = s.wait_list; next_interrupt = s.next_interrupt; steps = s.steps; stopped = s.stopped } };
 
     ghost invariant = { λ s. (s.tasks ≤ 32) × AreBlankFrom s.tasks s.progress };
 }
@@ -84,7 +83,6 @@ impl Machine {
             clock: self.clock.copy(),
             objects,
             groups: self.groups.copy(),
-            suspensions: self.suspensions,
             wait_list: self.wait_list,
             next_interrupt: self.next_interrupt,
             steps: self.steps,
@@ -101,7 +99,6 @@ impl Machine {
         self.clock.set_from(&snapshot.clock);
         self.objects.restore(&snapshot.objects);
         self.groups.set_from(&snapshot.groups);
-        self.suspensions = snapshot.suspensions;
         self.wait_list = snapshot.wait_list;
         self.next_interrupt = snapshot.next_interrupt;
         self.steps = snapshot.steps;
@@ -114,7 +111,6 @@ impl Machine {
         ensures { result ≡ true → self.now ≡ snapshot.now }
     {
         if self.steps != snapshot.steps
-            || self.suspensions != snapshot.suspensions
             || self.next_interrupt != snapshot.next_interrupt
             || self.wait_list != snapshot.wait_list
             || self.stopped != snapshot.stopped

@@ -54,6 +54,7 @@ pub fn wake_all(sched: &mut Sched, clock: &mut Clock, tasks: &[TaskId])
         → ClockStandsFor clock.new (for_each make_ready tasks.now s) }
     ensures rest { (more : List ℕ) → AreToWake sched.old (tasks.now ++ more) → AreToWake sched.new more }
     ensures depth { sched.new.depth ≡ sched.old.depth }
+    ensures suspensions { sched.new.suspensions ≡ sched.old.suspensions }
     ensures current { sched.new.current ≡ sched.old.current }
 {
     for task in tasks {

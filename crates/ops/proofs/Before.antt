@@ -67,12 +67,11 @@ before_with {task} {list} {k} {s} {new} {v} {t} {q} b on awake there locked bits
   objects =
       subst (λ (n : ℕ). objects.StandsFor q (Some (record { task = task; list = list; priority = n })) new) (sym priority) there;
   groups = on_groups.stands_same k.groups s new b.groups bits on.table;
-  suspensions = b.suspensions ∙ sym (ap (λ (x : Kept). x.0) kept);
   awake = subst (λ (n : ℕ). AtLocked (Some (record { task = task; list = list; priority = n })) new) (sym priority) locked;
   progress = λ i. b.progress i ∙ sym (progress i);
   full = b.full;
-  steps = b.steps ∙ sym (ap (λ (x : Kept). x.1) kept);
-  stopped = b.stopped ∙ sym (ap (λ (x : Kept). x.2) kept);
+  steps = b.steps ∙ sym (ap (λ (x : Kept). x.0) kept);
+  stopped = b.stopped ∙ sym (ap (λ (x : Kept). x.1) kept);
   current = current ∙ b.current;
   held = held ∙ b.held;
   phase = ap (λ (p : Progress). p.call.phase) (progress task) ∙ b.phase;
@@ -145,6 +144,7 @@ module _ (task : ℕ) (list : WaitList) (k : Machine) (s : State) (b : StandsBef
         priorities = b.sched.priorities;
         base_priorities = b.sched.base_priorities;
         depth = b.sched.depth;
+        suspensions = b.sched.suspensions;
         suspended = b.sched.suspended;
         table = b.sched.table;
       } in
@@ -163,6 +163,7 @@ module _ (task : ℕ) (list : WaitList) (k : Machine) (s : State) (b : StandsBef
         priorities = b.sched.priorities;
         base_priorities = b.sched.base_priorities;
         depth = b.sched.depth;
+        suspensions = b.sched.suspensions;
         suspended = b.sched.suspended;
         table = table;
       } in

@@ -139,10 +139,6 @@ module _ (s : State) (i : ℕ) (list : WaitList) (object : ℕ) (l : i < length 
   unfolding wait_in
   begun_free = (refl, refl, refl, refl, refl, refl, refl)
 
-  pub begun_suspensions : begun.suspensions ≡ s.suspensions
-  unfolding wait_in
-  begun_suspensions = refl
-
   -- the scheduler
   pub sched_decided : (v : Schedule) → v.pending ≡ [] → sched.StandsFor v s → is_ready s i ≡ true → s.call_hold ≡ false
       → (w : Schedule) → w ≡ record v { depth = v.depth + 1 } → IsTable decided → sched.StandsBefore i w decided
@@ -261,7 +257,6 @@ module _ (k : Machine) (log : List Event) (s : State) (h : At k log s) (i o : �
             clock = clock_there;
             objects = in_place;
             groups = groups_then;
-            suspensions = h.stands.rest.suspensions ∙ sym (begun_suspensions s i list o l);
             awake = awake_there;
             progress = progress_then;
             full = rw length-set h.stands.rest.full;
@@ -371,7 +366,6 @@ module _ (k : Machine) (log : List Event) (s : State) (i : ℕ) (list : WaitList
                 (same_alike (status_at s i) (status_at s i) refl) table;
             objects = shown table;
             groups = on_groups.stands_same k.groups s later b.groups (bits_kept.same_task i u s refl (λ _. refl)) table;
-            suspensions = b.suspensions;
             awake = at_locked_same None s later same (at_locked-placed (Some (decider i list s)) s b.awake);
             steps = b.steps;
             stopped = b.stopped;
@@ -393,7 +387,7 @@ hold_at b k log s h v on =
       stands =
           record {
             sched = on;
-            rest = rest_unseen h.stands.rest on.table refl h.stands.rest.suspensions h.stands.rest.steps h.stands.rest.stopped;
+            rest = rest_unseen h.stands.rest on.table refl h.stands.rest.steps h.stands.rest.stopped;
           };
       log = h.log;
     }
@@ -412,7 +406,7 @@ module _ (k new : Machine) (log : List Event) (s : State) (h : At k log s) (i : 
   freed =
       recalled (record k { sched = w }) new log (record s { call_hold = false })
       (hold_at false k log s h w (unhold
-      (is_held s.suspensions s.call_hold k.sched.depth h.stands.sched.depth (sym h.stands.rest.suspensions ∙ c.awake) c.held)))
+      (is_held s.suspensions s.call_hold k.sched.depth h.stands.sched.depth (sym h.stands.sched.suspensions ∙ c.awake) c.held)))
       i
       (runs ∙ c.call.current)
       (record v.call { phase = phase; waits = false }) (record (call_at s i) { phase = phase; waits = false })

@@ -33,11 +33,11 @@ use Rattle.ops.proofs.Suspending.{ready_by, runs_by}
 
 module _ (k : Machine) (log : List Event) (s : State) (h : At k log s) where
   -- another number of them
-  pub with_suspensions : (v : Schedule) (n m : ℕ) → n ≡ m → sched.StandsFor v (record s { suspensions = m })
-      → At (record k { sched = v; suspensions = n }) log (record s { suspensions = m })
-  with_suspensions v n m e on =
+  pub with_suspensions : (v : Schedule) (n : ℕ) → sched.StandsFor v (record s { suspensions = n })
+      → At (record k { sched = v }) log (record s { suspensions = n })
+  with_suspensions v n on =
       record {
-        stands = record { sched = on; rest = rest_unseen h.stands.rest on.table refl e h.stands.rest.steps h.stands.rest.stopped };
+        stands = record { sched = on; rest = rest_unseen h.stands.rest on.table refl h.stands.rest.steps h.stands.rest.stopped };
         log = h.log;
       }
 
@@ -104,7 +104,7 @@ module _ (k now : Machine) (can : CanApply k) (n : ℕ) (does : Moves k now (λ 
         let c = can.agrees.1.rest.clock.age in
         let d = can.age in
         omega arith;
-    awake = there.stands.rest.suspensions ∙ (applies n first).suspensions ∙ sym can.agrees.1.rest.suspensions ∙ can.awake;
+    awake = there.stands.sched.suspensions ∙ (applies n first).suspensions ∙ sym can.agrees.1.sched.suspensions ∙ can.awake;
   }
 
 one_later : (n : ℕ) (s : State) → apply_one (apply_held n s) ≡ apply_held (suc n) s
@@ -144,11 +144,11 @@ module _ (app : Application) (new : Machine) (log : List Event) (s : State) wher
 
 -- where some are in force still, the scheduler is held
 pub still_held : (app : Application) (i : ℕ) (mid : Machine) (log : List Event) (u : State)
-    → At mid log u → mid.suspensions ≢ 0 → is_held (answer app i (Some 0) u) ≡ true
+    → At mid log u → mid.sched.suspensions ≢ 0 → is_held (answer app i (Some 0) u) ≡ true
 still_held app i mid log u h ne =
     let kept : (answer app i (Some 0) u).suspensions ≡ u.suspensions =
     ap (λ (x : Suspension). x.suspensions) (keeps-answer app i (Some 0) u).suspension in
-    let n = h.stands.rest.suspensions in
+    let n = h.stands.sched.suspensions in
     suspended_held (answer app i (Some 0) u) (lt-ltb 0 (answer app i (Some 0) u).suspensions (omega arith))
 
 pub runs_after_all : (k new : Machine) (i : ℕ) (s : State) → Runs k i

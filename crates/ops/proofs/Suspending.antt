@@ -291,7 +291,6 @@ module _ (k : Machine) (s : State) (i : ℕ) (t : can_resume (status_at s i) ≡
             (Some (record { task = task; list = list; priority = (task_at s task).priority })) b.objects table);
         groups =
             on_groups.stands_same k.groups s new b.groups (subst (groups.SameBitWaits s) one (bits_kept.same_resume i s)) table;
-        suspensions = b.suspensions;
         awake =
             subst (λ (u : Task). AtLocked (Some (record { task = task; list = list; priority = u.priority })) new) (sym own)
             (at_locked_same (Some (record { task = task; list = list; priority = (task_at s task).priority })) s new same b.awake);

@@ -48,7 +48,7 @@ pub record CanApply (k : Machine) : Type 0 where
   pub agrees : Agrees k
   pub free : k.objects.lock ≡ None
   pub age : k.clock.age + k.clock.held < 2 ^ 62
-  pub awake : k.suspensions ≡ 0
+  pub awake : k.sched.suspensions ≡ 0
 
 -- A tick interrupt can come.
 pub record CanTick (app : Application) (k : Machine) : Type 0 where
@@ -99,7 +99,7 @@ pub record CanPlace (k : Machine) (task : ℕ) : Type 0 where
 pub record CanLeave (k : Machine) (task : ℕ) : Type 0 where
   pub call : IsInCall k task
   pub held : k.sched.depth ≡ 1
-  pub awake : k.suspensions ≡ 0
+  pub awake : k.sched.suspensions ≡ 0
 
 -- What the call can do next in this phase.
 abbrev pub CanGoOn : Machine → ℕ → ℕ → Access → Option ℕ → Phase → Type 0
@@ -129,8 +129,8 @@ pub record CanHold (app : Application) (k : Machine) (task : ℕ) (op : Op) : Ty
   pub free : k.objects.lock ≡ None
   pub age : k.clock.age + k.clock.held < 2 ^ 62
   pub held : k.clock.held < 4294967295
-  pub suspensions : k.suspensions < 4294967295
-  pub depth : k.sched.depth ≡ k.suspensions
+  pub suspensions : k.sched.suspensions < 4294967295
+  pub depth : k.sched.depth ≡ k.sched.suspensions
   pub objects : HasObjects app k
   pub used : IsUsedBy (progress_in k.progress task).used (Some op)
   pub nesting : HasLoopRoom op (length (progress_in k.progress task).loops)

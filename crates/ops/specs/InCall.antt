@@ -16,4 +16,4 @@ IsSilent _ = ⊥
 pub record Remains (old new : Machine) (task : ℕ) : Type 0 where
   pub current : new.sched.current ≡ old.sched.current
   pub op_index : (progress_in new.progress task).op_index ≡ (progress_in old.progress task).op_index
-  pub suspensions : new.suspensions ≡ old.suspensions
+  pub suspensions : new.sched.suspensions ≡ old.sched.suspensions

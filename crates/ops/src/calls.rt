@@ -146,7 +146,7 @@ fn unlock_and_wake(machine: &mut Machine)
     ensures depth { machine.new.sched.depth ≡ machine.old.sched.depth }
     ensures current { machine.new.sched.current ≡ machine.old.sched.current }
     ensures progress { machine.new.progress ≡ machine.old.progress }
-    ensures suspensions { machine.new.suspensions ≡ machine.old.suspensions }
+    ensures suspensions { machine.new.sched.suspensions ≡ machine.old.sched.suspensions }
 {
     if let Some(unlocked) = machine.objects.unlock() {
         wake_all(

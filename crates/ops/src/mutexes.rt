@@ -25,7 +25,7 @@ fn set_priority(machine: &mut Machine, task: TaskId, priority: u8)
     ensures does { (log : List Event) (s : State) → At machine.old log s → task < length s.tasks
         → At machine.new log (definitions.set_priority task priority s) }
     ensures reranks { Reranks machine.old machine.new }
-    ensures suspensions { machine.new.suspensions ≡ machine.old.suspensions }
+    ensures suspensions { machine.new.sched.suspensions ≡ machine.old.sched.suspensions }
 {
     machine.sched.set_priority(task, priority);
 }
@@ -37,7 +37,7 @@ fn lend(machine: &mut Machine, priority: u8, holder: TaskId)
     ensures does { (log : List Event) (s : State) → At machine.old log s → holder < length s.tasks
         → At machine.new log (definitions.lend priority holder s) }
     ensures reranks { Reranks machine.old machine.new }
-    ensures suspensions { machine.new.suspensions ≡ machine.old.suspensions }
+    ensures suspensions { machine.new.sched.suspensions ≡ machine.old.sched.suspensions }
 {
     if machine.sched.priority(holder) < priority {
         set_priority(machine, holder, priority);
@@ -59,7 +59,7 @@ fn inherit_from(machine: &mut Machine, task: TaskId, holder: TaskId)
     ensures does { (log : List Event) (s : State) → At machine.old log s → holder < length s.tasks
         → At machine.new log (definitions.inherit_from task holder s) }
     ensures reranks { Reranks machine.old machine.new }
-    ensures suspensions { machine.new.suspensions ≡ machine.old.suspensions }
+    ensures suspensions { machine.new.sched.suspensions ≡ machine.old.sched.suspensions }
 {
     let inherited = inherits(machine, task, holder);
     machine.set_inherited(task, inherited);
@@ -75,7 +75,7 @@ pub(crate) fn inherit(machine: &mut Machine, task: TaskId, object: ObjectId)
     ensures does { Moves machine.old machine.new (definitions.inherit task object) }
     ensures can { CanDecide machine.new task }
     ensures reranks { Reranks machine.old machine.new }
-    ensures suspensions { machine.new.suspensions ≡ machine.old.suspensions }
+    ensures suspensions { machine.new.sched.suspensions ≡ machine.old.sched.suspensions }
 {
     if let Some(holder) = machine.objects.holder(object) {
         inherit_from(machine, task, holder);

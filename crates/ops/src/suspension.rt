@@ -97,13 +97,12 @@ pub fn call_resume<L: Log>(
 pub fn suspend_all<L: Log>(machine: &mut Machine, app: &App, task: TaskId, log: &mut L)
     requires room { 1 ≤ (L.logged log.old).room }
     requires runs { Runs machine.old task }
-    requires few { machine.old.suspensions < 4294967295 }
+    requires few { machine.old.sched.suspensions < 4294967295 }
     requires depth { machine.old.sched.depth < 4294967295 }
     ensures { Does 1 machine.old (L.logged log.old) machine.new (L.logged log.new)
         (definitions.suspend_all app.now task) }
 {
-    machine.sched.hold();
-    machine.suspensions += 1;
+    machine.sched.suspend_all();
     machine.answer(app, task, 0, log);
 }
 
@@ -134,13 +133,12 @@ fn apply_held(machine: &mut Machine)
 #[inline(always)]
 fn resume_scheduler(machine: &mut Machine, app: &App, task: TaskId)
     requires can { CanHold app.now machine.old task op.ResumeAll }
-    requires some { 0 < machine.old.suspensions }
+    requires some { 0 < machine.old.sched.suspensions }
     ensures does { Moves machine.old machine.new definitions.resume_scheduler }
-    ensures depth { machine.new.suspensions ≡ 0 → machine.new.sched.depth ≡ 0 }
+    ensures depth { machine.new.sched.suspensions ≡ 0 → machine.new.sched.depth ≡ 0 }
 {
-    machine.sched.unhold();
-    machine.suspensions -= 1;
-    if machine.suspensions == 0 {
+    machine.sched.resume_all();
+    if machine.sched.suspensions() == 0 {
         apply_held(machine);
     }
 }
@@ -149,12 +147,12 @@ fn resume_scheduler(machine: &mut Machine, app: &App, task: TaskId)
 pub fn resume_all<L: Log>(machine: &mut Machine, app: &App, task: TaskId, log: &mut L)
     requires room { 2 ≤ (L.logged log.old).room }
     requires can { CanHold app.now machine.old task op.ResumeAll }
-    requires some { 0 < machine.old.suspensions }
+    requires some { 0 < machine.old.sched.suspensions }
     ensures { Does 2 machine.old (L.logged log.old) machine.new (L.logged log.new)
         (definitions.resume_all app.now task) }
 {
     resume_scheduler(machine, app, task);
-    let is_last = machine.suspensions == 0;
+    let is_last = machine.sched.suspensions() == 0;
     machine.answer(app, task, 0, log);
     if is_last {
         machine.preempt(log);

@@ -21,7 +21,7 @@ pub fn use_up(machine: &mut Machine, app: &App, task: TaskId, ticks: u32)
     ensures depth { machine.new.sched.depth ≡ machine.old.sched.depth }
     ensures clock { machine.new.clock ≡ machine.old.clock }
     ensures objects { machine.new.objects ≡ machine.old.objects }
-    ensures suspensions { machine.new.suspensions ≡ machine.old.suspensions }
+    ensures suspensions { machine.new.sched.suspensions ≡ machine.old.sched.suspensions }
 {
     let used = machine.progress(task).used + 1;
     if used == ticks {

@@ -40,11 +40,11 @@ sched_block {lists} {pending} {priorities} {base} {depth} h task sound = record 
 }
 
 pub schedule_block : (lists : List (List (ℕ × ℕ))) (pending : List ℕ) (current : Option ℕ)
-    (priorities base : List ℕ) (depth : ℕ) (suspended : List Bool) (task : ℕ)
-    → schedule_of (map (without task) lists) (without_task task pending) current priorities base depth suspended
-    ≡ block task (schedule_of lists pending current priorities base depth suspended)
-schedule_block lists pending current priorities base depth suspended task =
-    ap (with_ready (schedule_of lists (without_task task pending) current priorities base depth suspended))
+    (priorities base : List ℕ) (depth suspensions : ℕ) (suspended : List Bool) (task : ℕ)
+    → schedule_of (map (without task) lists) (without_task task pending) current priorities base depth suspensions suspended
+    ≡ block task (schedule_of lists pending current priorities base depth suspensions suspended)
+schedule_block lists pending current priorities base depth suspensions suspended task =
+    ap (with_ready (schedule_of lists (without_task task pending) current priorities base depth suspensions suspended))
     (ready_list_of-without task lists)
 
 -- a task is made Ready, in the list of its priority
@@ -78,12 +78,12 @@ sched_push {lists} {pending} {priorities} {base} {depth} h task p is below free 
 }
 
 pub schedule_push : {lists : List (List (ℕ × ℕ))} {priorities : List ℕ} → AreByPriority lists priorities
-    → (pending : List ℕ) (current : Option ℕ) (base : List ℕ) (depth : ℕ) (suspended : List Bool) (task p : ℕ)
+    → (pending : List ℕ) (current : Option ℕ) (base : List ℕ) (depth suspensions : ℕ) (suspended : List Bool) (task p : ℕ)
     → p ≡ priority_in priorities task → p < length lists
-    → schedule_of (push task p lists) pending current priorities base depth suspended
-    ≡ make_ready task (schedule_of lists pending current priorities base depth suspended)
-schedule_push {lists} {priorities} h pending current base depth suspended task p is below =
-    ap (with_ready (schedule_of lists pending current priorities base depth suspended)) (ready_push h task p is below)
+    → schedule_of (push task p lists) pending current priorities base depth suspensions suspended
+    ≡ make_ready task (schedule_of lists pending current priorities base depth suspensions suspended)
+schedule_push {lists} {priorities} h pending current base depth suspensions suspended task p is below =
+    ap (with_ready (schedule_of lists pending current priorities base depth suspensions suspended)) (ready_push h task p is below)
 
 -- a task is pending
 
@@ -127,11 +127,11 @@ module _ {lists : List (List (ℕ × ℕ))} {priorities : List ℕ} (h : AreByPr
       ready_push left task p is below
       ∙ ap (insert_by_priority (task, priority_in priorities task)) (ready_list_of-without task lists)
 
-  pub schedule_moved : (pending : List ℕ) (current : Option ℕ) (base : List ℕ) (depth : ℕ) (suspended : List Bool)
-      → schedule_of (push task p (map (without task) lists)) pending current priorities base depth suspended
-      ≡ to_back task (schedule_of lists pending current priorities base depth suspended)
-  schedule_moved pending current base depth suspended =
-      rw listed (ap (with_ready (schedule_of lists pending current priorities base depth suspended)) ready_moved)
+  pub schedule_moved : (pending : List ℕ) (current : Option ℕ) (base : List ℕ) (depth suspensions : ℕ) (suspended : List Bool)
+      → schedule_of (push task p (map (without task) lists)) pending current priorities base depth suspensions suspended
+      ≡ to_back task (schedule_of lists pending current priorities base depth suspensions suspended)
+  schedule_moved pending current base depth suspensions suspended =
+      rw listed (ap (with_ready (schedule_of lists pending current priorities base depth suspensions suspended)) ready_moved)
 
   pub sched_moved : {pending base : List ℕ} {depth : ℕ} → IsSched lists pending priorities base depth
       → IsSound 32 32 (push task p (map (without task) lists))

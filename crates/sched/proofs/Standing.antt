@@ -36,6 +36,14 @@ use Rattle.sched.proofs.ReadyList.{none_of}
 use Rattle.sched.proofs.LinedUp.{IsFalling, has_node-added, line_up-append, line_up-falling, line_up-under, lined_up-block}
 use Rattle.sched.proofs.LinedUp.{lined_up_calm, without-added}
 
+-- how many `suspend_all` are in force, and whether a call holds the scheduler
+abbrev pub holds_of : State → ℕ × Bool
+holds_of s = (s.suspensions, s.call_hold)
+
+-- how often it is held then
+abbrev pub depth_by : ℕ × Bool → ℕ
+depth_by holds = holds.0 + (if holds.1 then 1 else 0)
+
 -- the ready list, as tasks with their priorities
 
 -- an entry whose ticket is above all goes behind its equals
@@ -139,6 +147,7 @@ stands_back v s i none h l awake = record {
   priorities = numbers_readied (λ (t : Task). t.priority) v.priorities s i h.priorities refl;
   base_priorities = numbers_readied (λ (t : Task). t.base_priority) v.base_priorities s i h.base_priorities refl;
   depth = h.depth;
+  suspensions = h.suspensions;
   suspended =
       suspended_kept (is_suspended v) s (make_ready i s) i
       (record (task_at s i) { status = Ready s.next_ticket }) h.suspended refl (sym awake);
@@ -154,6 +163,7 @@ pub record Adds (i : ℕ) (v w : Schedule) : Type 0 where
   pub priorities : w.priorities ≡ v.priorities
   pub base_priorities : w.base_priorities ≡ v.base_priorities
   pub depth : w.depth ≡ v.depth
+  pub suspensions : w.suspensions ≡ v.suspensions
   pub others : (j : ℕ) → j ≢ i → is_suspended w j ≡ is_suspended v j
   pub awake : is_suspended w i ≡ false
 
@@ -166,6 +176,7 @@ adds_made_ready v i none awake = record {
   priorities = refl;
   base_priorities = refl;
   depth = refl;
+  suspensions = refl;
   others = λ j ne. refl;
   awake = awake;
 }
@@ -177,6 +188,7 @@ adds_pended v i awake = record {
   priorities = refl;
   base_priorities = refl;
   depth = refl;
+  suspensions = refl;
   others = λ j ne. refl;
   awake = awake;
 }
@@ -198,6 +210,7 @@ stands_added v w s i adds h l free = record {
       ap (λ (ps : List ℕ). priority_in ps j) adds.base_priorities
       ∙ numbers_readied (λ (t : Task). t.base_priority) v.base_priorities s i h.base_priorities refl j;
   depth = adds.depth ∙ h.depth;
+  suspensions = adds.suspensions ∙ h.suspensions;
   suspended =
       suspended_changed (is_suspended v) (is_suspended w) s (make_ready i s) i
       (record (task_at s i) { status = Ready s.next_ticket }) h.suspended adds.others adds.awake l refl;
@@ -229,6 +242,7 @@ placing_added v w s decider i adds still falling h ne l free =
           ap (λ (ps : List ℕ). priority_in ps j) adds.base_priorities
           ∙ numbers_readied (λ (t : Task). t.base_priority) v.base_priorities s i h.base_priorities refl j;
       depth = adds.depth ∙ h.depth;
+      suspensions = adds.suspensions ∙ h.suspensions;
       suspended =
           suspended_changed (is_suspended v) (is_suspended w) s (make_ready i s) i
           (record (task_at s i) { status = Ready s.next_ticket }) h.suspended adds.others adds.awake l refl;
@@ -335,6 +349,7 @@ stands_chosen v s none h =
       priorities = h.priorities;
       base_priorities = h.base_priorities;
       depth = h.depth;
+      suspensions = h.suspensions;
       suspended = h.suspended;
       table = h.table;
     }))
@@ -344,6 +359,7 @@ stands_chosen v s none h =
       priorities = h.priorities;
       base_priorities = h.base_priorities;
       depth = h.depth;
+      suspensions = h.suspensions;
       suspended = h.suspended;
       table = record { tickets = h.table.tickets; few = h.table.few; current = choice_within s; holders = h.table.holders };
     }))
@@ -449,7 +465,7 @@ falling_ready v s h =
 
 -- it is Ready no more
 pub stands_blocked : (v : Schedule) (s new : State) (i : ℕ) (t : Task) → StandsFor v s → i < length s.tasks
-    → new.tasks ≡ set s.tasks i t → new.current ≡ s.current → depth_of new ≡ depth_of s → ready_key t ≡ None
+    → new.tasks ≡ set s.tasks i t → new.current ≡ s.current → holds_of new ≡ holds_of s → ready_key t ≡ None
     → t.priority ≡ (task_at s i).priority → t.base_priority ≡ (task_at s i).base_priority → IsTable new
     → can_resume t.status ≡ can_resume (status_at s i) → StandsFor (mine.block i v) new
 stands_blocked v s new i t h l is current held none same same_base table alike = record {
@@ -459,7 +475,8 @@ stands_blocked v s new i t h l is current held none same same_base table alike =
   current = h.current ∙ sym current;
   priorities = numbers_kept (λ (u : Task). u.priority) v.priorities s new i t h.priorities is same;
   base_priorities = numbers_kept (λ (u : Task). u.base_priority) v.base_priorities s new i t h.base_priorities is same_base;
-  depth = h.depth ∙ sym held;
+  depth = h.depth ∙ sym (ap depth_by held);
+  suspensions = h.suspensions ∙ sym (ap (λ (p : ℕ × Bool). p.0) held);
   suspended = suspended_kept (is_suspended v) s new i t h.suspended is alike;
   table = table;
 }
@@ -470,7 +487,7 @@ list_kept s new i t is key_same = sym (ap with_priorities (ap (list_by ready_key
 
 -- it keeps its key
 pub stands_kept : (v : Schedule) (s new : State) (i : ℕ) (t : Task) → StandsFor v s → i < length s.tasks
-    → new.tasks ≡ set s.tasks i t → new.current ≡ s.current → depth_of new ≡ depth_of s → ready_key t ≡ ready_key (task_at s i)
+    → new.tasks ≡ set s.tasks i t → new.current ≡ s.current → holds_of new ≡ holds_of s → ready_key t ≡ ready_key (task_at s i)
     → t.priority ≡ (task_at s i).priority → t.base_priority ≡ (task_at s i).base_priority → IsTable new
     → can_resume t.status ≡ can_resume (status_at s i) → StandsFor v new
 stands_kept v s new i t h l is current held key_same same same_base table alike = record {
@@ -478,7 +495,8 @@ stands_kept v s new i t h l is current held key_same same same_base table alike 
   current = h.current ∙ sym current;
   priorities = numbers_kept (λ (u : Task). u.priority) v.priorities s new i t h.priorities is same;
   base_priorities = numbers_kept (λ (u : Task). u.base_priority) v.base_priorities s new i t h.base_priorities is same_base;
-  depth = h.depth ∙ sym held;
+  depth = h.depth ∙ sym (ap depth_by held);
+  suspensions = h.suspensions ∙ sym (ap (λ (p : ℕ × Bool). p.0) held);
   suspended = suspended_kept (is_suspended v) s new i t h.suspended is alike;
   table = table;
 }
@@ -521,6 +539,7 @@ stands_moved v s i p none h l known on =
           numbers_kept (λ (x : Task). x.base_priority) v.base_priorities s new
           i w h.base_priorities is (ap (λ (x : Task). x.base_priority) at);
       depth = h.depth;
+      suspensions = h.suspensions;
       suspended = suspended_kept (is_suspended v) s new i w h.suspended is (sym (ready_unsuspended (status_at s i) on));
       table = table-make_ready ranked i (table-set s i u h.table (ticket_at s.next_ticket i s.tasks h.table.tickets));
     }
@@ -544,6 +563,7 @@ stands_ranked v s i p none h l known off =
       priorities = priority_changed v.priorities s new i p u h.priorities known l refl refl;
       base_priorities = numbers_kept (λ (x : Task). x.base_priority) v.base_priorities s new i u h.base_priorities refl refl;
       depth = h.depth;
+      suspensions = h.suspensions;
       suspended = suspended_kept (is_suspended v) s new i u h.suspended refl refl;
       table = table-set s i u h.table (ticket_at s.next_ticket i s.tasks h.table.tickets);
     }
@@ -577,6 +597,7 @@ stands_placed v s i falling h =
       priorities = h.priorities;
       base_priorities = h.base_priorities;
       depth = h.depth;
+      suspensions = h.suspensions;
       suspended = h.suspended;
       table = h.table;
     }
@@ -600,6 +621,7 @@ stands_begun v s i status none h l ready below unready awake =
       priorities = b.priorities;
       base_priorities = b.base_priorities;
       depth = b.depth;
+      suspensions = b.suspensions;
       suspended = b.suspended;
       table = table;
     }
@@ -631,7 +653,7 @@ stands_waiting_bits v s i group none h l ready =
 
 -- A task that is still to be placed, or another, keeps its key.
 pub stands_before_kept : (v : Schedule) (s new : State) (i j : ℕ) (t : Task) → StandsBefore i v s → j < length s.tasks
-    → new.tasks ≡ set s.tasks j t → new.current ≡ s.current → depth_of new ≡ depth_of s → ready_key t ≡ ready_key (task_at s j)
+    → new.tasks ≡ set s.tasks j t → new.current ≡ s.current → holds_of new ≡ holds_of s → ready_key t ≡ ready_key (task_at s j)
     → t.priority ≡ (task_at s j).priority → t.base_priority ≡ (task_at s j).base_priority → IsTable new
     → can_resume t.status ≡ can_resume (status_at s j) → StandsBefore i v new
 stands_before_kept v s new i j t h l is current held key_same same same_base table alike = record {
@@ -640,14 +662,11 @@ stands_before_kept v s new i j t h l is current held key_same same same_base tab
   current = h.current ∙ sym current;
   priorities = numbers_kept (λ (u : Task). u.priority) v.priorities s new j t h.priorities is same;
   base_priorities = numbers_kept (λ (u : Task). u.base_priority) v.base_priorities s new j t h.base_priorities is same_base;
-  depth = h.depth ∙ sym held;
+  depth = h.depth ∙ sym (ap depth_by held);
+  suspensions = h.suspensions ∙ sym (ap (λ (p : ℕ × Bool). p.0) held);
   suspended = suspended_kept (is_suspended v) s new j t h.suspended is alike;
   table = table;
 }
-
--- how many `suspend_all` are in force, and whether a call holds the scheduler
-abbrev pub holds_of : State → ℕ × Bool
-holds_of s = (s.suspensions, s.call_hold)
 
 -- A call holds the scheduler, where none did.
 pub stands_before_held : (v : Schedule) (s new : State) (i : ℕ) → StandsBefore i v s → s.call_hold ≡ false
@@ -655,7 +674,7 @@ pub stands_before_held : (v : Schedule) (s new : State) (i : ℕ) → StandsBefo
     → StandsBefore i (record v { depth = v.depth + 1 }) new
 stands_before_held v s new i h free tasks current held table =
     let before : v.depth ≡ s.suspensions + 0 = h.depth ∙ ap (λ (b : Bool). s.suspensions + (if b then 1 else 0)) free in
-    let after : depth_of new ≡ s.suspensions + 1 = ap (λ (p : ℕ × Bool). p.0 + (if p.1 then 1 else 0)) held in
+    let after : depth_of new ≡ s.suspensions + 1 = ap depth_by held in
     record {
       ready = h.ready ∙ sym (ap (λ ts. with_priorities (list_by ready_key ts)) tasks);
       still = h.still;
@@ -663,6 +682,7 @@ stands_before_held v s new i h free tasks current held table =
       priorities = λ j. h.priorities j ∙ sym (ap (λ (ts : List Task). (get_or ts j no_task).priority) tasks);
       base_priorities = λ j. h.base_priorities j ∙ sym (ap (λ (ts : List Task). (get_or ts j no_task).base_priority) tasks);
       depth = omega (arith, before, after);
+      suspensions = h.suspensions ∙ sym (ap (λ (p : ℕ × Bool). p.0) held);
       suspended = λ j. h.suspended j ∙ sym (ap (λ (ts : List Task). can_resume (get_or ts j no_task).status) tasks);
       table = table;
     }

@@ -35,6 +35,7 @@ stands_suspended v s i h l known =
       priorities = numbers_kept (λ (u : Task). u.priority) v.priorities s new i t h.priorities refl refl;
       base_priorities = numbers_kept (λ (u : Task). u.base_priority) v.base_priorities s new i t h.base_priorities refl refl;
       depth = h.depth;
+      suspensions = h.suspensions;
       suspended =
           suspended_changed (is_suspended v) (is_suspended (mine.suspend i v)) s new i t h.suspended
           (λ j ne. get_or-set_other v.suspended i j true false ne) (get_or-set_same v.suspended i true false known) l refl;
@@ -51,6 +52,7 @@ adds_unsuspended v w i a = record {
   priorities = a.priorities;
   base_priorities = a.base_priorities;
   depth = a.depth;
+  suspensions = a.suspensions;
   others = λ j ne. a.others j ne ∙ get_or-set_other v.suspended i j false false ne;
   awake = a.awake;
 }

@@ -114,15 +114,15 @@ module _ {lists : List (List (ℕ × ℕ))} {priorities : List ℕ} (h : AreByPr
     calm = all.calm;
   }
 
-  pub schedule_turned : (pending : List ℕ) (current : Option ℕ) (base : List ℕ) (depth : ℕ) (suspended : List Bool)
-      → schedule_of (turn p lists) pending current priorities base depth suspended
-      ≡ to_back task (schedule_of lists pending current priorities base depth suspended)
-  schedule_turned pending current base depth suspended =
-      rw is_in (ap (with_ready (schedule_of lists pending current priorities base depth suspended)) ready_turned)
+  pub schedule_turned : (pending : List ℕ) (current : Option ℕ) (base : List ℕ) (depth suspensions : ℕ) (suspended : List Bool)
+      → schedule_of (turn p lists) pending current priorities base depth suspensions suspended
+      ≡ to_back task (schedule_of lists pending current priorities base depth suspensions suspended)
+  schedule_turned pending current base depth suspensions suspended =
+      rw is_in (ap (with_ready (schedule_of lists pending current priorities base depth suspensions suspended)) ready_turned)
 
   -- where it runs and no task is above it, its turn ends if it has an equal
-  module _ (pending base : List ℕ) (depth : ℕ) (suspended : List Bool) (highest : IsHighest lists (Some p)) where
-    not_outranked : is_outranked (schedule_of lists pending (Some task) priorities base depth suspended) ≡ false
+  module _ (pending base : List ℕ) (depth suspensions : ℕ) (suspended : List Bool) (highest : IsHighest lists (Some p)) where
+    not_outranked : is_outranked (schedule_of lists pending (Some task) priorities base depth suspensions suspended) ≡ false
     not_outranked =
         any_above priorities lists p task h.at_home highest
         ∙ le-ltb (priority_in priorities task) p (let home = is.home in omega (arith, home))
@@ -133,7 +133,7 @@ module _ {lists : List (List (ℕ × ℕ))} {priorities : List ℕ} (h : AreByPr
         let ne : (x.0 == task) ≡ false = ne_eqb x.0 task (λ e. a.0 (ap Some (sym e))) in
         rw ne refl
 
-    sharing_if : is_sharing (schedule_of lists pending (Some task) priorities base depth suspended)
+    sharing_if : is_sharing (schedule_of lists pending (Some task) priorities base depth suspensions suspended)
         ≡ is_some (second_of (entries_of lists p))
     sharing_if =
         let once : EachOnce ((task, split.0) ∷ split.1) = subst EachOnce split.2 (h.sound.distinct p) in
@@ -143,8 +143,8 @@ module _ {lists : List (List (ℕ × ℕ))} {priorities : List ℕ} (h : AreByPr
         ∙ rw eq (others_there split.1 once.0)
         ∙ sym (ap (λ (xs : List (ℕ × ℕ)). is_some (second_of xs)) split.2)
 
-    pub ended_if : (is_outranked (schedule_of lists pending (Some task) priorities base depth suspended)
-        || is_sharing (schedule_of lists pending (Some task) priorities base depth suspended))
+    pub ended_if : (is_outranked (schedule_of lists pending (Some task) priorities base depth suspensions suspended)
+        || is_sharing (schedule_of lists pending (Some task) priorities base depth suspensions suspended))
         ≡ is_some (second_of (entries_of lists p))
     ended_if = ap₂ (λ (a b : Bool). a || b) not_outranked sharing_if
 
@@ -158,24 +158,25 @@ module _ {lists : List (List (ℕ × ℕ))} {priorities : List ℕ} (h : AreByPr
     )
 
     pub schedule_sliced : (n : ℕ) → Some n ≡ second_of (entries_of lists p)
-        → schedule_of (turn p lists) pending (Some n) priorities base depth suspended
-        ≡ slice (schedule_of lists pending (Some task) priorities base depth suspended)
+        → schedule_of (turn p lists) pending (Some n) priorities base depth suspensions suspended
+        ≡ slice (schedule_of lists pending (Some task) priorities base depth suspensions suspended)
     schedule_sliced n second =
         let next : Some n ≡ first_of (entries_of (turn p lists) p) =
         first_still n split.1 (task, split.0) (second ∙ ap second_of split.2)
         ∙ sym (ap first_of (entries_of-set_same lists p (rotated (entries_of lists p)) below ∙ ap rotated split.2)) in
-        ap (λ (o : Option ℕ). schedule_of (turn p lists) pending o priorities base depth suspended) (next ∙ sym first_after)
-        ∙ ap choose (schedule_turned pending (Some task) base depth suspended)
-        ∙ sym (ap (sliced_if (schedule_of lists pending (Some task) priorities base depth suspended))
+        ap (λ (o : Option ℕ). schedule_of (turn p lists) pending o priorities base depth suspensions suspended)
+        (next ∙ sym first_after)
+        ∙ ap choose (schedule_turned pending (Some task) base depth suspensions suspended)
+        ∙ sym (ap (sliced_if (schedule_of lists pending (Some task) priorities base depth suspensions suspended))
         (ended_if ∙ ap is_some (sym second)))
 
     pub schedule_kept : None ≡ second_of (entries_of lists p)
-        → schedule_of (turn p lists) pending (Some task) priorities base depth suspended
-        ≡ slice (schedule_of lists pending (Some task) priorities base depth suspended)
+        → schedule_of (turn p lists) pending (Some task) priorities base depth suspensions suspended
+        ≡ slice (schedule_of lists pending (Some task) priorities base depth suspensions suspended)
     schedule_kept none =
         let one : entries_of lists p ≡ (task, split.0) ∷ [] =
         split.2 ∙ ap (λ (xs : List (ℕ × ℕ)). (task, split.0) ∷ xs) (no_first split.1 (none ∙ ap second_of split.2)) in
-        ap (λ (ls : List (List (ℕ × ℕ))). schedule_of ls pending (Some task) priorities base depth suspended)
+        ap (λ (ls : List (List (ℕ × ℕ))). schedule_of ls pending (Some task) priorities base depth suspensions suspended)
         (ap (λ (xs : List (ℕ × ℕ)). set lists p (rotated xs)) one ∙ ap (set lists p) (sym one) ∙ set-get_or lists p [])
-        ∙ sym (ap (sliced_if (schedule_of lists pending (Some task) priorities base depth suspended))
+        ∙ sym (ap (sliced_if (schedule_of lists pending (Some task) priorities base depth suspensions suspended))
         (ended_if ∙ ap is_some (sym none)))

@@ -49,13 +49,14 @@ pub record IsSched (lists : List (List (ℕ × ℕ))) (pending priorities base_p
   pub apart : (task : ℕ) → is_among task pending ≡ true → has_node task (ready_list_of lists) ≡ false
   pub calm : depth ≡ 0 → pending ≡ []
 
-abbrev pub schedule_of : List (List (ℕ × ℕ)) → List ℕ → Option ℕ → List ℕ → List ℕ → ℕ → List Bool → Schedule
-schedule_of lists pending current priorities base_priorities depth suspended = record {
+abbrev pub schedule_of : List (List (ℕ × ℕ)) → List ℕ → Option ℕ → List ℕ → List ℕ → ℕ → ℕ → List Bool → Schedule
+schedule_of lists pending current priorities base_priorities depth suspensions suspended = record {
   ready = ready_list_of lists;
   pending = pending;
   current = current;
   priorities = priorities;
   base_priorities = base_priorities;
   depth = depth;
+  suspensions = suspensions;
   suspended = suspended;
 }

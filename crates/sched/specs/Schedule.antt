@@ -16,8 +16,10 @@ pub record Schedule : Type 0 where
   pub priorities : List ℕ
   -- the priority that the file gives each task (`uxBasePriority`)
   pub base_priorities : List ℕ
-  -- how often the scheduler is held (`uxSchedulerSuspended`)
+  -- how often the scheduler is held, by calls and by `suspend_all` together (`uxSchedulerSuspended`)
   pub depth : ℕ
+  -- how many `suspend_all` are in force, each of which holds it once
+  pub suspensions : ℕ
   -- of each task whether it is suspended (`xSuspendedTaskList`)
   pub suspended : List Bool
 
@@ -73,17 +75,25 @@ unsuspend task s = record s { suspended = slice_set s.suspended task false }
 abbrev pub resume : ℕ → Schedule → Schedule
 resume task s = if is_suspended s task then wake task (unsuspend task s) else s
 
--- The scheduler is held once more (`vTaskSuspendAll`).
+-- A call holds the scheduler once more (`vTaskSuspendAll`).
 abbrev pub hold : Schedule → Schedule
 hold s = record s { depth = s.depth + 1 }
+
+-- One `suspend_all` more is in force (`vTaskSuspendAll`).
+abbrev pub suspend_all : Schedule → Schedule
+suspend_all s = record s { depth = s.depth + 1; suspensions = s.suspensions + 1 }
 
 -- Every pending task goes to its ready list, in turn.
 abbrev pub line_up_pending : Schedule → Schedule
 line_up_pending s = record s { ready = lined_up s; pending = [] }
 
--- A hold is taken back, and with the last one every pending task goes to its ready list (`xTaskResumeAll`).
+-- A call's hold is taken back, and with the last hold every pending task goes to its ready list (`xTaskResumeAll`).
 abbrev pub unhold : Schedule → Schedule
 unhold s = record (if s.depth == 1 then line_up_pending s else s) { depth = s.depth - 1 }
+
+-- One `suspend_all` less is in force, whose hold is taken back so (`xTaskResumeAll`).
+abbrev pub resume_all : Schedule → Schedule
+resume_all s = record (unhold s) { suspensions = s.suspensions - 1 }
 
 -- The task goes behind the others of its priority, where it is in a ready list.
 abbrev pub to_back : ℕ → Schedule → Schedule

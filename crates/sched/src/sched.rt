@@ -8,7 +8,7 @@ ghost use Rattle.model.specs.Switching as switching;
 ghost use Rattle.model.specs.Suspension as suspension;
 ghost use Rattle.model.specs.Suspension.{can_resume};
 ghost use Rattle.lists.specs.Lists.{first_of};
-ghost use Rattle.sched.specs.Schedule.{IsCalm, priority_in, is_ready, is_outranked, is_sharing, is_steady, is_suspended, block, choose, hold, line_up_pending, lined_up, make_ready, pend_ready, preempt, resume, set_priority, slice, suspend, to_back, unhold, wake, yield_now};
+ghost use Rattle.sched.specs.Schedule.{IsCalm, priority_in, is_ready, is_outranked, is_sharing, is_steady, is_suspended, block, choose, hold, line_up_pending, lined_up, make_ready, pend_ready, preempt, resume, resume_all, set_priority, slice, suspend, suspend_all, to_back, unhold, wake, yield_now};
 ghost use Rattle.sched.specs.StandsFor.{StandsFor, StandsBefore, DoesFree};
 
 use crate::pending::PendingReadyList;
@@ -31,7 +31,9 @@ pub struct Sched {
     /// Of each task its priority now, and the one that the file gives it.
     priorities: [u8; 32],
     base_priorities: [u8; 32],
+    /// How often it is held, and how many of these holds are those of a `suspend_all`.
     depth: u32,
+    suspensions: u32,
     /// Of each task whether it is suspended.
     suspended: [bool; 32],
 }
@@ -43,7 +45,7 @@ impl Model for Sched {
 
     ghost Value = { Schedule };
 
-    ghost view = { λ s. schedule_of s.ready s.pending s.current s.priorities s.base_priorities s.depth s.suspended };
+    ghost view = { λ s. schedule_of s.ready s.pending s.current s.priorities s.base_priorities s.depth s.suspensions s.suspended };
 
     ghost invariant = { λ s. IsSched s.ready s.pending s.priorities s.base_priorities s.depth };
 }
@@ -60,6 +62,7 @@ impl Sched {
           priorities = priorities;
           base_priorities = priorities;
           depth = 0;
+          suspensions = 0;
           suspended = replicate 32 false;
         } }
     {
@@ -70,6 +73,7 @@ impl Sched {
             priorities,
             base_priorities: priorities,
             depth: 0,
+            suspensions: 0,
             suspended: [false; 32],
         }
     }
@@ -85,6 +89,7 @@ impl Sched {
             priorities: self.priorities,
             base_priorities: self.base_priorities,
             depth: self.depth,
+            suspensions: self.suspensions,
             suspended: self.suspended,
         }
     }
@@ -99,16 +104,18 @@ impl Sched {
         self.priorities = other.priorities;
         self.base_priorities = other.base_priorities;
         self.depth = other.depth;
+        self.suspensions = other.suspensions;
         self.suspended = other.suspended;
     }
 
     /// Whether the same task runs in the other, the same tasks are Ready, pending and suspended, in the same order and with the
-    /// same priorities, and it is held as often.
+    /// same priorities, and it is held as often, and by as many `suspend_all`.
     pub fn is_same(&self, other: &Self) -> bool
         ensures { result ≡ true → self.now ≡ other.now }
     {
         if self.current != other.current
             || self.depth != other.depth
+            || self.suspensions != other.suspensions
             || self.suspended != other.suspended
             || !are_same_bytes(&self.priorities, &other.priorities)
             || !are_same_bytes(&self.base_priorities, &other.base_priorities)
@@ -157,6 +164,7 @@ impl Sched {
         ensures stands { (s : State) → StandsFor self.old s → task < length s.tasks
             → StandsFor self.new (mutexes.set_priority task priority s) }
         ensures depth { self.new.depth ≡ self.old.depth }
+        ensures suspensions { self.new.suspensions ≡ self.old.suspensions }
         ensures current { self.new.current ≡ self.old.current }
         ensures ready { (other : ℕ) → is_ready self.new other ≡ is_ready self.old other }
     {
@@ -182,8 +190,16 @@ impl Sched {
         self.depth
     }
 
-    /// Holds the scheduler once more, less than 4294967295 times in all (`vTaskSuspendAll`). While it is held the caller
-    /// lets nothing switch.
+    /// How many `suspend_all` are in force, each of which holds the scheduler once.
+    #[inline(always)]
+    pub fn suspensions(&self) -> u32
+        ensures suspensions { result ≡ self.now.suspensions }
+    {
+        self.suspensions
+    }
+
+    /// A call holds the scheduler once more, less than 4294967295 times in all (`vTaskSuspendAll`). While it is held the
+    /// caller lets nothing switch.
     pub fn hold(&mut self)
         requires { self.old.depth < 4294967295 }
         ensures schedule { self.new ≡ hold self.old }
@@ -191,15 +207,12 @@ impl Sched {
         // In the definitions a call holds it, where none did.
         ensures stands { (s : State) → StandsFor self.old s → s.call_hold ≡ false
             → StandsFor self.new (record s { call_hold = true }) }
-        // Or one `suspend_all` more is in force.
-        ensures suspends { (s : State) → StandsFor self.old s
-            → StandsFor self.new (record s { suspensions = s.suspensions + 1 }) }
     {
         self.depth += 1;
     }
 
-    /// Takes back one of the holds, of which there is one, and with the last one moves the pending tasks to their ready
-    /// lists (`xTaskResumeAll`). It switches nothing by itself.
+    /// Takes back a call's hold, of which there is one, and with the last hold of all moves the pending tasks to their
+    /// ready lists (`xTaskResumeAll`). It switches nothing by itself.
     #[inline(always)]
     pub fn unhold(&mut self)
         requires { 0 < self.old.depth }
@@ -208,14 +221,40 @@ impl Sched {
         ensures current { self.new.current ≡ self.old.current }
         ensures stands { (s : State) → StandsFor self.old s → s.call_hold ≡ true
             → StandsFor self.new (record s { call_hold = false }) }
-        // Or one `suspend_all` less is.
-        ensures resumes { (s : State) → StandsFor self.old s → 0 < s.suspensions
-            → StandsFor self.new (record s { suspensions = s.suspensions - 1 }) }
     {
         if self.depth == 1 {
             self.line_up_pending();
         }
         self.depth -= 1;
+    }
+
+    /// One `suspend_all` more is in force, and holds the scheduler once more (`vTaskSuspendAll`). Either count is below
+    /// 4294967295 before.
+    #[inline(always)]
+    pub fn suspend_all(&mut self)
+        requires depth { self.old.depth < 4294967295 }
+        requires few { self.old.suspensions < 4294967295 }
+        ensures schedule { self.new ≡ suspend_all self.old }
+        ensures stands { (s : State) → StandsFor self.old s
+            → StandsFor self.new (record s { suspensions = s.suspensions + 1 }) }
+    {
+        self.hold();
+        self.suspensions += 1;
+    }
+
+    /// One `suspend_all` less is in force, of which there is one, and its hold ends as a call's does (`xTaskResumeAll`).
+    #[inline(always)]
+    pub fn resume_all(&mut self)
+        requires held { 0 < self.old.depth }
+        requires some { 0 < self.old.suspensions }
+        ensures schedule { self.new ≡ resume_all self.old }
+        ensures depth { self.new.depth ≡ self.old.depth - 1 }
+        ensures suspensions { self.new.suspensions ≡ self.old.suspensions - 1 }
+        ensures stands { (s : State) → StandsFor self.old s
+            → StandsFor self.new (record s { suspensions = s.suspensions - 1 }) }
+    {
+        self.unhold();
+        self.suspensions -= 1;
     }
 
     /// Makes a task Ready that isn't (see `is_ready`), behind the others of its priority, while the scheduler isn't

@@ -11,5 +11,5 @@ returns c = record {
       subst P (c.behind-machine.view_is ∙ c.progress.ensures) c.in-Some.ensures.some);
   bits = sym c.if-not-is_for_bits.ensures;
   reached = c.requires.reached;
-  awake = (let l = c.if-machine-gt0.false in omega arith);
+  awake = (let e = c.suspensions.ensures.suspensions in let l = c.if-suspensions-gt0.false in omega arith);
 }

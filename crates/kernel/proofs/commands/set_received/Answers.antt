@@ -14,7 +14,7 @@ returns c = record {
       subst P (c.behind-machine.view_is ∙ c.progress.ensures) c.in-Some.ensures.some)
       ∙ ap (λ (o : Op). Some o) c.in-Obey.is;
   reached = sym c.phase.ensures ∙ same_phase c.phase.result Start c.if-ne.ensures;
-  awake = (let l = c.if-machine-gt0.false in omega arith);
+  awake = (let e = c.suspensions.ensures.suspensions in let l = c.if-suspensions-gt0.false in omega arith);
   received = c.command_of-command.ensures;
   sets = c.if-command.false;
 }

@@ -27,7 +27,7 @@ op_of-requires c =
 
 -- None is over before the task's call decides.
 none_over : (app : Application) → IsWellFormed app → (limits : Limits) (until : ℕ) (k : Machine) (task : ℕ)
-    → k.sched.current ≡ Some task → (progress_in k.progress task).call.phase ≡ Decide → k.suspensions ≡ 0
+    → k.sched.current ≡ Some task → (progress_in k.progress task).call.phase ≡ Decide → k.sched.suspensions ≡ 0
     → is_some k.stopped ≡ false → ((s : State) → Stands k s → is_endless app task && are_all_ended app s ≡ false)
     → ((s : State) → Stands k s → is_at_tick_limit app limits s ≡ false) → NoneIsOver app limits until k k
 none_over app formed limits until k task runs decides none on more early = λ plan f.
@@ -81,7 +81,8 @@ pass_phase-requires-clause-going c =
     let three = c.if-saturating_sub-lt3.false in
     let none =
     none_over c.args.app.now c.well_formed-2.ensures c.args.limits.now c.args.until c.args.kernel.now c.args.task
-    c.requires.runs c.requires.decides (omega (arith, c.if-kernel-gt0.false)) (sym c.if-is_some.ensures)
+    c.requires.runs c.requires.decides (omega (arith, c.suspensions.ensures.suspensions, c.if-suspensions-gt0.false))
+    (sym c.if-is_some.ensures)
     (λ s h. sym (c.if-is_left_alone.ensures s h)) (λ s h. sym (c.if-is_at_tick_limit.ensures s h)) in
     going_soon (omega arith) (record { free = c.requires.free; going = none c.args.injections.now c.requires.free })
 
@@ -95,7 +96,7 @@ pass_phase-requires-clause-call c = record {
       subst P (c.behind-kernel.view_is ∙ c.progress.ensures) c.in-Some.ensures.some);
   on = c.in-Some-call_of.ensures.1;
   reached = c.requires.decides;
-  awake = (let l = c.if-kernel-gt0.false in omega arith);
+  awake = (let e = c.suspensions.ensures.suspensions in let l = c.if-suspensions-gt0.false in omega arith);
 }
 
 pub pass_if_next-requires-clause-going : goal.pass_if_next-requires-clause-going
@@ -105,7 +106,8 @@ pass_if_next-requires-clause-going c =
     let far = c.pass_phase.ensures.along.far (omega arith) in
     let none =
     none_over c.args.app.now c.well_formed-2.ensures c.args.limits.now c.args.until c.args.kernel.now c.args.task
-    c.requires.runs c.requires.decides (omega (arith, c.if-kernel-gt0.false)) (sym c.if-is_some.ensures)
+    c.requires.runs c.requires.decides (omega (arith, c.suspensions.ensures.suspensions, c.if-suspensions-gt0.false))
+    (sym c.if-is_some.ensures)
     (λ s h. sym (c.if-is_left_alone.ensures s h)) (λ s h. sym (c.if-is_at_tick_limit.ensures s h)) in
     going_soon (omega arith) (going_second (omega arith) none c.pass_phase.ensures.along
     c.pass_phase.ensures.going c.args.injections.now c.requires.free)
@@ -116,7 +118,8 @@ pass_if_next-requires-2-clause-going c =
     let three = c.if-saturating_sub-lt3.false in
     let none =
     none_over c.args.app.now c.well_formed-2.ensures c.args.limits.now c.args.until c.args.kernel.now c.args.task
-    c.requires.runs c.requires.decides (omega (arith, c.if-kernel-gt0.false)) (sym c.if-is_some.ensures)
+    c.requires.runs c.requires.decides (omega (arith, c.suspensions.ensures.suspensions, c.if-suspensions-gt0.false))
+    (sym c.if-is_some.ensures)
     (λ s h. sym (c.if-is_left_alone.ensures s h)) (λ s h. sym (c.if-is_at_tick_limit.ensures s h)) in
     third_soon (omega arith) none c.pass_phase.ensures.along c.pass_phase.ensures.going
     c.pass_if_next.ensures.along c.pass_if_next.ensures.going c.args.injections.now c.requires.free
@@ -127,7 +130,8 @@ returns-then-ne-clause-along c =
     let three = c.if-saturating_sub-lt3.false in
     let none =
     none_over c.args.app.now c.well_formed-2.ensures c.args.limits.now c.args.until c.args.kernel.now c.args.task
-    c.requires.runs c.requires.decides (omega (arith, c.if-kernel-gt0.false)) (sym c.if-is_some.ensures)
+    c.requires.runs c.requires.decides (omega (arith, c.suspensions.ensures.suspensions, c.if-suspensions-gt0.false))
+    (sym c.if-is_some.ensures)
     (λ s h. sym (c.if-is_left_alone.ensures s h)) (λ s h. sym (c.if-is_at_tick_limit.ensures s h)) in
     in_three (omega arith) none c.pass_phase.ensures.along c.pass_phase.ensures.going
     c.pass_if_next.ensures.along c.pass_if_next.ensures.going c.pass_if_next-2.ensures.along
@@ -138,7 +142,8 @@ returns-clause-along c =
     let three = c.if-saturating_sub-lt3.false in
     let none =
     none_over c.args.app.now c.well_formed-2.ensures c.args.limits.now c.args.until c.args.kernel.now c.args.task
-    c.requires.runs c.requires.decides (omega (arith, c.if-kernel-gt0.false)) (sym c.if-is_some.ensures)
+    c.requires.runs c.requires.decides (omega (arith, c.suspensions.ensures.suspensions, c.if-suspensions-gt0.false))
+    (sym c.if-is_some.ensures)
     (λ s h. sym (c.if-is_left_alone.ensures s h)) (λ s h. sym (c.if-is_at_tick_limit.ensures s h)) in
     in_three (omega arith) none c.pass_phase.ensures.along c.pass_phase.ensures.going
     c.pass_if_next.ensures.along c.pass_if_next.ensures.going c.pass_if_next-2.ensures.along
@@ -149,7 +154,8 @@ returns-clause-going c = λ plan f.
     let three = c.if-saturating_sub-lt3.false in
     let none =
     none_over c.args.app.now c.well_formed-2.ensures c.args.limits.now c.args.until c.args.kernel.now c.args.task
-    c.requires.runs c.requires.decides (omega (arith, c.if-kernel-gt0.false)) (sym c.if-is_some.ensures)
+    c.requires.runs c.requires.decides (omega (arith, c.suspensions.ensures.suspensions, c.if-suspensions-gt0.false))
+    (sym c.if-is_some.ensures)
     (λ s h. sym (c.if-is_left_alone.ensures s h)) (λ s h. sym (c.if-is_at_tick_limit.ensures s h)) in
     c.pass_if_next-2.ensures.going plan (third_soon (omega arith) none c.pass_phase.ensures.along
     c.pass_phase.ensures.going c.pass_if_next.ensures.along c.pass_if_next.ensures.going plan f)

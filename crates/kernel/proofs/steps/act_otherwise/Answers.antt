@@ -4,13 +4,15 @@ use Rattle.kernel.proofs.steps.act_otherwise.Goals as goal
 
 pub act_while_suspended-requires-clause-can : goal.act_while_suspended-requires-clause-can
 act_while_suspended-requires-clause-can g c = λ op at.
-    (c.requires.can.op c.in-Some.task op (sym c.current.ensures.current ∙ c.in-Some.is) at).1 c.if-machine-gt0.true
+    (c.requires.can.op c.in-Some.task op (sym c.current.ensures.current ∙ c.in-Some.is) at).1
+    (let e = c.suspensions.ensures.suspensions in let l = c.if-suspensions-gt0.true in omega arith)
 
-pub returns-then-machine-gt0-clause-does : goal.returns-then-machine-gt0-clause-does
-returns-then-machine-gt0-clause-does g c = c.act_while_suspended.ensures c.args.limits.now
+pub returns-then-suspensions-gt0-clause-does : goal.returns-then-suspensions-gt0-clause-does
+returns-then-suspensions-gt0-clause-does g c = c.act_while_suspended.ensures c.args.limits.now
 
-pub returns-else-machine-gt0-clause-does : goal.returns-else-machine-gt0-clause-does
-returns-else-machine-gt0-clause-does g c =
+pub returns-else-suspensions-gt0-clause-does : goal.returns-else-suspensions-gt0-clause-does
+returns-else-suspensions-gt0-clause-does g c =
     let runs = sym c.current.ensures.current ∙ c.in-Some.is in
     rests c.args.app.now c.args.limits.now c.args.machine.now c.in-Some.task runs
-    (c.requires.none c.in-Some.task runs (let l = c.if-machine-gt0.false in omega arith)) _
+    (c.requires.none c.in-Some.task runs
+    (let e = c.suspensions.ensures.suspensions in let l = c.if-suspensions-gt0.false in omega arith)) _

@@ -9,5 +9,5 @@ returns-in-Some-op_of-clause-some c = record {
   at =
       (let P : Progress → Type 0 = λ p. op_at c.args.app.now c.in-Some.task p.op_index ≡ Some c.in-Some-op_of.op.now in
       subst P (c.behind-machine.view_is ∙ c.progress.ensures) c.in-Some-op_of.ensures.some);
-  awake = (let l = c.if-machine-gt0.false in omega arith);
+  awake = (let e = c.suspensions.ensures.suspensions in let l = c.if-suspensions-gt0.false in omega arith);
 }

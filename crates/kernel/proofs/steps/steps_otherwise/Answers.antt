@@ -26,8 +26,8 @@ go_on_while_suspended-requires c =
     (c.step_otherwise-following.ensures.told s h)) in
     still_free further g
 
-pub returns-then-kernel-gt0-clause-along : goal.returns-then-kernel-gt0-clause-along
-returns-then-kernel-gt0-clause-along c =
+pub returns-then-suspensions-gt0-clause-along : goal.returns-then-suspensions-gt0-clause-along
+returns-then-suspensions-gt0-clause-along c =
     let g = c.requires.going in
     let short : c.args.kernel.now.steps < c.args.until = (let soon = c.requires.soon in omega arith) in
     let further =
@@ -40,8 +40,8 @@ returns-then-kernel-gt0-clause-along c =
     (c.step_otherwise-following.ensures.told s h)) in
     further_on further c.go_on_while_suspended.ensures.along
 
-pub returns-then-kernel-gt0-clause-on : goal.returns-then-kernel-gt0-clause-on
-returns-then-kernel-gt0-clause-on c =
+pub returns-then-suspensions-gt0-clause-on : goal.returns-then-suspensions-gt0-clause-on
+returns-then-suspensions-gt0-clause-on c =
     let g = c.requires.going in
     let short : c.args.kernel.now.steps < c.args.until = (let soon = c.requires.soon in omega arith) in
     let one =
@@ -50,8 +50,8 @@ returns-then-kernel-gt0-clause-on c =
     let on = c.go_on_while_suspended.ensures.along.to.on in
     omega arith
 
-pub returns-then-kernel-gt0-clause-soon : goal.returns-then-kernel-gt0-clause-soon
-returns-then-kernel-gt0-clause-soon c =
+pub returns-then-suspensions-gt0-clause-soon : goal.returns-then-suspensions-gt0-clause-soon
+returns-then-suspensions-gt0-clause-soon c =
     let g = c.requires.going in
     let short : c.args.kernel.now.steps < c.args.until = (let soon = c.requires.soon in omega arith) in
     let one =
@@ -60,8 +60,8 @@ returns-then-kernel-gt0-clause-soon c =
     let soon = c.requires.soon in
     c.go_on_while_suspended.ensures.soon (omega arith)
 
-pub returns-else-kernel-gt0-clause-along : goal.returns-else-kernel-gt0-clause-along
-returns-else-kernel-gt0-clause-along c =
+pub returns-else-suspensions-gt0-clause-along : goal.returns-else-suspensions-gt0-clause-along
+returns-else-suspensions-gt0-clause-along c =
     let g = c.requires.going in
     let short : c.args.kernel.now.steps < c.args.until = (let soon = c.requires.soon in omega arith) in
     goes_further c.args.app.now c.well_formed-2.ensures c.args.limits.now c.well_formed-3.ensures c.args.until c.args.kernel.now
@@ -72,8 +72,8 @@ returns-else-kernel-gt0-clause-along c =
     (c.step_otherwise-following.ensures.before ∙ sym (all_before c.args.trail.now c.requires.begun))
     (c.step_otherwise-following.ensures.told s h))
 
-pub returns-else-kernel-gt0-clause-on : goal.returns-else-kernel-gt0-clause-on
-returns-else-kernel-gt0-clause-on c =
+pub returns-else-suspensions-gt0-clause-on : goal.returns-else-suspensions-gt0-clause-on
+returns-else-suspensions-gt0-clause-on c =
     let g = c.requires.going in
     let short : c.args.kernel.now.steps < c.args.until = (let soon = c.requires.soon in omega arith) in
     let one =
@@ -81,8 +81,8 @@ returns-else-kernel-gt0-clause-on c =
     c.step_otherwise-following.new.machine short c.step_otherwise-following.ensures.stands g in
     omega arith
 
-pub returns-else-kernel-gt0-clause-soon : goal.returns-else-kernel-gt0-clause-soon
-returns-else-kernel-gt0-clause-soon c =
+pub returns-else-suspensions-gt0-clause-soon : goal.returns-else-suspensions-gt0-clause-soon
+returns-else-suspensions-gt0-clause-soon c =
     let g = c.requires.going in
     let short : c.args.kernel.now.steps < c.args.until = (let soon = c.requires.soon in omega arith) in
     let one =

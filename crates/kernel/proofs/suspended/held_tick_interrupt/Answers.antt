@@ -23,7 +23,7 @@ returns g c = record {
       let some : 0 < c.interrupt.new.machine.sched.depth =
       (let a = c.interrupt.ensures.leaves.depth in
       let b = h.stands.sched.depth in
-      let d = h.stands.rest.suspensions in
+      let d = h.stands.sched.suspensions in
       let l = c.requires.some in
       omega arith) in
       interrupted_held c.args.app.now c.interrupt.new.machine _ s

@@ -2,7 +2,7 @@ use Rattle.std.proofs.Common.{take_all, ◌∙◌}
 use Rattle.std.proofs.lemmas.List.{drop_all}
 use Rattle.sched.specs.StandsFor.{StandsFor}
 use Rattle.clock.specs.StandsFor as clock
-use Rattle.machine.proofs.Waking.{depth_woken, next_free, more_free, more_left, ready_more}
+use Rattle.machine.proofs.Waking.{depth_woken, suspensions_woken, next_free, more_free, more_left, ready_more}
 use Rattle.machine.proofs.switching.wake_all.Goals as goal
 
 pub wake-requires-in-loop-task : goal.wake-requires-in-loop-task
@@ -31,6 +31,9 @@ loop-task-preserved c = record {
   depth =
       depth_woken c.loop-task.sched c.wake-in-loop-task.new.self c.task-item.result c.wake-in-loop-task.ensures.schedule
       ∙ c.loop-task.invariant.depth;
+  suspensions =
+      suspensions_woken c.loop-task.sched c.wake-in-loop-task.new.self c.task-item.result c.wake-in-loop-task.ensures.schedule
+      ∙ c.loop-task.invariant.suspensions;
   current = c.wake-in-loop-task.ensures.current ∙ c.loop-task.invariant.current;
 }
 
@@ -45,6 +48,9 @@ returns-clause-rest c = λ more a. rw (drop_all _ _ c.loop-task-test.false) at (
 
 pub returns-clause-depth : goal.returns-clause-depth
 returns-clause-depth c = c.loop-task.invariant.depth
+
+pub returns-clause-suspensions : goal.returns-clause-suspensions
+returns-clause-suspensions c = c.loop-task.invariant.suspensions
 
 pub returns-clause-current : goal.returns-clause-current
 returns-clause-current c = c.loop-task.invariant.current

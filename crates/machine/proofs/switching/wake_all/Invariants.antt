@@ -15,5 +15,6 @@ invariant-loop-task l = record {
   free : AreToWake l.sched (drop l.task-index l.tasks);
   rest : (more : List ℕ) → AreToWake l.fn.sched (l.tasks ++ more) → AreToWake l.sched (drop l.task-index l.tasks ++ more);
   depth : l.sched.depth ≡ l.fn.sched.depth;
+  suspensions : l.sched.suspensions ≡ l.fn.sched.suspensions;
   current : l.sched.current ≡ l.fn.sched.current;
 }

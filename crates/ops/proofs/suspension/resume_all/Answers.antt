@@ -1,4 +1,4 @@
-use Rattle.std.proofs.Common.{refl, ◌∙◌, arith}
+use Rattle.std.proofs.Common.{refl, sym, ◌∙◌, arith}
 use Rattle.machine.proofs.Switches.{unheld_by}
 use Rattle.ops.proofs.Held.{runs_after_all, resumed_free, resumed_held, still_held}
 use Rattle.ops.proofs.suspension.resume_all.Goals as goal
@@ -10,7 +10,8 @@ answer-requires-clause-runs g c =
     a.1 (c.resume_scheduler.ensures.does (a.0).log a.0 (record { stands = a.1; log = refl })).stands
 
 pub preempt-requires-clause-free : goal.preempt-requires-clause-free
-preempt-requires-clause-free g c = c.answer.ensures.depth ∙ c.resume_scheduler.ensures.depth c.if-is_last.true
+preempt-requires-clause-free g c =
+    c.answer.ensures.depth ∙ c.resume_scheduler.ensures.depth (sym c.suspensions-is_last.ensures.suspensions ∙ c.if-is_last.true)
 
 pub returns-then-is_last : goal.returns-then-is_last
 returns-then-is_last g c = record {
@@ -18,7 +19,8 @@ returns-then-is_last g c = record {
       let told = c.answer.ensures.does.at _ (c.resume_scheduler.ensures.does _ s h) in
       resumed_free c.args.app.now c.preempt.new.self _ s c.args.task
       (unheld_by c.answer.new.self.sched _ told.stands.sched
-      (c.answer.ensures.depth ∙ c.resume_scheduler.ensures.depth c.if-is_last.true))
+      (c.answer.ensures.depth
+      ∙ c.resume_scheduler.ensures.depth (sym c.suspensions-is_last.ensures.suspensions ∙ c.if-is_last.true)))
       (c.preempt.ensures.does.at _ told);
   few = let a = c.answer.ensures.does.few in let b = c.preempt.ensures.does.few in omega arith;
   before = c.preempt.ensures.does.before ∙ c.answer.ensures.does.before;
@@ -29,7 +31,8 @@ returns-else-is_last g c = record {
   at = λ s h.
       let mid = c.resume_scheduler.ensures.does _ s h in
       resumed_held c.args.app.now c.answer.new.self _ s c.args.task
-      (still_held c.args.app.now c.args.task c.resume_scheduler.new.machine _ _ mid c.if-is_last.false)
+      (still_held c.args.app.now c.args.task c.resume_scheduler.new.machine _ _ mid
+      (λ none. c.if-is_last.false (c.suspensions-is_last.ensures.suspensions ∙ none)))
       (c.answer.ensures.does.at _ mid);
   few = let a = c.answer.ensures.does.few in omega arith;
   before = c.answer.ensures.does.before;

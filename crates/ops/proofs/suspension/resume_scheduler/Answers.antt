@@ -1,4 +1,4 @@
-use Rattle.std.proofs.Common.{◌≡◌, refl, ap, ℕ, ◌-◌, arith}
+use Rattle.std.proofs.Common.{◌≡◌, ◌∙◌, refl, sym, arith}
 use Rattle.ops.proofs.Held.{with_suspensions, last_resumed, more_resumed}
 use Rattle.ops.proofs.suspension.resume_scheduler.Goals as goal
 
@@ -6,35 +6,36 @@ pub apply_held-requires : goal.apply_held-requires
 apply_held-requires c =
     let can = c.requires.can in
     let s = can.agrees.0 in
-    let e = can.agrees.1.rest.suspensions in
-    let some = c.requires.some in
     let less =
-    with_suspensions c.args.machine.now s.log s (record { stands = can.agrees.1; log = refl }) c.unhold.new.self
-    _ _ (ap (λ (n : ℕ). n - 1) e) (c.unhold.ensures.resumes s can.agrees.1.sched (omega arith)) in
-    record { can = record { agrees = (_, less.stands); free = can.free; age = can.age; awake = c.if-machine-eq0.true } }
+    with_suspensions c.args.machine.now s.log s (record { stands = can.agrees.1; log = refl }) c.resume_all.new.self
+    _ (c.resume_all.ensures.stands s can.agrees.1.sched) in
+    let none = sym c.suspensions.ensures.suspensions ∙ c.if-suspensions-eq0.true in
+    record { can = record { agrees = (_, less.stands); free = can.free; age = can.age; awake = none } }
 
-pub returns-then-machine-eq0-clause-does : goal.returns-then-machine-eq0-clause-does
-returns-then-machine-eq0-clause-does c = λ log s h.
-    let e = h.stands.rest.suspensions in
+pub returns-then-suspensions-eq0-clause-does : goal.returns-then-suspensions-eq0-clause-does
+returns-then-suspensions-eq0-clause-does c = λ log s h.
+    let e = h.stands.sched.suspensions in
     let some = c.requires.some in
-    let none = c.if-machine-eq0.true in
+    let left = c.suspensions.ensures.suspensions ∙ c.resume_all.ensures.suspensions in
+    let none = c.if-suspensions-eq0.true in
     last_resumed c.args.app.now c.apply_held.new.machine log s (omega arith)
-    (c.apply_held.ensures.does log _ (with_suspensions c.args.machine.now log s h c.unhold.new.self
-    _ _ (ap (λ (n : ℕ). n - 1) e) (c.unhold.ensures.resumes s h.stands.sched (omega arith))))
+    (c.apply_held.ensures.does log _ (with_suspensions c.args.machine.now log s h c.resume_all.new.self
+    _ (c.resume_all.ensures.stands s h.stands.sched)))
 
-pub returns-then-machine-eq0-clause-depth : goal.returns-then-machine-eq0-clause-depth
-returns-then-machine-eq0-clause-depth c = λ _.
+pub returns-then-suspensions-eq0-clause-depth : goal.returns-then-suspensions-eq0-clause-depth
+returns-then-suspensions-eq0-clause-depth c = λ _.
     let a = c.apply_held.ensures.leaves.depth in
-    let b = c.unhold.ensures.depth in
+    let b = c.resume_all.ensures.depth in
     let d = c.requires.can.depth in
-    let z = c.if-machine-eq0.true in
+    let left = c.suspensions.ensures.suspensions ∙ c.resume_all.ensures.suspensions in
+    let none = c.if-suspensions-eq0.true in
     omega arith
 
-pub returns-else-machine-eq0-clause-does : goal.returns-else-machine-eq0-clause-does
-returns-else-machine-eq0-clause-does c = λ log s h.
-    let e = h.stands.rest.suspensions in
+pub returns-else-suspensions-eq0-clause-does : goal.returns-else-suspensions-eq0-clause-does
+returns-else-suspensions-eq0-clause-does c = λ log s h.
+    let e = h.stands.sched.suspensions in
+    let left = c.suspensions.ensures.suspensions ∙ c.resume_all.ensures.suspensions in
     let some = c.requires.some in
-    let more = c.if-machine-eq0.false in
-    more_resumed c.args.app.now _ log s (λ one. more (let z : c.args.machine.now.suspensions - 1 ≡ 0 = omega arith in z))
-    (with_suspensions c.args.machine.now log s h c.unhold.new.self _ _
-    (ap (λ (n : ℕ). n - 1) e) (c.unhold.ensures.resumes s h.stands.sched (omega arith)))
+    let more = c.if-suspensions-eq0.false in
+    more_resumed c.args.app.now _ log s (λ one. more (let z : c.suspensions.result ≡ 0 = omega arith in z))
+    (with_suspensions c.args.machine.now log s h c.resume_all.new.self _ (c.resume_all.ensures.stands s h.stands.sched))

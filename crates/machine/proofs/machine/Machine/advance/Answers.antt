@@ -13,5 +13,5 @@ returns-else-not-advance_if_none_due-clause-does c = λ log s h.
     woken c.args.self.now log s h [] c.args.self.now.sched c.args.self.now.objects c.advance_if_none_due.new.self
     c.args.self.now.groups (now.due s none h.stands.rest.clock) (sched-jumped c.args.self.now log s h 1)
     (objects-jumped c.args.self.now log s h 1) (groups-jumped c.args.self.now log s h 1)
-    (now.woken s none h.stands.rest.clock (unsuspended_by s (sym h.stands.rest.suspensions ∙ c.requires.awake)))
-    (sym h.stands.rest.suspensions ∙ c.requires.awake)
+    (now.woken s none h.stands.rest.clock (unsuspended_by s (sym h.stands.sched.suspensions ∙ c.requires.awake)))
+    (sym h.stands.sched.suspensions ∙ c.requires.awake)

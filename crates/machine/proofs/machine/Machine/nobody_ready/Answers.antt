@@ -24,6 +24,7 @@ returns-clause-stands c =
             rw c.new.ensures.new (c.priorities_of.ensures.priorities i
             ∙ rw c.tasks-2.ensures (base_priority_at c.args.app.now.start c.args.app.now.tasks i));
         depth = ap (λ (v : Schedule). v.depth) c.new.ensures.new;
+        suspensions = ap (λ (v : Schedule). v.suspensions) c.new.ensures.new;
         suspended = λ i.
             ap (λ (v : Schedule). is_suspended v i) c.new.ensures.new ∙ nobody_suspended i
             ∙ sym (ap can_resume (ended_reset c.args.app.now.start i c.args.app.now.tasks));
@@ -49,7 +50,6 @@ returns-clause-stands c =
         groups =
             c.new-4.ensures.stands _ table (λ group. refl)
             (λ i. ap bits_wait (ended_reset c.args.app.now.start i c.args.app.now.tasks));
-        suspensions = refl;
         awake = nobody_awake-reset c.args.app.now;
         placed =
             none_placing c.args.app.now c.progress_of.result

@@ -24,9 +24,10 @@ invariant_of-self c =
 pub returns-clause-schedule : goal.returns-clause-schedule
 returns-clause-schedule c =
     let q = c.self.inside in
-    ap₂ (λ (ls : List (List (ℕ × ℕ))) (ts : List ℕ). schedule_of ls ts q.current q.priorities q.base_priorities q.depth q.suspended)
+    ap₂ (λ (ls : List (List (ℕ × ℕ))) (ts : List ℕ).
+    schedule_of ls ts q.current q.priorities q.base_priorities q.depth q.suspensions q.suspended)
     c.remove.ensures.removed c.remove-2.ensures.removed
-    ∙ schedule_block q.ready q.pending q.current q.priorities q.base_priorities q.depth q.suspended c.args.task
+    ∙ schedule_block q.ready q.pending q.current q.priorities q.base_priorities q.depth q.suspensions q.suspended c.args.task
     ∙ ap (mine.block c.args.task) c.self.view_is
 
 pub returns-clause-placed : goal.returns-clause-placed

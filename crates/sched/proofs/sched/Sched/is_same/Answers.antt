@@ -7,6 +7,7 @@ returns-then-is_same c = λ same.
     let current : c.self.inside.current ≡ c.other.inside.current =
     same_told _ (same_option _ same_number) c.self.inside.current c.other.inside.current c.if-ne.ensures in
     let depth : c.self.inside.depth ≡ c.other.inside.depth = omega arith in
+    let suspensions : c.self.inside.suspensions ≡ c.other.inside.suspensions = omega arith in
     let suspended : c.self.inside.suspended ≡ c.other.inside.suspended =
     same_told _ (same_list _ same_flag) c.self.inside.suspended c.other.inside.suspended c.if-ne-2.ensures in
     let priorities : c.self.inside.priorities ≡ c.other.inside.priorities =

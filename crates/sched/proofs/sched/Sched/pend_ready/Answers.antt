@@ -13,7 +13,7 @@ pub push_back-requires : goal.push_back-requires
 push_back-requires c =
     let q = c.self.inside in
     let free =
-    unready c.args.task (schedule_of q.ready q.pending q.current q.priorities q.base_priorities q.depth q.suspended)
+    unready c.args.task (schedule_of q.ready q.pending q.current q.priorities q.base_priorities q.depth q.suspensions q.suspended)
     (ap (λ (s : Schedule). is_ready s c.args.task) c.self.view_is ∙ c.requires.free) in
     record { free = free.1 }
 
@@ -22,7 +22,7 @@ invariant_of-self c =
     let q = c.self.inside in
     let task = c.args.task in
     let free =
-    unready task (schedule_of q.ready q.pending q.current q.priorities q.base_priorities q.depth q.suspended)
+    unready task (schedule_of q.ready q.pending q.current q.priorities q.base_priorities q.depth q.suspensions q.suspended)
     (ap (λ (s : Schedule). is_ready s task) c.self.view_is ∙ c.requires.free) in
     let held : 0 < q.depth = subst (λ (s : Schedule). 0 < s.depth) (sym c.self.view_is) c.requires.held in
     subst (λ (ts : List ℕ). IsSched q.ready ts q.priorities q.base_priorities q.depth)
@@ -31,7 +31,7 @@ invariant_of-self c =
 pub returns-clause-schedule : goal.returns-clause-schedule
 returns-clause-schedule c =
     let q = c.self.inside in
-    ap (λ (ts : List ℕ). schedule_of q.ready ts q.current q.priorities q.base_priorities q.depth q.suspended)
+    ap (λ (ts : List ℕ). schedule_of q.ready ts q.current q.priorities q.base_priorities q.depth q.suspensions q.suspended)
     c.push_back.ensures.put
     ∙ ap (mine.pend_ready c.args.task) c.self.view_is
 

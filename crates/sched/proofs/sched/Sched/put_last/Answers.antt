@@ -12,7 +12,7 @@ pub push_back-requires-clause-free : goal.push_back-requires-clause-free
 push_back-requires-clause-free c =
     let q = c.self.inside in
     let free =
-    unready c.args.task (schedule_of q.ready q.pending q.current q.priorities q.base_priorities q.depth q.suspended)
+    unready c.args.task (schedule_of q.ready q.pending q.current q.priorities q.base_priorities q.depth q.suspensions q.suspended)
     (ap (λ (s : Schedule). is_ready s c.args.task) c.self.view_is ∙ c.requires.free) in
     in_no_place c.self.invariant.lists_are.sound c.args.task free.0
 
@@ -23,7 +23,7 @@ invariant_of-self c =
     let p = c.list_of-list.result.number in
     let put = c.push_back.ensures.put in
     let free =
-    unready task (schedule_of q.ready q.pending q.current q.priorities q.base_priorities q.depth q.suspended)
+    unready task (schedule_of q.ready q.pending q.current q.priorities q.base_priorities q.depth q.suspensions q.suspended)
     (ap (λ (s : Schedule). is_ready s task) c.self.view_is ∙ c.requires.free) in
     let home : p ≡ priority_in q.priorities task =
     c.list_of-list.ensures.list ∙ ap (λ (s : Schedule). priority_in s.priorities task) (sym c.self.view_is) in
@@ -45,7 +45,9 @@ returns-clause-schedule c =
     let many = c.self.invariant.lists_are.sound.as_many in
     let known = c.list_of-list.ensures.known in
     omega (arith, many, known) in
-    ap (λ (ls : List (List (ℕ × ℕ))). schedule_of ls q.pending q.current q.priorities q.base_priorities q.depth q.suspended)
+    ap (λ (ls : List (List (ℕ × ℕ))).
+    schedule_of ls q.pending q.current q.priorities q.base_priorities q.depth q.suspensions q.suspended)
     c.push_back.ensures.put
-    ∙ schedule_push c.self.invariant.lists_are q.pending q.current q.base_priorities q.depth q.suspended task p home below
+    ∙ schedule_push c.self.invariant.lists_are q.pending q.current q.base_priorities q.depth
+    q.suspensions q.suspended task p home below
     ∙ ap (mine.make_ready task) c.self.view_is

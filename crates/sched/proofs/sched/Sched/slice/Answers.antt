@@ -28,9 +28,10 @@ returns-in-Some-rotate-clause-ended c =
     let home = c.list_of-list.ensures.list ∙ ap (λ (s : Schedule). priority_in s.priorities task) (sym c.self.view_is) in
     let highest = c.is_highest.ensures.highest.0 c.if-is_highest.true in
     let is = first_by (c.is_first.ensures.first.0 c.if-is_first.true) home c.list_of-list.ensures.known in
-    sym (ended_if c.self.invariant.lists_are task p is q.pending q.base_priorities q.depth q.suspended highest
+    sym (ended_if c.self.invariant.lists_are task p is q.pending q.base_priorities q.depth q.suspensions q.suspended highest
     ∙ ap is_some (sym c.in-Some-rotate.ensures.second))
-    ∙ ap (λ (o : Option ℕ). let s = schedule_of q.ready q.pending o q.priorities q.base_priorities q.depth q.suspended in
+    ∙ ap (λ (o : Option ℕ).
+    let s = schedule_of q.ready q.pending o q.priorities q.base_priorities q.depth q.suspensions q.suspended in
     is_outranked s || is_sharing s)
     (sym c.in-Some.is)
     ∙ ap (λ (s : Schedule). is_outranked s || is_sharing s) c.self.view_is
@@ -44,11 +45,12 @@ returns-in-Some-rotate-clause-schedule c =
     let highest = c.is_highest.ensures.highest.0 c.if-is_highest.true in
     let is = first_by (c.is_first.ensures.first.0 c.if-is_first.true) home c.list_of-list.ensures.known in
     ap (λ (ls : List (List (ℕ × ℕ))).
-    schedule_of ls q.pending (Some c.in-Some-rotate.next) q.priorities q.base_priorities q.depth q.suspended)
+    schedule_of ls q.pending (Some c.in-Some-rotate.next) q.priorities q.base_priorities q.depth q.suspensions q.suspended)
     c.rotate.ensures.rotated
     ∙ schedule_sliced c.self.invariant.lists_are task p is q.pending q.base_priorities
-    q.depth q.suspended highest c.in-Some-rotate.next c.in-Some-rotate.ensures.second
-    ∙ ap (λ (o : Option ℕ). slice (schedule_of q.ready q.pending o q.priorities q.base_priorities q.depth q.suspended))
+    q.depth q.suspensions q.suspended highest c.in-Some-rotate.next c.in-Some-rotate.ensures.second
+    ∙ ap (λ (o : Option ℕ).
+    slice (schedule_of q.ready q.pending o q.priorities q.base_priorities q.depth q.suspensions q.suspended))
     (sym c.in-Some.is)
     ∙ ap slice c.self.view_is
 
@@ -64,9 +66,10 @@ returns-then-is_first-clause-ended c =
     let home = c.list_of-list.ensures.list ∙ ap (λ (s : Schedule). priority_in s.priorities task) (sym c.self.view_is) in
     let highest = c.is_highest.ensures.highest.0 c.if-is_highest.true in
     let is = first_by (c.is_first.ensures.first.0 c.if-is_first.true) home c.list_of-list.ensures.known in
-    sym (ended_if c.self.invariant.lists_are task p is q.pending q.base_priorities q.depth q.suspended highest
+    sym (ended_if c.self.invariant.lists_are task p is q.pending q.base_priorities q.depth q.suspensions q.suspended highest
     ∙ ap is_some (sym c.in_default-rotate.ensures.second))
-    ∙ ap (λ (o : Option ℕ). let s = schedule_of q.ready q.pending o q.priorities q.base_priorities q.depth q.suspended in
+    ∙ ap (λ (o : Option ℕ).
+    let s = schedule_of q.ready q.pending o q.priorities q.base_priorities q.depth q.suspensions q.suspended in
     is_outranked s || is_sharing s)
     (sym c.in-Some.is)
     ∙ ap (λ (s : Schedule). is_outranked s || is_sharing s) c.self.view_is
@@ -79,13 +82,16 @@ returns-then-is_first-clause-schedule c =
     let home = c.list_of-list.ensures.list ∙ ap (λ (s : Schedule). priority_in s.priorities task) (sym c.self.view_is) in
     let highest = c.is_highest.ensures.highest.0 c.if-is_highest.true in
     let is = first_by (c.is_first.ensures.first.0 c.if-is_first.true) home c.list_of-list.ensures.known in
-    ap (λ (ls : List (List (ℕ × ℕ))). schedule_of ls q.pending q.current q.priorities q.base_priorities q.depth q.suspended)
+    ap (λ (ls : List (List (ℕ × ℕ))).
+    schedule_of ls q.pending q.current q.priorities q.base_priorities q.depth q.suspensions q.suspended)
     c.rotate.ensures.rotated
-    ∙ ap (λ (o : Option ℕ). schedule_of (turn p q.ready) q.pending o q.priorities q.base_priorities q.depth q.suspended)
+    ∙ ap (λ (o : Option ℕ).
+    schedule_of (turn p q.ready) q.pending o q.priorities q.base_priorities q.depth q.suspensions q.suspended)
     c.in-Some.is
     ∙ schedule_kept c.self.invariant.lists_are task p is q.pending q.base_priorities
-    q.depth q.suspended highest c.in_default-rotate.ensures.second
-    ∙ ap (λ (o : Option ℕ). slice (schedule_of q.ready q.pending o q.priorities q.base_priorities q.depth q.suspended))
+    q.depth q.suspensions q.suspended highest c.in_default-rotate.ensures.second
+    ∙ ap (λ (o : Option ℕ).
+    slice (schedule_of q.ready q.pending o q.priorities q.base_priorities q.depth q.suspensions q.suspended))
     (sym c.in-Some.is)
     ∙ ap slice c.self.view_is
 

@@ -6,5 +6,5 @@ pub returns-clause-free : goal.returns-clause-free
 returns-clause-free c =
     let q = c.self.inside in
     first_free q.pending c.pop_front.result
-    (schedule_of q.ready c.pop_front.new.self q.current q.priorities q.base_priorities q.depth q.suspended)
+    (schedule_of q.ready c.pop_front.new.self q.current q.priorities q.base_priorities q.depth q.suspensions q.suspended)
     c.self.invariant.apart c.pop_front.ensures.first c.pop_front.ensures.once

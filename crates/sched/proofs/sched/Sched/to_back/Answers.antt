@@ -25,10 +25,11 @@ returns-then-is_first c =
     let is = first_by (c.is_first.ensures.first.0 c.if-is_first.true) home c.list_of-list.ensures.known in
     record {
       schedule =
-          ap (λ (ls : List (List (ℕ × ℕ))). schedule_of ls q.pending q.current q.priorities q.base_priorities q.depth q.suspended)
+          ap (λ (ls : List (List (ℕ × ℕ))).
+          schedule_of ls q.pending q.current q.priorities q.base_priorities q.depth q.suspensions q.suspended)
           c.rotate.ensures.rotated
           ∙ schedule_turned c.self.invariant.lists_are c.args.task c.list_of-list.result.number
-          is q.pending q.current q.base_priorities q.depth q.suspended
+          is q.pending q.current q.base_priorities q.depth q.suspensions q.suspended
           ∙ ap (to_back c.args.task) c.self.view_is;
     }
 
@@ -72,10 +73,12 @@ returns-then-contains c =
     c.push_back.ensures.put ∙ ap (push task p) removed in
     record {
       schedule =
-          ap (λ (ls : List (List (ℕ × ℕ))). schedule_of ls q.pending q.current q.priorities q.base_priorities q.depth q.suspended)
+          ap (λ (ls : List (List (ℕ × ℕ))).
+          schedule_of ls q.pending q.current q.priorities q.base_priorities q.depth q.suspensions q.suspended)
           put
           ∙ schedule_moved c.self.invariant.lists_are task p home c.list_of-list.ensures.known listed
-          (subst (IsSound 32 32) removed c.remove.ensures.sound) q.pending q.current q.base_priorities q.depth q.suspended
+          (subst (IsSound 32 32) removed c.remove.ensures.sound) q.pending q.current q.base_priorities q.depth
+          q.suspensions q.suspended
           ∙ ap (to_back task) c.self.view_is;
     }
 
