@@ -139,16 +139,16 @@ module _ (app : Application) (limits : Limits) (view : View) (base : Run)
             };
             is_seen = record {
               whole = row_of base new kept;
-              is_row = record {
-                base = base;
-                is_base = is;
-                is_reached = refl;
-                is_row =
-                    rw reaches (subst
-                    (λ (told : List Event).
-                    IsRun app point limits (record { events = told; steps = rest.steps; ticks = rest.ticks; end = rest.end }))
-                    events goes.is_row);
-              };
+              is_row =
+                  rw reaches (
+                    base,
+                    is,
+                    l,
+                    subst
+                        (λ (told : List Event).
+                        IsRun app point limits (record { events = told; steps = rest.steps; ticks = rest.ticks; end = rest.end }))
+                        events goes.is_row,
+                  );
               is = ap (λ (with_events : Bool). row_with with_events (row_of base new kept)) (sym shown);
             };
           };
@@ -186,12 +186,7 @@ module _ (app : Application) (limits : Limits) (view : View) (base : Run)
             is_kept = record { shared = omega arith; link = nothing.there };
             is_seen = record {
               whole = its_row;
-              is_row = record {
-                base = base;
-                is_base = is;
-                is_reached = refl;
-                is_row = rw reaches goes.is_row;
-              };
+              is_row = rw reaches (base, is, l, goes.is_row);
               is = ap (λ (es : List Event). record its_row { run = record its_row.run { events = es } }) nothing.are
                   ∙ ap (λ (with_events : Bool). row_with with_events its_row) (sym hidden);
             };
@@ -231,12 +226,7 @@ module _ (app : Application) (limits : Limits) (view : View) (base : Run)
               is_kept = record { shared = taken.0; link = nothing.there };
               is_seen = record {
                 whole = whole;
-                is_row = record {
-                  base = base;
-                  is_base = is;
-                  is_reached = refl;
-                  is_row = rw misses is;
-                };
+                is_row = rw misses (is, l);
                 is =
                     ap (λ (events : List Event). record whole { run = record whole.run { events = events } }) its
                     ∙ with_own shown whole;

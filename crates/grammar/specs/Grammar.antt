@@ -1,6 +1,6 @@
 -- The texts of ops: which words spell which op (profile).
-use Rattle.std.specs.Prelude.{◌≡◌, ◌⊎◌, ℕ, Bool, true, false, ◌&&◌, ◌==◌, nat_lt, nat_le, List, [], ◌∷◌, length, filter, codes}
-use Rattle.std.specs.Prelude.{Option, Some, None, option_map, option_and_then, if◌then◌else◌}
+use Rattle.std.specs.Prelude.{◌≡◌, ◌⊎◌, ℕ, Bool, true, false, ◌&&◌, ◌==◌, nat_lt, nat_le, List, [], ◌∷◌, ◌++◌, length, filter}
+use Rattle.std.specs.Prelude.{codes, Option, Some, None, option_map, option_and_then, if◌then◌else◌}
 use Rattle.std.specs.Char.{is_ascii_digit}
 use Rattle.std.specs.List.{list_all, slice_split}
 use Rattle.std.specs.Str.{bytes_eq}
@@ -101,15 +101,6 @@ GroupName next = Name OfGroup next
 abbrev pub TaskName : {O : Type 0} → (ℕ → Form O) → Form O
 TaskName next = Name OfTask next
 
--- the word and the arguments of each op that suspends or resumes
-abbrev pub suspension_forms : List (Word × Form Op)
-suspension_forms =
-    (codes "suspend", TaskName (λ task. Done (Suspend task)))
-    ∷ (codes "resume", TaskName (λ task. Done (Resume task)))
-    ∷ (codes "suspend_all", Done SuspendAll)
-    ∷ (codes "resume_all", Done ResumeAll)
-    ∷ []
-
 -- the arguments of a condition: its bits, whether any of them or all, and whether they are kept or cleared
 abbrev pub Bits : {O : Type 0} → (Condition → Form O) → Form O
 Bits next =
@@ -117,49 +108,9 @@ Bits next =
     Choice (codes "any") (codes "all") (λ all.
     Choice (codes "keep") (codes "clear") (λ clear. next (record { mask = mask; all = all; clear = clear }))))
 
--- those of each op on an event group
-abbrev pub group_forms : List (Word × Form Op)
-group_forms =
-    (codes "set", GroupName (λ group. Number (λ mask. Done (SetBits group mask))))
-    ∷ (codes "clear", GroupName (λ group. Number (λ mask. Done (ClearBits group mask))))
-    ∷ (codes "bits", GroupName (λ group. Done (GetBits group)))
-    ∷ (codes "wait", GroupName (λ group. Bits (λ condition. WaitTime (λ ticks. Done (WaitBits group condition ticks)))))
-    ∷ suspension_forms
-
--- those of each op on a semaphore or a mutex
-abbrev pub semaphore_forms : List (Word × Form Op)
-semaphore_forms =
-    (codes "take", ObjectName Semaphore (λ semaphore. WaitTime (λ ticks. Done (Await semaphore Take ticks))))
-    ∷ (codes "give", ObjectName Semaphore (λ semaphore. Done (Do semaphore Give)))
-    ∷ (codes "lock", ObjectName Mutex (λ mutex. WaitTime (λ ticks. Done (Await mutex Lock ticks))))
-    ∷ (codes "unlock", ObjectName Mutex (λ mutex. Done (GiveMutex mutex)))
-    ∷ group_forms
-
--- those of each op on an object
-abbrev pub object_forms : List (Word × Form Op)
-object_forms =
-    (codes "send", ObjectName Queue (λ queue. Number (λ n. WaitTime (λ ticks. Done (Await queue (Send n) ticks)))))
-    ∷ (codes "send_front", ObjectName Queue (λ queue. Number (λ n. WaitTime (λ ticks. Done (Await queue (SendFront n) ticks)))))
-    ∷ (codes "overwrite", ObjectName Queue (λ queue. Number (λ n. Done (Do queue (Overwrite n)))))
-    ∷ (codes "receive", ObjectName Queue (λ queue. WaitTime (λ ticks. Done (Await queue Receive ticks))))
-    ∷ (codes "peek", ObjectName Queue (λ queue. WaitTime (λ ticks. Done (Await queue Peek ticks))))
-    ∷ (codes "waiting", ObjectName Queue (λ queue. Done (MessagesWaiting queue)))
-    ∷ (codes "spaces", ObjectName Queue (λ queue. Done (SpacesAvailable queue)))
-    ∷ semaphore_forms
-
--- those of each op that is an edge of a block; the `end` of an `if` has no text of its own
-abbrev pub block_forms : List (Word × Form Op)
-block_forms =
-    (codes "repeat", Turns (λ turns. Done (Repeat turns)))
-    ∷ (codes "if", Asked (λ condition. Done (If condition)))
-    ∷ (codes "else", Done Else)
-    ∷ (codes "end", Done End)
-    ∷ (codes "break", Done Break)
-    ∷ object_forms
-
--- those of each op
-abbrev pub forms : List (Word × Form Op)
-forms =
+-- the word and the arguments of each op that is about nothing but its own task
+abbrev pub basic_forms : List (Word × Form Op)
+basic_forms =
     (codes "work", Number (λ n. Done (Work n)))
     ∷ (codes "delay", Number (λ n. Done (Delay n)))
     ∷ (codes "delay_until", Number (λ n. Done (DelayUntil n)))
@@ -169,7 +120,60 @@ forms =
     ∷ (codes "since", Done Since)
     ∷ (codes "mark", Number (λ n. Done (Mark n)))
     ∷ (codes "expect", Asked (λ condition. Done (Expect condition)))
-    ∷ block_forms
+    ∷ []
+
+-- those of each op that is an edge of a block; the `end` of an `if` has no text of its own
+abbrev pub block_forms : List (Word × Form Op)
+block_forms =
+    (codes "repeat", Turns (λ turns. Done (Repeat turns)))
+    ∷ (codes "if", Asked (λ condition. Done (If condition)))
+    ∷ (codes "else", Done Else)
+    ∷ (codes "end", Done End)
+    ∷ (codes "break", Done Break)
+    ∷ []
+
+-- those of each op on a queue
+abbrev pub queue_forms : List (Word × Form Op)
+queue_forms =
+    (codes "send", ObjectName Queue (λ queue. Number (λ n. WaitTime (λ ticks. Done (Await queue (Send n) ticks)))))
+    ∷ (codes "send_front", ObjectName Queue (λ queue. Number (λ n. WaitTime (λ ticks. Done (Await queue (SendFront n) ticks)))))
+    ∷ (codes "overwrite", ObjectName Queue (λ queue. Number (λ n. Done (Do queue (Overwrite n)))))
+    ∷ (codes "receive", ObjectName Queue (λ queue. WaitTime (λ ticks. Done (Await queue Receive ticks))))
+    ∷ (codes "peek", ObjectName Queue (λ queue. WaitTime (λ ticks. Done (Await queue Peek ticks))))
+    ∷ (codes "waiting", ObjectName Queue (λ queue. Done (MessagesWaiting queue)))
+    ∷ (codes "spaces", ObjectName Queue (λ queue. Done (SpacesAvailable queue)))
+    ∷ []
+
+-- those of each op on a semaphore or a mutex
+abbrev pub semaphore_forms : List (Word × Form Op)
+semaphore_forms =
+    (codes "take", ObjectName Semaphore (λ semaphore. WaitTime (λ ticks. Done (Await semaphore Take ticks))))
+    ∷ (codes "give", ObjectName Semaphore (λ semaphore. Done (Do semaphore Give)))
+    ∷ (codes "lock", ObjectName Mutex (λ mutex. WaitTime (λ ticks. Done (Await mutex Lock ticks))))
+    ∷ (codes "unlock", ObjectName Mutex (λ mutex. Done (GiveMutex mutex)))
+    ∷ []
+
+-- those of each op on an event group
+abbrev pub group_forms : List (Word × Form Op)
+group_forms =
+    (codes "set", GroupName (λ group. Number (λ mask. Done (SetBits group mask))))
+    ∷ (codes "clear", GroupName (λ group. Number (λ mask. Done (ClearBits group mask))))
+    ∷ (codes "bits", GroupName (λ group. Done (GetBits group)))
+    ∷ (codes "wait", GroupName (λ group. Bits (λ condition. WaitTime (λ ticks. Done (WaitBits group condition ticks)))))
+    ∷ []
+
+-- those of each op that suspends or resumes
+abbrev pub suspension_forms : List (Word × Form Op)
+suspension_forms =
+    (codes "suspend", TaskName (λ task. Done (Suspend task)))
+    ∷ (codes "resume", TaskName (λ task. Done (Resume task)))
+    ∷ (codes "suspend_all", Done SuspendAll)
+    ∷ (codes "resume_all", Done ResumeAll)
+    ∷ []
+
+-- those of each op
+abbrev pub forms : List (Word × Form Op)
+forms = basic_forms ++ block_forms ++ queue_forms ++ semaphore_forms ++ group_forms ++ suspension_forms
 
 -- the arguments of a command, which sets bits or clears them
 abbrev pub CommandForm : (clear : Bool) → Form IsrOp

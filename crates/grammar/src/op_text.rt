@@ -1,5 +1,5 @@
 //! Which text spells which op.
-ghost use Rattle.std.specs.Prelude.{◌≡◌, List, ℕ, drop, None, Some, IfSome, MatchOption, option_and_then, if◌then◌else◌};
+ghost use Rattle.std.specs.Prelude.{◌≡◌, ◌++◌, List, ℕ, drop, None, Some, IfSome, MatchOption, option_and_then, if◌then◌else◌};
 ghost use Rattle.model.specs.declared.op.Op.{Op};
 ghost use Rattle.model.specs.declared.op.Op.TheVariants.{Await, Do, SetBits, ClearBits, WaitBits};
 ghost use Rattle.model.specs.declared.op.Access.TheVariants.{Send, SendFront};
@@ -7,7 +7,7 @@ ghost use Rattle.model.specs.declared.op.IsrOp.TheVariants as isr;
 ghost use Rattle.model.specs.declared.op.IsrOp.{IsrOp};
 ghost use Rattle.model.specs.Scripts.{InRange};
 ghost use Rattle.grammar.specs.declared.object_sort.ObjectSort.TheVariants.{Queue};
-ghost use Rattle.grammar.specs.Grammar.{Naming, words_of, Done, Number, ObjectName, GroupName, Bits, WaitTime, forms, block_forms, object_forms, semaphore_forms, group_forms, suspension_forms, CommandForm, isr_forms, read, read_by, if_in_range, is_isr_in_range, op_of, isr_op_of, Spells, SpellsIsr};
+ghost use Rattle.grammar.specs.Grammar.{Naming, words_of, Done, Number, ObjectName, GroupName, Bits, WaitTime, forms, block_forms, queue_forms, semaphore_forms, group_forms, suspension_forms, CommandForm, isr_forms, read, read_by, if_in_range, is_isr_in_range, op_of, isr_op_of, Spells, SpellsIsr};
 
 use crate::finding::Finding;
 use crate::object_sort::ObjectSort;
@@ -125,12 +125,12 @@ fn suspension_op_after<F: Finding>(word: &[u8], words: &mut Words<'_>, finding: 
     }
 }
 
-// The op of this word on an event group, whose arguments are the next words.
+// The op of this word by the forms of event groups and all behind them. Its arguments are the next words.
 fn group_op_after<F: Finding>(word: &[u8], words: &mut Words<'_>, finding: &F) -> Option<Op>
     // What is still to be read is whether the text ends here.
-    ensures { MatchOption result
-        (read_by (F.naming finding.now) group_forms word.now words.old ≡ None)
-        (λ op. read_by (F.naming finding.now) group_forms word.now words.old
+    ensures { let these = group_forms ++ suspension_forms in MatchOption result
+        (read_by (F.naming finding.now) these word.now words.old ≡ None)
+        (λ op. read_by (F.naming finding.now) these word.now words.old
         ≡ read (F.naming finding.now) (Done op) words.new) }
 {
     if is(word, "set") {
@@ -146,12 +146,12 @@ fn group_op_after<F: Finding>(word: &[u8], words: &mut Words<'_>, finding: &F) -
     }
 }
 
-// The op of this word on a semaphore or a mutex, whose arguments are the next words.
+// The op of this word by the forms of semaphores and mutexes and all behind them. Its arguments are the next words.
 fn semaphore_op_after<F: Finding>(word: &[u8], words: &mut Words<'_>, finding: &F) -> Option<Op>
     // What is still to be read is whether the text ends here.
-    ensures { MatchOption result
-        (read_by (F.naming finding.now) semaphore_forms word.now words.old ≡ None)
-        (λ op. read_by (F.naming finding.now) semaphore_forms word.now words.old
+    ensures { let these = semaphore_forms ++ group_forms ++ suspension_forms in MatchOption result
+        (read_by (F.naming finding.now) these word.now words.old ≡ None)
+        (λ op. read_by (F.naming finding.now) these word.now words.old
         ≡ read (F.naming finding.now) (Done op) words.new) }
 {
     if is(word, "take") {
@@ -168,12 +168,12 @@ fn semaphore_op_after<F: Finding>(word: &[u8], words: &mut Words<'_>, finding: &
     }
 }
 
-// The op of this word on an object that sends nothing, whose arguments are the next words.
+// The op of this word by the forms of queues that send nothing and all behind them. Its arguments are the next words.
 fn reading_op_after<F: Finding>(word: &[u8], words: &mut Words<'_>, finding: &F) -> Option<Op>
     // What is still to be read is whether the text ends here.
-    ensures { MatchOption result
-        (read_by (F.naming finding.now) (drop 3 object_forms) word.now words.old ≡ None)
-        (λ op. read_by (F.naming finding.now) (drop 3 object_forms) word.now words.old
+    ensures { let these = drop 3 queue_forms ++ semaphore_forms ++ group_forms ++ suspension_forms in MatchOption result
+        (read_by (F.naming finding.now) these word.now words.old ≡ None)
+        (λ op. read_by (F.naming finding.now) these word.now words.old
         ≡ read (F.naming finding.now) (Done op) words.new) }
 {
     if is(word, "receive") {
@@ -189,12 +189,12 @@ fn reading_op_after<F: Finding>(word: &[u8], words: &mut Words<'_>, finding: &F)
     }
 }
 
-// The op of this word on an object, whose arguments are the next words.
-fn object_op_after<F: Finding>(word: &[u8], words: &mut Words<'_>, finding: &F) -> Option<Op>
+// The op of this word by the forms of queues and all behind them. Its arguments are the next words.
+fn queue_op_after<F: Finding>(word: &[u8], words: &mut Words<'_>, finding: &F) -> Option<Op>
     // What is still to be read is whether the text ends here.
-    ensures { MatchOption result
-        (read_by (F.naming finding.now) object_forms word.now words.old ≡ None)
-        (λ op. read_by (F.naming finding.now) object_forms word.now words.old
+    ensures { let these = queue_forms ++ semaphore_forms ++ group_forms ++ suspension_forms in MatchOption result
+        (read_by (F.naming finding.now) these word.now words.old ≡ None)
+        (λ op. read_by (F.naming finding.now) these word.now words.old
         ≡ read (F.naming finding.now) (Done op) words.new) }
 {
     if is(word, "send") {
@@ -209,12 +209,12 @@ fn object_op_after<F: Finding>(word: &[u8], words: &mut Words<'_>, finding: &F) 
     }
 }
 
-// The op of this word that is an edge of a block, whose arguments are the next words.
+// The op of this word by the forms of blocks and all behind them. Its arguments are the next words.
 fn block_op_after<F: Finding>(word: &[u8], words: &mut Words<'_>, finding: &F) -> Option<Op>
     // What is still to be read is whether the text ends here; a number past what the code can hold is out of range.
-    ensures { MatchOption result
-        (option_and_then if_in_range (read_by (F.naming finding.now) block_forms word.now words.old) ≡ None)
-        (λ op. read_by (F.naming finding.now) block_forms word.now words.old
+    ensures { let these = block_forms ++ queue_forms ++ semaphore_forms ++ group_forms ++ suspension_forms in MatchOption result
+        (option_and_then if_in_range (read_by (F.naming finding.now) these word.now words.old) ≡ None)
+        (λ op. read_by (F.naming finding.now) these word.now words.old
         ≡ read (F.naming finding.now) (Done op) words.new) }
 {
     if is(word, "repeat") {
@@ -231,7 +231,7 @@ fn block_op_after<F: Finding>(word: &[u8], words: &mut Words<'_>, finding: &F) -
     } else if is(word, "break") {
         Some(Op::Break)
     } else {
-        object_op_after(word, words, finding)
+        queue_op_after(word, words, finding)
     }
 }
 

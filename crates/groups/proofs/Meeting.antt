@@ -9,8 +9,8 @@ use Rattle.std.specs.Option.{option_map, unwrap_or}
 use Rattle.model.specs.declared.call.Condition.{Condition}
 use Rattle.model.specs.declared.call.CallProgress.{CallProgress}
 use Rattle.model.specs.State.{State, bits_at, call_at, progress_at, with_bits, for_each}
-use Rattle.model.specs.Groups.{bits_after_set, bits_left, bits_set, is_met, is_met_for, keep_answer, met_by, set as set_bits}
-use Rattle.model.specs.Groups.{wake_with_bits}
+use Rattle.model.specs.Groups.{bits_left, bits_set, is_met, is_met_for, keep_answer, left_by as left_in_state, met_by, wake_all}
+use Rattle.model.specs.Groups.{set as set_bits, wake_with_bits}
 use Rattle.model.proofs.Lists.{eqb-refl, eqb-apart}
 use Rattle.model.proofs.Sorting.{by_test}
 use Rattle.lists.specs.Lists.{Each, has_node, without}
@@ -62,10 +62,10 @@ module _ (v : EventGroups) (s : State) (h : StandsFor v s) (group : ℕ) where
 
   pub left_is : (bits : ℕ)
       → left_by v.wants bits (met_of v.wants bits (waiting_in v group))
-      ≡ fold bits_left bits (filter_map (λ task. (call_at s task).wants) (met_by group bits s))
+      ≡ left_in_state (met_by group bits s) bits s
   left_is bits =
       ap (fold bits_left bits) (sym (wanted_alike s v.wants bits (waiting_in v group) wanting))
-      ∙ ap (λ (ts : List ℕ). fold bits_left bits (filter_map (λ task. (call_at s task).wants) ts)) (met_is bits)
+      ∙ ap (λ (ts : List ℕ). left_in_state ts bits s) (met_is bits)
 
   pub set_is : (mask : ℕ) → bit_or (bits_in v group) mask ≡ bits_set group mask s
   set_is mask = ap (λ (n : ℕ). bit_or n mask) (h.bits group)
@@ -113,16 +113,18 @@ stands_with_bits v s group bits known h = record {
 -- The mask's bits are set, whom they meet are woken, and what is left is the group's.
 pub stands_set : (v : EventGroups) (s : State) (group mask bits left : ℕ) (met : List ℕ) (waiting : List (List (ℕ × ℕ)))
     → group < length v.bits → bits ≡ bits_set group mask s → met ≡ met_by group (bits_set group mask s) s
-    → left ≡ bits_after_set group mask s
-    → StandsFor (record v { waiting = waiting }) (for_each (λ task. wake_with_bits task bits) met s)
+    → left ≡ left_in_state (met_by group (bits_set group mask s) s) (bits_set group mask s) s
+    → StandsFor (record v { waiting = waiting }) (wake_all met bits s)
     → StandsFor (record v { bits = set v.bits group left; waiting = waiting }) (set_bits group mask s)
 unfolding set_bits
 stands_set v s group mask bits left met waiting known bits_is met_is left_is woken =
     let P : ℕ → List ℕ → ℕ → Type 0 = λ b ms l.
     StandsFor (record v { bits = set v.bits group left; waiting = waiting })
-    (with_bits group l (for_each (λ task. wake_with_bits task b) ms s)) in
+    (with_bits group l (wake_all ms b s)) in
     let here : P bits met left =
-    stands_with_bits (record v { waiting = waiting }) (for_each (λ task. wake_with_bits task bits) met s) group left known woken in
-    subst (λ (b : ℕ). P b (met_by group (bits_set group mask s) s) (bits_after_set group mask s)) bits_is
-    (subst (λ (ms : List ℕ). P bits ms (bits_after_set group mask s)) met_is
+    stands_with_bits (record v { waiting = waiting }) (wake_all met bits s) group left known woken in
+    let all : List ℕ = met_by group (bits_set group mask s) s in
+    let rest : ℕ = left_in_state all (bits_set group mask s) s in
+    subst (λ (b : ℕ). P b all rest) bits_is
+    (subst (λ (ms : List ℕ). P bits ms rest) met_is
     (subst (λ (l : ℕ). P bits met l) left_is here))

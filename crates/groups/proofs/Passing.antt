@@ -10,8 +10,8 @@ use Rattle.std.proofs.lemmas.List.Sums.{fold-append}
 use Rattle.std.proofs.lemmas.Option.{same_Some}
 use Rattle.std.proofs.Math.ListN.{length-set}
 use Rattle.model.specs.declared.call.Condition.{Condition}
-use Rattle.model.specs.State.{State, for_each}
-use Rattle.model.specs.Groups.{bits_left, is_met, wake_with_bits}
+use Rattle.model.specs.State.{State}
+use Rattle.model.specs.Groups.{bits_left, is_met, wake_with_bits, wake_all}
 use Rattle.model.proofs.Sorting.{by_test}
 use Rattle.lists.specs.Lists.{Apart, EachOnce, IsSound, entries_of, first_of, has_node, next_of, without}
 use Rattle.lists.proofs.Entries.{apart_from_test, distinct-left, distinct-right, has_node-append, has_node-same, has_or_not}
@@ -110,7 +110,7 @@ pub record Passed (old new : List (List (ℕ × ℕ))) (list : ℕ) (wants : Lis
   pub remains : left ≡ left_by wants bits tasks
   -- those met were woken, one after another
   pub woken : (v : EventGroups) (s : State) → v.waiting ≡ old → StandsFor v s
-      → StandsFor (record v { waiting = new }) (for_each (λ task. wake_with_bits task bits) tasks s)
+      → StandsFor (record v { waiting = new }) (wake_all tasks bits s)
 
 -- the entry where the pass is, and those behind it
 pub record Head (n : ℕ) (rest : List (ℕ × ℕ)) : Type 0 where
@@ -216,7 +216,7 @@ module _ (old new : List (List (ℕ × ℕ))) (list : ℕ) (wants : List Conditi
             ∙ sym (met-append wants bits h.before e ∙ ap (λ (ts : List ℕ). met_of wants bits h.before ++ ts) m.0);
         remains = ap (λ (b : ℕ). bits_left b (wanted_by wants n)) h.remains ∙ sym (left-append wants bits tasks n);
         woken = λ v s same stand.
-            let before : State = for_each (λ task. wake_with_bits task bits) tasks s in
+            let before : State = wake_all tasks bits s in
             let k : StandsFor (record v { waiting = new }) before = h.woken v s same stand in
             let within = (waiter (record v { waiting = new }) before k n list has).within in
             subst (StandsFor (record v { waiting = map (without n) new }))

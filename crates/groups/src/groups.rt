@@ -217,7 +217,8 @@ impl Groups {
         ensures with_bits { (s : State) → StandsFor self.old s
             → result.bits ≡ definitions.bits_set group mask s }
         ensures after { (s : State) → StandsFor self.old s
-            → result.left ≡ definitions.bits_after_set group mask s }
+            → let bits = definitions.bits_set group mask s in
+            result.left ≡ definitions.left_by (definitions.met_by group bits s) bits s }
         ensures stands { (s : State) → StandsFor self.old s
             → StandsFor self.new (definitions.set group mask s) }
         ensures kept { (s : State) → StandsFor self.old s

@@ -1,8 +1,8 @@
 //! The tasks that a group's bits meet.
 ghost use Rattle.std.specs.Prelude.{◌≡◌, ◌<◌, length, slice_set};
 ghost use Rattle.lists.specs.Lists.{entries_of, IsSound};
-ghost use Rattle.model.specs.State.{State, for_each};
-ghost use Rattle.model.specs.Groups.{wake_with_bits};
+ghost use Rattle.model.specs.State.{State};
+ghost use Rattle.model.specs.Groups.{wake_all};
 ghost use Rattle.groups.specs.EventGroups.{EventGroups, left_by, met_of, unmet_of};
 ghost use Rattle.groups.specs.StandsFor.{StandsFor};
 
@@ -41,7 +41,7 @@ pub(crate) fn take_met(
     // In the definitions they are woken with the bits, one after another.
     ensures woken { (v : EventGroups) (s : State) → v.waiting ≡ lists.old → StandsFor v s
         → StandsFor (record v { waiting = lists.new })
-        (for_each (λ task. wake_with_bits task bits) result.tasks.items s) }
+        (wake_all result.tasks.items bits s) }
     ensures sound { IsSound 16 32 lists.new }
 {
     let mut tasks = ArrayVec::new();

@@ -1,10 +1,10 @@
 -- What a run of a file comes to where its end state is asked for too.
-use Rattle.std.specs.Prelude.{◌≡◌, ℕ, Bool, List, [], ◌++◌, Option, Result, Ok, Err}
+use Rattle.std.specs.Prelude.{◌≡◌, ℕ, Bool, List, [], ◌++◌, Option, Result, Ok, Err, if◌then◌else◌}
 use Rattle.model.specs.declared.event.End.{End}
 use Rattle.model.specs.declared.plan.Injection.{Injection}
 use Rattle.model.specs.Application.{Application}
 use Rattle.model.specs.Campaign.{is_pass}
-use Rattle.model.specs.Run.{Run, plan_of, state_after}
+use Rattle.model.specs.Run.{Run, state_after}
 use Rattle.outcome.specs.EndStates.{EndState, end_state_of}
 use Rattle.report.specs.declared.title.Title.{Title}
 use Rattle.report.specs.declared.title.Title.TheVariants.{Base, Row}
@@ -18,7 +18,7 @@ use Rattle.campaign.specs.Serving.{IsFileOf, Serves}
 -- the injections of the run whose report has this title: none of the base run, which is also the row of a point that isn't reached
 abbrev pub plan_titled : Title → List Injection
 plan_titled Base = []
-plan_titled (Row number point reached) = plan_of reached point
+plan_titled (Row number point reached) = if reached then point else []
 
 -- the state after the last step of this run, whose report has this title
 abbrev pub end_state_of_run : Application → Title → Run → EndState

@@ -1,6 +1,6 @@
 //! A run of a file, with its end state.
-ghost use Rattle.std.specs.Prelude.{◌≡◌, ℕ, List, Some, false, IfOk, MatchResult};
-ghost use Rattle.model.specs.Run.{IsRow, IsRun, plan_of, state_after};
+ghost use Rattle.std.specs.Prelude.{◌≡◌, ℕ, List, [], Some, false, IfOk, MatchResult, if◌then◌else◌};
+ghost use Rattle.model.specs.Run.{IsRow, IsRun, state_after};
 ghost use Rattle.outcome.specs.EndStates.{end_state_of};
 ghost use Rattle.campaign.specs.OneRun.{IsAsked, IsRunFault};
 ghost use Rattle.campaign.specs.Serving.{IsFileOf};
@@ -28,7 +28,7 @@ fn ended_run(alloc: Global, app: &App, plan: &Plan) -> Result<(Run, EndState), M
 fn ended_row(alloc: Global, app: &App, point: &Point) -> Result<(bool, Run, EndState), Memory>
     ensures row { IfOk result (λ row. IsRow app.now app.now.limits point.now row.0 row.1) }
     ensures end_state { IfOk result (λ row.
-        row.2 ≡ end_state_of (state_after app.now app.now.limits (plan_of row.0 point.now) row.1.steps)) }
+        row.2 ≡ end_state_of (state_after app.now app.now.limits (if row.0 then point.now else []) row.1.steps)) }
 {
     let nothing = Plan::none(alloc);
     let (base, end_state) = ended_run(alloc, app, &nothing)?;

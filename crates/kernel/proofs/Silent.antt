@@ -20,8 +20,8 @@ use Rattle.model.specs.Switching.{is_ready, is_same, is_off, choice, make_ready,
 use Rattle.model.specs.Switching.{unless_held}
 use Rattle.model.specs.Waiting.{awakened, is_expired, wait_in, unlock_object, unlock}
 use Rattle.model.specs.Objects.{list_for, possible}
-use Rattle.model.specs.Mutexes.{set_priority, lend, inherits, inherit_from, inherit}
-use Rattle.model.specs.Groups.{keep_answer, wake_with_bits, bits_set, met_by, set, begin_set}
+use Rattle.model.specs.Mutexes.{set_priority, raise, inherits, inherit_from, inherit}
+use Rattle.model.specs.Groups.{keep_answer, wake_with_bits, bits_set, met_by, set, begin_set, wake_all}
 use Rattle.model.specs.Daemon.{clear_by_daemon, command_at, next_command, obey}
 use Rattle.model.specs.Calls.{decide, await}
 use Rattle.model.specs.Step.{is_ended, act, act_current, act_if, before_step, own_misuse, step}
@@ -73,8 +73,8 @@ on-set_priority s i priority j on = by_test (eqb (task_at s i).priority priority
     (λ t. let u : Task = record (task_at s i) { priority = priority } in
     rw t (on-to_back (with_task i u s) i j (on-with_task s i u (λ o. o) j on)))
 
-on-lend : (s : State) (priority holder : ℕ) → EndsNobody s (lend priority holder s)
-on-lend s priority holder j on = by_test (ltb (task_at s holder).priority priority)
+on-raise : (s : State) (holder priority : ℕ) → EndsNobody s (raise holder priority s)
+on-raise s holder priority j on = by_test (ltb (task_at s holder).priority priority)
     (λ t. rw t (on-set_priority s holder priority j on))
     (λ t. rw t on)
 
@@ -85,7 +85,7 @@ on-inherit s i o j on = by_holder (object_at s o).holder where
   by_holder None = on
   by_holder (Some holder) =
       let call : CallProgress = record (call_at s i) { inherited = inherits i holder s } in
-      on-lend (with_call i call s) (task_at s i).priority holder j (on-with_call s i call j on)
+      on-raise (with_call i call s) holder (task_at s i).priority j (on-with_call s i call j on)
 
 -- ---- the phases
 
@@ -159,15 +159,15 @@ on-unless_held s j on = by_test (is_held s) (λ t. rw t on) (λ t. rw t (on-sett
 
 -- ---- a set
 
-on-wake_met : (bits : ℕ) (js : List ℕ) (s : State) → EndsNobody s (for_each (λ task. wake_with_bits task bits) js s)
-on-wake_met bits [] s j on = on
-on-wake_met bits (i ∷ js) s j on =
-    on-wake_met bits js (wake_with_bits i bits s) j
+on-wake_all : (bits : ℕ) (js : List ℕ) (s : State) → EndsNobody s (wake_all js bits s)
+on-wake_all bits [] s j on = on
+on-wake_all bits (i ∷ js) s j on =
+    on-wake_all bits js (wake_with_bits i bits s) j
     (on-make_ready (keep_answer i bits s) i j (on-with_call s i (record (call_at s i) { kept = Some bits }) j on))
 
 on-set : (s : State) (group mask : ℕ) → EndsNobody s (set group mask s)
 unfolding set
-on-set s group mask j on = on-wake_met (bits_set group mask s) (met_by group (bits_set group mask s) s) s j on
+on-set s group mask j on = on-wake_all (bits_set group mask s) (met_by group (bits_set group mask s) s) s j on
 
 on-begin_set : (s : State) (i group mask : ℕ) → EndsNobody s (begin_set i group mask s)
 unfolding begin_set

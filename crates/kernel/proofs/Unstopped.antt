@@ -4,8 +4,8 @@ use Rattle.model.specs.declared.call.CallProgress.{CallProgress}
 use Rattle.model.specs.State.{State, Task, task_at, call_at, object_at, with_task, with_call, for_one, for_each}
 use Rattle.model.specs.Switching.{is_ready, is_same, is_off, choice, make_ready, to_back, dispatch, choose, settle, is_held}
 use Rattle.model.specs.Switching.{unless_held}
-use Rattle.model.specs.Mutexes.{set_priority, lend, inherits, inherit_from, inherit}
-use Rattle.model.specs.Groups.{wake_with_bits, bits_set, met_by, set}
+use Rattle.model.specs.Mutexes.{set_priority, raise, inherits, inherit_from, inherit}
+use Rattle.model.specs.Groups.{wake_with_bits, bits_set, met_by, set, wake_all}
 use Rattle.model.proofs.Sorting.{by_test}
 
 pub stopped-all_ready : (js : List ℕ) (s : State) → (for_each make_ready js s).stopped ≡ s.stopped
@@ -24,8 +24,8 @@ stopped-set_priority s i priority = by_test (eqb (task_at s i).priority priority
     (λ t. rw t refl)
     (λ t. let u : Task = record (task_at s i) { priority = priority } in rw t (stopped-to_back (with_task i u s) i))
 
-stopped-lend : (s : State) (priority holder : ℕ) → (lend priority holder s).stopped ≡ s.stopped
-stopped-lend s priority holder = by_test (ltb (task_at s holder).priority priority)
+stopped-raise : (s : State) (holder priority : ℕ) → (raise holder priority s).stopped ≡ s.stopped
+stopped-raise s holder priority = by_test (ltb (task_at s holder).priority priority)
     (λ t. rw t (stopped-set_priority s holder priority))
     (λ t. rw t refl)
 
@@ -36,17 +36,17 @@ stopped-inherit s i o = by_holder (object_at s o).holder where
   by_holder None = refl
   by_holder (Some holder) =
       let call : CallProgress = record (call_at s i) { inherited = inherits i holder s } in
-      stopped-lend (with_call i call s) (task_at s i).priority holder
+      stopped-raise (with_call i call s) holder (task_at s i).priority
 
 -- ---- bits are set
 
-stopped-wake_met : (bits : ℕ) (js : List ℕ) (s : State) → (for_each (λ task. wake_with_bits task bits) js s).stopped ≡ s.stopped
-stopped-wake_met bits [] s = refl
-stopped-wake_met bits (i ∷ js) s = stopped-wake_met bits js (wake_with_bits i bits s)
+stopped-wake_all : (bits : ℕ) (js : List ℕ) (s : State) → (wake_all js bits s).stopped ≡ s.stopped
+stopped-wake_all bits [] s = refl
+stopped-wake_all bits (i ∷ js) s = stopped-wake_all bits js (wake_with_bits i bits s)
 
 pub stopped-set : (s : State) (group mask : ℕ) → (set group mask s).stopped ≡ s.stopped
 unfolding set
-stopped-set s group mask = stopped-wake_met (bits_set group mask s) (met_by group (bits_set group mask s) s) s
+stopped-set s group mask = stopped-wake_all (bits_set group mask s) (met_by group (bits_set group mask s) s) s
 
 -- ---- the end of a step
 

@@ -39,7 +39,7 @@ use Rattle.model.specs.Switching.{is_sharing, preempt, slice, settle, is_off, un
 use Rattle.model.specs.Waiting.{waiters, awakened, awake_status, is_locked, wake_one, wake_best, wait_in, set_deadline, is_expired}
 use Rattle.model.specs.Waiting.{end_hold, unlock_object, unlock}
 use Rattle.model.specs.Objects.{possible, answer_to, object_after, list_woken, list_for, fulfil, attempt}
-use Rattle.model.specs.Mutexes.{set_priority, mutexes_held, lend, inherit_from, inherit, fall_back, after_timeout, disinherit}
+use Rattle.model.specs.Mutexes.{set_priority, mutexes_held, raise, inherit_from, inherit, fall_back, after_timeout, disinherit}
 use Rattle.model.specs.Mutexes.{give_mutex}
 use Rattle.model.specs.Calls.{try, lock, decide, leave_call, await, do_now}
 use Rattle.model.specs.Time.{wake_due, advance, increment_tick, jump, apply_one, apply_held, sleep, set_previous_wake}
@@ -51,7 +51,7 @@ use Rattle.model.specs.Handlers.{tick_interrupt, idle, ticks_ahead}
 use Rattle.model.specs.Ops.{one_if, go_to, called, answer, use_up, delay, delay_until, expect, open_loop, next_turn, turn}
 use Rattle.model.specs.Ops.{close_turn, branch, skip_branch, leave_loop, stamp, since, fail}
 use Rattle.model.specs.declared.call.Condition.{Condition}
-use Rattle.model.specs.Groups.{is_met, met_by, keep_answer, want, wake_with_bits, bits_set, bits_after_set, set as set_in_group}
+use Rattle.model.specs.Groups.{is_met, met_by, keep_answer, want, wake_with_bits, bits_set, set as set_in_group, left_by, wake_all}
 use Rattle.model.specs.Groups.{begin_set, set_bits, clear, answer_bits, wait_for_bits, begin_bits_wait, check, final_bits}
 use Rattle.model.specs.Groups.{wait_bits}
 use Rattle.model.specs.Suspension.{can_suspend, can_resume, suspend, resumed, resume, call_suspend, call_resume, suspend_all}
@@ -363,8 +363,8 @@ module _ (P : State → Type 0)
       (λ e. rw e h)
       (λ e. rw e (kept-to_back i (with_task i t s) (moved s i t (inl (refl, refl)) (refl, λ _. refl) h)))
 
-  kept-lend : (priority holder : ℕ) (s : State) → P s → P (lend priority holder s)
-  kept-lend priority holder s h = by_test (ltb (task_at s holder).priority priority)
+  kept-raise : (holder priority : ℕ) (s : State) → P s → P (raise holder priority s)
+  kept-raise holder priority s h = by_test (ltb (task_at s holder).priority priority)
       (λ t. rw t (kept-set_priority holder priority s h))
       (λ t. rw t h)
 
@@ -372,7 +372,7 @@ module _ (P : State → Type 0)
   unfolding inherit
   kept-inherit i o s h =
       kept-one (inherit_from i) (object_at s o).holder s
-      (λ holder k. kept-lend (task_at s i).priority holder _ (kept-with_call i _ s k)) h
+      (λ holder k. kept-raise holder (task_at s i).priority _ (kept-with_call i _ s k)) h
 
   kept-fall_back : (o holder : ℕ) (s : State) → P s → P (fall_back o holder s)
   kept-fall_back o holder s h = by_test (eqb (mutexes_held s holder) 1)
@@ -487,16 +487,17 @@ module _ (P : State → Type 0)
   kept-with_bits : (group bits : ℕ) (s : State) → P s → P (with_bits group bits s)
   kept-with_bits group bits s h = framed s (with_bits group bits s) refl refl refl (inl refl) h
 
-  kept-all_with_bits : (bits : ℕ) (is : List ℕ) (s : State) → P s → P (for_each (λ i. wake_with_bits i bits) is s)
-  kept-all_with_bits bits [] s h = h
-  kept-all_with_bits bits (i ∷ is) s h =
-      kept-all_with_bits bits is (wake_with_bits i bits s) (made_ready (keep_answer i bits s) i (kept-with_call i _ s h))
+  kept-wake_all : (bits : ℕ) (is : List ℕ) (s : State) → P s → P (wake_all is bits s)
+  kept-wake_all bits [] s h = h
+  kept-wake_all bits (i ∷ is) s h =
+      kept-wake_all bits is (wake_with_bits i bits s) (made_ready (keep_answer i bits s) i (kept-with_call i _ s h))
 
   kept-set : (group mask : ℕ) (s : State) → P s → P (set_in_group group mask s)
   unfolding set_in_group
   kept-set group mask s h =
-      kept-with_bits group (bits_after_set group mask s) _
-      (kept-all_with_bits (bits_set group mask s) (met_by group (bits_set group mask s) s) s h)
+      let bits : ℕ = bits_set group mask s in
+      let met : List ℕ = met_by group bits s in
+      kept-with_bits group (left_by met bits s) (wake_all met bits s) (kept-wake_all bits met s h)
 
   kept-begin_set : (i group mask : ℕ) (s : State) → P s → P (begin_set i group mask s)
   unfolding begin_set

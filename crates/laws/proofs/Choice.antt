@@ -1,8 +1,8 @@
 -- The choice, in words.
 use Rattle.std.proofs.Common.{◌≡◌, ◌+◌, ℕ, zero, suc, true, false, List, [], ◌∷◌, get_or, Option, Some, None, refl, ap, sym, subst}
-use Rattle.std.proofs.Common.{arith}
-use Rattle.std.specs.List.{AllByRecursion, cons_option}
-use Rattle.std.specs.Option.{option_map, is_some}
+use Rattle.std.proofs.Common.{arith, ◌++◌}
+use Rattle.std.specs.List.{AllByRecursion}
+use Rattle.std.specs.Option.{option_map, is_some, option_to_list}
 use Rattle.model.specs.State.{State, Task, Status, Ready, Awake, Waiting, Asleep, WaitingForBits, Suspended, Ended, ticket_if_ready}
 use Rattle.model.specs.State.{task_at, no_task}
 use Rattle.model.specs.Order.{Key, Entry, key, put, in_order, entry, keyed, first, before, task_of}
@@ -23,7 +23,7 @@ All-from_in_order P [] h = tt
 All-from_in_order P (x ∷ xs) h = let both = All-from_put P x (in_order xs) h in (both.0, All-from_in_order P xs both.1)
 
 rest : (P : Entry → Type 0) (o : ℕ) (xs : List Entry) (r : Option Key)
-    → AllByRecursion P (cons_option (option_map (entry o) r) xs) → AllByRecursion P xs
+    → AllByRecursion P (option_to_list (option_map (entry o) r) ++ xs) → AllByRecursion P xs
 rest P o xs None h = h
 rest P o xs (Some k) h = h.1
 
@@ -32,7 +32,7 @@ pub at_index : (f : Task → Option Key) (P : Entry → Type 0) (o i : ℕ) (k :
 at_index f P o i k [] n e h = absurd (cc)
 at_index f P o zero k (t ∷ ts) n e h =
     let z : o + 0 ≡ o = omega arith in
-    let Q : Option Key → Type 0 = λ r. AllByRecursion P (cons_option (option_map (entry o) r) (keyed f (o + 1) ts)) in
+    let Q : Option Key → Type 0 = λ r. AllByRecursion P (option_to_list (option_map (entry o) r) ++ keyed f (o + 1) ts) in
     rw z (subst Q e h).0
 at_index f P o (suc i) k (t ∷ ts) n e h =
     let later : AllByRecursion P (keyed f (o + 1) ts) = rest P o (keyed f (o + 1) ts) (f t) h in

@@ -2,7 +2,7 @@
 use Rattle.std.proofs.Common.{◌≡◌, ℕ, ◌+◌, ◌<◌, ◌≤◌, zero, suc, Bool, true, false, not, List, [], ◌∷◌, ◌++◌, Option, Some, None}
 use Rattle.std.proofs.Common.{refl, ap, sym, ◌∙◌, arith, eqb, length, get_or, set, append_assoc, length-append}
 use Rattle.std.specs.List.{filter, cons_option, AllByRecursion}
-use Rattle.std.specs.Option.{option_map}
+use Rattle.std.specs.Option.{option_map, option_to_list}
 use Rattle.std.proofs.lemmas.Bool.Decides.{nat_tests}
 use Rattle.model.specs.State.{Task, no_task}
 use Rattle.model.specs.Order.{Key, Entry, put, in_order, entry, keyed, list_by}
@@ -26,7 +26,7 @@ places f i [] = tt
 places f i (t ∷ ts) =
     let later =
     All-weaker (λ e. i + 1 ≤ e.task) (λ e. i ≤ e.task) (λ e le. omega arith) (keyed f (i + 1) ts) (places f (i + 1) ts) in
-    elim (f t) as (λ o. AllByRecursion (λ e. i ≤ e.task) (cons_option (option_map (entry i) o) (keyed f (i + 1) ts))) [
+    elim (f t) as (λ o. AllByRecursion (λ e. i ≤ e.task) (option_to_list (option_map (entry i) o) ++ keyed f (i + 1) ts)) [
       | None ↦ later
       | Some n ↦ (omega arith, later)
     ]
@@ -41,7 +41,7 @@ first_in None i xs = xs
 first_in (Some k) i xs = put (entry i k) xs
 
 in_order-first : (o : Option Key) (i : ℕ) (xs : List Entry)
-    → in_order (cons_option (option_map (entry i) o) xs) ≡ first_in o i (in_order xs)
+    → in_order (option_to_list (option_map (entry i) o) ++ xs) ≡ first_in o i (in_order xs)
 in_order-first None i xs = refl
 in_order-first (Some k) i xs = refl
 
@@ -113,7 +113,8 @@ kept : (f : Task → Option Key) (i o : ℕ) (t : Task) (ts : List Task)
     → f t ≡ f (get_or ts i no_task) → keyed f o (set ts i t) ≡ keyed f o ts
 kept f i o t [] s = refl
 kept f zero o t (u ∷ us) s = rw s refl
-kept f (suc i) o t (u ∷ us) s = ap (cons_option (option_map (entry o) (f u))) (kept f i (o + 1) t us s)
+kept f (suc i) o t (u ∷ us) s =
+    ap (λ (es : List Entry). option_to_list (option_map (entry o) (f u)) ++ es) (kept f i (o + 1) t us s)
 
 pub list-entered : (f : Task → Option Key) (n : Key) (i : ℕ) (t : Task) (ts : List Task) → i < length ts
     → f t ≡ Some n → Below f n.ticket ts → list_by f (set ts i t) ≡ put (entry i n) (filter (other i) (list_by f ts))
@@ -138,7 +139,7 @@ get_or-middle (p ∷ pre) t ts o e = rw (← e) (get_or-middle pre t ts (length 
 
 has_first : (f : Task → Option Key) (all : List Task) (o : ℕ) (r : Option Key) (xs : List Entry)
     → o < length all → f (get_or all o no_task) ≡ r → AllByRecursion (HasKey f all) xs
-    → AllByRecursion (HasKey f all) (cons_option (option_map (entry o) r) xs)
+    → AllByRecursion (HasKey f all) (option_to_list (option_map (entry o) r) ++ xs)
 has_first f all o None xs l e h = h
 has_first f all o (Some k) xs l e h = (record { within = l; key = e }, h)
 
@@ -179,7 +180,7 @@ below_all f n i (t ∷ ts) h =
     (elim (f
     t) as (λ r.
     AllByRecursion (λ (k : Key). k.ticket < n) (cons_option r [])
-    → AllByRecursion (λ e. e.key.ticket < n) (cons_option (option_map (entry i) r) (keyed f (i + 1) ts))) [
+    → AllByRecursion (λ e. e.key.ticket < n) (option_to_list (option_map (entry i) r) ++ keyed f (i + 1) ts)) [
       | None ↦ λ _. later
       | Some m ↦ λ b. (b.0, later)
     ])

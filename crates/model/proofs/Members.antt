@@ -1,9 +1,9 @@
 -- Who is in a list: the tasks that have a key.
 use Rattle.std.proofs.Common.{◌≡◌, ℕ, ◌+◌, zero, suc, Bool, true, false, List, [], ◌∷◌, Option, Some, None, refl, ap, ◌∙◌, arith}
-use Rattle.std.proofs.Common.{eqb, get_or}
+use Rattle.std.proofs.Common.{eqb, get_or, ◌++◌}
 use Rattle.std.specs.Prelude.{◌||◌}
-use Rattle.std.specs.List.{AllByRecursion, cons_option}
-use Rattle.std.specs.Option.{option_map}
+use Rattle.std.specs.List.{AllByRecursion}
+use Rattle.std.specs.Option.{option_map, option_to_list}
 use Rattle.std.proofs.lemmas.Bool.{eq-eqb}
 use Rattle.model.specs.State.{Task, no_task}
 use Rattle.model.specs.Order.{Key, Entry, before, put, in_order, entry, keyed, list_by}
@@ -36,12 +36,12 @@ has_task-in_order i [] = refl
 has_task-in_order i (x ∷ xs) = has_task-put i x (in_order xs) ∙ ap (λ (b : Bool). eqb x.task i || b) (has_task-in_order i xs)
 
 has_task-later : (i o : ℕ) (key : Option Key) (xs : List Entry) → has_task i xs ≡ true
-    → has_task i (cons_option (option_map (entry o) key) xs) ≡ true
+    → has_task i (option_to_list (option_map (entry o) key) ++ xs) ≡ true
 has_task-later i o None xs h = h
 has_task-later i o (Some k) xs h = ap (λ (b : Bool). eqb o i || b) h ∙ or-true (eqb o i)
 
 has_task-first : (i o : ℕ) (key : Option Key) (k : Key) (xs : List Entry) → key ≡ Some k
-    → o ≡ i → has_task i (cons_option (option_map (entry o) key) xs) ≡ true
+    → o ≡ i → has_task i (option_to_list (option_map (entry o) key) ++ xs) ≡ true
 has_task-first i o key k xs is same = rw is (let t : eqb o i ≡ true = eq-eqb o i same in rw t refl)
 
 module _ (f : Task → Option Key) (none : f no_task ≡ None) where

@@ -1,13 +1,12 @@
 -- An application has one run with a plan, and a point one row.
-use Rattle.std.proofs.Common.{◌≡◌, ◌<◌, ℕ, ltb, List, [], Some, ap, sym, subst, ◌∙◌, arith, inl, inr}
-use Rattle.std.specs.Prelude.{Bool}
+use Rattle.std.proofs.Common.{◌≡◌, ◌<◌, ◌≤◌, ℕ, Bool, true, false, List, [], Some, refl, ap, sym, ◌∙◌, arith, inl, inr}
 use Rattle.std.proofs.lemmas.Bool.{cases_lt, cases_eq}
 use Rattle.model.specs.declared.event.Event.{Event}
 use Rattle.model.specs.declared.event.End.{End}
 use Rattle.model.specs.declared.plan.Injection.{Injection}
 use Rattle.model.specs.Points.{first_step}
 use Rattle.model.specs.Application.{Application, Limits}
-use Rattle.model.specs.Run.{Run, IsRun, IsRow, plan_of, state_after, events_after, end_of}
+use Rattle.model.specs.Run.{Run, IsRun, IsRow, state_after, events_after, end_of}
 
 -- runs by their parts
 made : {a b : Run} → a.events ≡ b.events → a.steps ≡ b.steps → a.ticks ≡ b.ticks → a.end ≡ b.end → a ≡ b
@@ -43,16 +42,17 @@ module _ (app : Application) (plan : List Injection) (limits : Limits)
 
 -- ---- rows
 
-module _ (app : Application) (limits : Limits) (point : List Injection) (here there : Bool)
-    (a b : Run) (h : IsRow app limits point here a) (k : IsRow app limits point there b) where
-  same_base : h.base ≡ k.base
-  same_base = one_run app [] limits h.base k.base h.is_base k.is_base
+module _ (app : Application) (limits : Limits) (point : List Injection) where
+  -- The base run doesn't both get beyond the first injection and end before it.
+  not_both : (base row : Run) → IsRun app [] limits base → first_step point < base.steps
+      → IsRun app [] limits row → row.steps ≤ first_step point → ⊥
+  not_both base row h beyond k ends =
+      let same : base.steps ≡ row.steps = ap (λ (r : Run). r.steps) (one_run app [] limits base row h k) in
+      omega (arith, beyond, ends, same)
 
-  same_reached : here ≡ there
-  same_reached = h.is_reached ∙ ap (λ (r : Run). ltb (first_step point) r.steps) same_base ∙ sym k.is_reached
-
-  pub one_row : (here ≡ there) × (a ≡ b)
-  one_row = (
-    same_reached,
-    one_run app (plan_of there point) limits a b (subst (λ r. IsRun app (plan_of r point) limits a) same_reached h.is_row) k.is_row,
-  )
+  pub one_row : (here there : Bool) (a b : Run) → IsRow app limits point here a → IsRow app limits point there b
+      → (here ≡ there) × (a ≡ b)
+  one_row true true a b h k = (refl, one_run app point limits a b h.3 k.3)
+  one_row true false a b h k = absurd (not_both h.0 b h.1 h.2 k.0 k.1)
+  one_row false true a b h k = absurd (not_both k.0 a k.1 k.2 h.0 h.1)
+  one_row false false a b h k = (refl, one_run app [] limits a b h.0 k.0)

@@ -51,26 +51,29 @@ is_met_for bits s task = unwrap_or (option_map (is_met bits) (call_at s task).wa
 abbrev pub met_by : ℕ → ℕ → State → List ℕ
 met_by group bits s = filter (is_met_for bits s) (tasks_of (waiters_for_bits s group))
 
+-- what is left of the bits when those whom they meet have cleared what they asked to clear
+abbrev pub left_by : (met : List ℕ) → (bits : ℕ) → State → ℕ
+left_by met bits s = fold bits_left bits (filter_map (λ task. (call_at s task).wants) met)
+
 -- The task is Ready, and these bits are kept for it (`vTaskRemoveFromUnorderedEventList`).
 abbrev pub wake_with_bits : ℕ → ℕ → State → State
 wake_with_bits task bits s = make_ready task (keep_answer task bits s)
 
+-- Those whom the bits meet are woken with them, one after another.
+abbrev pub wake_all : (met : List ℕ) → (bits : ℕ) → State → State
+wake_all met bits s = for_each (λ task. wake_with_bits task bits) met s
+
 -- the group's bits when the mask's are set too
 abbrev pub bits_set : ℕ → ℕ → State → ℕ
 bits_set group mask s = bit_or (bits_at s group) mask
-
--- what is left of them when all whom they meet have cleared what they asked to clear
-abbrev pub bits_after_set : ℕ → ℕ → State → ℕ
-bits_after_set group mask s =
-    let bits = bits_set group mask s in
-    fold bits_left bits (filter_map (λ task. (call_at s task).wants) (met_by group bits s))
 
 -- The mask's bits are set. All whom the bits then meet are woken with them; then what those asked to clear is cleared
 -- (`xEventGroupSetBits`).
 unfoldable pub set : ℕ → ℕ → State → State
 set group mask s =
     let bits = bits_set group mask s in
-    with_bits group (bits_after_set group mask s) (for_each (λ task. wake_with_bits task bits) (met_by group bits s) s)
+    let met = met_by group bits s in
+    with_bits group (left_by met bits s) (wake_all met bits s)
 
 -- The scheduler is held, and the bits are set. What is left of them will be the answer (profile).
 unfoldable pub begin_set : ℕ → ℕ → ℕ → State → State

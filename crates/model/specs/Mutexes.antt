@@ -22,18 +22,23 @@ mutexes_held s task = length (filter (λ (o : Object). is_same o.holder (Some ta
 
 -- ---- a task waits
 
--- The holder takes the priority of the task that waits, where its own is lower.
-abbrev pub lend : ℕ → ℕ → State → State
-lend priority holder s = if nat_lt (task_at s holder).priority priority then set_priority holder priority s else s
-
 -- A wait of the task inherits where the holder is another task, of lower base priority.
 abbrev pub inherits : ℕ → ℕ → State → Bool
 inherits task holder s = not (holder == task) && nat_lt (task_at s holder).base_priority (task_at s task).priority
 
--- The task will wait for what this one holds.
+-- The task's call notes whether its wait inherits.
+abbrev pub note_inherited : ℕ → ℕ → State → State
+note_inherited task holder s = with_call task (record (call_at s task) { inherited = inherits task holder s }) s
+
+-- The holder takes this priority, where its own is lower.
+abbrev pub raise : ℕ → ℕ → State → State
+raise holder priority s = if nat_lt (task_at s holder).priority priority then set_priority holder priority s else s
+
+-- The task will wait for what this one holds, and lends it its priority.
 abbrev pub inherit_from : ℕ → ℕ → State → State
 inherit_from task holder s =
-    lend (task_at s task).priority holder (with_call task (record (call_at s task) { inherited = inherits task holder s }) s)
+    let t = note_inherited task holder s in
+    raise holder (task_at s task).priority t
 
 -- Where the object has a holder, that one inherits from the task, which will wait (`xTaskPriorityInherit`). A task for which
 -- the holder waits does not.

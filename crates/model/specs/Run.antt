@@ -1,6 +1,6 @@
 -- A run of the kernel, from reset to its end, with handlers injected by a plan.
-use Rattle.std.specs.Prelude.{◌≡◌, ℕ, zero, suc, ◌<◌, ◌==◌, ◌&&◌, Bool, not, List, [], ◌++◌, map, filter, Option, Some, None}
-use Rattle.std.specs.Prelude.{is_some, is_none, nat_lt, nat_le, if◌then◌else◌}
+use Rattle.std.specs.Prelude.{◌≡◌, ℕ, zero, suc, ◌<◌, ◌≤◌, ◌==◌, ◌&&◌, Bool, true, false, not, List, [], ◌++◌, map, filter}
+use Rattle.std.specs.Prelude.{Option, Some, None, is_some, is_none, nat_lt, nat_le, if◌then◌else◌}
 use Rattle.std.specs.List.{list_any, list_all}
 use Rattle.std.specs.Option.{option_or}
 use Rattle.model.specs.declared.event.Event.{Event}
@@ -65,14 +65,10 @@ pub record IsRun (app : Application) (plan : List Injection) (limits : Limits) (
   pub trace : run.events ≡ events_after app limits plan run.steps
   pub elapsed : run.ticks ≡ (state_after app limits plan run.steps).elapsed
 
--- the plan of a row: its point's injections, if it is reached
-abbrev pub plan_of : Bool → List Injection → List Injection
-plan_of reached point = if reached then point else []
-
--- A row. Its point is reached where the base run, into which nothing is injected, gets beyond the step of its first injection. It
--- is the run with all its injections then, of which those at or past its end do nothing, and otherwise the base run.
-pub record IsRow (app : Application) (limits : Limits) (point : List Injection) (reached : Bool) (row : Run) : Type 0 where
-  pub base : Run
-  pub is_base : IsRun app [] limits base
-  pub is_reached : reached ≡ nat_lt (first_step point) base.steps
-  pub is_row : IsRun app (plan_of reached point) limits row
+-- The row of a point. The point is reached where the base run, into which nothing is injected, gets beyond the step of its first
+-- injection. The row is the run with all its injections then, of which those at or past its end do nothing. Where the point isn't
+-- reached, the row is the base run.
+abbrev pub IsRow : Application → Limits → (point : List Injection) → (reached : Bool) → (row : Run) → Type 0
+IsRow app limits point true row =
+    (base : Run) × IsRun app [] limits base × (first_step point < base.steps) × IsRun app point limits row
+IsRow app limits point false row = IsRun app [] limits row × (row.steps ≤ first_step point)

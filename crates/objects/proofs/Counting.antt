@@ -1,8 +1,8 @@
 -- While an object is locked its wakes are counted, and the lists stay.
-use Rattle.std.proofs.Common.{◌≡◌, ℕ, ◌+◌, ◌≤◌, zero, suc, true, false, List, [], ◌∷◌, Option, Some, None, refl, ap, sym, ◌∙◌}
+use Rattle.std.proofs.Common.{◌≡◌, ℕ, ◌+◌, ◌≤◌, zero, suc, true, false, List, [], ◌∷◌, ◌++◌, Option, Some, None, refl, ap, sym, ◌∙◌}
 use Rattle.std.proofs.Common.{arith, ltb, eqb, length, drop, subst, add-one}
-use Rattle.std.specs.List.{AllByRecursion, cons_option}
-use Rattle.std.specs.Option.{is_some, option_and_then, option_map}
+use Rattle.std.specs.List.{AllByRecursion}
+use Rattle.std.specs.Option.{is_some, option_and_then, option_map, option_to_list}
 use Rattle.std.proofs.lemmas.Bool.{ltb-false}
 use Rattle.std.proofs.lemmas.List.{get_or-set_same, get_or-set_other}
 use Rattle.model.specs.declared.call.WaitList.{WaitList}
@@ -27,7 +27,7 @@ places f i [] = tt
 places f i (t ∷ ts) =
     let later =
     All-weaker (λ e. i + 1 ≤ e.task) (λ e. i ≤ e.task) (λ e le. omega arith) (keyed f (i + 1) ts) (places f (i + 1) ts) in
-    elim (f t) as (λ o. AllByRecursion (λ e. i ≤ e.task) (cons_option (option_map (entry i) o) (keyed f (i + 1) ts))) [
+    elim (f t) as (λ o. AllByRecursion (λ e. i ≤ e.task) (option_to_list (option_map (entry i) o) ++ keyed f (i + 1) ts)) [
       | None ↦ later
       | Some n ↦ (omega arith, later)
     ]
@@ -50,7 +50,7 @@ distinct_from f o (t ∷ ts) =
     let here : AllByRecursion (λ e. e.task ≡ o → ⊥) xs =
     All-in_order (λ e. e.task ≡ o → ⊥) (keyed f (o + 1) ts) (All-weaker (λ e. o + 1 ≤ e.task)
     (λ e. e.task ≡ o → ⊥) (λ e le s. omega arith) (keyed f (o + 1) ts) (places f (o + 1) ts)) in
-    elim (f t) as (λ r. Distinct (in_order (cons_option (option_map (entry o) r) (keyed f (o + 1) ts)))) [
+    elim (f t) as (λ r. Distinct (in_order (option_to_list (option_map (entry o) r) ++ keyed f (o + 1) ts))) [
       | None ↦ later
       | Some k ↦ Distinct-put (entry o k) xs here later
     ]
@@ -59,7 +59,7 @@ length-keyed : (f : Task → Option Key) (o : ℕ) (ts : List Task) → length (
 length-keyed f o [] = omega arith
 length-keyed f o (t ∷ ts) =
     let later = length-keyed f (o + 1) ts in
-    elim (f t) as (λ r. length (cons_option (option_map (entry o) r) (keyed f (o + 1) ts)) ≤ suc (length ts)) [
+    elim (f t) as (λ r. length (option_to_list (option_map (entry o) r) ++ keyed f (o + 1) ts) ≤ suc (length ts)) [
       | None ↦ omega arith
       | Some n ↦ omega arith
     ]

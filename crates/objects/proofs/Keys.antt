@@ -1,8 +1,8 @@
 -- Where a task is, by cases on its status and on the list.
-use Rattle.std.proofs.Common.{◌≡◌, ◌≢◌, ℕ, ◌+◌, ◌<◌, true, false, Option, None, List, [], ◌∷◌, refl, ap, ap₂, sym, ◌∙◌, arith}
+use Rattle.std.proofs.Common.{◌≡◌, ◌≢◌, ℕ, ◌+◌, ◌<◌, true, false, Option, None, List, [], ◌∷◌, ◌++◌, refl, ap, ap₂, sym, ◌∙◌, arith}
 use Rattle.std.proofs.Common.{get_or, length, suc}
 use Rattle.std.specs.List.{AllByRecursion, cons_option}
-use Rattle.std.specs.Option.{IfSome, option_and_then, option_map}
+use Rattle.std.specs.Option.{IfSome, option_and_then, option_map, option_to_list}
 use Rattle.model.specs.declared.call.WaitList.{WaitList}
 use Rattle.model.specs.declared.call.WaitList.TheVariants.{ToReceive, ToSend}
 use Rattle.model.specs.State.{State, Status, Ready, Awake, Waiting, Asleep, WaitingForBits, Suspended, Ended, Task, Wait, no_task}
@@ -113,7 +113,7 @@ keyed_same : (f g : Task → Option Key) (o : ℕ) (ts : List Task)
     → ((i : ℕ) → i < length ts → f (get_or ts i no_task) ≡ g (get_or ts i no_task)) → keyed f o ts ≡ keyed g o ts
 keyed_same f g o [] h = refl
 keyed_same f g o (t ∷ ts) h =
-    ap₂ (λ (k : Option Key) (es : List Entry). cons_option (option_map (entry o) k) es)
+    ap₂ (λ (k : Option Key) (es : List Entry). option_to_list (option_map (entry o) k) ++ es)
     (h 0 (omega arith)) (keyed_same f g (o + 1) ts (λ i l. h (suc i) (omega (arith, l))))
 
 pub waiters_all : (s : State) (list : WaitList) → is_locked s.locked list ≡ false

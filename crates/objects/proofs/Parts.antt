@@ -1,8 +1,8 @@
 -- Those who wait in a list and those who are Awake are parts of those who are there.
 use Rattle.std.proofs.Common.{◌≡◌, ℕ, ◌+◌, zero, suc, Bool, not, cond, List, [], ◌∷◌, ◌++◌, Option, Some, None, refl, ap, sym, ◌∙◌}
 use Rattle.std.proofs.Common.{arith, get_or, length, take, drop, append_assoc, length-append}
-use Rattle.std.specs.List.{cons_option, filter}
-use Rattle.std.specs.Option.{is_some, option_and_then, option_map}
+use Rattle.std.specs.List.{filter}
+use Rattle.std.specs.Option.{is_some, option_and_then, option_map, option_to_list}
 use Rattle.model.specs.declared.call.WaitList.{WaitList}
 use Rattle.model.specs.State.{State, Status, Ready, Awake, Waiting, Asleep, WaitingForBits, Suspended, Ended, Task, no_task}
 use Rattle.model.specs.State.{wait_if_waiting, wait_if_awake}
@@ -31,16 +31,16 @@ has p ts e = p (get_or ts e.task no_task)
 
 part_first : (f g : Task → Option Key) (p : Task → Bool) → ((t : Task) → f t ≡ cond (p t) (g t) None)
     → (q : Entry → Bool) (t : Task) (o : ℕ) (xs : List Entry) → ((k : Key) → q (entry o k) ≡ p t)
-    → cons_option (option_map (entry o) (f t)) (filter q xs) ≡ filter q (cons_option (option_map (entry o) (g t)) xs)
+    → option_to_list (option_map (entry o) (f t)) ++ filter q xs ≡ filter q (option_to_list (option_map (entry o) (g t)) ++ xs)
 part_first f g p h q u o xs e = rw (h u) (by_test (p u)
     (λ t.
     rw t (elim (g
-    u) as (λ r. cons_option (option_map (entry o) r) (filter q xs) ≡ filter q (cons_option (option_map (entry o) r) xs)) [
+    u) as (λ r. option_to_list (option_map (entry o) r) ++ filter q xs ≡ filter q (option_to_list (option_map (entry o) r) ++ xs)) [
       | None ↦ refl
       | Some k ↦ let y = e k ∙ t in rw y refl
     ]))
     (λ t.
-    rw t (elim (g u) as (λ r. filter q xs ≡ filter q (cons_option (option_map (entry o) r) xs)) [
+    rw t (elim (g u) as (λ r. filter q xs ≡ filter q (option_to_list (option_map (entry o) r) ++ xs)) [
       | None ↦ refl
       | Some k ↦ let y = e k ∙ t in rw y refl
     ])))
@@ -53,7 +53,7 @@ module _ (f g : Task → Option Key) (p : Task → Bool) (h : (t : Task) → f t
       let later = keyed-part (o + 1) (pre ++ t ∷ []) ts (omega (arith, length-append pre (t ∷ []))) in
       let again : keyed f (o + 1) ts ≡ filter (has p (pre ++ t ∷ ts)) (keyed g (o + 1) ts) =
       later ∙ ap (λ us. filter (has p us) (keyed g (o + 1) ts)) same in
-      ap (cons_option (option_map (entry o) (f t))) again
+      ap (λ (es : List Entry). option_to_list (option_map (entry o) (f t)) ++ es) again
       ∙ part_first f g p h (has p (pre ++ t ∷ ts)) t o (keyed g (o + 1) ts)
       (λ k. ap (λ (u : Task). p u) (get_or-middle pre t ts o e))
 

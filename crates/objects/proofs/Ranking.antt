@@ -2,7 +2,7 @@
 use Rattle.std.proofs.Common.{◌≡◌, ℕ, eqb, ltb, Option, Some, None, refl}
 use Rattle.model.specs.State.{State, Task, call_at, for_one, object_at, progress_at, task_at, with_task}
 use Rattle.model.specs.Switching.{is_ready, to_back}
-use Rattle.model.specs.Mutexes.{after_timeout, disinherit, fall_back, inherit, inherit_from, inherits, lend, mutexes_held}
+use Rattle.model.specs.Mutexes.{after_timeout, disinherit, fall_back, inherit, inherit_from, inherits, raise, mutexes_held}
 use Rattle.model.specs.Mutexes.{set_priority}
 use Rattle.model.specs.Invariant.{IsTable}
 use Rattle.model.proofs.Sorting.{by_test}
@@ -68,8 +68,8 @@ stands_ranked v d s i priority = stands_kept v d s (set_priority i priority s) (
 pub at_locked-ranked : (d : Option Decider) (s : State) (i priority : ℕ) → AtLocked d s → AtLocked d (set_priority i priority s)
 at_locked-ranked d s i priority = at_locked_kept d s (set_priority i priority s) (kept-set_priority s i priority)
 
-kept-lend : (s : State) (priority holder : ℕ) → KeepsWaits s (lend priority holder s)
-kept-lend s priority holder = by_test (ltb (task_at s holder).priority priority)
+kept-raise : (s : State) (holder priority : ℕ) → KeepsWaits s (raise holder priority s)
+kept-raise s holder priority = by_test (ltb (task_at s holder).priority priority)
     (λ t. rw t (kept-set_priority s holder priority))
     (λ t. rw t (kept s))
 
@@ -79,7 +79,7 @@ kept-inherit_from s i holder =
     record (task_at s i)
     { progress = record (progress_at s i) { call = record (call_at s i) { inherited = inherits i holder s } } } in
     let t : State = with_task i u s in
-    kept_both s t (lend (task_at s i).priority holder t) (kept-task s i u refl) (kept-lend t (task_at s i).priority holder)
+    kept_both s t (raise holder (task_at s i).priority t) (kept-task s i u refl) (kept-raise t holder (task_at s i).priority)
 
 -- a task will wait
 pub kept-inherit : (s : State) (i o : ℕ) → KeepsWaits s (inherit i o s)

@@ -18,7 +18,7 @@ use Rattle.model.specs.Order.{Key, Entry, key, tasks_of}
 use Rattle.model.specs.Switching.{is_ready, make_ready}
 use Rattle.model.specs.Suspension.{can_resume}
 use Rattle.model.specs.Waiting.{set_deadline}
-use Rattle.model.specs.Groups.{is_met, is_met_for, bits_left, bits_key, bits_set, bits_after_set, waiters_for_bits, met_by, want}
+use Rattle.model.specs.Groups.{is_met, is_met_for, bits_left, bits_key, bits_set, waiters_for_bits, met_by, want, left_by, wake_all}
 use Rattle.model.specs.Groups.{keep_answer, wake_with_bits, wait_for_bits, answer_bits, begin_bits_wait, check, final_bits}
 use Rattle.model.specs.Groups.{set_bits, wait_bits, set as set_in_group}
 use Rattle.model.specs.Step.{act}
@@ -300,7 +300,7 @@ kept_past bits i [] s = refl
 kept_past bits i (j ∷ js) s = ap (keep_all bits js) (swapped bits i j s) ∙ kept_past bits i js (keep_answer j bits s)
 
 woken_in_turn : (bits : ℕ) (is : List ℕ) (s : State)
-    → for_each (λ i. wake_with_bits i bits) is s ≡ for_each make_ready is (keep_all bits is s)
+    → wake_all is bits s ≡ for_each make_ready is (keep_all bits is s)
 woken_in_turn bits [] s = refl
 woken_in_turn bits (i ∷ is) s =
     woken_in_turn bits is (wake_with_bits i bits s) ∙ ap (for_each make_ready is) (kept_past bits i is (keep_answer i bits s))
@@ -401,14 +401,14 @@ module _ (k : Machine) (log : List Event) (s : State) (h : At k log s) (group ma
 
   -- what the set makes of the state
   abbrev left : State
-  left = with_bits group (bits_after_set group mask s) woken
+  left = with_bits group (left_by (met_by group (bits_set group mask s) s) (bits_set group mask s) s) woken
 
   set_is : set_in_group group mask s ≡ left
   unfolding set_in_group
   set_is =
-      let one : for_each (λ i. wake_with_bits i (bits_set group mask s)) (met_by group (bits_set group mask s) s) s ≡ woken =
+      let one : wake_all (met_by group (bits_set group mask s) s) (bits_set group mask s) s ≡ woken =
       rw (met, by) (woken_in_turn (bits_set group mask s) (met_by group (bits_set group mask s) s) s) in
-      ap (with_bits group (bits_after_set group mask s)) one
+      ap (with_bits group (left_by (met_by group (bits_set group mask s) s) (bits_set group mask s) s)) one
 
   pub set_at : (v : Schedule) (t : Timeline) (g : EventGroups)
       → sched.StandsFor v (for_each make_ready is (for_each (λ i. keep_answer i bits) is s))

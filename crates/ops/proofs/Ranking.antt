@@ -4,7 +4,7 @@ use Rattle.model.specs.declared.event.Event.{Event}
 use Rattle.model.specs.declared.event.Misuse.{Misuse}
 use Rattle.model.specs.State.{State, Task, task_at, progress_at, call_at, object_at, with_task, for_one, no_task, with_object}
 use Rattle.model.specs.Switching.{is_ready, to_back, preempt}
-use Rattle.model.specs.Mutexes.{set_priority, mutexes_held, lend, inherit_from, inherit, best_priority, fall_back, after_timeout}
+use Rattle.model.specs.Mutexes.{set_priority, mutexes_held, raise, inherit_from, inherit, best_priority, fall_back, after_timeout}
 use Rattle.model.specs.Mutexes.{disinherit, give_mutex}
 use Rattle.model.proofs.Sorting.{by_test}
 use Rattle.model.proofs.Tables.{each-set}
@@ -97,9 +97,9 @@ still_decides old new i r c agrees = record {
 -- ---- the changes of a priority
 
 module _ (P : State → Type 0) (s : State) where
-  pub lent : (priority holder : ℕ) → (task_at s holder).priority < priority
-      → P (set_priority holder priority s) → P (lend priority holder s)
-  lent priority holder l h = rw (lt-ltb (task_at s holder).priority priority l) h
+  pub raised : (holder priority : ℕ) → (task_at s holder).priority < priority
+      → P (set_priority holder priority s) → P (raise holder priority s)
+  raised holder priority l h = rw (lt-ltb (task_at s holder).priority priority l) h
 
   pub inherited : (i o holder : ℕ) → Some holder ≡ (object_at s o).holder → P (inherit_from i holder s) → P (inherit i o s)
   unfolding inherit

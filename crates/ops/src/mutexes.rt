@@ -31,11 +31,11 @@ fn set_priority(machine: &mut Machine, task: TaskId, priority: u8)
 }
 
 /// The holder of a mutex takes this priority, of 0 to 31, where its own is lower.
-fn lend(machine: &mut Machine, priority: u8, holder: TaskId)
+fn raise(machine: &mut Machine, holder: TaskId, priority: u8)
     requires priority { priority < 32 }
     requires depth { machine.old.sched.depth ≡ 0 }
     ensures does { (log : List Event) (s : State) → At machine.old log s → holder < length s.tasks
-        → At machine.new log (definitions.lend priority holder s) }
+        → At machine.new log (definitions.raise holder priority s) }
     ensures reranks { Reranks machine.old machine.new }
     ensures suspensions { machine.new.sched.suspensions ≡ machine.old.sched.suspensions }
 {
@@ -64,7 +64,7 @@ fn inherit_from(machine: &mut Machine, task: TaskId, holder: TaskId)
     let inherited = inherits(machine, task, holder);
     machine.set_inherited(task, inherited);
     let priority = machine.sched.priority(task);
-    lend(machine, priority, holder);
+    raise(machine, holder, priority);
 }
 
 /// A task will wait for an object, whose holder, if it has one, inherits from it.

@@ -1,5 +1,6 @@
 -- Every op that is taken, of a script or of a handler, speaks of what there is.
-use Rattle.std.proofs.Common.{◌≡◌, ◌+◌, ◌≤◌, ℕ, Bool, true, false, List, [], ◌∷◌, length, map, drop, Option, Some, None, refl}
+use Rattle.std.proofs.Common.{◌≡◌, ◌+◌, ◌≤◌, ℕ, Bool, true, false, List, [], ◌∷◌, ◌++◌, length, map, drop, Option, Some, None}
+use Rattle.std.proofs.Common.{refl}
 use Rattle.std.specs.Prelude.{◌&&◌, not, is_none}
 use Rattle.std.specs.List.{AllByRecursion, cons_option}
 use Rattle.std.specs.Option.{option_and_then, IfSome}
@@ -15,9 +16,9 @@ use Rattle.model.proofs.Sorting.{by_test}
 use Rattle.grammar.specs.declared.object_sort.ObjectSort.TheVariants.{Queue, Semaphore, Mutex}
 use Rattle.script.specs.declared.place.Place.{Place}
 use Rattle.script.specs.Arrays.{each_fault}
-use Rattle.grammar.specs.Grammar.{Word, Form, forms, block_forms, object_forms, semaphore_forms, group_forms, suspension_forms}
+use Rattle.grammar.specs.Grammar.{Word, Form, forms, basic_forms, block_forms, queue_forms, semaphore_forms, group_forms}
 use Rattle.grammar.specs.Grammar.{CommandForm, isr_forms, read_by, if_in_range, is_isr_in_range, if_isr_in_range, op_of, isr_op_of}
-use Rattle.grammar.specs.Grammar.{words_of}
+use Rattle.grammar.specs.Grammar.{suspension_forms, words_of}
 use Rattle.script.specs.Entries.{RawIsr, Raw, Entries, HasEntries}
 use Rattle.script.specs.Finding.{among}
 use Rattle.script.specs.Ops.{Ops, task_ops, handler_ops, is_allowed, is_isr_allowed, is_command, op_in, blocks_with, op_elements}
@@ -87,7 +88,7 @@ module _ (app : Application) (entries : Entries) (has : HasEntries app entries) 
       (λ g at mask a. at_group app entries has g at),
       (
         (λ g at a. at_group app entries has g at),
-        ((λ g at mask all clear ticks a. at_group app entries has g at), suspension_forms_known),
+        ((λ g at mask all clear ticks a. at_group app entries has g at), tt),
       ),
     ),
   )
@@ -99,13 +100,13 @@ module _ (app : Application) (entries : Entries) (has : HasEntries app entries) 
       (λ s at a. rw (at_fits app entries has Semaphore Give refl s at) refl),
       (
         (λ m at ticks a. rw (at_fits app entries has Mutex Lock refl m at) refl),
-        ((λ m at a. at_fits app entries has Mutex Lock refl m at), group_forms_known),
+        ((λ m at a. at_fits app entries has Mutex Lock refl m at), tt),
       ),
     ),
   )
 
-  object_forms_known : AllKnown object_forms
-  object_forms_known = (
+  queue_forms_known : AllKnown queue_forms
+  queue_forms_known = (
     (λ q at n ticks a. rw (at_fits app entries has Queue (Send n) (λ size. refl) q at) refl),
     (
       (λ q at n ticks a. rw (at_fits app entries has Queue (SendFront n) (λ size. refl) q at) refl),
@@ -117,7 +118,7 @@ module _ (app : Application) (entries : Entries) (has : HasEntries app entries) 
             (λ q at ticks a. rw (at_fits app entries has Queue Peek (λ size. refl) q at) refl),
             (
               (λ q at a. at_fits app entries has Queue Receive (λ size. refl) q at),
-              ((λ q at a. at_fits app entries has Queue Receive (λ size. refl) q at), semaphore_forms_known),
+              ((λ q at a. at_fits app entries has Queue Receive (λ size. refl) q at), tt),
             ),
           ),
         ),
@@ -128,11 +129,11 @@ module _ (app : Application) (entries : Entries) (has : HasEntries app entries) 
   block_forms_known : AllKnown block_forms
   block_forms_known = (
     (λ turns a. refl),
-    ((λ condition a. refl), ((λ a. refl), ((λ a. refl), ((λ a. refl), object_forms_known)))),
+    ((λ condition a. refl), ((λ a. refl), ((λ a. refl), ((λ a. refl), tt)))),
   )
 
-  forms_known : AllKnown forms
-  forms_known = (
+  basic_forms_known : AllKnown basic_forms
+  basic_forms_known = (
     (λ n a. refl),
     (
       (λ n a. refl),
@@ -142,12 +143,27 @@ module _ (app : Application) (entries : Entries) (has : HasEntries app entries) 
           (λ a. refl),
           (
             (λ a. refl),
-            ((λ a. refl), ((λ a. refl), ((λ n a. refl), ((λ condition a. refl), block_forms_known)))),
+            ((λ a. refl), ((λ a. refl), ((λ n a. refl), ((λ condition a. refl), tt)))),
           ),
         ),
       ),
     ),
   )
+
+  both_known : (fs gs : List (Word × Form Op)) → AllKnown fs → AllKnown gs → AllKnown (fs ++ gs)
+  both_known [] gs known others = others
+  both_known (f ∷ fs) gs known others = (known.0, both_known fs gs known.1 others)
+
+  forms_known : AllKnown forms
+  forms_known =
+      let from_groups = both_known group_forms suspension_forms group_forms_known suspension_forms_known in
+      let from_semaphores = both_known semaphore_forms (group_forms ++ suspension_forms) semaphore_forms_known from_groups in
+      let from_queues =
+      both_known queue_forms (semaphore_forms ++ group_forms ++ suspension_forms) queue_forms_known from_semaphores in
+      let from_blocks =
+      both_known block_forms (queue_forms ++ semaphore_forms ++ group_forms ++ suspension_forms) block_forms_known from_queues in
+      both_known basic_forms (block_forms ++ queue_forms ++ semaphore_forms ++ group_forms ++ suspension_forms)
+      basic_forms_known from_blocks
 
   abbrev AreKnown : Option Op → Type 0
   AreKnown = Known task_ops entries (λ (op : Op). knows app op ≡ true)

@@ -3,7 +3,7 @@ use Rattle.std.proofs.Common.{◌≡◌, ◌+◌, ◌*◌, ◌/◌, ◌%◌, ◌
 use Rattle.std.proofs.Common.{length-append, ap, sym, subst, ◌∙◌, ap₂, arith, false, Bool, Result, Ok, Err}
 use Rattle.std.specs.Prelude.{IfSome, OnErr, nat_lt}
 use Rattle.std.proofs.lemmas.List.{length-take}
-use Rattle.std.proofs.lemmas.Bool.{cases_lt}
+use Rattle.std.proofs.lemmas.Bool.{cases_lt, ltb-false}
 use Rattle.std.proofs.lemmas.Option.{slice_get-get_or}
 use Rattle.std.proofs.Math.Nat.{mod-add-div', div-lt_iff_lt-mul, suc-mul}
 use Rattle.model.specs.declared.event.Event.{Event}
@@ -152,6 +152,6 @@ pub missed_few : {X E : Type 0} (app : Application) (shelf : Shelved) (point : L
 missed_few app shelf point from h missed (Ok x) some = tt
 missed_few app shelf point from h missed (Err e) some = λ reached run is.
     let row : IsRow app shelf.limits point false shelf.base =
-    record { base = shelf.base; is_base = h.is_base; is_reached = missed; is_row = h.is_base } in
+    (h.is_base, ltb-false (first_step point) shelf.base.steps (sym missed)) in
     let same = (one_row app shelf.limits point reached false run shelf.base is row).1 in
     (omega arith, rw same some)

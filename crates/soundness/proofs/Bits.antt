@@ -13,13 +13,13 @@ use Rattle.model.specs.Application.{Application, op_at}
 use Rattle.model.specs.Scripts.{IsWellFormed, is_wait}
 use Rattle.model.specs.State.{State, Task, Status, Ready, Awake, Waiting, WaitingForBits, Asleep, Suspended, Ended, Wait}
 use Rattle.model.specs.State.{ticket_if_ready, ticket_if_for_bits, task_at, status_at, progress_at, call_at, bits_at, with_task}
-use Rattle.model.specs.State.{with_bits, go_on, take_ticket, for_each, no_task}
+use Rattle.model.specs.State.{with_bits, go_on, take_ticket, no_task}
 use Rattle.model.specs.Order.{Key, Entry, key, tasks_of}
 use Rattle.model.specs.Switching.{make_ready, is_ready, choose}
 use Rattle.model.specs.Waiting.{set_deadline, end_hold}
 use Rattle.model.specs.Ops.{answer}
 use Rattle.model.specs.Groups.{is_met, bits_without, bits_left, want, keep_answer, bits_key, waiters_for_bits, is_met_for, met_by}
-use Rattle.model.specs.Groups.{wake_with_bits, bits_set, bits_after_set, set, begin_set, clear, answer_bits, wait_for_bits}
+use Rattle.model.specs.Groups.{wake_with_bits, bits_set, set, begin_set, clear, answer_bits, wait_for_bits, left_by, wake_all}
 use Rattle.model.specs.Groups.{begin_bits_wait, final_bits}
 use Rattle.model.specs.Invariant.{IsReckoned, Hold, hold_of, ForBits, ToSetBits, course, IsPhaseOf, IsWaitOf, list_of_op, IsSound}
 use Rattle.model.specs.Invariant.{holds, suspension_of, IsState, wait_of}
@@ -112,16 +112,16 @@ stays-wake_with_bits i bits s =
     s refl refl)
     (stays-take_ticket i Ready t)
 
-stays-all_with_bits : (bits : ℕ) (is : List ℕ) (s : State) → Stays s (for_each (λ i. wake_with_bits i bits) is s)
-stays-all_with_bits bits [] s = stays s
-stays-all_with_bits bits (i ∷ is) s =
+stays-wake_all : (bits : ℕ) (is : List ℕ) (s : State) → Stays s (wake_all is bits s)
+stays-wake_all bits [] s = stays s
+stays-wake_all bits (i ∷ is) s =
     let t : State = wake_with_bits i bits s in
-    stays_both s t (for_each (λ j. wake_with_bits j bits) is t) (stays-wake_with_bits i bits s) (stays-all_with_bits bits is t)
+    stays_both s t (wake_all is bits t) (stays-wake_with_bits i bits s) (stays-wake_all bits is t)
 
 pub stays-set : (group mask : ℕ) (s : State) → Stays s (set group mask s)
 unfolding set
 stays-set group mask s =
-    let k = stays-all_with_bits (bits_set group mask s) (met_by group (bits_set group mask s) s) s in
+    let k = stays-wake_all (bits_set group mask s) (met_by group (bits_set group mask s) s) s in
     record { current = k.current; tasks = k.tasks; op_index = k.op_index; phase = k.phase }
 
 -- who is Ready stays so when others are woken
@@ -147,14 +147,14 @@ module _ (i : ℕ) where
       each-set no_task Still t.tasks j (record (task_at t j) { status = Ready t.next_ticket })
       (λ _. refl) (still_in t (ready-keep_answer j bits s r)) i refl
 
-  ready-all_with_bits : (bits : ℕ) (js : List ℕ) (s : State) → is_ready s i ≡ true
-      → is_ready (for_each (λ j. wake_with_bits j bits) js s) i ≡ true
-  ready-all_with_bits bits [] s r = r
-  ready-all_with_bits bits (j ∷ js) s r = ready-all_with_bits bits js (wake_with_bits j bits s) (ready-wake_with_bits j bits s r)
+  ready-wake_all : (bits : ℕ) (js : List ℕ) (s : State) → is_ready s i ≡ true
+      → is_ready (wake_all js bits s) i ≡ true
+  ready-wake_all bits [] s r = r
+  ready-wake_all bits (j ∷ js) s r = ready-wake_all bits js (wake_with_bits j bits s) (ready-wake_with_bits j bits s r)
 
   pub ready-set : (group mask : ℕ) (s : State) → is_ready s i ≡ true → is_ready (set group mask s) i ≡ true
   unfolding set
-  ready-set group mask s r = ready-all_with_bits (bits_set group mask s) (met_by group (bits_set group mask s) s) s r
+  ready-set group mask s r = ready-wake_all (bits_set group mask s) (met_by group (bits_set group mask s) s) s r
 
 -- ---- what is kept
 
@@ -194,7 +194,7 @@ module _ (app : Application) (formed : IsWellFormed app) (hold : Hold) where
       (can_still (keep_answer i bits s) i j (kept_can s i bits i c) (kept_can s i bits j a.0), still_can_all s i bits js c a.1)
 
   all_woken : (bits : ℕ) (is : List ℕ) (s : State) → IsSound app hold s
-      → AllByRecursion (CanBeReady s) is → IsSound app hold (for_each (λ i. wake_with_bits i bits) is s)
+      → AllByRecursion (CanBeReady s) is → IsSound app hold (wake_all is bits s)
   all_woken bits [] s h can = h
   all_woken bits (i ∷ is) s h can =
       let t : State = wake_with_bits i bits s in
@@ -205,7 +205,8 @@ module _ (app : Application) (formed : IsWellFormed app) (hold : Hold) where
   unfolding set
   set_done s group mask h =
       let bits : ℕ = bits_set group mask s in
-      bits_put _ group (bits_after_set group mask s) (all_woken bits (met_by group bits s) s h
+      let met : List ℕ = met_by group bits s in
+      bits_put (wake_all met bits s) group (left_by met bits s) (all_woken bits met s h
       (met_can s group (is_met_for bits s) (λ i. (h.progress i).reckoned)
       (waiters_for_bits s group) (list_has (bits_key group) s.tasks)))
 

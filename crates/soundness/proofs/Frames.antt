@@ -33,12 +33,12 @@ use Rattle.model.specs.Calls.{try, do_now}
 use Rattle.model.specs.Ops.{one_if, go_to, moved_to, called, answer, use_up, delay, delay_until, open_loop, next_turn, turn}
 use Rattle.model.specs.Ops.{close_turn, branch, skip_branch, leave_loop, stamp, since, fail}
 use Rattle.model.specs.declared.call.Condition.{Condition}
-use Rattle.model.specs.Groups.{is_met, bits_without, bits_left, keep_answer, met_by, wake_with_bits, bits_set, bits_after_set, set}
-use Rattle.model.specs.Groups.{clear, answer_bits}
+use Rattle.model.specs.Groups.{is_met, bits_without, bits_left, keep_answer, met_by, wake_with_bits, bits_set, set, left_by}
+use Rattle.model.specs.Groups.{clear, answer_bits, wake_all}
 use Rattle.model.specs.Suspension.{can_suspend, can_resume, suspend, resumed, resume, call_suspend, call_resume}
 use Rattle.model.specs.Daemon.{item_of, received, take_command, obeyed, clear_by_daemon}
-use Rattle.model.specs.Mutexes.{set_priority, mutexes_held, lend, inherits, inherit_from, inherit, best_priority, fall_back}
-use Rattle.model.specs.Mutexes.{after_timeout, disinherit, give_mutex}
+use Rattle.model.specs.Mutexes.{set_priority, mutexes_held, raise, inherits, inherit_from, inherit, best_priority, fall_back}
+use Rattle.model.specs.Mutexes.{after_timeout, disinherit, give_mutex, note_inherited}
 use Rattle.model.specs.Invariant.{hold_of, suspension_of}
 use Rattle.model.specs.Handlers.{isr_told, isr, isr_answer, isr_jump, is_failed, isr_each, handle, inject, interrupt}
 use Rattle.model.specs.Step.{before_step}
@@ -285,17 +285,17 @@ keeps-set_priority i priority s =
     (λ e.
     rw e (keeps_both s t (to_back i t) (keeps-with_task i (record (task_at s i) { priority = priority }) s) (keeps-to_back i t)))
 
-pub keeps-lend : (priority holder : ℕ) (s : State) → Keeps s (lend priority holder s)
-keeps-lend priority holder s = by_test (ltb (task_at s holder).priority priority)
+pub keeps-raise : (holder priority : ℕ) (s : State) → Keeps s (raise holder priority s)
+keeps-raise holder priority s = by_test (ltb (task_at s holder).priority priority)
     (λ t. rw t (keeps-set_priority holder priority s))
     (λ t. rw t (keeps s))
 
 keeps-inherit_from : (i holder : ℕ) (s : State) → Keeps s (inherit_from i holder s)
 keeps-inherit_from i holder s =
-    let t : State = with_call i (record (call_at s i) { inherited = inherits i holder s }) s in
-    keeps_both s t (lend (task_at s i).priority holder t)
+    let t : State = note_inherited i holder s in
+    keeps_both s t (raise holder (task_at s i).priority t)
     (keeps-with_call i (record (call_at s i) { inherited = inherits i holder s }) s)
-    (keeps-lend (task_at s i).priority holder t)
+    (keeps-raise holder (task_at s i).priority t)
 
 pub keeps-inherit : (i o : ℕ) (s : State) → Keeps s (inherit i o s)
 unfolding inherit
@@ -368,16 +368,17 @@ keeps-wake_with_bits bits i s =
     let t : State = keep_answer i bits s in
     keeps_both s t (make_ready i t) (keeps-with_call i (record (call_at s i) { kept = Some bits }) s) (keeps-take_ticket i Ready t)
 
-pub keeps-all_with_bits : (bits : ℕ) (is : List ℕ) (s : State) → Keeps s (for_each (λ i. wake_with_bits i bits) is s)
-keeps-all_with_bits bits is s = keeps-each (λ i. wake_with_bits i bits) (keeps-wake_with_bits bits) is s
+pub keeps-wake_all : (bits : ℕ) (is : List ℕ) (s : State) → Keeps s (wake_all is bits s)
+keeps-wake_all bits is s = keeps-each (λ i. wake_with_bits i bits) (keeps-wake_with_bits bits) is s
 
 pub keeps-set : (group mask : ℕ) (s : State) → Keeps s (set group mask s)
 unfolding set
 keeps-set group mask s =
     let bits : ℕ = bits_set group mask s in
-    let t : State = for_each (λ i. wake_with_bits i bits) (met_by group bits s) s in
-    keeps_both s t (with_bits group (bits_after_set group mask s) t)
-    (keeps-all_with_bits bits (met_by group bits s) s) (keeps-with_bits group (bits_after_set group mask s) t)
+    let met : List ℕ = met_by group bits s in
+    let t : State = wake_all met bits s in
+    keeps_both s t (with_bits group (left_by met bits s) t) (keeps-wake_all bits met s)
+    (keeps-with_bits group (left_by met bits s) t)
 
 pub keeps-clear : (app : Application) (i group mask : ℕ) (s : State) → Keeps s (clear app i group mask s)
 unfolding clear

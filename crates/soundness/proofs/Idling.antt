@@ -1,8 +1,8 @@
 -- Handlers that come while idle runs, and leave it running, have made nobody Ready: who was to wake by itself still is.
 use Rattle.std.proofs.Common.{◌≡◌, ◌+◌, ◌||◌, ◌&&◌, ℕ, Bool, zero, suc, true, false, not, ltb, ap₂, inl, inr, get_or, List, [], ◌∷◌}
-use Rattle.std.proofs.Common.{length, Option, Some, None, refl, ap, sym, subst, ◌∙◌, arith}
-use Rattle.std.specs.List.{AllByRecursion, cons_option, list_any}
-use Rattle.std.specs.Option.{is_none, is_some, option_map}
+use Rattle.std.proofs.Common.{length, Option, Some, None, refl, ap, sym, subst, ◌∙◌, arith, ◌++◌}
+use Rattle.std.specs.List.{AllByRecursion, list_any}
+use Rattle.std.specs.Option.{is_none, is_some, option_map, option_to_list}
 use Rattle.model.specs.Application.{Application}
 use Rattle.model.specs.State.{State, Task, Status, Ready, Awake, Waiting, Asleep, WaitingForBits, Suspended, Ended, ticket_if_ready}
 use Rattle.model.specs.State.{wake_time_of, task_at, status_at, for_one, for_each, no_task}
@@ -24,7 +24,7 @@ use Rattle.soundness.proofs.Handled.{Spares, spares-handle}
 -- ---- who is Ready is listed, and so somebody is chosen
 
 first_none : (o : ℕ) (k : Option Key) (es : List Entry)
-    → length (cons_option (option_map (entry o) k) es) ≡ 0 → (k ≡ None) × (length es ≡ 0)
+    → length (option_to_list (option_map (entry o) k) ++ es) ≡ 0 → (k ≡ None) × (length es ≡ 0)
 first_none o None es e = (refl, e)
 first_none o (Some k) es e = absurd (let f : suc (length es) ≡ 0 = e in omega arith)
 

@@ -14,7 +14,7 @@ use Rattle.model.specs.State.{wait_if_waiting, task_at, status_at, progress_at, 
 use Rattle.model.specs.Order.{Key, Entry, key, first}
 use Rattle.model.specs.Switching.{is_ready, to_back}
 use Rattle.model.specs.Waiting.{waiters, wait_key, same_list}
-use Rattle.model.specs.Mutexes.{set_priority, mutexes_held, lend, inherits, inherit_from, inherit, best_priority, fall_back}
+use Rattle.model.specs.Mutexes.{set_priority, mutexes_held, raise, inherits, inherit_from, inherit, best_priority, fall_back}
 use Rattle.model.specs.Mutexes.{after_timeout, disinherit}
 use Rattle.model.specs.Invariant.{Hold, HasPriority, IsSound, wait_of}
 use Rattle.model.proofs.Sorting.{by_test}
@@ -93,8 +93,8 @@ reranks-set_priority s i priority =
     (reranks-with_task s i u (record { base_priority = refl; op_index = refl; phase = refl; deadline = refl; ready = refl }))
     (reranks-to_back t i)))
 
-reranks-lend : (s : State) (priority holder : ℕ) → Reranks s (lend priority holder s)
-reranks-lend s priority holder = by_test (ltb (task_at s holder).priority priority)
+reranks-raise : (s : State) (holder priority : ℕ) → Reranks s (raise holder priority s)
+reranks-raise s holder priority = by_test (ltb (task_at s holder).priority priority)
     (λ t. rw t (reranks-set_priority s holder priority))
     (λ t. rw t (reranks s))
 
@@ -104,9 +104,9 @@ reranks-inherit_from s i holder =
     record (task_at s i)
     { progress = record (progress_at s i) { call = record (call_at s i) { inherited = inherits i holder s } } } in
     let t : State = with_task i u s in
-    reranks_both s t (lend (task_at s i).priority holder t)
+    reranks_both s t (raise holder (task_at s i).priority t)
     (reranks-with_task s i u (record { base_priority = refl; op_index = refl; phase = refl; deadline = refl; ready = refl }))
-    (reranks-lend t (task_at s i).priority holder)
+    (reranks-raise t holder (task_at s i).priority)
 
 reranks-for_one : (deed : ℕ → State → State) (o : Option ℕ) (s : State)
     → ((i : ℕ) → Reranks s (deed i s)) → Reranks s (for_one deed o s)
@@ -180,9 +180,9 @@ module _ (app : Application) (formed : IsWellFormed app) (hold : Hold) where
         (least, most, (h.priorities i).2),
       )) (rw length-set l)))
 
-  lent : (s : State) (priority holder : ℕ) → IsSound app hold s → holder < length s.tasks
-      → priority < 32 → IsSound app hold (lend priority holder s)
-  lent s priority holder h l most = by_test (ltb (task_at s holder).priority priority)
+  raised : (s : State) (holder priority : ℕ) → IsSound app hold s → holder < length s.tasks
+      → priority < 32 → IsSound app hold (raise holder priority s)
+  raised s holder priority h l most = by_test (ltb (task_at s holder).priority priority)
       (λ t. let below = ltb-true (task_at s holder).priority priority t in
       let least = (h.priorities holder).0 in
       rw t (prioritised s holder priority h l (omega arith) most))
@@ -196,7 +196,7 @@ module _ (app : Application) (formed : IsWellFormed app) (hold : Hold) where
       { progress = record (progress_at s i) { call = record (call_at s i) { inherited = inherits i holder s } } } in
       let a = h.progress i in
       let c = h.calls i in
-      lent (with_task i u s) (task_at s i).priority holder
+      raised (with_task i u s) holder (task_at s i).priority
       (changed app formed hold s i u h (ticket_at s.next_ticket i s.tasks h.table.tickets) (
         record { nests = a.nests; loops = a.loops; used = a.used; reckoned = a.reckoned; stamped = a.stamped },
         record { phase = c.phase; wait = c.wait; awake = c.awake; near = c.near },

@@ -1,4 +1,4 @@
-use Rattle.std.proofs.Common.{[], refl}
+use Rattle.std.proofs.Common.{[], refl, arith}
 use Rattle.model.specs.Switching.{to_back, dispatch, choose, yield_now, preempt, slice, settle}
 use Rattle.model.specs.Waiting.{wait_in, set_deadline, wake_best, unlock}
 use Rattle.model.specs.Time.{wake_due, advance, increment_tick, sleep, set_previous_wake}
@@ -28,12 +28,12 @@ unfolding to_back dispatch choose yield_now preempt slice settle wait_in set_dea
     open_loop close_turn fulfil attempt inherit after_timeout try decide leave_call set begin_set clear answer_bits wait_for_bits
     begin_bits_wait check received take_command obeyed clear_by_daemon judge before_step step nobody_ready ready_at_reset reset
 returns-clause-rows c = (
-  record {
-    base = deferred_base;
-    is_base = base_is_run;
-    is_reached = refl;
-    is_row = is_run deferred deferred_row.point deferred.limits deferred_row.row refl refl refl refl;
-  },
+  (
+    deferred_base,
+    base_is_run,
+    omega arith,
+    is_run deferred deferred_row.point deferred.limits deferred_row.row refl refl refl refl,
+  ),
   tt,
 )
 

@@ -1,4 +1,4 @@
-use Rattle.std.proofs.Common.{[], refl}
+use Rattle.std.proofs.Common.{[], refl, arith}
 use Rattle.model.specs.Switching.{to_back, dispatch, choose, yield_now, preempt, slice, settle}
 use Rattle.model.specs.Waiting.{wait_in, set_deadline, wake_best, unlock}
 use Rattle.model.specs.Time.{wake_due, advance, increment_tick, sleep, set_previous_wake}
@@ -26,61 +26,56 @@ unfolding to_back dispatch choose yield_now preempt slice settle wait_in set_dea
     go_to answer use_up delay delay_until expect open_loop close_turn fulfil attempt inherit
     after_timeout try decide leave_call judge before_step step nobody_ready ready_at_reset reset
 returns c = (
-  record {
-    base = past_the_end.row;
-    is_base = base_is_run;
-    is_reached = refl;
-    is_row = is_run one_receive (before_the_wait 0).point one_receive.limits (before_the_wait 0).row refl refl refl refl;
-  },
   (
-    record {
-      base = past_the_end.row;
-      is_base = base_is_run;
-      is_reached = refl;
-      is_row = is_run one_receive (before_the_wait 1).point one_receive.limits (before_the_wait 1).row refl refl refl refl;
-    },
+    past_the_end.row,
+    base_is_run,
+    omega arith,
+    is_run one_receive (before_the_wait 0).point one_receive.limits (before_the_wait 0).row refl refl refl refl,
+  ),
+  (
     (
-      record {
-        base = past_the_end.row;
-        is_base = base_is_run;
-        is_reached = refl;
-        is_row = is_run one_receive (in_the_wait 2).point one_receive.limits (in_the_wait 2).row refl refl refl refl;
-      },
+      past_the_end.row,
+      base_is_run,
+      omega arith,
+      is_run one_receive (before_the_wait 1).point one_receive.limits (before_the_wait 1).row refl refl refl refl,
+    ),
+    (
       (
-        record {
-          base = past_the_end.row;
-          is_base = base_is_run;
-          is_reached = refl;
-          is_row = is_run one_receive (in_the_wait 3).point one_receive.limits (in_the_wait 3).row refl refl refl refl;
-        },
+        past_the_end.row,
+        base_is_run,
+        omega arith,
+        is_run one_receive (in_the_wait 2).point one_receive.limits (in_the_wait 2).row refl refl refl refl,
+      ),
+      (
         (
-          record {
-            base = past_the_end.row;
-            is_base = base_is_run;
-            is_reached = refl;
-            is_row = is_run one_receive (in_the_wait 4).point one_receive.limits (in_the_wait 4).row refl refl refl refl;
-          },
+          past_the_end.row,
+          base_is_run,
+          omega arith,
+          is_run one_receive (in_the_wait 3).point one_receive.limits (in_the_wait 3).row refl refl refl refl,
+        ),
+        (
           (
-            record {
-              base = past_the_end.row;
-              is_base = base_is_run;
-              is_reached = refl;
-              is_row = is_run one_receive beside_idle.point one_receive.limits beside_idle.row refl refl refl refl;
-            },
+            past_the_end.row,
+            base_is_run,
+            omega arith,
+            is_run one_receive (in_the_wait 4).point one_receive.limits (in_the_wait 4).row refl refl refl refl,
+          ),
+          (
             (
-              record {
-                base = past_the_end.row;
-                is_base = base_is_run;
-                is_reached = refl;
-                is_row = is_run one_receive at_the_last_step.point one_receive.limits at_the_last_step.row refl refl refl refl;
-              },
+              past_the_end.row,
+              base_is_run,
+              omega arith,
+              is_run one_receive beside_idle.point one_receive.limits beside_idle.row refl refl refl refl,
+            ),
+            (
               (
-                record {
-                  base = past_the_end.row;
-                  is_base = base_is_run;
-                  is_reached = refl;
-                  is_row = is_run one_receive [] one_receive.limits past_the_end.row refl refl refl refl;
-                },
+                past_the_end.row,
+                base_is_run,
+                omega arith,
+                is_run one_receive at_the_last_step.point one_receive.limits at_the_last_step.row refl refl refl refl,
+              ),
+              (
+                (is_run one_receive [] one_receive.limits past_the_end.row refl refl refl refl, omega arith),
                 tt,
               ),
             ),

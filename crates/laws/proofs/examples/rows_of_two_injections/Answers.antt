@@ -1,4 +1,4 @@
-use Rattle.std.proofs.Common.{[], refl}
+use Rattle.std.proofs.Common.{[], refl, arith}
 use Rattle.model.specs.Switching.{to_back, dispatch, choose, yield_now, preempt, slice, settle}
 use Rattle.model.specs.Waiting.{wait_in, set_deadline, wake_best, unlock}
 use Rattle.model.specs.Time.{wake_due, advance, increment_tick, sleep, set_previous_wake}
@@ -26,33 +26,28 @@ unfolding to_back dispatch choose yield_now preempt slice settle wait_in set_dea
     go_to answer use_up delay delay_until expect open_loop close_turn fulfil attempt inherit
     after_timeout try decide leave_call judge before_step step nobody_ready ready_at_reset reset
 returns c = (
-  record {
-    base = past_the_end.row;
-    is_base = base_is_run;
-    is_reached = refl;
-    is_row = is_run one_receive twice.point one_receive.limits twice.row refl refl refl refl;
-  },
   (
-    record {
-      base = past_the_end.row;
-      is_base = base_is_run;
-      is_reached = refl;
-      is_row = is_run one_receive past_the_base_run.point one_receive.limits past_the_base_run.row refl refl refl refl;
-    },
+    past_the_end.row,
+    base_is_run,
+    omega arith,
+    is_run one_receive twice.point one_receive.limits twice.row refl refl refl refl,
+  ),
+  (
     (
-      record {
-        base = past_the_end.row;
-        is_base = base_is_run;
-        is_reached = refl;
-        is_row = is_run one_receive past_the_row.point one_receive.limits past_the_row.row refl refl refl refl;
-      },
+      past_the_end.row,
+      base_is_run,
+      omega arith,
+      is_run one_receive past_the_base_run.point one_receive.limits past_the_base_run.row refl refl refl refl,
+    ),
+    (
       (
-        record {
-          base = past_the_end.row;
-          is_base = base_is_run;
-          is_reached = refl;
-          is_row = is_run one_receive [] one_receive.limits from_the_end_on.row refl refl refl refl;
-        },
+        past_the_end.row,
+        base_is_run,
+        omega arith,
+        is_run one_receive past_the_row.point one_receive.limits past_the_row.row refl refl refl refl,
+      ),
+      (
+        (is_run one_receive [] one_receive.limits from_the_end_on.row refl refl refl refl, omega arith),
         tt,
       ),
     ),

@@ -2,7 +2,7 @@ use Rattle.std.proofs.Common.{Bool, ℕ, ap, subst, ◌∙◌, refl}
 use Rattle.std.proofs.Math.ListN.{length-set}
 use Rattle.model.specs.declared.call.CallProgress.{CallProgress}
 use Rattle.model.specs.State.{Progress, call_at, with_call}
-use Rattle.model.specs.Mutexes.{inherits, lend}
+use Rattle.model.specs.Mutexes.{inherits, raise}
 use Rattle.sched.specs.Schedule.{priority_in}
 use Rattle.machine.specs.declared.machine.Machine.{Machine}
 use Rattle.machine.specs.StandsFor.{At, progress_in}
@@ -26,5 +26,5 @@ returns-clause-does c = λ log s h l.
     let priority =
     c.priority-priority.ensures.priority ∙ ap (λ (x : Machine). priority_in x.sched.priorities i) c.set_inherited.ensures
     ∙ h.stands.sched.priorities i in
-    subst (λ (n : ℕ). At c.lend.new.machine log (lend n c.args.holder (with_call i then s)))
-    priority (c.lend.ensures.does log (with_call i then s) mid (rw length-set l))
+    subst (λ (n : ℕ). At c.raise.new.machine log (raise c.args.holder n (with_call i then s)))
+    priority (c.raise.ensures.does log (with_call i then s) mid (rw length-set l))
