@@ -22,8 +22,8 @@ use ops::script::{branch, close_turn, end_if, expect, leave_loop, mark, open_loo
 use ops::suspension::{call_resume, call_suspend};
 use ops::time::{call_yield, delay, delay_until, since, stamp, time, use_up};
 
-/// What may come behind a step, and is done next with the step's parts at hand. Where that isn't `Suspended`, the step has to have
-/// reported nothing.
+/// What may come behind a step, and is done next with the step's parts at hand. Of `Suspended` the step has reported something, and of
+/// the others nothing.
 #[derive(Clone, Copy, PartialEq)]
 pub(crate) enum Following {
     /// Nothing: any other step.

@@ -34,11 +34,10 @@ pub(crate) fn pass_more(
     if following == Following::Nothing || following == Following::NextOp {
         return;
     }
-    if following == Following::Suspended {
-        go_on_while_suspended(kernel, app, injections, until, limits, trail);
-        return;
-    }
     if !trail.is_silent() {
+        if following == Following::Suspended {
+            go_on_while_suspended(kernel, app, injections, until, limits, trail);
+        }
         return;
     }
     if following == Following::Command {
