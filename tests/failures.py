@@ -403,7 +403,7 @@ def with_little_memory_in_all():
     """What a campaign answers with little memory, its stack included, except for its report and that no memory is left."""
     write("application.toml", TASK)
     # (where the stack begins is random, so the least differs from start to start, by a page or two)
-    first, rows = least(resource.RLIMIT_AS, 64, (0,), "run", "application.toml") + 16, 3000
+    first, rows = least(resource.RLIMIT_AS, 64, (0,), "campaign", "application.toml") + 16, 3000
     write("campaign.toml", campaign_of(rows))
     whole = (0, rows_report(rows), b"")
     found = answers(resource.RLIMIT_AS, first, 16, whole, "campaign", "campaign.toml")
