@@ -399,21 +399,22 @@ def with_little_memory_for_words_the_answer_is_whole_or_says_so():
         assert refused > 5, refused
 
 
-def with_little_memory_in_all():
-    """What a campaign answers with little memory, its stack included, except for its report and that no memory is left."""
-    write("application.toml", TASK)
+def with_little_memory_in_all(job, path, whole):
+    """What a job answers with little memory, its stack included, except for its report and that no memory is left."""
     # (where the stack begins is random, so the least differs from start to start, by a page or two)
-    first, rows = least(resource.RLIMIT_AS, 64, (0,), "campaign", "application.toml") + 16, 3000
-    write("campaign.toml", campaign_of(rows))
-    whole = (0, rows_report(rows), b"")
-    found = answers(resource.RLIMIT_AS, first, 16, whole, "campaign", "campaign.toml")
+    first = least(resource.RLIMIT_AS, 64, (0,), job, "application.toml") + 16
+    found = answers(resource.RLIMIT_AS, first, 16, whole, job, path)
     assert found.count(OUT_OF_MEMORY) > 5, found.count(OUT_OF_MEMORY)
     return [it for it in found if it not in (OUT_OF_MEMORY, whole)]
 
 
 @case
 def with_little_memory_in_all_the_answer_is_whole_or_says_so():
-    equal(with_little_memory_in_all(), [])
+    rows, (text, events) = 3000, many_events()
+    for path, content in (("application.toml", TASK), ("campaign.toml", campaign_of(rows)), ("events.toml", text)):
+        write(path, content)
+    equal(with_little_memory_in_all("campaign", "campaign.toml", (0, rows_report(rows), b"")), [])
+    equal(with_little_memory_in_all("run", "events.toml", (0, events, b"")), [])
 
 
 @case
