@@ -13,19 +13,20 @@ use Rattle.deal.specs.Tallies.{Tallied}
 use Rattle.deal.specs.Totals.{total, range, times, one_at}
 use Rattle.deal.proofs.Sums.{total_append}
 use Rattle.deal.proofs.Once.{times_one, same_or, elsewhere, once_within}
-use Rattle.campaign.specs.declared.rows.KeptRow.{KeptRow}
-use Rattle.campaign.specs.declared.rows.KeptBlock.{KeptBlock}
+use Rattle.rows.specs.declared.rows.KeptRow.{KeptRow}
+use Rattle.rows.specs.declared.rows.KeptBlock.{KeptBlock}
 use Rattle.campaign.specs.declared.worker.Job.{Job}
 use Rattle.campaign.specs.declared.worker.Done.{Done}
 use Rattle.deal.specs.Sharing.{HasSeenAll}
 use Rattle.campaign.specs.Kinds.{kind_in}
-use Rattle.campaign.specs.Links.{Store, AreLegs, Grows}
-use Rattle.campaign.specs.Report.{row_of, rows_of, store_of, IsKept}
-use Rattle.campaign.specs.Working.{Work, GainsRows, HasRoom, block_points, IsKeptBlock, AreKeptBlocks, numbers_of, CountsBlocks}
+use Rattle.rows.specs.Links.{Store, AreLegs, Grows}
+use Rattle.rows.specs.Report.{row_of, rows_of, store_of, IsKept}
+use Rattle.rows.specs.Placing.{numbers_of}
+use Rattle.campaign.specs.Working.{Work, GainsRows, HasRoom, block_points, IsKeptBlock, AreKeptBlocks, CountsBlocks}
 use Rattle.campaign.specs.Working.{IsDone}
 use Rattle.campaign.proofs.Keeping.{all-append, same_rows, still_kept, gained_few}
 use Rattle.campaign.proofs.Determined.{one_list}
-use Rattle.campaign.proofs.Linked.{without_legs}
+use Rattle.rows.proofs.Linked.{without_legs}
 use Rattle.campaign.proofs.Multiplicity.{total_within, total_places}
 
 -- Rows of the blocks that were answered are kept, and the seat counted them.

@@ -19,17 +19,17 @@ use Rattle.kernel.specs.Leads.{IsLed}
 use Rattle.kernel.specs.Rests.{IsRest}
 use Rattle.kernel.proofs.Leading.{leads_here, leads_then, rest_before}
 use Rattle.deal.specs.Tallies.{Tallied}
-use Rattle.campaign.specs.declared.link.Ahead.{Ahead}
-use Rattle.campaign.specs.declared.link.Link.{Link}
-use Rattle.campaign.specs.declared.link.Link.TheVariants as link
+use Rattle.campaign.specs.declared.ahead.Ahead.{Ahead}
+use Rattle.rows.specs.declared.link.Link.{Link}
+use Rattle.rows.specs.declared.link.Link.TheVariants as link
 use Rattle.campaign.specs.declared.mark.Mark.{Mark}
 use Rattle.campaign.specs.declared.mark.Passed.{Passed}
-use Rattle.campaign.specs.declared.rows.KeptRow.{KeptRow}
-use Rattle.campaign.specs.Links.{Store, AreLegs, Grows, Tells}
+use Rattle.rows.specs.declared.rows.KeptRow.{KeptRow}
+use Rattle.rows.specs.Links.{Store, AreLegs, Grows, Tells}
 use Rattle.campaign.specs.Marks.{rest_from, AreBehind, AreMarked, ArePut, IsBehind, IsPutAt, Knows}
 use Rattle.campaign.specs.Working.{GainsRows, IsPassed, IsRestIn, IsRestOf}
 use Rattle.campaign.proofs.Keeping.{known_more}
-use Rattle.campaign.proofs.Linked.{closed_tells, still_tells, told_no_more}
+use Rattle.rows.proofs.Linked.{closed_tells, still_tells, told_no_more}
 
 -- behind the last injection nothing is injected
 pub none_from : (point : List Injection) → IsPoint point → (k : Machine)

@@ -6,7 +6,7 @@ use Rattle.deal.specs.Tallies.{Sheet, Tallied, added_in}
 use Rattle.deal.proofs.Members.{each_left, each_middle, each_last}
 use Rattle.deal.proofs.Sums.{total_append}
 use Rattle.campaign.specs.declared.worker.Job.{Job}
-use Rattle.campaign.specs.declared.rows.KeptRow.{KeptRow}
+use Rattle.rows.specs.declared.rows.KeptRow.{KeptRow}
 use Rattle.campaign.specs.Working.{AreIdle, AreJobs, AreReady, seats_of}
 
 -- the last lane and the last seat get a job, without rows

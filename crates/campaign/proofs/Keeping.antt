@@ -22,20 +22,20 @@ use Rattle.model.specs.Campaign.{Row}
 use Rattle.report.specs.Views.{shows_events}
 use Rattle.report.specs.declared.view.View.{View}
 use Rattle.deal.specs.Tallies.{Tallied}
-use Rattle.campaign.specs.declared.rows.KeptRow.{KeptRow}
-use Rattle.campaign.specs.declared.link.Ahead.{Ahead}
-use Rattle.campaign.specs.declared.link.Leg.{Leg}
-use Rattle.campaign.specs.declared.link.Link.{Link}
-use Rattle.campaign.specs.declared.link.Link.TheVariants as link
+use Rattle.rows.specs.declared.rows.KeptRow.{KeptRow}
+use Rattle.campaign.specs.declared.ahead.Ahead.{Ahead}
+use Rattle.rows.specs.declared.link.Leg.{Leg}
+use Rattle.rows.specs.declared.link.Link.{Link}
+use Rattle.rows.specs.declared.link.Link.TheVariants as link
 use Rattle.campaign.specs.Kinds.{kind_in}
-use Rattle.campaign.specs.Links.{Store, told_at, AreLegs, Grows, Tells}
-use Rattle.campaign.specs.Report.{row_of, rows_of, IsKept}
+use Rattle.rows.specs.Links.{Store, told_at, AreLegs, Grows, Tells}
+use Rattle.rows.specs.Report.{row_of, rows_of, IsKept}
 use Rattle.campaign.specs.Seen.{AreSeen, IsSeen, row_with}
 use Rattle.campaign.specs.Working.{AreKnown, IsAmong, IsKeptRow, IsRestOf, GainsRow, Gained, GainsRows, KeepsRow}
 use Rattle.campaign.proofs.Ends.{kind_in-append, kind_in-few}
-use Rattle.campaign.proofs.Linked.{closed_grows, closed_legs, closed_tells, grows_here, grows_then, same_legs, same_told}
-use Rattle.campaign.proofs.Linked.{still_link, told_no_more}
-use Rattle.campaign.proofs.LookedUp.{all_got}
+use Rattle.rows.proofs.Linked.{closed_grows, closed_legs, closed_tells, grows_here, grows_then, same_legs, same_told}
+use Rattle.rows.proofs.Linked.{still_link, told_no_more}
+use Rattle.rows.proofs.LookedUp.{all_got}
 
 less : (a b : ℕ) → a < b → nat_lt a b ≡ true
 less a b l = grind (arith, nat_tests)

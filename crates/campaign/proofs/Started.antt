@@ -10,7 +10,7 @@ use Rattle.campaign.specs.declared.points.ExpandFault.TheVariants.{TooManyPoints
 use Rattle.report.specs.Shards.{Shard, first_of, part_of}
 use Rattle.report.specs.declared.view.View.{View}
 use Rattle.campaign.specs.Campaigns.{IsCampaignFault, IsShownOf, of_expanding}
-use Rattle.campaign.specs.Report.{Shown}
+use Rattle.rows.specs.Report.{Shown}
 use Rattle.campaign.specs.Seen.{AreSeen}
 use Rattle.campaign.proofs.Seeing.{rows_of_seen}
 use Rattle.campaign.specs.Points.{IsExpandFault}

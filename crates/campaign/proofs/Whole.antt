@@ -19,27 +19,27 @@ use Rattle.deal.proofs.Members.{all_of_each}
 use Rattle.campaign.proofs.Multiplicity.{total_each}
 use Rattle.deal.proofs.Once.{same_or, elsewhere}
 use Rattle.campaign.specs.declared.gathering.Apart.{Apart}
-use Rattle.campaign.specs.declared.rows.KeptBlock.{KeptBlock}
-use Rattle.campaign.specs.declared.rows.KeptRow.{KeptRow}
-use Rattle.campaign.specs.declared.rows.Part.{Part}
-use Rattle.campaign.specs.declared.rows.Place.{Place}
+use Rattle.rows.specs.declared.rows.KeptBlock.{KeptBlock}
+use Rattle.rows.specs.declared.rows.KeptRow.{KeptRow}
+use Rattle.rows.specs.declared.rows.Part.{Part}
+use Rattle.rows.specs.declared.rows.Place.{Place}
 use Rattle.campaign.specs.declared.worker.Job.{Job}
 use Rattle.campaign.specs.declared.worker.Done.{Done}
 use Rattle.campaign.specs.declared.worker.Setup.{Setup}
 use Rattle.campaign.specs.Setup.{work_of}
 use Rattle.campaign.specs.Kinds.{kind_in}
-use Rattle.campaign.specs.Links.{Store}
-use Rattle.campaign.specs.Report.{rows_at, store_of, IsPlace, AreKept, IsSound, whole as whole_rows}
+use Rattle.rows.specs.Links.{Store}
+use Rattle.rows.specs.Report.{rows_at, store_of, IsPlace, AreKept, IsSound, whole as whole_rows}
 use Rattle.campaign.specs.Kinds.{RiseBy}
 use Rattle.campaign.specs.Made.{IsWhole, BringsWhole, IsBrought, IsMade, rows_placed}
 use Rattle.campaign.specs.declared.making.Made.{Made}
-use Rattle.campaign.specs.Placing.{place_of, placed, all_placed, all_numbers, AreBelow}
-use Rattle.campaign.specs.Working.{Work, block_points, AreRowsByBlock, IsKeptBlock, AreKeptBlocks, IsKeptPart, numbers_of, Brings}
+use Rattle.rows.specs.Placing.{numbers_of, place_of, placed, all_placed, all_numbers, AreBelow}
+use Rattle.campaign.specs.Working.{Work, block_points, AreRowsByBlock, IsKeptBlock, AreKeptBlocks, IsKeptPart, Brings}
 use Rattle.campaign.specs.Working.{IsDone, AreDone, AreIdle, AreJobs, lanes_in, seats_in, parts_in, seats_of}
 use Rattle.campaign.proofs.Ends.{kind_in-append, kind_in-few}
 use Rattle.campaign.proofs.Keeping.{rows-append}
-use Rattle.campaign.proofs.Placed.{length-placed}
-use Rattle.campaign.proofs.Totalling.{rows_there}
+use Rattle.rows.proofs.Placed.{length-placed}
+use Rattle.rows.proofs.Totalling.{rows_there}
 
 -- ---- what was brought
 

@@ -13,7 +13,7 @@ use Rattle.campaign.specs.declared.file.ServeFault.{ServeFault}
 use Rattle.campaign.specs.declared.file.ServeFault.TheVariants.{TooManyPoints, Memory}
 use Rattle.campaign.specs.declared.points.ExpandFault.{ExpandFault}
 use Rattle.campaign.specs.declared.points.ExpandFault.TheVariants as expanding
-use Rattle.campaign.specs.Report.{Shown}
+use Rattle.rows.specs.Report.{Shown}
 use Rattle.campaign.specs.Seen.{seen}
 use Rattle.campaign.specs.Serving.{IsFileOf, HasFileFault, Serves}
 

@@ -1,16 +1,11 @@
 pub mod Campaigns
 pub mod Kinds
-pub mod Links
 pub mod Made
 pub mod Marks
 pub mod OneRun
 pub mod Options
-pub mod Pieces
-pub mod Placing
 pub mod Points
-pub mod Report
 pub mod Seen
 pub mod Serving
 pub mod Setup
 pub mod Working
-pub mod Texts

@@ -8,11 +8,11 @@ use Rattle.deal.specs.Sharing.{Game, Sight, AreLanesOf, SomeHasSeenAll, lists_of
 use Rattle.deal.specs.Tallies.{Sheet, Tallied, added_in}
 use Rattle.deal.specs.Totals.{total}
 use Rattle.campaign.specs.declared.making.Made.{Made}
-use Rattle.campaign.specs.declared.rows.Part.{Part}
-use Rattle.campaign.specs.declared.rows.Place.{Place}
+use Rattle.rows.specs.declared.rows.Part.{Part}
+use Rattle.rows.specs.declared.rows.Place.{Place}
 use Rattle.campaign.specs.Kinds.{RiseBy, kind_in}
-use Rattle.campaign.specs.Placing.{all_numbers}
-use Rattle.campaign.specs.Report.{AreKept, IsPlace, rows_at}
+use Rattle.rows.specs.Placing.{all_numbers}
+use Rattle.rows.specs.Report.{AreKept, IsPlace, rows_at}
 use Rattle.campaign.specs.Seen.{AreSeen}
 use Rattle.campaign.specs.Working.{Work, AreRowsByBlock, IsKeptPart}
 

@@ -7,12 +7,12 @@ use Rattle.model.specs.declared.event.Event.{Event}
 use Rattle.model.specs.Application.{Application, Limits}
 use Rattle.model.specs.Run.{Run}
 use Rattle.report.specs.declared.view.View.{View}
-use Rattle.campaign.specs.declared.link.Ahead.{Ahead}
-use Rattle.campaign.specs.declared.link.Link.TheVariants as link
+use Rattle.campaign.specs.declared.ahead.Ahead.{Ahead}
+use Rattle.rows.specs.declared.link.Link.TheVariants as link
 use Rattle.campaign.specs.declared.mark.Mark.{Mark}
 use Rattle.campaign.specs.declared.mark.Passed.{Passed}
-use Rattle.campaign.specs.declared.rows.KeptRow.{KeptRow}
-use Rattle.campaign.specs.Links.{Store, AreLegs}
+use Rattle.rows.specs.declared.rows.KeptRow.{KeptRow}
+use Rattle.rows.specs.Links.{Store, AreLegs}
 use Rattle.campaign.specs.Working.{AreKnown, IsRestIn}
 
 -- ---- marks

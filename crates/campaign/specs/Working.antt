@@ -16,20 +16,21 @@ use Rattle.report.specs.declared.view.View.{View}
 use Rattle.deal.specs.Sharing.{Game, Sight, HasSeenAll}
 use Rattle.deal.specs.Tallies.{Sheet, Tallied}
 use Rattle.deal.specs.Totals.{total}
-use Rattle.campaign.specs.declared.rows.KeptRow.{KeptRow}
-use Rattle.campaign.specs.declared.rows.KeptBlock.{KeptBlock}
-use Rattle.campaign.specs.declared.rows.Part.{Part}
-use Rattle.campaign.specs.declared.link.Ahead.{Ahead}
-use Rattle.campaign.specs.declared.link.Link.{Link}
-use Rattle.campaign.specs.declared.link.Link.TheVariants as link
+use Rattle.rows.specs.declared.rows.KeptRow.{KeptRow}
+use Rattle.rows.specs.declared.rows.KeptBlock.{KeptBlock}
+use Rattle.rows.specs.declared.rows.Part.{Part}
+use Rattle.campaign.specs.declared.ahead.Ahead.{Ahead}
+use Rattle.rows.specs.declared.link.Link.{Link}
+use Rattle.rows.specs.declared.link.Link.TheVariants as link
 use Rattle.campaign.specs.declared.mark.Mark.{Mark}
 use Rattle.campaign.specs.declared.mark.Passed.{Passed}
 use Rattle.campaign.specs.declared.runner.Runner.{Runner}
 use Rattle.campaign.specs.declared.worker.Job.{Job}
 use Rattle.campaign.specs.declared.worker.Done.{Done}
 use Rattle.campaign.specs.Kinds.{kind_in}
-use Rattle.campaign.specs.Links.{Store, AreLegs, Grows, Tells}
-use Rattle.campaign.specs.Report.{row_of, rows_of, store_of, IsKept, AreKept}
+use Rattle.rows.specs.Links.{Store, AreLegs, Grows, Tells}
+use Rattle.rows.specs.Report.{row_of, rows_of, store_of, IsKept, AreKept}
+use Rattle.rows.specs.Placing.{numbers_of}
 use Rattle.campaign.specs.Seen.{AreSeen, IsSeen}
 
 -- What there is to be done: rows of the application under these limits, for this view, with this base run, at these points, which
@@ -168,10 +169,6 @@ AreKeptBlocks work kept store blocks = AllByRecursion (IsKeptBlock work kept sto
 pub record IsKeptPart (work : Work) (part : Part) : Type 0 where
   pub rows : AreKept work.base part
   pub blocks : AreKeptBlocks work part.kept (store_of part) part.blocks.items
-
--- the numbers of the blocks
-abbrev pub numbers_of : List KeptBlock → List ℕ
-numbers_of blocks = map (λ (block : KeptBlock). block.number) blocks
 
 -- a seat counted the rows of these blocks, whichever rows each block has
 abbrev pub CountsBlocks : Work → List ℕ → (old new : Tallied) → Type 0

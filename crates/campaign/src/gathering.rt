@@ -6,11 +6,10 @@ ghost use Rattle.deal.specs.Tallies.{Sheet, added_in};
 ghost use Rattle.campaign.specs.declared.worker.Done as worker;
 ghost use Rattle.campaign.specs.Working.{AreIdle, AreJobs, AreReady, lanes_in, parts_in, seats_in, seats_of};
 
-use crate::kept_rows::KeptRows;
-use crate::rows::Part;
 use crate::worker::{Done, Job};
 use deal::{Lane, TallySeat};
 use model::Memory;
+use rows::{KeptRows, Part};
 use std::alloc::Global;
 
 /// What all workers brought, in the order of the jobs.

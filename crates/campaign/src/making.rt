@@ -13,15 +13,13 @@ ghost use Rattle.campaign.specs.Kinds.{RiseBy};
 ghost use Rattle.campaign.specs.Seen.{AreSeen};
 ghost use Rattle.campaign.specs.Made.{BringsWhole, ComeBack, IsBrought, IsMade, IsWhole};
 
-use crate::campaign_report::{Report, Rows};
 use crate::gate::Gate;
 use crate::gathering::{Apart, is_refused, jobs_of, take_apart};
-use crate::placing::{count_all, places_of};
-use crate::rows::{Part, Place};
 use crate::worker::{Done, Job, Setup, work};
 use deal::{Deal, Division, Lane, Tally, TallySeat};
 use model::{App, Limits, Memory, Point, Run, Totals};
 use report::View;
+use rows::{Part, Place, Report, Rows, count_all, places_of};
 use shelf::Shelf;
 use std::alloc::Global;
 use std::sync::Wait;

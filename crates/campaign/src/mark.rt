@@ -1,5 +1,5 @@
 //! Kernels that rows have come to, and how they went on from there: rows that come to the same kernel go on alike.
-use crate::link::Ahead;
+use crate::ahead::Ahead;
 use kernel::Snapshot;
 
 /// The kernel as it was before a step of some row, behind that row's last injection, and how the row went on from there. So does each row

@@ -2,7 +2,7 @@
 ghost use Rattle.std.specs.Prelude.{◌≡◌, ◌<◌, ◌++◌, ◌∷◌, [], IfSome, OnErr, OnOk};
 ghost use Rattle.campaign.specs.Marks.{IsPart, IsPutAt, IsRestAt};
 
-use crate::link::Ahead;
+use crate::ahead::Ahead;
 use crate::mark::Mark;
 use kernel::Kernel;
 use model::Memory;

@@ -8,20 +8,20 @@ ghost use Rattle.machine.specs.Can.{IsUnderWay};
 ghost use Rattle.kernel.specs.Leads.{IsLed, IsPast};
 ghost use Rattle.shelf.specs.Shelves.{IsShelf};
 ghost use Rattle.report.specs.Views.{shows_events};
-ghost use Rattle.campaign.specs.declared.link.Link.TheVariants as links;
-ghost use Rattle.campaign.specs.Links.{AreLegs};
+ghost use Rattle.rows.specs.declared.link.Link.TheVariants as links;
+ghost use Rattle.rows.specs.Links.{AreLegs};
 ghost use Rattle.campaign.specs.Marks.{AreBehind, AreMarked, ArePut, IsAhead, IsNoted};
 ghost use Rattle.campaign.specs.Working.{store_in, GainsRow, IsPassed, IsRestOf};
 
-use crate::link::{Ahead, Leg, Link};
+use crate::ahead::Ahead;
 use crate::mark::{Mark, Passed};
 use crate::mark_steps::{next_mark, spacing_of};
 use crate::mark_table::MarkTable;
 use crate::meetings::Meetings;
-use crate::rows::KeptRow;
 use kernel::{Kernel, RestEnding, StepLog, Trail, go_far};
 use model::{App, End, Injection, Limits, Memory, Meter, Point, Run};
 use report::View;
+use rows::{KeptRow, Leg, Link};
 use shelf::Shelf;
 use std::alloc::Global;
 

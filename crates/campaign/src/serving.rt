@@ -6,17 +6,16 @@ ghost use Rattle.campaign.specs.Seen.{AreSeen};
 ghost use Rattle.campaign.specs.Serving.{IsFileOf, Known};
 ghost use Rattle.shelf.specs.Shelves.{IsShelf};
 
-use crate::campaign_report::Report;
 use crate::file::{ServeFault, app_in, app_of};
 use crate::gate::{Gate, NoGate};
 use crate::making::campaign_from;
 use crate::options::Options;
 use crate::points::{ExpandFault, expand};
-use crate::writing::write_report_in;
 use byte_io::{Sink, Source};
 use deal::{Division, Tally};
 use model::{App, Memory, Point, Totals};
 use report::{Shard, View};
+use rows::{Report, write_report_in};
 use shelf::Shelf;
 use std::alloc::Global;
 use std::sync::Wait;

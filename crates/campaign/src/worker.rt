@@ -6,14 +6,13 @@ ghost use Rattle.campaign.specs.Marks.{AreMarked, Knows};
 ghost use Rattle.campaign.specs.Setup.{work_of};
 
 use crate::gate::Gate;
-use crate::kept_rows::KeptRows;
 use crate::recent::Recent;
-use crate::rows::{KeptBlock, Part};
 use crate::runner::Runner;
 use crate::tallying::count_row;
 use deal::{Lane, Next, Tally, TallySeat};
 use model::{App, End, Memory, Point};
 use report::View;
+use rows::{KeptBlock, KeptRows, Part};
 use shelf::Shelf;
 use std::alloc::Global;
 use std::sync::Wait;

@@ -1,6 +1,6 @@
 use Rattle.std.proofs.Common.{ap, arith, sym}
 use Rattle.campaign.specs.Made.{IsWhole}
-use Rattle.campaign.specs.Report.{Shown}
+use Rattle.rows.specs.Report.{Shown}
 use Rattle.campaign.specs.Working.{Work}
 use Rattle.campaign.proofs.Whole.{sound_made, rows_made, rise_made}
 use Rattle.campaign.proofs.making.campaign_from.Goals as goal

@@ -2,10 +2,10 @@ use Rattle.std.proofs.Common.{◌≤◌, ◌∙◌, List, length, replicate, ap,
 use Rattle.model.specs.Run.{Run}
 use Rattle.model.specs.Scripts.{most_points}
 use Rattle.model.specs.Campaign.{totals_of}
-use Rattle.campaign.specs.declared.rows.Part.{Part}
-use Rattle.campaign.specs.declared.rows.Place.{Place}
+use Rattle.rows.specs.declared.rows.Part.{Part}
+use Rattle.rows.specs.declared.rows.Place.{Place}
 use Rattle.campaign.specs.Made.{rows_placed}
-use Rattle.campaign.specs.Placing.{all_placed}
+use Rattle.rows.specs.Placing.{all_placed}
 use Rattle.campaign.proofs.Whole.{all_at, numbers_below, parts_kept, rows_all, rows_few, seats_rise}
 use Rattle.campaign.proofs.making.gather_rows.Goals as goal
 

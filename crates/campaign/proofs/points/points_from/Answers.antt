@@ -1,7 +1,7 @@
 use Rattle.std.proofs.Common.{◌++◌, List, ap, sym, ◌∙◌}
 use Rattle.model.specs.declared.plan.Injection.{Injection}
 use Rattle.model.specs.Campaign.{points_of}
-use Rattle.campaign.proofs.Totalling.{flat_more}
+use Rattle.rows.proofs.Totalling.{flat_more}
 use Rattle.campaign.proofs.points.points_from.Goals as goal
 
 pub loop-entry-preserved : goal.loop-entry-preserved

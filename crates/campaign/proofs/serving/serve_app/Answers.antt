@@ -5,7 +5,7 @@ use Rattle.model.specs.Campaign.{totals_of}
 use Rattle.report.specs.Views.{report_text}
 use Rattle.campaign.specs.declared.file.ServeFault.TheVariants.{Write}
 use Rattle.campaign.specs.Campaigns.{IsCampaignOf, first_number}
-use Rattle.campaign.specs.Report.{Shown}
+use Rattle.rows.specs.Report.{Shown}
 use Rattle.campaign.proofs.Faulty.{campaign_serves_rows_fault, serves_front}
 use Rattle.campaign.proofs.Seeing.{seen_text, seen_totals}
 use Rattle.campaign.proofs.serving.serve_app.Goals as goal

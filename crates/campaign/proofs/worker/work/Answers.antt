@@ -5,7 +5,7 @@ use Rattle.campaign.specs.Setup.{work_of}
 use Rattle.campaign.specs.Working.{store_in}
 use Rattle.campaign.proofs.Blocks.{HasWorked, none_worked, points_within, room_left, worked_more, done_refused, done_whole}
 use Rattle.campaign.proofs.Blocks.{on_ok_at}
-use Rattle.campaign.proofs.Linked.{without_legs}
+use Rattle.rows.proofs.Linked.{without_legs}
 use Rattle.campaign.proofs.worker.work.Goals as goal
 use Rattle.campaign.proofs.worker.work.Goals.{in-None, in-Some+then-load-ne0, in-Some+else-load-ne0+in-Block+then-is_err}
 use Rattle.campaign.proofs.worker.work.Goals.{in-Some+else-load-ne0+in-Empty}

@@ -2,7 +2,7 @@ use Rattle.std.specs.Prelude.{if◌then◌else◌}
 use Rattle.std.proofs.Common.{◌≡◌, ◌∙◌, length, subst, sym}
 use Rattle.model.specs.Run.{Run}
 use Rattle.report.specs.Views.{shows_events}
-use Rattle.campaign.specs.declared.link.Link.TheVariants as link
+use Rattle.rows.specs.declared.link.Link.TheVariants as link
 use Rattle.campaign.specs.Working.{store_in}
 use Rattle.campaign.proofs.Keeping.{missed_row}
 use Rattle.campaign.proofs.runner.Runner.missed.Goals as goal

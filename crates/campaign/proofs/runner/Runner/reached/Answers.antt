@@ -1,14 +1,14 @@
 use Rattle.std.proofs.Common.{◌≡◌, ◌∙◌, [], length, ap, append-nil, refl, subst, sym}
 use Rattle.machine.specs.Logged.{all_of}
 use Rattle.model.specs.Run.{Run}
-use Rattle.campaign.specs.declared.link.Link.TheVariants as link
+use Rattle.rows.specs.declared.link.Link.TheVariants as link
 use Rattle.campaign.specs.declared.mark_table.MarkTable.{MarkTable}
-use Rattle.campaign.specs.Links.{Grows, Store}
+use Rattle.rows.specs.Links.{Grows, Store}
 use Rattle.campaign.specs.Marks.{AreMarked}
 use Rattle.campaign.specs.Working.{store_in, IsRestOf}
 use Rattle.campaign.proofs.GoingOn.{all_bare, all_closed, still_marked}
 use Rattle.campaign.proofs.Keeping.{bare_row, its_legs, reached_row}
-use Rattle.campaign.proofs.Linked.{same_legs}
+use Rattle.rows.proofs.Linked.{same_legs}
 use Rattle.campaign.proofs.runner.Runner.reached.Goals as goal
 
 pub rest-requires-clause-marks : goal.rest-requires-clause-marks

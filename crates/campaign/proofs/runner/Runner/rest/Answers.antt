@@ -1,7 +1,7 @@
 use Rattle.std.proofs.Common.{◌∙◌, [], ap, append-nil, sym}
 use Rattle.machine.specs.Logged.{all_of}
 use Rattle.kernel.specs.Leads.{IsLed}
-use Rattle.campaign.specs.Links.{Grows}
+use Rattle.rows.specs.Links.{Grows}
 use Rattle.campaign.specs.Working.{store_in, IsRestIn}
 use Rattle.campaign.proofs.GoingOn.{all_passed, led_rest, none_from, still_marked}
 use Rattle.campaign.proofs.runner.Runner.rest.Goals as goal

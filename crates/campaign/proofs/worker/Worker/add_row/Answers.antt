@@ -2,7 +2,7 @@ use Rattle.std.proofs.Common.{◌∙◌, ◌∷◌, [], List, ap, sym}
 use Rattle.std.specs.Prelude.{nat_lt}
 use Rattle.model.specs.declared.plan.Injection.{Injection}
 use Rattle.model.specs.Points.{first_step}
-use Rattle.campaign.specs.Report.{row_of}
+use Rattle.rows.specs.Report.{row_of}
 use Rattle.campaign.specs.Working.{store_in}
 use Rattle.campaign.proofs.Keeping.{gains_one}
 use Rattle.campaign.proofs.GoingOn.{knows_more}

@@ -1,0 +1,10 @@
+mod Cursors
+mod Desks
+pub mod Linked
+pub mod LookedUp
+mod Pieces
+pub mod Placed
+mod Sending
+mod Telling
+mod Texts
+pub mod Totalling

@@ -1,0 +1,5 @@
+pub mod Links
+pub mod Pieces
+pub mod Placing
+pub mod Report
+pub mod Texts

@@ -1,0 +1,23 @@
+//! The rows of a campaign: how they are kept, and the text of their report, which threads spell side by side.
+#![tactic(auto)]
+
+mod campaign_report;
+mod cursor;
+mod desk;
+mod kept_rows;
+mod lanes;
+mod link;
+mod piece;
+mod placing;
+mod row_texts;
+mod rows;
+mod side_by_side;
+mod speller;
+mod writing;
+
+pub use campaign_report::{Report, Rows};
+pub use kept_rows::KeptRows;
+pub use link::{Leg, Link};
+pub use placing::{count_all, places_of};
+pub use rows::{KeptBlock, KeptRow, Part, Place};
+pub use writing::{write_report, write_report_in};

@@ -1,0 +1,291 @@
+//! The texts of rows that come again.
+ghost use Rattle.std.specs.Prelude.{◌≡◌, ◌<◌, [], false, length, slice_get, Some, IfSome, OnOk};
+ghost use Rattle.std.specs.Result.{is_err};
+ghost use Rattle.byte_io.specs.Buffers.{bytes_of};
+ghost use Rattle.byte_io.specs.Bytes.{Writes};
+ghost use Rattle.report.specs.Text.{row_text};
+ghost use Rattle.rows.specs.Links.{AreLegs};
+ghost use Rattle.rows.specs.Report.{row_of, store_of, AreKept, IsKept, IsSound};
+ghost use Rattle.rows.specs.Texts.{IsTextOf};
+
+use crate::campaign_report::Rows;
+use crate::rows::{KeptRow, Part};
+use crate::writing::add_row;
+use byte_io::{Buffer, Sink, WriteFault};
+use model::{App, Run};
+use report::{BaseEvents, ReportWriter};
+use std::alloc::Global;
+use std::marker::Model;
+
+// How long the known texts of a part's rows are together at most, in bytes.
+const MOST_KNOWN: usize = 1 << 18;
+
+// Rows of a part behind this many are not compared with others any more.
+const MOST_ROWS: usize = 1 << 16;
+
+/// The text of a row, as it is under the number 0: the row of this number of a part.
+#[derive(Drop)]
+pub(crate) struct RowText {
+    part: usize,
+    number: usize,
+    buffer: Buffer,
+}
+
+/// The texts of some rows of all parts, part by part, and where those of each part begin.
+#[derive(Drop)]
+pub(crate) struct Known {
+    texts: Vec<RowText>,
+    firsts: Vec<usize>,
+}
+
+/// What is known of the texts of a report's rows: that of the base run's events, with which rows begin, and of those rows that
+/// come again all but their numbers. A row that comes again is spelled once.
+///
+/// Which texts are found is a guess: each is taken only for a row that is kept as the one that was spelled.
+#[derive(Drop)]
+pub(crate) struct RowTexts<'a> {
+    rows: &'a Rows,
+    events: BaseEvents<'a>,
+    known: Option<Known>,
+}
+
+// Clauses see the application and the rows.
+impl<'a> Model for RowTexts<'a> {
+    ghost use Rattle.std.specs.Prelude.{◌≡◌, IfSome};
+    ghost use Rattle.std.specs.List.{AllByRecursion};
+    ghost use Rattle.rows.specs.Texts.{Texts, IsText};
+
+    ghost Value = { Texts };
+
+    ghost view = { λ t. record { app = t.events.app; rows = t.rows.now } };
+
+    ghost invariant = { λ t. (t.events.events ≡ t.rows.now.base.events)
+        × IfSome t.known (λ k. AllByRecursion (IsText t.events.app t.rows.now) k.texts.items) };
+}
+
+// Writes a row under the number 0, by way of this report, of which nothing is still to go out.
+fn write_row<W: Sink>(
+    writer: &mut W,
+    report: &mut ReportWriter<'_>,
+    row: &KeptRow,
+    base: &Run,
+    events: &BaseEvents<'_>,
+    part: &Part,
+) -> Result<(), WriteFault>
+    requires working { W.has_failed writer.old ≡ false }
+    requires app { events.now.app ≡ report.old.app }
+    requires base { events.now.events ≡ base.now.events }
+    requires legs { AreLegs base.now.events (store_of part.now) }
+    requires kept { IsKept base.now (store_of part.now) row.now }
+    requires empty { report.old.page ≡ [] }
+    ensures app { report.new.app ≡ report.old.app }
+    ensures text { Writes (W.held writer.old) (W.held writer.new) result
+        (row_text report.old.app 0 (row_of base.now (store_of part.now) row.now)) }
+{
+    add_row(writer, report, 0, row, base, events, part)?;
+    report.finish(writer)
+}
+
+// The text of a row under the number 0, if it is of at most this many bytes and there is memory for it.
+fn text_of(
+    alloc: Global,
+    most: usize,
+    report: &mut ReportWriter<'_>,
+    row: &KeptRow,
+    base: &Run,
+    events: &BaseEvents<'_>,
+    part: &Part,
+) -> Option<Buffer>
+    requires app { events.now.app ≡ report.old.app }
+    requires base { events.now.events ≡ base.now.events }
+    requires legs { AreLegs base.now.events (store_of part.now) }
+    requires kept { IsKept base.now (store_of part.now) row.now }
+    requires empty { report.old.page ≡ [] }
+    ensures app { report.new.app ≡ report.old.app }
+    ensures empty { report.new.page ≡ [] }
+    ensures text { IfSome result (λ buffer. bytes_of buffer ≡ row_text report.old.app 0 (row_of base.now (store_of part.now) row.now)) }
+{
+    let mut buffer = Buffer::new(alloc, most);
+    let written = write_row(&mut buffer, report, row, base, events, part);
+    report.clear();
+    if written.is_err() {
+        return None;
+    }
+    Some(buffer)
+}
+
+impl<'a> RowTexts<'a> {
+    /// No row's text is known. It takes no memory.
+    pub(crate) fn new(app: &'a App, rows: &'a Rows) -> RowTexts<'a>
+        ensures app { result.app ≡ app.now }
+        ensures rows { result.rows ≡ rows.now }
+    {
+        RowTexts {
+            rows,
+            events: BaseEvents::new(app, rows.base.events.as_slice()),
+            known: None,
+        }
+    }
+
+    /// The texts are known as far as there is memory for them.
+    pub(crate) fn spelled(alloc: Global, app: &'a App, rows: &'a Rows) -> RowTexts<'a>
+        requires { IsSound rows.now }
+        ensures app { result.app ≡ app.now }
+        ensures rows { result.rows ≡ rows.now }
+    {
+        let known = Known {
+            texts: Vec::new(alloc),
+            firsts: Vec::new(alloc),
+        };
+        let mut texts = RowTexts {
+            rows,
+            events: BaseEvents::spelled(alloc, app, rows.base.events.as_slice()),
+            known: Some(known),
+        };
+        texts.add_parts(alloc, app);
+        texts
+    }
+
+    /// The events of the base run.
+    pub(crate) fn events(&self) -> &BaseEvents<'a>
+        ensures app { result.now.app ≡ self.now.app }
+        ensures events { result.now.events ≡ self.now.rows.base.events }
+    {
+        &self.events
+    }
+
+    // How many texts are known.
+    fn count(&self) -> usize {
+        match &self.known {
+            Some(known) => known.texts.len(),
+            None => 0,
+        }
+    }
+
+    // From now on the texts are those of the next part.
+    fn begin_part(&mut self)
+        ensures { self.new ≡ self.old }
+    {
+        let first = self.count();
+        if let Some(known) = &mut self.known {
+            let _refused = known.firsts.push(first).is_err();
+        }
+    }
+
+    // Adds a text. Answers whether there was memory for it.
+    fn push(&mut self, text: RowText) -> bool
+        requires { IsTextOf self.old.app self.old.rows text.part text.number (bytes_of text.buffer) }
+        ensures { self.new ≡ self.old }
+    {
+        match &mut self.known {
+            Some(known) => known.texts.push(text).is_ok(),
+            None => false,
+        }
+    }
+
+    // Adds the text of a row of a part, if it is of at most this many bytes. Answers how long it is, where there was memory for it.
+    fn add(
+        &mut self,
+        alloc: Global,
+        report: &mut ReportWriter<'_>,
+        part_number: usize,
+        part: &Part,
+        number: usize,
+        most: usize,
+    ) -> Option<usize>
+        requires part { slice_get self.old.rows.parts.items part_number ≡ Some part.now }
+        requires kept { AreKept self.old.rows.base part.now }
+        requires number { number < length part.now.kept }
+        requires app { self.old.app ≡ report.old.app }
+        requires empty { report.old.page ≡ [] }
+        ensures same { self.new ≡ self.old }
+        ensures app { report.new.app ≡ report.old.app }
+        ensures empty { report.new.page ≡ [] }
+    {
+        let row = part.kept.at(number);
+        let buffer = text_of(
+            alloc,
+            most,
+            report,
+            row,
+            &self.rows.base,
+            &self.events,
+            part,
+        )?;
+        let length = buffer.bytes().len();
+        let text = RowText {
+            part: part_number,
+            number,
+            buffer,
+        };
+        if self.push(text) { Some(length) } else { None }
+    }
+
+    // Adds the texts of the different rows of a part, from the first on, if most of its rows came before.
+    fn add_part(
+        &mut self,
+        alloc: Global,
+        report: &mut ReportWriter<'_>,
+        part_number: usize,
+        part: &Part,
+    )
+        requires part { slice_get self.old.rows.parts.items part_number ≡ Some part.now }
+        requires kept { AreKept self.old.rows.base part.now }
+        requires app { self.old.app ≡ report.old.app }
+        requires empty { report.old.page ≡ [] }
+        ensures same { self.new ≡ self.old }
+        ensures app { report.new.app ≡ report.old.app }
+        ensures empty { report.new.page ≡ [] }
+    {
+        if !part.kept.come_again() {
+            return;
+        }
+        let first = self.count();
+        let mut room = MOST_KNOWN;
+        for number in 0..part.kept.len().min(MOST_ROWS) {
+            if part.kept.place(number) != self.count().saturating_sub(first) {
+                continue;
+            }
+            let Some(length) = self.add(alloc, report, part_number, part, number, room) else {
+                return;
+            };
+            room = room.saturating_sub(length);
+        }
+    }
+
+    // Adds the texts of all parts.
+    #[inline(never)]
+    fn add_parts(&mut self, alloc: Global, app: &App)
+        requires sound { IsSound self.old.rows }
+        requires app { self.old.app ≡ app.now }
+        ensures { self.new ≡ self.old }
+    {
+        let rows = self.rows;
+        let mut report = ReportWriter::new(app);
+        for number in 0..rows.parts.len() {
+            self.begin_part();
+            self.add_part(alloc, &mut report, number, &rows.parts[number]);
+        }
+    }
+
+    /// The text under the number 0 of the row of this number of a part, where it is known.
+    pub(crate) fn find(&self, part_number: usize, part: &Part, number: usize) -> Option<&[u8]>
+        requires part { slice_get self.now.rows.parts.items part_number ≡ Some part.now }
+        requires number { number < length part.now.kept }
+        ensures { IfSome result (λ text. IsTextOf self.now.app self.now.rows part_number number text.now) }
+    {
+        let known = self.known.as_ref()?;
+        let first = known.firsts.get(part_number)?;
+        let text = known
+            .texts
+            .get(first.saturating_add(part.kept.place(number)))?;
+        if text.part != part_number || text.number >= part.kept.len() {
+            return None;
+        }
+        if part.kept.is_again(number, text.number) {
+            Some(text.buffer.bytes())
+        } else {
+            None
+        }
+    }
+}

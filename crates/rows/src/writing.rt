@@ -1,0 +1,462 @@
+//! The text of a campaign's report, to a sink.
+ghost use Rattle.std.specs.Prelude.{◌≡◌, ◌≤◌, ◌<◌, ◌+◌, false, [], ◌∷◌, length, nat_lt, slice_get, Some, IfSome, OnOk};
+ghost use Rattle.std.specs.List.{flat_map};
+ghost use Rattle.std.specs.Result.{is_err};
+ghost use Rattle.byte_io.specs.Bytes.{Adds, Writes};
+ghost use Rattle.model.specs.Points.{first_step};
+ghost use Rattle.model.specs.Scripts.{most_points};
+ghost use Rattle.model.specs.Campaign.{totals_of};
+ghost use Rattle.report.specs.Text.{event_text, row_text, total_text};
+ghost use Rattle.report.specs.Views.{report_text, row_head, shown_row, shown_rows};
+ghost use Rattle.report.specs.declared.title.Title.TheVariants as title;
+ghost use Rattle.rows.specs.Links.{told_at, AreLegs, IsLink, Store};
+ghost use Rattle.rows.specs.Report.{row_of, rows_in, store_of, whole, AreKept, IsKept, IsSound};
+ghost use Rattle.rows.specs.Pieces.{piece_text, AreFresh, ArePairs, ArePieces, IsPiece, IsSpelling};
+
+use crate::campaign_report::{Report, Rows};
+use crate::lanes::{Lanes, lanes_of};
+use crate::link::{Leg, Link};
+use crate::piece::{Piece, pieces_of};
+use crate::row_texts::RowTexts;
+use crate::rows::{KeptRow, Part};
+use crate::side_by_side::write_side_by_side;
+use crate::speller::Spelling;
+use byte_io::{Sink, WriteFault};
+use model::{App, Ending, Run};
+use report::{BaseEvents, ReportWriter, Title, View};
+use std::alloc::Global;
+use std::sync::Wait;
+use std::sync::atomic::AtomicU64;
+use std::thread::Threads;
+
+// How long the text of a piece is that a thread spells, in bytes, at least and at most.
+const LEAST_PIECE: usize = 1 << 14;
+
+const MOST_PIECE: usize = 1 << 16;
+
+// No text that is longer than this is kept in memory, in bytes.
+const MOST_TEXT: usize = 1 << 24;
+
+// What the head line of a row begins with.
+fn title_of(number: usize, row: &KeptRow, base: &Run) -> Title
+    requires { number ≤ most_points }
+    ensures { result ≡ title.Row number row.now.point (nat_lt (first_step row.now.point) base.now.steps) }
+{
+    let reached = row.point.first_step() < base.steps;
+    Title::Row {
+        number: number as u32,
+        point: row.point,
+        reached,
+    }
+}
+
+// How a row ends.
+fn ending_of(row: &KeptRow) -> Ending
+    ensures { result ≡ record { steps = row.now.steps; ticks = row.now.ticks; end = row.now.end } }
+{
+    Ending {
+        steps: row.steps,
+        ticks: row.ticks,
+        end: row.end,
+    }
+}
+
+// The leg of this number.
+fn leg_at(legs: &[Leg], number: usize) -> Leg
+    requires { number < length legs.now }
+    ensures { slice_get legs.now number ≡ Some result }
+{
+    legs[number]
+}
+
+// Adds the lines of the events behind a link of a part.
+fn add_told<W: Sink>(
+    writer: &mut W,
+    text: &mut ReportWriter<'_>,
+    first: Link,
+    events: &BaseEvents<'_>,
+    part: &Part,
+) -> Result<(), WriteFault>
+    requires working { W.has_failed writer.old ≡ false }
+    requires app { events.now.app ≡ text.old.app }
+    requires legs { AreLegs events.now.events (store_of part.now) }
+    requires link { IsLink events.now.events (store_of part.now) first }
+    ensures app { text.new.app ≡ text.old.app }
+    ensures text { Adds (W.held writer.old) (W.held writer.new) text.old.page text.new.page result
+        (flat_map (event_text text.old.app) (told_at events.now.events (store_of part.now) first)) }
+    ensures failed { W.has_failed writer.new ≡ is_err result }
+{
+    let trail = part.trail.events();
+    let mut link = first;
+    'legs: loop {
+        match link {
+            Link::Base { from } => return text.add_base_from(writer, events, from),
+            Link::Leg { number, from } => {
+                let leg = leg_at(&part.legs, number);
+                text.add_events(writer, &trail[from..leg.to])?;
+                link = leg.next;
+            }
+        }
+    }
+}
+
+/// Adds a row of this number to a report: its events are the first so many of the base run's, and those behind its link.
+pub(crate) fn add_row<W: Sink>(
+    writer: &mut W,
+    text: &mut ReportWriter<'_>,
+    number: usize,
+    row: &KeptRow,
+    base: &Run,
+    events: &BaseEvents<'_>,
+    part: &Part,
+) -> Result<(), WriteFault>
+    requires working { W.has_failed writer.old ≡ false }
+    requires app { events.now.app ≡ text.old.app }
+    requires base { events.now.events ≡ base.now.events }
+    requires few { number ≤ most_points }
+    requires legs { AreLegs base.now.events (store_of part.now) }
+    requires kept { IsKept base.now (store_of part.now) row.now }
+    ensures app { text.new.app ≡ text.old.app }
+    ensures text { Adds (W.held writer.old) (W.held writer.new) text.old.page text.new.page result
+        (row_text text.old.app number (row_of base.now (store_of part.now) row.now)) }
+    ensures failed { W.has_failed writer.new ≡ is_err result }
+{
+    let title = title_of(number, row, base);
+    text.begin_row(writer, title, ending_of(row), events, row.shared)?;
+    add_told(writer, text, row.told, events, part)
+}
+
+// Adds the head line of a row of this number.
+fn add_row_head<W: Sink>(
+    writer: &mut W,
+    text: &mut ReportWriter<'_>,
+    number: usize,
+    row: &KeptRow,
+    base: &Run,
+) -> Result<(), WriteFault>
+    requires working { W.has_failed writer.old ≡ false }
+    requires few { number ≤ most_points }
+    ensures app { text.new.app ≡ text.old.app }
+    ensures text { (store : Store) → Adds (W.held writer.old) (W.held writer.new) text.old.page text.new.page result
+        (row_head text.old.app number (row_of base.now store row.now)) }
+    ensures failed { W.has_failed writer.new ≡ is_err result }
+{
+    text.add_head(writer, title_of(number, row, base), ending_of(row))
+}
+
+// Adds a row of this number to a report. Its text under the number 0 may be known.
+fn add_kept_row<W: Sink>(
+    writer: &mut W,
+    text: &mut ReportWriter<'_>,
+    number: usize,
+    row: &KeptRow,
+    known: Option<&[u8]>,
+    base: &Run,
+    events: &BaseEvents<'_>,
+    part: &Part,
+) -> Result<(), WriteFault>
+    requires working { W.has_failed writer.old ≡ false }
+    requires app { events.now.app ≡ text.old.app }
+    requires base { events.now.events ≡ base.now.events }
+    requires few { number ≤ most_points }
+    requires legs { AreLegs base.now.events (store_of part.now) }
+    requires kept { IsKept base.now (store_of part.now) row.now }
+    requires known { IfSome known (λ t. t.now ≡ row_text text.old.app 0 (row_of base.now (store_of part.now) row.now)) }
+    ensures app { text.new.app ≡ text.old.app }
+    ensures text { Adds (W.held writer.old) (W.held writer.new) text.old.page text.new.page result
+        (row_text text.old.app number (row_of base.now (store_of part.now) row.now)) }
+    ensures failed { W.has_failed writer.new ≡ is_err result }
+{
+    match known {
+        Some(known) => text.add_row_again(writer, number as u32, known),
+        None => add_row(writer, text, number, row, base, events, part),
+    }
+}
+
+// Adds what the view shows of a row of this number. The row's text under the number 0 may be known.
+fn add_shown_row<W: Sink>(
+    writer: &mut W,
+    text: &mut ReportWriter<'_>,
+    view: View,
+    number: usize,
+    row: &KeptRow,
+    known: Option<&[u8]>,
+    base: &Run,
+    events: &BaseEvents<'_>,
+    part: &Part,
+) -> Result<(), WriteFault>
+    requires working { W.has_failed writer.old ≡ false }
+    requires app { events.now.app ≡ text.old.app }
+    requires base { events.now.events ≡ base.now.events }
+    requires few { number ≤ most_points }
+    requires legs { AreLegs base.now.events (store_of part.now) }
+    requires kept { IsKept base.now (store_of part.now) row.now }
+    requires known { IfSome known (λ t. t.now ≡ row_text text.old.app 0 (row_of base.now (store_of part.now) row.now)) }
+    ensures app { text.new.app ≡ text.old.app }
+    ensures text { Adds (W.held writer.old) (W.held writer.new) text.old.page text.new.page result
+        (shown_row text.old.app view number (row_of base.now (store_of part.now) row.now)) }
+    ensures failed { W.has_failed writer.new ≡ is_err result }
+{
+    if !view.shows(row.end) {
+        return Ok(());
+    }
+    if view.heads {
+        return add_row_head(writer, text, number, row, base);
+    }
+    add_kept_row(writer, text, number, row, known, base, events, part)
+}
+
+// Adds what the view shows of this many rows of the part of this number, from the first on, which are numbered from here.
+fn add_place<W: Sink>(
+    writer: &mut W,
+    text: &mut ReportWriter<'_>,
+    view: View,
+    number: usize,
+    base: &Run,
+    texts: &RowTexts<'_>,
+    part_number: usize,
+    part: &Part,
+    first: usize,
+    count: usize,
+) -> Result<(), WriteFault>
+    requires working { W.has_failed writer.old ≡ false }
+    requires app { texts.now.app ≡ text.old.app }
+    requires base { texts.now.rows.base ≡ base.now }
+    requires part { slice_get texts.now.rows.parts.items part_number ≡ Some part.now }
+    requires few { number + count ≤ most_points }
+    requires kept { AreKept base.now part.now }
+    requires within { first + count ≤ length part.now.kept }
+    ensures app { text.new.app ≡ text.old.app }
+    ensures text { Adds (W.held writer.old) (W.held writer.new) text.old.page text.new.page result
+        (shown_rows text.old.app view number (rows_in base.now part.now first count)) }
+    ensures failed { W.has_failed writer.new ≡ is_err result }
+{
+    // A part has no more rows than fit, so the sums below do.
+    let _ = part.kept.len();
+    for index in 0..count {
+        let row_number = first + index;
+        let row = part.kept.at(row_number);
+        let known = texts.find(part_number, part, row_number);
+        add_shown_row(
+            writer,
+            text,
+            view,
+            number + index,
+            row,
+            known,
+            base,
+            texts.events(),
+            part,
+        )?;
+    }
+    Ok(())
+}
+
+// Adds the rows of a piece.
+fn add_piece<W: Sink>(
+    writer: &mut W,
+    text: &mut ReportWriter<'_>,
+    rows: &Rows,
+    texts: &RowTexts<'_>,
+    piece: Piece,
+) -> Result<(), WriteFault>
+    requires working { W.has_failed writer.old ≡ false }
+    requires app { texts.now.app ≡ text.old.app }
+    requires rows { texts.now.rows ≡ rows.now }
+    requires sound { IsSound rows.now }
+    requires piece { IsPiece rows.now piece }
+    ensures app { text.new.app ≡ text.old.app }
+    ensures text { Adds (W.held writer.old) (W.held writer.new) text.old.page text.new.page result
+        (piece_text text.old.app rows.now piece) }
+    ensures failed { W.has_failed writer.new ≡ is_err result }
+{
+    let mut cursor = piece.from;
+    let end = cursor.number + piece.count;
+    while cursor.number < end {
+        let number = cursor.number;
+        let place = cursor.take(rows, end - number);
+        let part = &rows.parts[place.part];
+        add_place(
+            writer,
+            text,
+            rows.view,
+            rows.first + number,
+            &rows.base,
+            texts,
+            place.part,
+            part,
+            place.first,
+            place.count,
+        )?;
+    }
+    Ok(())
+}
+
+/// Writes the rows of a piece by way of this report, of which nothing is still to go out, neither before nor afterwards.
+pub(crate) fn write_piece<W: Sink>(
+    writer: &mut W,
+    text: &mut ReportWriter<'_>,
+    rows: &Rows,
+    texts: &RowTexts<'_>,
+    piece: Piece,
+) -> Result<(), WriteFault>
+    requires working { W.has_failed writer.old ≡ false }
+    requires app { texts.now.app ≡ text.old.app }
+    requires rows { texts.now.rows ≡ rows.now }
+    requires sound { IsSound rows.now }
+    requires piece { IsPiece rows.now piece }
+    requires empty { text.old.page ≡ [] }
+    ensures app { text.new.app ≡ text.old.app }
+    ensures text { Writes (W.held writer.old) (W.held writer.new) result (piece_text text.old.app rows.now piece) }
+    ensures empty { OnOk result (text.new.page ≡ []) }
+    ensures failed { W.has_failed writer.new ≡ is_err result }
+{
+    add_piece(writer, text, rows, texts, piece)?;
+    text.finish(writer)
+}
+
+// Writes the line of the totals of these rows, which ends the report.
+fn write_totals<W: Sink>(
+    writer: &mut W,
+    text: &mut ReportWriter<'_>,
+    rows: &Rows,
+) -> Result<(), WriteFault>
+    requires working { W.has_failed writer.old ≡ false }
+    requires sound { IsSound rows.now }
+    requires empty { text.old.page ≡ [] }
+    ensures text { Writes (W.held writer.old) (W.held writer.new) result (total_text (totals_of (whole rows.now))) }
+    ensures failed { W.has_failed writer.new ≡ is_err result }
+{
+    text.add_totals(writer, &rows.totals)?;
+    text.finish(writer)
+}
+
+// Writes the rows and the line of their totals. This is known of their texts.
+fn write_rows<W: Sink>(
+    app: &App,
+    rows: &Rows,
+    texts: &RowTexts<'_>,
+    writer: &mut W,
+) -> Result<(), WriteFault>
+    requires working { W.has_failed writer.old ≡ false }
+    requires app { texts.now.app ≡ app.now }
+    requires rows { texts.now.rows ≡ rows.now }
+    requires sound { IsSound rows.now }
+    ensures text { Writes (W.held writer.old) (W.held writer.new) result
+        (report_text app.now rows.now.view rows.now.first (whole rows.now)) }
+    ensures failed { W.has_failed writer.new ≡ is_err result }
+{
+    let mut text = ReportWriter::new(app);
+    write_piece(writer, &mut text, rows, texts, Piece::all(rows))?;
+    write_totals(writer, &mut text, rows)
+}
+
+// The same, by several spellers.
+#[inline(never)]
+fn write_rows_by<R: Threads + Wait + Sync, W: Sink>(
+    rt: &R,
+    spelling: &Spelling<'_>,
+    lanes: &mut Lanes,
+    writer: &mut W,
+) -> Result<(), WriteFault>
+    requires spelling { IsSpelling spelling.now }
+    requires pairs { ArePairs (lanes.old.own ∷ lanes.old.others.items) lanes.old.desks.items }
+    requires fresh { AreFresh (lanes.old.own ∷ lanes.old.others.items) }
+    requires pieces { ArePieces spelling.now.rows.now 0 (length (whole spelling.now.rows.now)) spelling.now.pieces.items }
+    requires working { W.has_failed writer.old ≡ false }
+    ensures text { Writes (W.held writer.old) (W.held writer.new) result
+        (report_text spelling.now.app.now spelling.now.rows.now.view spelling.now.rows.now.first (whole spelling.now.rows.now)) }
+    ensures failed { W.has_failed writer.new ≡ is_err result }
+{
+    let mut text = ReportWriter::new(spelling.app);
+    write_side_by_side(
+        rt,
+        spelling,
+        &mut lanes.own,
+        &mut lanes.others,
+        &mut lanes.desks,
+        writer,
+        &mut text,
+    )?;
+    write_totals(writer, &mut text, spelling.rows)
+}
+
+/// Writes the report of a campaign: its rows as its view shows them, and the line of their totals. The report is of this application.
+/// At `Err` the writer failed or took none of some bytes, and it has taken a beginning of the text. It takes no memory.
+pub fn write_report<W: Sink>(app: &App, report: &Report, writer: &mut W) -> Result<(), WriteFault>
+    requires { W.has_failed writer.old ≡ false }
+    ensures text { Writes (W.held writer.old) (W.held writer.new) result
+        (report_text app.now report.now.view report.now.first report.now.rows) }
+    ensures failed { W.has_failed writer.new ≡ is_err result }
+{
+    let rows = report.rows();
+    let texts = RowTexts::new(app, rows);
+    write_rows(app, rows, &texts, writer)
+}
+
+// How long the text of a piece is, in bytes: all that are in memory at a time take some sixteenth of the rows' memory at most,
+// where a row with its leg takes some 100 bytes and each of its own events 16. They are neither so short that handing them on takes
+// time, nor too long for a processor's own cache.
+fn length_of_pieces(rows: &Rows, spellers: usize) -> usize
+    requires some { 0 < spellers }
+    requires sound { IsSound rows.now }
+    ensures { 0 < result }
+{
+    let mut events: usize = 0;
+    for part in &rows.parts {
+        events = events.saturating_add(part.trail.len());
+    }
+    let bytes = events.saturating_add(rows.count().saturating_mul(6));
+    (bytes / spellers / 4).clamp(LEAST_PIECE, MOST_PIECE)
+}
+
+// What is known of the texts of the rows; nothing, where only heads are written.
+fn texts_of<'a>(alloc: Global, app: &'a App, rows: &'a Rows) -> RowTexts<'a>
+    requires { IsSound rows.now }
+    ensures app { result.app ≡ app.now }
+    ensures rows { result.rows ≡ rows.now }
+{
+    if rows.view.heads {
+        RowTexts::new(app, rows)
+    } else {
+        RowTexts::spelled(alloc, app, rows)
+    }
+}
+
+/// Writes the report of a campaign as `write_report` does, and faster: it takes memory for the text of the base run's events,
+/// with which rows begin, and for that of rows that come again. Where there are several threads, this many of them spell rows. What it
+/// gets no memory for is spelled for each row, and on this thread. The threads are at most 64.
+pub fn write_report_in<R: Threads + Wait + Sync, W: Sink>(
+    rt: &R,
+    alloc: Global,
+    app: &App,
+    report: &Report,
+    threads: usize,
+    writer: &mut W,
+) -> Result<(), WriteFault>
+    requires working { W.has_failed writer.old ≡ false }
+    requires few { threads ≤ 64 }
+    ensures text { Writes (W.held writer.old) (W.held writer.new) result
+        (report_text app.now report.now.view report.now.first report.now.rows) }
+    ensures failed { W.has_failed writer.new ≡ is_err result }
+{
+    let rows = report.rows();
+    let texts = texts_of(alloc, app, rows);
+    if threads < 2 {
+        return write_rows(app, rows, &texts, writer);
+    }
+    let Ok(mut lanes) = lanes_of(alloc, threads, MOST_TEXT) else {
+        return write_rows(app, rows, &texts, writer);
+    };
+    let Ok(pieces) = pieces_of(alloc, rows, length_of_pieces(rows, threads)) else {
+        return write_rows(app, rows, &texts, writer);
+    };
+    let spelling = Spelling {
+        app,
+        rows,
+        texts,
+        pieces,
+        taken: AtomicU64::new(0),
+    };
+    write_rows_by(rt, &spelling, &mut lanes, writer)
+}
