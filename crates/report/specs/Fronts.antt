@@ -1,8 +1,8 @@
 -- The front of a line: all that it reports except its number.
-use Rattle.std.specs.Prelude.{◌≡◌, ℕ, ◌≤◌, ◌<◌, List, ◌++◌, take, codes, slice_index_or, replicate}
+use Rattle.std.specs.Prelude.{◌≡◌, ℕ, ◌≤◌, ◌<◌, ◌==◌, List, ◌++◌, take, codes, slice_index_or, replicate}
 use Rattle.model.specs.Application.{Application}
 use Rattle.model.specs.Words.{name_of, handler_name_of}
-use Rattle.report.specs.Text.{call_front, isr_front}
+use Rattle.report.specs.Text.{call_front, isr_front, obeyed_front}
 use Rattle.report.specs.declared.label.Label.{Label}
 use Rattle.report.specs.declared.label.OpLabel.{OpLabel}
 
@@ -31,6 +31,10 @@ IsCallLabel app call = IsLabel call.label (call_front app call.owner call.op_ind
 abbrev pub IsIsrLabel : Application → OpLabel → Type 0
 IsIsrLabel app isr = IsLabel isr.label (isr_front app isr.owner isr.op_index)
 
+-- The label at a place of a command that the daemon has done has the front of a `clear` at place 1, and of a `set` elsewhere.
+abbrev pub IsObeyedLabel : Application → (place : ℕ) → OpLabel → Type 0
+IsObeyedLabel app place command = IsLabel command.label (obeyed_front app command.owner (place == 1))
+
 abbrev pub blank : Label
 blank = record { text = replicate 48 0; len = 0 }
 
@@ -38,8 +42,9 @@ abbrev pub blank_op : OpLabel
 blank_op = record { owner = 0; op_index = 0; label = blank }
 
 -- Each label is right for what it is the label of.
-pub record AreLabels (app : Application) (runs marks : List Label) (calls isrs : List OpLabel) : Type 0 where
+pub record AreLabels (app : Application) (runs marks : List Label) (calls isrs obeyed : List OpLabel) : Type 0 where
   pub of_runs : (task : ℕ) → IsLabel (slice_index_or runs task blank) (run_front app task)
   pub of_marks : (task : ℕ) → IsLabel (slice_index_or marks task blank) (mark_front app task)
   pub of_calls : (place : ℕ) → IsCallLabel app (slice_index_or calls place blank_op)
   pub of_isrs : (place : ℕ) → IsIsrLabel app (slice_index_or isrs place blank_op)
+  pub of_obeyed : (place : ℕ) → IsObeyedLabel app place (slice_index_or obeyed place blank_op)

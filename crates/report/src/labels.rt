@@ -1,5 +1,5 @@
 //! The fronts of an application's lines, each spelled once.
-ghost use Rattle.std.specs.Prelude.{◌≡◌, ◌<◌, ◌≤◌, ◌+◌, ◌++◌, length, take};
+ghost use Rattle.std.specs.Prelude.{◌≡◌, ◌<◌, ◌≤◌, ◌+◌, ◌++◌, ◌==◌, length, take};
 ghost use Rattle.report.specs.Text.{call_front, isr_front, obeyed_front};
 ghost use Rattle.report.specs.Fronts.{mark_front, isr_mark_front, run_front};
 
@@ -17,8 +17,11 @@ const CALLS: usize = 1024;
 
 const ISRS: usize = 128;
 
+// Commands set bits or clear them.
+const COMMANDS: usize = 2;
+
 /// The fronts of lines of an application: that of a task that runs and of a task's marks at the task's number, and that of
-/// a call, or of a handler's op, at a place that several share, so it says which op it is of.
+/// a call, of a handler's op, or of a command that a daemon has done, at a place that several share, so it says which op it is of.
 ///
 /// Each is right at all times. One that isn't there is spelled, and kept. They are where this value is, and take no
 /// memory. They are put into bytes at a place, and where they end is answered, as `byte_io::place` does it.
@@ -29,6 +32,7 @@ pub(crate) struct Labels<'a> {
     marks: [Label; 32],
     calls: [OpLabel; CALLS],
     isrs: [OpLabel; ISRS],
+    obeyed: [OpLabel; COMMANDS],
 }
 
 // Clauses see the application.
@@ -40,7 +44,7 @@ impl<'a> Model for Labels<'a> {
 
     ghost view = { λ l. l.app.now };
 
-    ghost invariant = { λ l. AreLabels l.app.now l.runs l.marks l.calls l.isrs };
+    ghost invariant = { λ l. AreLabels l.app.now l.runs l.marks l.calls l.isrs l.obeyed };
 }
 
 // The place of a call's label. Calls of two tasks share none, where no script is longer than 32 ops.
@@ -59,6 +63,15 @@ fn isr_place(handler: HandlerId, op_index: u16) -> usize
     (handler.number as usize * 8 + op_index as usize) % ISRS
 }
 
+// The place of the label of a command.
+#[inline]
+fn obeyed_place(clear: bool) -> usize
+    ensures place { (result == 1) ≡ clear }
+    ensures within { result < COMMANDS }
+{
+    clear as usize
+}
+
 impl<'a> Labels<'a> {
     /// No labels yet.
     pub(crate) fn new(app: &'a App) -> Labels<'a>
@@ -70,6 +83,7 @@ impl<'a> Labels<'a> {
             marks: [Label::none(); 32],
             calls: [OpLabel::none(); CALLS],
             isrs: [OpLabel::none(); ISRS],
+            obeyed: [OpLabel::none(); COMMANDS],
         }
     }
 
@@ -165,13 +179,25 @@ impl<'a> Labels<'a> {
         put_isr_mark_front(bytes, at, self.app, handler)
     }
 
-    /// Puts what the line of a command that the daemon has done says before its answer. It isn't kept.
-    pub(crate) fn put_obeyed(&self, bytes: &mut [u8], at: usize, task: TaskId, clear: bool) -> usize
+    /// Puts what the line of a command that the daemon has done says before its answer.
+    pub(crate) fn put_obeyed(
+        &mut self,
+        bytes: &mut [u8],
+        at: usize,
+        task: TaskId,
+        clear: bool,
+    ) -> usize
         requires { at + 48 ≤ length bytes.old }
-        ensures text { take result bytes.new ≡ take at bytes.old ++ obeyed_front self.now task clear }
+        ensures app { self.new ≡ self.old }
+        ensures text { take result bytes.new ≡ take at bytes.old ++ obeyed_front self.old task clear }
         ensures end { result ≤ at + 48 }
     {
-        put_obeyed_front(bytes, at, self.app, task, clear)
+        let command = &self.obeyed[obeyed_place(clear)];
+        if command.is_of(task.number, 1) {
+            put_front(bytes, at, &command.label.text, command.label.len as usize)
+        } else {
+            self.spell_obeyed(bytes, at, task, clear)
+        }
     }
 
     // Spells and keeps the front of a task that runs.
@@ -231,6 +257,24 @@ impl<'a> Labels<'a> {
         self.isrs[isr_place(handler, op_index)] = OpLabel {
             owner: handler.number,
             op_index,
+            label,
+        };
+        end
+    }
+
+    // Spells and keeps the front of a command that the daemon has done. It is printed as the op of index 1.
+    #[inline(never)]
+    fn spell_obeyed(&mut self, bytes: &mut [u8], at: usize, task: TaskId, clear: bool) -> usize
+        requires { at + 48 ≤ length bytes.old }
+        ensures app { self.new ≡ self.old }
+        ensures text { take result bytes.new ≡ take at bytes.old ++ obeyed_front self.old task clear }
+        ensures end { result ≤ at + 48 }
+    {
+        let end = put_obeyed_front(bytes, at, self.app, task, clear);
+        let label = Label::of(&bytes[..end], at);
+        self.obeyed[obeyed_place(clear)] = OpLabel {
+            owner: task.number,
+            op_index: 1,
             label,
         };
         end

@@ -16,5 +16,5 @@ invariant_of-self c =
     let here =
     subst (λ number. IsLabel label (call_front app number op))
     (sym c.task.view_is) (subst (IsLabel label) front c.of-label.ensures) in
-    call_kept app inside.runs inside.marks inside.calls inside.isrs c.self.invariant c.call_place.result
+    call_kept app inside.runs inside.marks inside.calls inside.isrs inside.obeyed c.self.invariant c.call_place.result
     (record { owner = c.task.inside.number; op_index = op; label = label }) here

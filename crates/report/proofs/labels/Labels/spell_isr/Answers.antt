@@ -16,5 +16,5 @@ invariant_of-self c =
     let here =
     subst (λ number. IsLabel label (isr_front app number op))
     (sym c.handler.view_is) (subst (IsLabel label) front c.of-label.ensures) in
-    isr_kept app inside.runs inside.marks inside.calls inside.isrs c.self.invariant c.isr_place.result
+    isr_kept app inside.runs inside.marks inside.calls inside.isrs inside.obeyed c.self.invariant c.isr_place.result
     (record { owner = c.handler.inside.number; op_index = op; label = label }) here

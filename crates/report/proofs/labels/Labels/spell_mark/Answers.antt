@@ -13,4 +13,4 @@ invariant_of-self c =
     (omega (arith, c.requires)) c.put_mark_front-end.ensures.text in
     let here =
     subst (λ number. IsLabel label (mark_front app number)) (sym c.task.view_is) (subst (IsLabel label) front c.of.ensures) in
-    mark_kept app inside.runs inside.marks inside.calls inside.isrs c.self.invariant c.task.inside.number label here
+    mark_kept app inside.runs inside.marks inside.calls inside.isrs inside.obeyed c.self.invariant c.task.inside.number label here

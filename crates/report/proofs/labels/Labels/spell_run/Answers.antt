@@ -12,4 +12,4 @@ invariant_of-self c =
     spelled c.args.bytes.now _ (run_front app c.args.task) c.args.at (omega (arith, c.requires)) c.put_run_front-end.ensures.text in
     let here =
     subst (λ number. IsLabel label (run_front app number)) (sym c.task.view_is) (subst (IsLabel label) front c.of.ensures) in
-    run_kept app inside.runs inside.marks inside.calls inside.isrs c.self.invariant c.task.inside.number label here
+    run_kept app inside.runs inside.marks inside.calls inside.isrs inside.obeyed c.self.invariant c.task.inside.number label here
