@@ -100,6 +100,13 @@ none_of_three first second most count fault none_first none_second few =
     ∙ ap (λ o. first_fault (o ∷ fails_if (nat_le most count) fault ∷ [])) none_second
     ∙ ap (λ b. first_fault (fails_if b fault ∷ [])) (lt-leb most count few)
 
+-- One of the first two finds a fault, so the third is not asked.
+pub found_of_three : (first second third : Option Fault) (fault : Fault) → first_fault (first ∷ second ∷ []) ≡ Some fault
+    → first_fault (first ∷ second ∷ third ∷ []) ≡ Some fault
+found_of_three None None third fault found = cc
+found_of_three None (Some other) third fault found = found
+found_of_three (Some other) second third fault found = found
+
 -- ---- the end of a script
 
 -- No op's check finds a fault, and no block is open.

@@ -1,11 +1,10 @@
 -- The base interrupts and the points that are taken are those of a well formed application.
-use Rattle.std.proofs.Common.{◌≡◌, ◌+◌, ◌<◌, ◌≤◌, ◌++◌, ℕ, ℤ, pos, negsuc, List, [], ◌∷◌, length, map, Option, Some, None, refl, ap}
-use Rattle.std.proofs.Common.{subst, sym, ◌∙◌, arith}
+use Rattle.std.proofs.Common.{◌≡◌, ◌+◌, ◌<◌, ◌≤◌, ◌++◌, ℕ, ℤ, pos, negsuc, List, [], ◌∷◌, length, map, Option, Some, None, refl}
+use Rattle.std.proofs.Common.{subst, sym, arith}
 use Rattle.std.specs.Prelude.{◌==◌, ◌||◌, codes, nat_lt, nat_le, is_none, option_and_then, unwrap_or}
 use Rattle.std.specs.List.{filter, filter_map, cons_option, AllByRecursion}
 use Rattle.std.proofs.lemmas.Bool.{eqb-true, ltb-false, leb-false, or_parts}
 use Rattle.std.proofs.lemmas.List.{append-nil, append_assoc, length-map, length-append}
-use Rattle.std.proofs.lemmas.List.Elements.{filter-append}
 use Rattle.toml.specs.Data.{Data, Members, as_str, as_integer, as_table, get_member}
 use Rattle.model.specs.declared.plan.Injection.{Injection}
 use Rattle.model.specs.declared.plan.PointEntry.{PointEntry}
@@ -31,6 +30,7 @@ use Rattle.grammar.specs.Points.{SpellsEntry, SpellsInjections, entry_of}
 use Rattle.script.specs.Points.{entry_named, point_elements, points_fault, campaign_fault, campaign_named}
 use Rattle.script.specs.Interrupts.{count_at, interrupt_named, interrupt_keys, interrupts_fault, interrupts_named}
 use Rattle.script.proofs.Checks.{none_fails, passes}
+use Rattle.script.proofs.Counted.{count_both}
 use Rattle.script.proofs.Fitting.{below_from}
 use Rattle.grammar.proofs.PointTexts.{sound}
 
@@ -99,12 +99,6 @@ table_comes : (names : List (List ℕ)) (before : List Interrupt) (p : Place) (t
 table_comes names before p None none = cc
 table_comes names before p (Some ms) none = keys_come names before p ms none
 
-count_last : (tick : ℕ) (i : Interrupt) (is : List Interrupt)
-    → count_at tick (is ++ i ∷ []) ≡ count_at tick is + count_at tick (i ∷ [])
-count_last tick i is =
-    let test = λ (j : Interrupt). j.tick == tick in
-    ap length (filter-append test is (i ∷ [])) ∙ length-append (filter test is) (filter test (i ∷ []))
-
 -- it is one more at its own tick, and at no other
 few_more : (i : Interrupt) (is : List Interrupt) → count_at i.tick is < most_at_once
     → ((tick : ℕ) → count_at tick is ≤ most_at_once) → (tick : ℕ) → count_at tick (is ++ i ∷ []) ≤ most_at_once
@@ -112,11 +106,11 @@ few_more i is room few tick = by_test (i.tick == tick)
     (λ t.
     let here = subst (λ n. count_at n is < most_at_once) (eqb-true i.tick tick t) room in
     let one : count_at tick (i ∷ []) ≡ 1 = rw t refl in
-    let more = count_last tick i is in
+    let more = count_both tick is (i ∷ []) in
     omega arith)
     (λ t.
     let none : count_at tick (i ∷ []) ≡ 0 = rw t refl in
-    let more = count_last tick i is in
+    let more = count_both tick is (i ∷ []) in
     let before = few tick in
     omega arith)
 

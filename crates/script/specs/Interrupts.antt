@@ -20,6 +20,13 @@ interrupt_named names ms = record {
   handler = known_named names (member_of key.Handler ms);
 }
 
+-- its own keys, however many come at its tick
+abbrev pub own_keys : List (List ℕ) → Place → Members → Option Fault
+own_keys names p ms = first_fault (
+    required p key.Tick (number_fault 1 last_interrupt) ms
+    ∷ required p key.Handler (known_fault names) ms
+    ∷ [])
+
 -- how many of some interrupts come at a tick
 abbrev pub count_at : ℕ → List Interrupt → ℕ
 count_at tick interrupts = length (filter (λ (i : Interrupt). i.tick == tick) interrupts)
