@@ -1,6 +1,6 @@
--- A step that only takes the running task to another op of its script.
+-- A step behind which the running task is at another op of its script, and nothing else changed but what the step reported.
 use denote.Enum.Bare.{sameb, same_true}
-use Rattle.std.proofs.Common.{◌≡◌, ◌≢◌, rules, ◌+◌, ℕ, Bool, true, false, not, eqb, leb, List, [], ◌∷◌, Option, Some, None, ◌≤◌}
+use Rattle.std.proofs.Common.{◌≡◌, ◌≢◌, rules, ◌+◌, ◌||◌, ℕ, Bool, true, false, eqb, leb, List, [], ◌∷◌, Option, Some, None, ◌≤◌}
 use Rattle.std.proofs.Common.{refl, ap, sym, subst, ◌∙◌, arith, append-nil}
 use Rattle.model.specs.declared.op.Op.{Op}
 use Rattle.model.specs.declared.op.Op.TheVariants.{Work, Delay, DelayUntil, Yield, Time, Mark, Expect, Repeat, End as EndLoop, If}
@@ -9,11 +9,20 @@ use Rattle.model.specs.declared.op.Op.TheVariants.{SpacesAvailable, SetBits, Cle
 use Rattle.model.specs.declared.op.Op.TheVariants.{SuspendAll, ResumeAll, NextCommand, Obey}
 use Rattle.model.specs.declared.event.Event.{Event}
 use Rattle.model.specs.declared.loops.Loop.{Loop}
+use Rattle.model.specs.declared.call.CallProgress.{CallProgress}
+use Rattle.model.specs.declared.call.Condition.{Condition}
+use Rattle.model.specs.declared.call.Phase.{Phase}
+use Rattle.model.specs.declared.call.Phase.TheVariants.{Start, Try, Decide, Place, Unlock, Leave}
 use Rattle.model.specs.Answers.{holds}
+use Rattle.model.specs.Groups.{answer_bits, begin_bits_wait, bits_left, check, final_bits, is_met, wait_bits, wait_for_bits, want}
+use Rattle.model.specs.Waiting.{end_hold, set_deadline}
+use Rattle.std.specs.Option.{option_eq}
 use Rattle.model.specs.Application.{Application, Limits, op_at, op_count}
-use Rattle.model.specs.State.{State, Task, Progress, no_task, progress_at, status_at, task_at, with_task}
+use Rattle.model.specs.State.{State, Task, Progress, no_task, bits_at, call_at, progress_at, status_at, task_at, with_bits}
+use Rattle.model.specs.State.{with_call, with_task}
 use Rattle.model.specs.Switching.{is_ready, settle, unless_held}
-use Rattle.model.specs.Ops.{moved_to, go_to, expect, open_loop, turn, next_turn, close_turn, branch, skip_branch, leave_loop}
+use Rattle.model.specs.Ops.{moved_to, go_to, answer, stamp, since, expect, open_loop, turn, next_turn, close_turn}
+use Rattle.model.specs.Ops.{branch, skip_branch, leave_loop}
 use Rattle.model.specs.Step.{act, act_current, act_if, before_step, is_ended, own_misuse, step}
 use Rattle.model.proofs.Lists.{eqb-same, eqb-refl}
 use Rattle.model.proofs.Sorting.{by_test}
@@ -26,27 +35,26 @@ use Rattle.machine.specs.StandsFor.{AtAny, DoesAny, IsPlaced, Stands}
 use Rattle.machine.specs.Logged.{Logged, all_of}
 use Rattle.machine.proofs.Either.{any, current_is, either, elapsed_is, progress_is, steps_are, stopped_is, suspensions_are}
 use Rattle.machine.proofs.Switches.{settled_before, settled_either, settled_on}
-use Rattle.ops.specs.Can.{Can}
+use Rattle.machine.specs.Can.{Runs}
 use Rattle.machine.specs.StandsFor.Stands.{Placed, Placing}
 use Rattle.kernel.specs.contracts.acting.Following.{the_type}
 use Rattle.kernel.specs.declared.acting.Following.{Following}
 use Rattle.kernel.specs.declared.acting.Following.TheVariants.{NextOp}
-use Rattle.kernel.specs.Can.{CanOp}
-use Rattle.kernel.specs.InScript.{IsAt, is_of_script}
+use Rattle.kernel.specs.InScript.{IsAt, may_stay_amid}
 use Rattle.kernel.specs.Over.{is_over}
 use Rattle.kernel.proofs.Ending.{begun, handled_before, stepped}
 use Rattle.kernel.proofs.Left.{on_if_ready}
 use Rattle.kernel.proofs.Running.{told_after}
-use Rattle.kernel.proofs.Silent.{not_over_by}
+use Rattle.kernel.proofs.Silent.{not_over_by, on-choose}
 
 -- Such an op is no misuse.
-no_misuse : (op : Op) → is_of_script op ≡ true → (s : State) (task : ℕ) → own_misuse s task op ≡ None
+no_misuse : (op : Op) → may_stay_amid op ≡ true → (s : State) (task : ℕ) → own_misuse s task op ≡ None
 no_misuse (Work n) t s task = absurd (cc)
 no_misuse (Delay n) t s task = absurd (cc)
 no_misuse (DelayUntil n) t s task = absurd (cc)
 no_misuse Yield t s task = absurd (cc)
-no_misuse Time t s task = absurd (cc)
-no_misuse (Mark n) t s task = absurd (cc)
+no_misuse Time t s task = refl
+no_misuse (Mark n) t s task = refl
 no_misuse (Expect c) t s task = refl
 no_misuse (Repeat n) t s task = refl
 no_misuse EndLoop t s task = refl
@@ -54,17 +62,17 @@ no_misuse (If c) t s task = refl
 no_misuse Else t s task = refl
 no_misuse EndIf t s task = refl
 no_misuse Break t s task = refl
-no_misuse Stamp t s task = absurd (cc)
-no_misuse Since t s task = absurd (cc)
+no_misuse Stamp t s task = refl
+no_misuse Since t s task = refl
 no_misuse (Await o a w) t s task = absurd (cc)
 no_misuse (Do o a) t s task = absurd (cc)
 no_misuse (GiveMutex o) t s task = absurd (cc)
-no_misuse (MessagesWaiting o) t s task = absurd (cc)
-no_misuse (SpacesAvailable o) t s task = absurd (cc)
+no_misuse (MessagesWaiting o) t s task = refl
+no_misuse (SpacesAvailable o) t s task = refl
 no_misuse (SetBits g m) t s task = absurd (cc)
 no_misuse (ClearBits g m) t s task = absurd (cc)
-no_misuse (GetBits g) t s task = absurd (cc)
-no_misuse (WaitBits g c w) t s task = absurd (cc)
+no_misuse (GetBits g) t s task = refl
+no_misuse (WaitBits g c w) t s task = refl
 no_misuse (Suspend j) t s task = absurd (cc)
 no_misuse (Resume j) t s task = absurd (cc)
 no_misuse SuspendAll t s task = absurd (cc)
@@ -72,42 +80,8 @@ no_misuse ResumeAll t s task = absurd (cc)
 no_misuse (NextCommand o) t s task = absurd (cc)
 no_misuse Obey t s task = absurd (cc)
 
-no_suspension : (op : Op) → is_of_script op ≡ true → op ≢ SuspendAll
-no_suspension op t e = let f : is_of_script SuspendAll ≡ true = subst (λ (o : Op). is_of_script o ≡ true) e t in absurd (cc)
-
--- What it asks of the kernel says that the task is Ready.
-can_of_script : (app : Application) (k : Machine) (task : ℕ) (op : Op)
-    → is_of_script op ≡ true → CanOp app k task op → Can app k task op
-can_of_script app k task (Work n) t c = c
-can_of_script app k task (Delay n) t c = c
-can_of_script app k task (DelayUntil n) t c = c
-can_of_script app k task Yield t c = c
-can_of_script app k task Time t c = c
-can_of_script app k task (Mark n) t c = c
-can_of_script app k task (Expect x) t c = c
-can_of_script app k task (Repeat n) t c = c
-can_of_script app k task EndLoop t c = c
-can_of_script app k task (If x) t c = c
-can_of_script app k task Else t c = c
-can_of_script app k task EndIf t c = c
-can_of_script app k task Break t c = c
-can_of_script app k task Stamp t c = c
-can_of_script app k task Since t c = c
-can_of_script app k task (Await o a w) t c = absurd (cc)
-can_of_script app k task (Do o a) t c = c
-can_of_script app k task (GiveMutex o) t c = c
-can_of_script app k task (MessagesWaiting o) t c = c
-can_of_script app k task (SpacesAvailable o) t c = c
-can_of_script app k task (SetBits g m) t c = absurd (cc)
-can_of_script app k task (ClearBits g m) t c = c
-can_of_script app k task (GetBits g) t c = c
-can_of_script app k task (WaitBits g x w) t c = absurd (cc)
-can_of_script app k task (Suspend j) t c = c
-can_of_script app k task (Resume j) t c = c
-can_of_script app k task SuspendAll t c = c
-can_of_script app k task ResumeAll t c = c
-can_of_script app k task (NextCommand o) t c = absurd (cc)
-can_of_script app k task Obey t c = absurd (cc)
+no_suspension : (op : Op) → may_stay_amid op ≡ true → op ≢ SuspendAll
+no_suspension op t e = let f : may_stay_amid SuspendAll ≡ true = subst (λ (o : Op). may_stay_amid o ≡ true) e t in absurd (cc)
 
 -- ---- it ends no other task
 
@@ -120,6 +94,9 @@ other-with_task s i t j apart on =
     let before : (k : ℕ) → k ≡ j → is_ended (status_at s k) ≡ false = λ k e.
     subst (λ (m : ℕ). is_ended (status_at s m) ≡ false) (sym e) on in
     each-set no_task P s.tasks i t (λ e. absurd (apart e)) before j refl
+
+other-with_call : (s : State) (i : ℕ) (call : CallProgress) → EndsNoOther i s (with_call i call s)
+other-with_call s i call = other-with_task s i (record (task_at s i) { progress = record (progress_at s i) { call = call } })
 
 other-go_to : (app : Application) (i n : ℕ) (p : Progress) (s : State) → EndsNoOther i s (go_to app i n p s)
 unfolding go_to
@@ -136,14 +113,55 @@ other-turn : (app : Application) (i : ℕ) (p : Progress) (ls : List Loop) (s : 
 other-turn app i p [] s = other-go_to app i (p.op_index + 1) p s
 other-turn app i p (l ∷ ls) s = other-next_turn app i p l ls l.left s
 
-other-act : (app : Application) (i : ℕ) (op : Op) (s : State) → is_of_script op ≡ true → EndsNoOther i s (act app i op s)
-unfolding expect open_loop close_turn branch skip_branch leave_loop
+other-answer : (app : Application) (i : ℕ) (a : Option ℕ) (s : State) → EndsNoOther i s (answer app i a s)
+unfolding answer
+other-answer app i a s j apart on = other-go_to app i _ _ _ j apart on
+
+other-answer_bits : (app : Application) (i group : ℕ) (c : Condition) (s : State) → EndsNoOther i s (answer_bits app i group c s)
+unfolding answer_bits
+other-answer_bits app i group c s j apart on = by_test (is_met (bits_at s group) c)
+    (λ t. rw t (other-answer app i (Some (bits_at s group)) (with_bits group (bits_left (bits_at s group) c) s) j apart on))
+    (λ t. rw t (other-answer app i (Some (bits_at s group)) s j apart on))
+
+other-begin_bits_wait : (i group : ℕ) (c : Condition) (ticks : Option ℕ) (s : State)
+    → EndsNoOther i s (begin_bits_wait i group c ticks s)
+unfolding begin_bits_wait wait_for_bits set_deadline
+other-begin_bits_wait i group c ticks s j apart on =
+    let held : State = record s { call_hold = true } in
+    let due : State = set_deadline i ticks held in
+    let wanting : State = want i c due in
+    let waits : State = wait_for_bits i group wanting in
+    other-with_call waits i _ j apart
+    (other-with_task wanting i _ j apart
+    (other-with_call due i _ j apart (other-with_call held i _ j apart on)))
+
+other-final : (app : Application) (i group : ℕ) (c : Condition) (kept : Option ℕ) (s : State)
+    → EndsNoOther i s (final_bits app i group c kept s)
+other-final app i group c None s = other-answer_bits app i group c s
+other-final app i group c (Some bits) s = other-answer app i (Some bits) s
+
+other-wait_bits : (app : Application) (i group : ℕ) (c : Condition) (ticks : Option ℕ) (phase : Phase) (s : State)
+    → EndsNoOther i s (wait_bits app i group c ticks phase s)
+unfolding check
+other-wait_bits app i group c ticks Start s j apart on =
+    by_test (is_met (bits_at s group) c || option_eq eqb ticks (Some 0))
+    (λ t. rw t (other-answer_bits app i group c s j apart on))
+    (λ t. rw t (other-begin_bits_wait i group c ticks s j apart on))
+other-wait_bits app i group c ticks Try s j apart on = other-final app i group c (call_at s i).kept s j apart on
+other-wait_bits app i group c ticks Decide s j apart on = other-final app i group c (call_at s i).kept s j apart on
+other-wait_bits app i group c ticks Place s j apart on = other-final app i group c (call_at s i).kept s j apart on
+other-wait_bits app i group c ticks Unlock s j apart on = other-final app i group c (call_at s i).kept s j apart on
+other-wait_bits app i group c ticks Leave s j apart on =
+    on-choose (end_hold i Try s) j (other-with_call (record s { call_hold = false }) i _ j apart on)
+
+other-act : (app : Application) (i : ℕ) (op : Op) (s : State) → may_stay_amid op ≡ true → EndsNoOther i s (act app i op s)
+unfolding expect open_loop close_turn branch skip_branch leave_loop stamp since
 other-act app i (Work n) s t = absurd (cc)
 other-act app i (Delay n) s t = absurd (cc)
 other-act app i (DelayUntil n) s t = absurd (cc)
 other-act app i Yield s t = absurd (cc)
-other-act app i Time s t = absurd (cc)
-other-act app i (Mark n) s t = absurd (cc)
+other-act app i Time s t = other-answer app i _ s
+other-act app i (Mark n) s t = λ j apart on. other-go_to app i _ _ _ j apart on
 other-act app i (Expect c) s t = λ j apart on. by_test (holds c (progress_at s i).answer)
     (λ u. rw u (other-go_to app i ((progress_at s i).op_index + 1) (progress_at s i) s j apart on))
     (λ u. rw u on)
@@ -155,17 +173,17 @@ other-act app i (If c) s t = λ j apart on. by_test (holds c (progress_at s i).a
 other-act app i Else s t = λ j apart on. other-go_to app i _ _ s j apart on
 other-act app i EndIf s t = λ j apart on. other-go_to app i _ _ s j apart on
 other-act app i Break s t = λ j apart on. other-go_to app i _ _ s j apart on
-other-act app i Stamp s t = absurd (cc)
-other-act app i Since s t = absurd (cc)
+other-act app i Stamp s t = λ j apart on. other-go_to app i _ _ s j apart on
+other-act app i Since s t = other-answer app i _ s
 other-act app i (Await o a w) s t = absurd (cc)
 other-act app i (Do o a) s t = absurd (cc)
 other-act app i (GiveMutex o) s t = absurd (cc)
-other-act app i (MessagesWaiting o) s t = absurd (cc)
-other-act app i (SpacesAvailable o) s t = absurd (cc)
+other-act app i (MessagesWaiting o) s t = other-answer app i _ s
+other-act app i (SpacesAvailable o) s t = other-answer app i _ s
 other-act app i (SetBits g m) s t = absurd (cc)
 other-act app i (ClearBits g m) s t = absurd (cc)
-other-act app i (GetBits g) s t = absurd (cc)
-other-act app i (WaitBits g c w) s t = absurd (cc)
+other-act app i (GetBits g) s t = other-answer app i _ s
+other-act app i (WaitBits g c w) s t = other-wait_bits app i g c w (call_at s i).phase s
 other-act app i (Suspend j) s t = absurd (cc)
 other-act app i (Resume j) s t = absurd (cc)
 other-act app i SuspendAll s t = absurd (cc)
@@ -177,22 +195,15 @@ other-act app i Obey s t = absurd (cc)
 pub same_following : (a : Following) → true ≡ sameb the_type a NextOp → a ≡ NextOp
 same_following a e = same_true the_type (search rules) a NextOp (sym e)
 
-pub not_another : (a : Following) → false ≡ not (sameb the_type a NextOp) → a ≡ NextOp
-not_another a e = same_true the_type (search rules) a NextOp (unequal (sameb the_type a NextOp) e) where
-  unequal : (x : Bool) → false ≡ not x → x ≡ true
-  unequal true e = refl
-  unequal false e = absurd (cc)
-
 -- A log that has reported nothing in this step holds what was reported before.
 pub all_before : (log : Logged) → log.told ≡ [] → all_of log ≡ log.before
 all_before log e = told_after log log.before [] refl e ∙ append-nil log.before
 
--- A deed that reports nothing, in a step that has reported nothing yet.
-pub silently : (k new : Machine) (old_log new_log : Logged) (deed : State → State) → DoesAny 65 k old_log new new_log deed
-    → old_log.told ≡ [] → new_log ≡ old_log → (s : State) → AtAny k [] s → AtAny new [] (deed s)
-silently k new old_log new_log deed does begun silent s h =
-    subst (λ (es : List Event). AtAny new es (deed s)) (ap (λ (l : Logged). l.told) silent ∙ begun)
-    (does.at s (subst (λ (es : List Event). AtAny k es s) (sym begun) h))
+-- A deed in a step that has reported nothing yet.
+pub reporting : (k new : Machine) (old_log new_log : Logged) (deed : State → State) → DoesAny 65 k old_log new new_log deed
+    → old_log.told ≡ [] → (s : State) → AtAny k [] s → AtAny new new_log.told (deed s)
+reporting k new old_log new_log deed does begun s h =
+    does.at s (subst (λ (es : List Event). AtAny k es s) (sym begun) h)
 
 -- Each `suspend_all` in force holds the scheduler.
 pub suspensions_hold : (k : Machine) (s : State) → Stands k s → k.sched.suspensions ≤ k.sched.depth
@@ -202,8 +213,8 @@ suspensions_hold k s (Placing task list b) = let d = b.sched.depth in let n = b.
 -- ---- the step
 
 module _ (app : Application) (limits : Limits) (k new : Machine) (task : ℕ) (op : Op) (at : IsAt app k task op)
-    (script : is_of_script op ≡ true) (can : CanOp app k task op) (placed : IsPlaced k new task)
-    (does : (s : State) → AtAny k [] s → AtAny new [] (act_current app limits s.current s)) where
+    (stays : may_stay_amid op ≡ true) (runs : Runs k task) (placed : IsPlaced k new task) (told : List Event)
+    (does : (s : State) → AtAny k [] s → AtAny new told (act_current app limits s.current s)) where
   same_sched : new.sched ≡ k.sched
   same_sched = ap (λ (x : Machine). x.sched) placed.1
 
@@ -214,18 +225,18 @@ module _ (app : Application) (limits : Limits) (k new : Machine) (task : ℕ) (o
   still_awake = ap (λ (v : Schedule). v.suspensions) same_sched ∙ at.awake
 
   still_ready : is_ready_in new.sched task ≡ true
-  still_ready = ap (λ (v : Schedule). is_ready_in v task) same_sched ∙ (can_of_script app k task op script can).runs.ready
+  still_ready = ap (λ (v : Schedule). is_ready_in v task) same_sched ∙ runs.ready
 
-  settled : (t : State) → AtAny new [] t → AtAny new [] (unless_held settle t)
-  settled t h = either new [] t h
+  settled : (t : State) → AtAny new told t → AtAny new told (unless_held settle t)
+  settled t h = either new told t h
       (λ a.
       let runs : t.current ≡ Some task = sym a.stands.sched.current ∙ still_runs in
       let ready : is_ready t task ≡ true = sym (on_sched.ready_same new.sched t task a.stands.sched) ∙ still_ready in
-      any new [] (unless_held settle t) (settled_either new [] t a (settled_on new [] t a task runs ready)))
-      (λ other list b. settled_before new [] t h other list b)
+      any new told (unless_held settle t) (settled_either new told t a (settled_on new told t a task runs ready)))
+      (λ other list b. settled_before new told t h other list b)
 
   module _ (s : State) (h : Stands k s) where
-    came : AtAny new [] (unless_held settle (act_current app limits (before_step app [] s).current (before_step app [] s)))
+    came : AtAny new told (unless_held settle (act_current app limits (before_step app [] s).current (before_step app [] s)))
     came = settled _ (does (before_step app [] s) (handled_before app [] s k [] (begun k [] s h refl)))
 
     same_steps : new.steps ≡ s.steps
@@ -235,11 +246,11 @@ module _ (app : Application) (limits : Limits) (k new : Machine) (task : ℕ) (o
     steps_there = ap (λ (x : Machine). x.steps) placed.1
 
     pub stands_amid : Stands (record new { steps = new.steps + 1 }) (step app limits [] s)
-    stands_amid = stepped app limits [] s new [] new.steps same_steps came
+    stands_amid = stepped app limits [] s new told new.steps same_steps came
 
-    pub silent_amid : (step app limits [] s).log ≡ []
+    pub told_amid : told ≡ (step app limits [] s).log
     unfolding step
-    silent_amid = sym came.log
+    told_amid = came.log
 
     begun_now : State
     begun_now = record s { log = [] }
@@ -247,7 +258,7 @@ module _ (app : Application) (limits : Limits) (k new : Machine) (task : ℕ) (o
     done : State
     done = act_current app limits s.current begun_now
 
-    at_done : AtAny new [] done
+    at_done : AtAny new told done
     unfolding done begun_now
     at_done = does (record s { log = [] }) (begun k [] s h refl)
 
@@ -258,7 +269,7 @@ module _ (app : Application) (limits : Limits) (k new : Machine) (task : ℕ) (o
         ap (λ (c : Option ℕ). act_current app limits c r) (sym (current_is k s h) ∙ at.current)
         ∙ ap (λ (o : Option Op). act_if app task o r)
         (ap (λ (p : Progress). op_at app task p.op_index) (sym (progress_is k s h task)) ∙ at.at)
-        ∙ acts_calm app task op r (sym (suspensions_are k s h) ∙ at.awake) (no_misuse op script r task) (no_suspension op script)
+        ∙ acts_calm app task op r (sym (suspensions_are k s h) ∙ at.awake) (no_misuse op stays r task) (no_suspension op stays)
 
     ends_nobody : (j : ℕ) → is_ended (status_at s j) ≡ false → is_ended (status_at done j) ≡ false
     unfolding begun_now
@@ -269,7 +280,7 @@ module _ (app : Application) (limits : Limits) (k new : Machine) (task : ℕ) (o
         (λ t.
         let apart : task ≢ j = (λ e. let u : eqb task j ≡ true = rw e (eqb-refl j) in absurd (cc)) in
         subst (λ (x : State). is_ended (status_at x j) ≡ false) (sym done_is)
-        (other-act app task op (record s { log = [] }) script j apart on))
+        (other-act app task op (record s { log = [] }) stays j apart on))
 
     pub on_amid : is_over app limits s ≡ false → is_over app limits (step app limits [] s) ≡ false
     unfolding done begun_now

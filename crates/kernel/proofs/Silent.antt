@@ -146,7 +146,7 @@ stopped-await app i o a ticks Leave s silent = absurd silent
 
 -- ---- the end of the step
 
-on-choose : (s : State) → EndsNobody s (choose s)
+pub on-choose : (s : State) → EndsNobody s (choose s)
 unfolding choose dispatch
 on-choose s j on = by_test (is_same (choice s) s.current) (λ t. rw t on) (λ t. rw t on)
 

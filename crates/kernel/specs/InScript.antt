@@ -1,21 +1,39 @@
--- Which op the running task is at, and which ops only take it to another one.
+-- Which op the running task is at, and behind which ops it may be at another one while nothing else changed.
 use Rattle.std.specs.Prelude.{◌≡◌, ℕ, Bool, true, false, Some, None}
 use Rattle.model.specs.declared.op.Op.{Op}
-use Rattle.model.specs.declared.op.Op.TheVariants.{Expect, Repeat, End, If, Else, EndIf, Break}
+use Rattle.model.specs.declared.op.Op.TheVariants.{Time, Mark, Expect, Repeat, End, If, Else, EndIf, Break, Stamp, Since}
+use Rattle.model.specs.declared.op.Op.TheVariants.{MessagesWaiting, SpacesAvailable, GetBits, WaitBits}
 use Rattle.model.specs.Application.{Application, op_at}
 use Rattle.machine.specs.declared.machine.Machine.{Machine}
 use Rattle.machine.specs.StandsFor.{progress_in}
+use Rattle.kernel.specs.declared.acting.Following.{Following}
+use Rattle.kernel.specs.declared.acting.Following.TheVariants.{NextOp, Answered}
 
--- an op of the script alone that reports nothing
-abbrev pub is_of_script : Op → Bool
-is_of_script (Expect condition) = true
-is_of_script (Repeat turns) = true
-is_of_script End = true
-is_of_script (If condition) = true
-is_of_script Else = true
-is_of_script EndIf = true
-is_of_script Break = true
-is_of_script _ = false
+-- an op that may change nothing but where its task is in its script, and what the task keeps: one of the script alone, or a call that
+-- answers and wakes nobody
+abbrev pub may_stay_amid : Op → Bool
+may_stay_amid Time = true
+may_stay_amid (Mark number) = true
+may_stay_amid (Expect condition) = true
+may_stay_amid (Repeat turns) = true
+may_stay_amid End = true
+may_stay_amid (If condition) = true
+may_stay_amid Else = true
+may_stay_amid EndIf = true
+may_stay_amid Break = true
+may_stay_amid Stamp = true
+may_stay_amid Since = true
+may_stay_amid (MessagesWaiting object) = true
+may_stay_amid (SpacesAvailable object) = true
+may_stay_amid (GetBits group) = true
+may_stay_amid (WaitBits group condition ticks) = true
+may_stay_amid _ = false
+
+-- Such an op has changed nothing else.
+abbrev pub is_amid : Following → Bool
+is_amid NextOp = true
+is_amid Answered = true
+is_amid _ = false
 
 -- The task runs, is at this op, and no `suspend_all` is in force.
 pub record IsAt (app : Application) (k : Machine) (task : ℕ) (op : Op) : Type 0 where

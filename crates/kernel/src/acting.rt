@@ -3,10 +3,11 @@ ghost use Rattle.std.specs.Prelude.{◌≡◌, ◌<◌, ◌≤◌, true};
 ghost use Rattle.model.specs.Step.{act_unless, misuse, act};
 ghost use Rattle.machine.specs.StandsFor.{DoesAny, Does, IsPlaced};
 ghost use Rattle.kernel.specs.declared.acting.Following.TheVariants as following;
-ghost use Rattle.kernel.specs.InScript.{is_of_script};
+ghost use Rattle.kernel.specs.InScript.{is_amid, may_stay_amid};
 ghost use Rattle.kernel.specs.Can.{CanOp};
 ghost use Rattle.model.specs.declared.op.Op.TheVariants as op;
 ghost use Rattle.model.specs.Ops.{use_up};
+ghost use Rattle.machine.specs.Can.{Runs};
 ghost use Rattle.ops.specs.Can.{Can};
 
 use crate::handlers::tick_interrupt;
@@ -22,8 +23,8 @@ use ops::script::{branch, close_turn, end_if, expect, leave_loop, mark, open_loo
 use ops::suspension::{call_resume, call_suspend};
 use ops::time::{call_yield, delay, delay_until, since, stamp, time, use_up};
 
-/// What may come behind a step, and is done next with the step's parts at hand. Of `Suspended` the step has reported something, and of
-/// the others nothing.
+/// What may come behind a step, and is done next with the step's parts at hand. Of `Answered` and `Suspended` the step has reported
+/// something, and of the others nothing.
 #[derive(Clone, Copy, PartialEq)]
 pub(crate) enum Following {
     /// Nothing: any other step.
@@ -34,30 +35,67 @@ pub(crate) enum Following {
     Command,
     /// The op to which its task has come amid its script, while nothing else changed.
     NextOp,
+    /// The same behind a call that has answered, or a mark.
+    Answered,
     /// Those that come while a `suspend_all` is in force.
     Suspended,
 }
 
 impl Following {
-    ghost use Rattle.std.specs.Prelude.{◌≡◌, ◌≢◌, true};
+    ghost use Rattle.std.specs.Prelude.{◌≡◌, ◌≢◌, true, false};
     ghost use Rattle.kernel.specs.declared.acting.Following.TheVariants as following;
+    ghost use Rattle.kernel.specs.InScript.{is_amid};
+
+    /// Whether the task is at another op of its script, and nothing else changed but what was reported.
+    #[inline(always)]
+    pub(crate) fn is_amid(self) -> bool
+        ensures { result ≡ is_amid self }
+    {
+        matches!(self, Following::NextOp | Following::Answered)
+    }
 
     /// The task's next op, if it is still amid its script.
     #[inline(always)]
-    fn op_if(is_amid: bool) -> Following
-        ensures { result ≡ following.NextOp → is_amid ≡ true }
+    fn op_if(stays: bool) -> Following
+        ensures amid { is_amid result ≡ true → stays ≡ true }
     {
-        if is_amid {
+        if stays {
             Following::NextOp
         } else {
             Following::Nothing
         }
     }
 
+    /// The same behind a call that has answered, or a mark.
+    #[inline(always)]
+    fn answered_if(stays: bool) -> Following
+        ensures amid { is_amid result ≡ true → stays ≡ true }
+        ensures told { result ≢ following.NextOp }
+    {
+        if stays {
+            Following::Answered
+        } else {
+            Following::Nothing
+        }
+    }
+
+    /// The same behind a call that waits for bits, if it has answered, otherwise the steps of such a call.
+    #[inline(always)]
+    fn answered_or_steps(stays: bool) -> Following
+        ensures amid { is_amid result ≡ true → stays ≡ true }
+        ensures told { result ≢ following.NextOp }
+    {
+        if stays {
+            Following::Answered
+        } else {
+            Following::Steps
+        }
+    }
+
     /// Steps, if some may come.
     #[inline(always)]
     fn steps_if(may_come: bool) -> Following
-        ensures { result ≢ following.NextOp }
+        ensures { is_amid result ≡ false }
     {
         if may_come {
             Following::Steps
@@ -69,7 +107,7 @@ impl Following {
     /// Those of a command, if one was received, otherwise those of the call that waits for one.
     #[inline(always)]
     fn command_if(received: bool) -> Following
-        ensures { result ≢ following.NextOp }
+        ensures { is_amid result ≡ false }
     {
         if received {
             Following::Command
@@ -106,9 +144,10 @@ pub(crate) fn act<L: Log>(
     requires awake { machine.old.sched.suspensions ≡ 0 }
     ensures does { DoesAny 65 machine.old (L.logged log.old) machine.new (L.logged log.new)
         (λ s. act_unless app.now task (misuse s task op.now) op.now s) }
-    ensures amid { result ≡ following.NextOp → IsPlaced machine.old machine.new task }
+    ensures amid { is_amid result ≡ true → IsPlaced machine.old machine.new task }
+    ensures runs { is_amid result ≡ true → Runs machine.old task }
+    ensures plain { is_amid result ≡ true → may_stay_amid op.now ≡ true }
     ensures silent { result ≡ following.NextOp → L.logged log.new ≡ L.logged log.old }
-    ensures plain { result ≡ following.NextOp → is_of_script op.now ≡ true }
 {
     match *op {
         Op::Work(ticks) => {
@@ -126,8 +165,9 @@ pub(crate) fn act<L: Log>(
             return Following::Steps;
         }
         Op::WaitBits(group, condition, ticks) => {
-            wait_bits(machine, app, task, group, condition, ticks, log);
-            return Following::Steps;
+            return Following::answered_or_steps(wait_bits(
+                machine, app, task, group, condition, ticks, log,
+            ));
         }
         Op::Expect(ref condition) => return Following::op_if(expect(machine, app, task, condition)),
         Op::Repeat(turns) => return Following::op_if(open_loop(machine, app, task, turns)),
@@ -139,16 +179,22 @@ pub(crate) fn act<L: Log>(
         Op::Delay(ticks) => delay(machine, app, task, ticks, log),
         Op::DelayUntil(ticks) => delay_until(machine, app, task, ticks, log),
         Op::Yield => call_yield(machine, app, task, log),
-        Op::Time => time(machine, app, task, log),
-        Op::Mark(number) => mark(machine, app, task, number, log),
-        Op::Stamp => stamp(machine, app, task),
-        Op::Since => since(machine, app, task, log),
+        Op::Time => return Following::answered_if(time(machine, app, task, log)),
+        Op::Mark(number) => return Following::answered_if(mark(machine, app, task, number, log)),
+        Op::Stamp => return Following::op_if(stamp(machine, app, task)),
+        Op::Since => return Following::answered_if(since(machine, app, task, log)),
         Op::Do(object, access) => do_now(machine, app, task, object, access, log),
         Op::GiveMutex(object) => give_mutex(machine, app, task, object, log),
-        Op::MessagesWaiting(object) => messages_waiting(machine, app, task, object, log),
-        Op::SpacesAvailable(object) => spaces_available(machine, app, task, object, log),
+        Op::MessagesWaiting(object) => {
+            return Following::answered_if(messages_waiting(machine, app, task, object, log));
+        }
+        Op::SpacesAvailable(object) => {
+            return Following::answered_if(spaces_available(machine, app, task, object, log));
+        }
         Op::ClearBits(group, mask) => clear_bits(machine, app, task, group, mask, log),
-        Op::GetBits(group) => get_bits(machine, app, task, group, log),
+        Op::GetBits(group) => {
+            return Following::answered_if(get_bits(machine, app, task, group, log));
+        }
         Op::Suspend(other) => call_suspend(machine, app, task, other, log),
         Op::Resume(other) => call_resume(machine, app, task, other, log),
         Op::SuspendAll => {

@@ -77,6 +77,10 @@ fn are_all_ended_beside(machine: &Machine, app: &App, task: TaskId) -> bool
     if is_awaited(machine, app, task) {
         return false;
     }
+    // Where the daemon runs.
+    if is_awaited(machine, app, app.first_awaited()) {
+        return false;
+    }
     are_others_ended(machine, app)
 }
 

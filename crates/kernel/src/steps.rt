@@ -15,7 +15,7 @@ ghost use Rattle.machine.specs.StandsFor.{Stands, DoesAny};
 ghost use Rattle.kernel.specs.Over.{is_over};
 ghost use Rattle.machine.specs.Can.{IsUnderWay};
 ghost use Rattle.kernel.specs.Can.{CanAct, CanStep};
-ghost use Rattle.kernel.specs.InScript.{IsAt, IsAtNone};
+ghost use Rattle.kernel.specs.InScript.{IsAt, IsAtNone, is_amid};
 ghost use Rattle.kernel.specs.declared.acting.Following.TheVariants as following;
 ghost use Rattle.kernel.specs.Along.{IsFree, GoesTo, GoesOn, IsGoing, GoesFurther};
 ghost use Rattle.kernel.specs.Rows.{events_from, Extends};
@@ -82,7 +82,7 @@ fn act_otherwise<L: Log>(
     requires none { IsAtNone app.now machine.old }
     ensures does { DoesAny 65 machine.old (L.logged log.old) machine.new (L.logged log.new)
         (λ s. act_current app.now limits.now s.current s) }
-    ensures other { result ≢ following.NextOp }
+    ensures other { is_amid result ≡ false }
 {
     let Some(task) = machine.sched.current() else {
         idle(machine, app, limits, log);
@@ -161,9 +161,9 @@ fn step_at<L: Log>(
     ensures told { (s : State) → Stands machine.old s → (L.logged log.new).told ≡ (step app.now limits.now [] s).log }
     ensures before { (L.logged log.new).before ≡ (L.logged log.old).before }
     ensures silent { result ≡ following.NextOp → L.logged log.new ≡ L.logged log.old }
-    ensures runs { result ≡ following.NextOp → machine.new.sched.current ≡ Some task }
-    ensures awake { result ≡ following.NextOp → machine.new.sched.suspensions ≡ 0 }
-    ensures on { result ≡ following.NextOp → (s : State) → Stands machine.old s → is_over app.now limits.now s ≡ false
+    ensures runs { is_amid result ≡ true → machine.new.sched.current ≡ Some task }
+    ensures awake { is_amid result ≡ true → machine.new.sched.suspensions ≡ 0 }
+    ensures on { is_amid result ≡ true → (s : State) → Stands machine.old s → is_over app.now limits.now s ≡ false
         → is_over app.now limits.now (step app.now limits.now [] s) ≡ false }
 {
     app.well_formed();
@@ -171,9 +171,9 @@ fn step_at<L: Log>(
     let following = act(machine, app, task, op, log);
     // The end of the step is here three times, so that nothing is asked behind an op that nothing may follow, and no switch is looked for
     // behind one that only takes its task to another op.
-    if following == Following::NextOp {
+    if following.is_amid() {
         machine.steps += 1;
-        return Following::NextOp;
+        return following;
     }
     if following == Following::Nothing {
         machine.settle(log);
@@ -404,6 +404,23 @@ pub(crate) fn count_steps(meter: &mut Meter, steps: u32)
     }
 }
 
+/// Begins a step behind one after which the running task is at another op of its script, where the trail has room for it, or gets it.
+/// A step that reported nothing has left the room that it had.
+#[inline(always)]
+fn begin_behind(behind: Following, trail: &mut Trail) -> bool
+    requires amid { is_amid behind ≡ true }
+    requires begun { behind ≡ following.NextOp → trail.old.told ≡ [] }
+    requires room { behind ≡ following.NextOp → 128 ≤ trail.old.room }
+    ensures begun { result ≡ true → trail.new.told ≡ [] }
+    ensures room { result ≡ true → 128 ≤ trail.new.room }
+    ensures kept { all_of trail.new ≡ all_of trail.old }
+{
+    if behind == Following::NextOp {
+        return true;
+    }
+    trail.begin().is_ok()
+}
+
 /// Does the steps in which the running task only goes on amid its script, beginning with this op, and the next one, which does more. It
 /// does none from the step before `until` on. The run is under way, and isn't over; the trail has no event of this step yet. It answers
 /// what may come behind the last of them (`pass_more`).
@@ -433,8 +450,11 @@ fn step_along_script(
     let mut op = first;
     'steps: loop {
         let following = step_at(kernel, app, task, op, limits, trail);
-        if following != Following::NextOp || last < kernel.steps {
+        if !following.is_amid() || last < kernel.steps {
             return following;
+        }
+        if !begin_behind(following, trail) {
+            return Following::Nothing;
         }
         let Some(next) = op_of(app, task, kernel.progress(task).op_index) else {
             return Following::Nothing;

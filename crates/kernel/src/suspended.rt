@@ -126,10 +126,18 @@ fn act_on<L: Log>(machine: &mut Machine, app: &App, task: TaskId, op: &Op, log: 
 {
     match *op {
         Op::Work(ticks) => work_on(machine, app, task, ticks, log),
-        Op::Time => time(machine, app, task, log),
-        Op::Mark(number) => mark(machine, app, task, number, log),
-        Op::Stamp => stamp(machine, app, task),
-        Op::Since => since(machine, app, task, log),
+        Op::Time => {
+            time(machine, app, task, log);
+        }
+        Op::Mark(number) => {
+            mark(machine, app, task, number, log);
+        }
+        Op::Stamp => {
+            stamp(machine, app, task);
+        }
+        Op::Since => {
+            since(machine, app, task, log);
+        }
         Op::Expect(ref condition) => {
             expect(machine, app, task, condition);
         }
@@ -151,10 +159,16 @@ fn act_on<L: Log>(machine: &mut Machine, app: &App, task: TaskId, op: &Op, log: 
         Op::Break => {
             leave_loop(machine, app, task);
         }
-        Op::MessagesWaiting(object) => messages_waiting(machine, app, task, object, log),
-        Op::SpacesAvailable(object) => spaces_available(machine, app, task, object, log),
+        Op::MessagesWaiting(object) => {
+            messages_waiting(machine, app, task, object, log);
+        }
+        Op::SpacesAvailable(object) => {
+            spaces_available(machine, app, task, object, log);
+        }
         Op::ClearBits(group, mask) => clear_bits(machine, app, task, group, mask, log),
-        Op::GetBits(group) => get_bits(machine, app, task, group, log),
+        Op::GetBits(group) => {
+            get_bits(machine, app, task, group, log);
+        }
         Op::SuspendAll => suspend_all(machine, app, task, log),
         Op::ResumeAll => resume_all(machine, app, task, log),
         // Every other may switch.

@@ -67,14 +67,21 @@ impl Machine {
         self.go_to(app, task, next)
     }
 
-    /// A call of the running task is complete with this answer, or with `none`.
+    /// A call of the running task is complete with this answer, or with `none`. It answers whether the task is still amid its script.
     // Apart from `answer`, since most calls answer a number, and the step is faster where that is known.
     #[inline(always)]
-    pub fn answer_given<L: Log>(&mut self, app: &App, task: TaskId, given: Option<u32>, log: &mut L)
+    pub fn answer_given<L: Log>(
+        &mut self,
+        app: &App,
+        task: TaskId,
+        given: Option<u32>,
+        log: &mut L,
+    ) -> bool
         requires room { 1 ≤ (L.logged log.old).room }
         requires runs { Runs self.old task }
         ensures does { Does 1 self.old (L.logged log.old) self.new (L.logged log.new)
             (answer app.now task given) }
+        ensures amid { result ≡ true → IsPlaced self.old self.new task }
         ensures depth { self.new.sched.depth ≡ self.old.sched.depth }
         ensures clock { self.new.clock ≡ self.old.clock }
         ensures objects { self.new.objects ≡ self.old.objects }
@@ -82,21 +89,22 @@ impl Machine {
         let op_index = self.progress(task).op_index;
         self.write(log, called(task, op_index, given));
         self.set_answer(task, given);
-        self.complete(app, task);
+        self.complete(app, task)
     }
 
-    /// A call of the running task is complete with this number as its answer.
+    /// A call of the running task is complete with this number as its answer. It answers whether the task is still amid its script.
     #[inline(always)]
-    pub fn answer<L: Log>(&mut self, app: &App, task: TaskId, number: u32, log: &mut L)
+    pub fn answer<L: Log>(&mut self, app: &App, task: TaskId, number: u32, log: &mut L) -> bool
         requires room { 1 ≤ (L.logged log.old).room }
         requires runs { Runs self.old task }
         ensures does { Does 1 self.old (L.logged log.old) self.new (L.logged log.new)
             (answer app.now task (Some number)) }
+        ensures amid { result ≡ true → IsPlaced self.old self.new task }
         ensures depth { self.new.sched.depth ≡ self.old.sched.depth }
         ensures clock { self.new.clock ≡ self.old.clock }
         ensures objects { self.new.objects ≡ self.old.objects }
     {
-        self.answer_given(app, task, Some(number), log);
+        self.answer_given(app, task, Some(number), log)
     }
 
     /// The op of the running task is complete with this answer, and reports nothing.

@@ -1,5 +1,5 @@
 //! Calls on event groups, phase by phase.
-ghost use Rattle.std.specs.Prelude.{◌≡◌, ◌≢◌, ◌<◌, ◌≤◌, ◌+◌, ◌^◌, ◌||◌, false, nat_eq, Some};
+ghost use Rattle.std.specs.Prelude.{◌≡◌, ◌≢◌, ◌<◌, ◌≤◌, ◌+◌, ◌^◌, ◌||◌, false, nat_eq, true, Some};
 ghost use Rattle.std.specs.Option.{option_eq};
 ghost use Rattle.model.specs.declared.op.Op.TheVariants as op;
 ghost use Rattle.model.specs.declared.call.Phase.TheVariants as phase;
@@ -11,7 +11,7 @@ ghost use Rattle.model.specs.Waiting.{end_hold};
 ghost use Rattle.model.specs.Step.{act};
 ghost use Rattle.sched.specs.StandsFor.{StandsFor as ScheduleStandsFor};
 ghost use Rattle.clock.specs.StandsFor.{StandsFor as ClockStandsFor};
-ghost use Rattle.machine.specs.StandsFor.{StandsFor, Does, DoesAny, Moves, progress_in};
+ghost use Rattle.machine.specs.StandsFor.{StandsFor, Does, DoesAny, IsPlaced, Moves, progress_in};
 ghost use Rattle.machine.specs.Keeping.{kept_by};
 ghost use Rattle.machine.specs.Can.{AreThere, AreToWake, Runs};
 ghost use Rattle.ops.specs.Can.{CanDecide, CanLeave, CanSetBits, CanWaitBits, IsShort};
@@ -57,15 +57,23 @@ pub fn clear_bits<L: Log>(
     machine.answer(app, task, bits, log);
 }
 
-/// `bits`: the bits of a group are the answer.
-pub fn get_bits<L: Log>(machine: &mut Machine, app: &App, task: TaskId, group: GroupId, log: &mut L)
+/// `bits`: the bits of a group are the answer. It answers whether the task is still
+/// amid its script.
+pub fn get_bits<L: Log>(
+    machine: &mut Machine,
+    app: &App,
+    task: TaskId,
+    group: GroupId,
+    log: &mut L,
+) -> bool
     requires room { 1 ≤ (L.logged log.old).room }
     requires runs { Runs machine.old task }
-    ensures { Does 1 machine.old (L.logged log.old) machine.new (L.logged log.new)
+    ensures does { Does 1 machine.old (L.logged log.old) machine.new (L.logged log.new)
         (act app.now task (op.GetBits group)) }
+    ensures amid { result ≡ true → IsPlaced machine.old machine.new task }
 {
     let bits = machine.groups.bits(group);
-    machine.answer(app, task, bits, log);
+    machine.answer(app, task, bits, log)
 }
 
 /// These bits are kept as the answer of each of these tasks' calls.
@@ -228,7 +236,7 @@ pub fn leave_bits_wait<L: Log>(machine: &mut Machine, task: TaskId, log: &mut L)
     machine.choose(log);
 }
 
-/// Woken, the task answers the bits that are kept for it, otherwise those of now.
+/// Woken, the task answers the bits that are kept for it, otherwise those of now. See `wait_bits` for what is answered here.
 #[inline(always)]
 fn finish_wait<L: Log>(
     machine: &mut Machine,
@@ -237,19 +245,24 @@ fn finish_wait<L: Log>(
     group: GroupId,
     condition: &Condition,
     log: &mut L,
-)
+) -> bool
     requires room { 1 ≤ (L.logged log.old).room }
     requires runs { Runs machine.old task }
-    ensures { Does 1 machine.old (L.logged log.old) machine.new (L.logged log.new)
+    ensures does { Does 1 machine.old (L.logged log.old) machine.new (L.logged log.new)
         (λ s. definitions.final_bits app.now task group condition.now (call_at s task).kept s) }
+    ensures amid { result ≡ true → IsPlaced machine.old machine.new task }
 {
     match machine.progress(task).call.kept {
-        None => answer_bits(machine, app, task, group, condition, log),
+        None => {
+            answer_bits(machine, app, task, group, condition, log);
+            false
+        }
         Some(bits) => machine.answer(app, task, bits, log),
     }
 }
 
-/// The next phase of a wait for bits.
+/// The next phase of a wait for bits. It answers whether the wait is over with the bits that were kept for it, and the task still amid its
+/// script: then nothing else changed.
 // The step has what it takes at hand, and a call with so many arguments would cost a third of it.
 #[inline(always)]
 pub fn wait_bits<L: Log>(
@@ -260,16 +273,24 @@ pub fn wait_bits<L: Log>(
     condition: Condition,
     ticks: Option<u32>,
     log: &mut L,
-)
+) -> bool
     requires room { 2 ≤ (L.logged log.old).room }
     requires can { CanWaitBits machine.old task ticks
         (progress_in machine.old.progress task).call.phase }
-    ensures { DoesAny 2 machine.old (L.logged log.old) machine.new (L.logged log.new)
+    ensures does { DoesAny 2 machine.old (L.logged log.old) machine.new (L.logged log.new)
         (act app.now task (op.WaitBits group condition ticks)) }
+    ensures amid { result ≡ true → IsPlaced machine.old machine.new task }
+    ensures runs { result ≡ true → Runs machine.old task }
 {
     match machine.progress(task).call.phase {
-        Phase::Start => check_bits(machine, app, task, group, condition, ticks, log),
-        Phase::Leave => leave_bits_wait(machine, task, log),
+        Phase::Start => {
+            check_bits(machine, app, task, group, condition, ticks, log);
+            false
+        }
+        Phase::Leave => {
+            leave_bits_wait(machine, task, log);
+            false
+        }
         _ => finish_wait(machine, app, task, group, &condition, log),
     }
 }

@@ -7,7 +7,7 @@ ghost use Rattle.model.specs.Objects as definitions;
 ghost use Rattle.model.specs.Objects.{allows, answer_to, attempt, fulfil, reply};
 ghost use Rattle.model.specs.Step.{act};
 ghost use Rattle.objects.specs.Items.{object_in};
-ghost use Rattle.machine.specs.StandsFor.{Stands, Does, Moves, MovesAny};
+ghost use Rattle.machine.specs.StandsFor.{Stands, Does, IsPlaced, Moves, MovesAny};
 ghost use Rattle.machine.specs.Can.{HasRoom, Leaves, Runs, StandsForSome};
 ghost use Rattle.ops.specs.Can.{Can, IsCaller};
 
@@ -129,36 +129,40 @@ pub fn do_now<L: Log>(
     machine.preempt(log);
 }
 
-/// `waiting`: the number of items in a queue is the answer.
+/// `waiting`: the number of items in a queue is the answer. It answers whether the task is still
+/// amid its script.
 pub fn messages_waiting<L: Log>(
     machine: &mut Machine,
     app: &App,
     task: TaskId,
     queue: ObjectId,
     log: &mut L,
-)
+) -> bool
     requires room { 1 ≤ (L.logged log.old).room }
     requires runs { Runs machine.old task }
-    ensures { Does 1 machine.old (L.logged log.old) machine.new (L.logged log.new)
+    ensures does { Does 1 machine.old (L.logged log.old) machine.new (L.logged log.new)
         (act app.now task (op.MessagesWaiting queue)) }
+    ensures amid { result ≡ true → IsPlaced machine.old machine.new task }
 {
     let waiting = machine.objects.waiting(queue) as u32;
-    machine.answer(app, task, waiting, log);
+    machine.answer(app, task, waiting, log)
 }
 
-/// `spaces`: the number of items that a queue still has room for is the answer.
+/// `spaces`: the number of items that a queue still has room for is the answer. It answers whether the task is still
+/// amid its script.
 pub fn spaces_available<L: Log>(
     machine: &mut Machine,
     app: &App,
     task: TaskId,
     queue: ObjectId,
     log: &mut L,
-)
+) -> bool
     requires room { 1 ≤ (L.logged log.old).room }
     requires runs { Runs machine.old task }
-    ensures { Does 1 machine.old (L.logged log.old) machine.new (L.logged log.new)
+    ensures does { Does 1 machine.old (L.logged log.old) machine.new (L.logged log.new)
         (act app.now task (op.SpacesAvailable queue)) }
+    ensures amid { result ≡ true → IsPlaced machine.old machine.new task }
 {
     let spaces = machine.objects.spaces(queue) as u32;
-    machine.answer(app, task, spaces, log);
+    machine.answer(app, task, spaces, log)
 }

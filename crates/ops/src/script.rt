@@ -1,5 +1,5 @@
-//! Ops of the script alone: marks, expectations, loops, branches (profile). Those that report nothing answer whether they did no more than
-//! to take the task to another op of its script.
+//! Ops of the script alone: marks, expectations, loops, branches (profile). They answer whether they did no more than to take the task to
+//! another op of its script, whatever they reported.
 ghost use Rattle.std.specs.Prelude.{◌≡◌, ◌<◌, ◌≤◌, ◌+◌, true, length};
 ghost use Rattle.model.specs.declared.op.Op.TheVariants as op;
 ghost use Rattle.model.specs.Ops.{expect, open_loop, close_turn, complete, branch, skip_branch, leave_loop};
@@ -13,16 +13,24 @@ ghost use Rattle.machine.specs.Can.{Runs};
 use machine::{Log, Machine};
 use model::{AnswerCondition, App, End, Loop, TaskId, What};
 
-/// `mark`: a mark event is reported.
+/// `mark`: a mark event is reported. It answers whether the task is still
+/// amid its script.
 #[inline(always)]
-pub fn mark<L: Log>(machine: &mut Machine, app: &App, task: TaskId, number: u32, log: &mut L)
+pub fn mark<L: Log>(
+    machine: &mut Machine,
+    app: &App,
+    task: TaskId,
+    number: u32,
+    log: &mut L,
+) -> bool
     requires room { 1 ≤ (L.logged log.old).room }
     requires runs { Runs machine.old task }
-    ensures { Does 1 machine.old (L.logged log.old) machine.new (L.logged log.new)
+    ensures does { Does 1 machine.old (L.logged log.old) machine.new (L.logged log.new)
         (act app.now task (op.Mark number)) }
+    ensures amid { result ≡ true → IsPlaced machine.old machine.new task }
 {
     machine.write(log, What::Mark(task, number));
-    machine.complete(app, task);
+    machine.complete(app, task)
 }
 
 /// `expect`: the run ends where the condition doesn't hold of the last answer.

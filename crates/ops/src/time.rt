@@ -1,11 +1,11 @@
 //! Ops that let time pass, give the processor away, or ask the time.
-ghost use Rattle.std.specs.Prelude.{◌≡◌, ◌<◌, ◌≤◌, ◌+◌, Some};
+ghost use Rattle.std.specs.Prelude.{◌≡◌, ◌<◌, ◌≤◌, ◌+◌, true, Some};
 ghost use Rattle.model.specs.declared.op.Op.TheVariants as op;
 ghost use Rattle.model.specs.Time.{sleep, set_previous_wake};
 ghost use Rattle.model.specs.Ops.{use_up, stamp, since};
 ghost use Rattle.model.specs.Step.{act};
 ghost use Rattle.model.specs.Invariant.{IsUsedBy};
-ghost use Rattle.machine.specs.StandsFor.{Does, Moves, progress_in};
+ghost use Rattle.machine.specs.StandsFor.{Does, IsPlaced, Moves, progress_in};
 ghost use Rattle.machine.specs.Can.{Agrees, Runs};
 ghost use Rattle.ops.specs.Can.{Can};
 
@@ -91,35 +91,41 @@ pub fn call_yield<L: Log>(machine: &mut Machine, app: &App, task: TaskId, log: &
     machine.yield_now(log);
 }
 
-/// `time`: the printed tick is the answer.
+/// `time`: the printed tick is the answer. It answers whether the task is still
+/// amid its script.
 #[inline(always)]
-pub fn time<L: Log>(machine: &mut Machine, app: &App, task: TaskId, log: &mut L)
+pub fn time<L: Log>(machine: &mut Machine, app: &App, task: TaskId, log: &mut L) -> bool
     requires room { 1 ≤ (L.logged log.old).room }
     requires runs { Runs machine.old task }
-    ensures { Does 1 machine.old (L.logged log.old) machine.new (L.logged log.new)
+    ensures does { Does 1 machine.old (L.logged log.old) machine.new (L.logged log.new)
         (act app.now task op.Time) }
+    ensures amid { result ≡ true → IsPlaced machine.old machine.new task }
 {
     let tick = machine.clock.tick();
-    machine.answer(app, task, tick, log);
+    machine.answer(app, task, tick, log)
 }
 
-/// `stamp`: the task notes the time.
-pub fn stamp(machine: &mut Machine, app: &App, task: TaskId)
+/// `stamp`: the task notes the time. It answers whether the task is still
+/// amid its script.
+pub fn stamp(machine: &mut Machine, app: &App, task: TaskId) -> bool
     requires runs { Runs machine.old task }
-    ensures { Moves machine.old machine.new (stamp app.now task) }
+    ensures does { Moves machine.old machine.new (stamp app.now task) }
+    ensures amid { result ≡ true → IsPlaced machine.old machine.new task }
 {
     let now = machine.clock.now();
     machine.set_stamp(task, now);
-    machine.complete(app, task);
+    machine.complete(app, task)
 }
 
-/// `since`: how many ticks have passed since the task's last `stamp` is the answer, or 4294967295 where there are more.
-pub fn since<L: Log>(machine: &mut Machine, app: &App, task: TaskId, log: &mut L)
+/// `since`: how many ticks have passed since the task's last `stamp` is the answer, or 4294967295 where there are more. It answers whether the task is still
+/// amid its script.
+pub fn since<L: Log>(machine: &mut Machine, app: &App, task: TaskId, log: &mut L) -> bool
     requires room { 1 ≤ (L.logged log.old).room }
     requires runs { Runs machine.old task }
     requires stamped { (progress_in machine.old.progress task).stamp ≤ machine.old.clock.now }
-    ensures { Does 1 machine.old (L.logged log.old) machine.new (L.logged log.new) (since app.now task) }
+    ensures does { Does 1 machine.old (L.logged log.old) machine.new (L.logged log.new) (since app.now task) }
+    ensures amid { result ≡ true → IsPlaced machine.old machine.new task }
 {
     let passed = machine.clock.now() - machine.progress(task).stamp;
-    machine.answer(app, task, passed.min(u32::MAX as u64) as u32, log);
+    machine.answer(app, task, passed.min(u32::MAX as u64) as u32, log)
 }

@@ -52,14 +52,14 @@ returns-in-Time-clause-does g c =
     let can = subst (CanOp c.args.app.now c.args.machine.now c.args.task) c.in-Time.is c.requires.can in
     does_by_form c.args.app.now c.args.machine.now c.time.new.machine (g.L.Log.logged c.args.log.now)
     (g.L.Log.logged c.time.new.log) c.args.task c.args.op.now Time c.in-Time.is c.requires.awake
-    (λ s. refl) refl 1 one_within can.tick.advance.agrees c.time.ensures
+    (λ s. refl) refl 1 one_within can.tick.advance.agrees c.time.ensures.does
 
 pub returns-in-Mark-clause-does : goal.returns-in-Mark-clause-does
 returns-in-Mark-clause-does g c =
     let can = subst (CanOp c.args.app.now c.args.machine.now c.args.task) c.in-Mark.is c.requires.can in
     does_by_form c.args.app.now c.args.machine.now c.mark.new.machine (g.L.Log.logged c.args.log.now)
     (g.L.Log.logged c.mark.new.log) c.args.task c.args.op.now (Mark c.in-Mark.number) c.in-Mark.is
-    c.requires.awake (λ s. refl) refl 1 one_within can.tick.advance.agrees c.mark.ensures
+    c.requires.awake (λ s. refl) refl 1 one_within can.tick.advance.agrees c.mark.ensures.does
 
 pub returns-in-Stamp-clause-does : goal.returns-in-Stamp-clause-does
 returns-in-Stamp-clause-does g c =
@@ -67,14 +67,14 @@ returns-in-Stamp-clause-does g c =
     any_by_form c.args.app.now c.args.machine.now c.stamp.new.machine (g.L.Log.logged c.args.log.now)
     (g.L.Log.logged c.args.log.now) c.args.task c.args.op.now Stamp c.in-Stamp.is c.requires.awake (λ s. refl) refl 65
     all_within (moves_any 65 c.args.machine.now c.stamp.new.machine
-    (g.L.Log.logged c.args.log.now) _ can.tick.advance.agrees c.stamp.ensures)
+    (g.L.Log.logged c.args.log.now) _ can.tick.advance.agrees c.stamp.ensures.does)
 
 pub returns-in-Since-clause-does : goal.returns-in-Since-clause-does
 returns-in-Since-clause-does g c =
     let can = subst (CanOp c.args.app.now c.args.machine.now c.args.task) c.in-Since.is c.requires.can in
     does_by_form c.args.app.now c.args.machine.now c.since.new.machine (g.L.Log.logged c.args.log.now)
     (g.L.Log.logged c.since.new.log) c.args.task c.args.op.now Since c.in-Since.is
-    c.requires.awake (λ s. refl) refl 1 one_within can.tick.advance.agrees c.since.ensures
+    c.requires.awake (λ s. refl) refl 1 one_within can.tick.advance.agrees c.since.ensures.does
 
 pub returns-in-Do-clause-does : goal.returns-in-Do-clause-does
 returns-in-Do-clause-does g c =
@@ -88,14 +88,14 @@ returns-in-MessagesWaiting-clause-does g c =
     let can = subst (CanOp c.args.app.now c.args.machine.now c.args.task) c.in-MessagesWaiting.is c.requires.can in
     does_by_form c.args.app.now c.args.machine.now c.messages_waiting.new.machine (g.L.Log.logged c.args.log.now)
     (g.L.Log.logged c.messages_waiting.new.log) c.args.task c.args.op.now (MessagesWaiting c.in-MessagesWaiting.object)
-    c.in-MessagesWaiting.is c.requires.awake (λ s. refl) refl 1 one_within can.tick.advance.agrees c.messages_waiting.ensures
+    c.in-MessagesWaiting.is c.requires.awake (λ s. refl) refl 1 one_within can.tick.advance.agrees c.messages_waiting.ensures.does
 
 pub returns-in-SpacesAvailable-clause-does : goal.returns-in-SpacesAvailable-clause-does
 returns-in-SpacesAvailable-clause-does g c =
     let can = subst (CanOp c.args.app.now c.args.machine.now c.args.task) c.in-SpacesAvailable.is c.requires.can in
     does_by_form c.args.app.now c.args.machine.now c.spaces_available.new.machine (g.L.Log.logged c.args.log.now)
     (g.L.Log.logged c.spaces_available.new.log) c.args.task c.args.op.now (SpacesAvailable c.in-SpacesAvailable.object)
-    c.in-SpacesAvailable.is c.requires.awake (λ s. refl) refl 1 one_within can.tick.advance.agrees c.spaces_available.ensures
+    c.in-SpacesAvailable.is c.requires.awake (λ s. refl) refl 1 one_within can.tick.advance.agrees c.spaces_available.ensures.does
 
 pub returns-in-Expect-clause-does : goal.returns-in-Expect-clause-does
 returns-in-Expect-clause-does g c =
@@ -186,14 +186,14 @@ returns-in-GetBits-clause-does g c =
     let can = subst (CanOp c.args.app.now c.args.machine.now c.args.task) c.in-GetBits.is c.requires.can in
     does_by_form c.args.app.now c.args.machine.now c.get_bits.new.machine (g.L.Log.logged c.args.log.now)
     (g.L.Log.logged c.get_bits.new.log) c.args.task c.args.op.now (GetBits c.in-GetBits.group)
-    c.in-GetBits.is c.requires.awake (λ s. refl) refl 1 one_within can.tick.advance.agrees c.get_bits.ensures
+    c.in-GetBits.is c.requires.awake (λ s. refl) refl 1 one_within can.tick.advance.agrees c.get_bits.ensures.does
 
 pub returns-in-WaitBits-clause-does : goal.returns-in-WaitBits-clause-does
 returns-in-WaitBits-clause-does g c =
     any_by_form c.args.app.now c.args.machine.now c.wait_bits.new.machine
     (g.L.Log.logged c.args.log.now) (g.L.Log.logged c.wait_bits.new.log) c.args.task
     c.args.op.now (WaitBits c.in-WaitBits.group c.in-WaitBits.condition c.in-WaitBits.ticks)
-    c.in-WaitBits.is c.requires.awake (λ s. refl) refl 2 two_within c.wait_bits.ensures
+    c.in-WaitBits.is c.requires.awake (λ s. refl) refl 2 two_within c.wait_bits.ensures.does
 
 pub returns-in-Suspend-clause-does : goal.returns-in-Suspend-clause-does
 returns-in-Suspend-clause-does g c =

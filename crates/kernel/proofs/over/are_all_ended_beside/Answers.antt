@@ -19,3 +19,6 @@ returns-then-not-has_endless c = λ s h.
 
 pub returns-then-is_awaited : goal.returns-then-is_awaited
 returns-then-is_awaited c = λ s h. sym (c.is_awaited.ensures s h c.if-is_awaited.true)
+
+pub returns-then-is_awaited-2 : goal.returns-then-is_awaited-2
+returns-then-is_awaited-2 c = λ s h. sym (c.is_awaited-2.ensures s h c.if-is_awaited-2.true)

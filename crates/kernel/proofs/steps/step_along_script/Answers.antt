@@ -6,9 +6,9 @@ use Rattle.model.specs.Run.{state_after}
 use Rattle.model.specs.State.{Progress}
 use Rattle.soundness.proofs.Reached.{reached_after}
 use Rattle.machine.specs.Logged.{Logged, all_of}
-use Rattle.kernel.specs.Along.{IsGoing}
+use Rattle.kernel.specs.Along.{GoesFurther, IsGoing}
 use Rattle.kernel.proofs.Along.{ends_not, further_nowhere, further_then, goes_further, goes_still, one_step, still_going}
-use Rattle.kernel.proofs.Amid.{all_before, not_another}
+use Rattle.kernel.proofs.Amid.{all_before}
 use Rattle.kernel.proofs.Bounds.{runs_there}
 use Rattle.kernel.proofs.Running.{can_step, told_after}
 use Rattle.kernel.proofs.steps.step_along_script.Goals as goal
@@ -43,8 +43,8 @@ step_at-following-requires-clause-begun c = c.steps.invariant.told
 pub step_at-following-requires-clause-room : goal.step_at-following-requires-clause-room
 step_at-following-requires-clause-room c = c.steps.invariant.room
 
-pub returns-then-ne-clause-along : goal.returns-then-ne-clause-along
-returns-then-ne-clause-along c =
+pub returns-then-not-is_amid-clause-along : goal.returns-then-not-is_amid-clause-along
+returns-then-not-is_amid-clause-along c =
     let inv = c.steps.invariant in
     let app = c.args.app.now in
     let limits = c.args.limits.now in
@@ -60,8 +60,8 @@ returns-then-ne-clause-along c =
     (c.step_at-following.ensures.told s h)) in
     further_then inv.along inv.going further
 
-pub returns-then-ne-clause-on : goal.returns-then-ne-clause-on
-returns-then-ne-clause-on c =
+pub returns-then-not-is_amid-clause-on : goal.returns-then-not-is_amid-clause-on
+returns-then-not-is_amid-clause-on c =
     let inv = c.steps.invariant in
     let app = c.args.app.now in
     let limits = c.args.limits.now in
@@ -74,8 +74,8 @@ returns-then-ne-clause-on c =
     let on = inv.along.on in
     omega arith
 
-pub returns-then-ne-clause-soon : goal.returns-then-ne-clause-soon
-returns-then-ne-clause-soon c =
+pub returns-then-not-is_amid-clause-soon : goal.returns-then-not-is_amid-clause-soon
+returns-then-not-is_amid-clause-soon c =
     let inv = c.steps.invariant in
     let app = c.args.app.now in
     let limits = c.args.limits.now in
@@ -86,6 +86,38 @@ returns-then-ne-clause-soon c =
     one_step app c.well_formed-2.ensures limits c.well_formed-3.ensures c.args.until c.steps.kernel
     c.step_at-following.new.machine short c.step_at-following.ensures.stands g in
     let soon = inv.soon in
+    omega arith
+
+pub returns-then-not-begin_behind-clause-along : goal.returns-then-not-begin_behind-clause-along
+returns-then-not-begin_behind-clause-along c =
+    let inv = c.steps.invariant in
+    let app = c.args.app.now in
+    let limits = c.args.limits.now in
+    let g : IsGoing app limits c.args.until c.steps.kernel c.args.injections.now =
+    goes_still inv.along c.requires.going (inv.going c.args.injections.now c.requires.going) in
+    let short : c.steps.kernel.steps < c.args.until = (let soon = inv.soon in omega arith) in
+    let further =
+    goes_further app c.well_formed-2.ensures limits c.well_formed-3.ensures c.args.until
+    c.steps.kernel c.step_at-following.new.machine short c.step_at-following.ensures.stands
+    g (all_of c.steps.trail) (all_of c.step_at-following.new.log)
+    (λ s h.
+    told_after c.step_at-following.new.log _ _ (c.step_at-following.ensures.before ∙ sym (all_before c.steps.trail inv.told))
+    (c.step_at-following.ensures.told s h)) in
+    subst (GoesFurther app limits c.args.until c.args.kernel.now c.step_at-following.new.machine (all_of c.args.trail.now))
+    (sym c.begin_behind.ensures.kept) (further_then inv.along inv.going further)
+
+pub returns-then-not-begin_behind-clause-on : goal.returns-then-not-begin_behind-clause-on
+returns-then-not-begin_behind-clause-on c =
+    let inv = c.steps.invariant in
+    let app = c.args.app.now in
+    let limits = c.args.limits.now in
+    let g : IsGoing app limits c.args.until c.steps.kernel c.args.injections.now =
+    goes_still inv.along c.requires.going (inv.going c.args.injections.now c.requires.going) in
+    let short : c.steps.kernel.steps < c.args.until = (let soon = inv.soon in omega arith) in
+    let one =
+    one_step app c.well_formed-2.ensures limits c.well_formed-3.ensures c.args.until c.steps.kernel
+    c.step_at-following.new.machine short c.step_at-following.ensures.stands g in
+    let on = inv.along.on in
     omega arith
 
 pub op_of-requires : goal.op_of-requires
@@ -116,7 +148,8 @@ returns-in_default-clause-along c =
     (λ s h.
     told_after c.step_at-following.new.log _ _ (c.step_at-following.ensures.before ∙ sym (all_before c.steps.trail inv.told))
     (c.step_at-following.ensures.told s h)) in
-    further_then inv.along inv.going further
+    subst (GoesFurther app limits c.args.until c.args.kernel.now c.step_at-following.new.machine (all_of c.args.trail.now))
+    (sym c.begin_behind.ensures.kept) (further_then inv.along inv.going further)
 
 pub returns-in_default-clause-on : goal.returns-in_default-clause-on
 returns-in_default-clause-on c =
@@ -145,6 +178,16 @@ steps-smaller c =
     c.step_at-following.new.machine short c.step_at-following.ensures.stands g in
     omega arith
 
+pub begin_behind-requires : goal.begin_behind-requires
+begin_behind-requires c = record {
+  amid = sym c.is_amid.ensures ∙ c.if-not-is_amid.false;
+  begun = λ e. ap (λ (l : Logged). l.told) (c.step_at-following.ensures.silent e) ∙ c.steps.invariant.told;
+  room = λ e.
+      let r = c.steps.invariant.room in
+      let same = ap (λ (l : Logged). l.room) (c.step_at-following.ensures.silent e) in
+      omega arith;
+}
+
 pub steps-preserved : goal.steps-preserved
 steps-preserved c =
     let inv = c.steps.invariant in
@@ -160,10 +203,12 @@ steps-preserved c =
     (λ s h.
     told_after c.step_at-following.new.log _ _ (c.step_at-following.ensures.before ∙ sym (all_before c.steps.trail inv.told))
     (c.step_at-following.ensures.told s h)) in
-    let e = not_another c.step_at-following.result c.if-ne.ensures in
-    let silent = c.step_at-following.ensures.silent e in
+    let e = sym c.is_amid.ensures ∙ c.if-not-is_amid.false in
+    let begun = c.if-not-begin_behind.false in
     record {
-      along = further_then inv.along inv.going further;
+      along =
+          subst (GoesFurther app limits c.args.until c.args.kernel.now c.step_at-following.new.machine (all_of c.args.trail.now))
+          (sym c.begin_behind.ensures.kept) (further_then inv.along inv.going further);
       going = λ plan f.
           still_going app c.well_formed-2.ensures limits c.well_formed-3.ensures c.args.until c.steps.kernel
           c.step_at-following.new.machine short c.step_at-following.ensures.stands (goes_still inv.along f (inv.going plan f))
@@ -176,6 +221,6 @@ steps-preserved c =
         awake = c.step_at-following.ensures.awake e;
       };
       soon = (let l = c.if-last-kernel.false in let soon = c.requires.soon in omega arith);
-      told = ap (λ (l : Logged). l.told) silent ∙ inv.told;
-      room = (let r = inv.room in let same = ap (λ (l : Logged). l.room) silent in omega arith);
+      told = c.begin_behind.ensures.begun begun;
+      room = c.begin_behind.ensures.room begun;
     }

@@ -6,10 +6,10 @@ pub returns-in-Work : goal.returns-in-Work
 returns-in-Work g c = rw c.in-Work.is c.work_on.ensures
 
 pub returns-in-Time : goal.returns-in-Time
-returns-in-Time g c = rw c.in-Time.is (does_up 1 64 _ _ _ _ _ (omega arith) c.time.ensures)
+returns-in-Time g c = rw c.in-Time.is (does_up 1 64 _ _ _ _ _ (omega arith) c.time.ensures.does)
 
 pub returns-in-Mark : goal.returns-in-Mark
-returns-in-Mark g c = rw c.in-Mark.is (does_up 1 64 _ _ _ _ _ (omega arith) c.mark.ensures)
+returns-in-Mark g c = rw c.in-Mark.is (does_up 1 64 _ _ _ _ _ (omega arith) c.mark.ensures.does)
 
 pub returns-in-Expect : goal.returns-in-Expect
 returns-in-Expect g c = rw c.in-Expect.is (moves_up 64 _ _ (g.L.Log.logged c.args.log.now) _ c.expect.ensures.does)
@@ -33,22 +33,22 @@ pub returns-in-Break : goal.returns-in-Break
 returns-in-Break g c = rw c.in-Break.is (moves_up 64 _ _ (g.L.Log.logged c.args.log.now) _ c.leave_loop.ensures.does)
 
 pub returns-in-Stamp : goal.returns-in-Stamp
-returns-in-Stamp g c = rw c.in-Stamp.is (moves_up 64 _ _ (g.L.Log.logged c.args.log.now) _ c.stamp.ensures)
+returns-in-Stamp g c = rw c.in-Stamp.is (moves_up 64 _ _ (g.L.Log.logged c.args.log.now) _ c.stamp.ensures.does)
 
 pub returns-in-Since : goal.returns-in-Since
-returns-in-Since g c = rw c.in-Since.is (does_up 1 64 _ _ _ _ _ (omega arith) c.since.ensures)
+returns-in-Since g c = rw c.in-Since.is (does_up 1 64 _ _ _ _ _ (omega arith) c.since.ensures.does)
 
 pub returns-in-MessagesWaiting : goal.returns-in-MessagesWaiting
-returns-in-MessagesWaiting g c = rw c.in-MessagesWaiting.is (does_up 1 64 _ _ _ _ _ (omega arith) c.messages_waiting.ensures)
+returns-in-MessagesWaiting g c = rw c.in-MessagesWaiting.is (does_up 1 64 _ _ _ _ _ (omega arith) c.messages_waiting.ensures.does)
 
 pub returns-in-SpacesAvailable : goal.returns-in-SpacesAvailable
-returns-in-SpacesAvailable g c = rw c.in-SpacesAvailable.is (does_up 1 64 _ _ _ _ _ (omega arith) c.spaces_available.ensures)
+returns-in-SpacesAvailable g c = rw c.in-SpacesAvailable.is (does_up 1 64 _ _ _ _ _ (omega arith) c.spaces_available.ensures.does)
 
 pub returns-in-ClearBits : goal.returns-in-ClearBits
 returns-in-ClearBits g c = rw c.in-ClearBits.is (does_up 1 64 _ _ _ _ _ (omega arith) c.clear_bits.ensures)
 
 pub returns-in-GetBits : goal.returns-in-GetBits
-returns-in-GetBits g c = rw c.in-GetBits.is (does_up 1 64 _ _ _ _ _ (omega arith) c.get_bits.ensures)
+returns-in-GetBits g c = rw c.in-GetBits.is (does_up 1 64 _ _ _ _ _ (omega arith) c.get_bits.ensures.does)
 
 pub returns-in-SuspendAll : goal.returns-in-SuspendAll
 returns-in-SuspendAll g c = rw c.in-SuspendAll.is (does_up 1 64 _ _ _ _ _ (omega arith) c.suspend_all.ensures)

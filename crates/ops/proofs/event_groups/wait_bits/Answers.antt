@@ -12,8 +12,8 @@ check_bits-requires g c =
     let can = subst (CanWaitBits c.args.machine.now c.args.task c.args.ticks) e c.requires.can in
     record { room = omega (arith, c.requires.room); can = can.0; short = can.1; time = can.2 }
 
-pub returns-in-Start : goal.returns-in-Start
-returns-in-Start g c =
+pub returns-in-Start-clause-does : goal.returns-in-Start-clause-does
+returns-in-Start-clause-does g c =
     let e = ap (λ (p : Progress). p.call.phase) (sym (c.behind-machine.view_is ∙ c.progress.ensures)) ∙ c.in-Start.is in
     let can = subst (CanWaitBits c.args.machine.now c.args.task c.args.ticks) e c.requires.can in
     let old = c.args.machine.now in
@@ -31,8 +31,8 @@ leave_bits_wait-requires g c =
       can = subst (CanWaitBits c.args.machine.now c.args.task c.args.ticks) e c.requires.can;
     }
 
-pub returns-in-Leave : goal.returns-in-Leave
-returns-in-Leave g c =
+pub returns-in-Leave-clause-does : goal.returns-in-Leave-clause-does
+returns-in-Leave-clause-does g c =
     let e = ap (λ (p : Progress). p.call.phase) (sym (c.behind-machine.view_is ∙ c.progress.ensures)) ∙ c.in-Leave.is in
     let can = subst (CanWaitBits c.args.machine.now c.args.task c.args.ticks) e c.requires.can in
     let old = c.args.machine.now in
@@ -51,8 +51,8 @@ finish_wait-requires g c =
       runs = (decides_at_last c.args.machine.now c.args.task c.args.ticks _ c.in_default.not-Start c.in_default.not-Leave can).runs;
     }
 
-pub returns-in_default : goal.returns-in_default
-returns-in_default g c =
+pub returns-in_default-clause-does : goal.returns-in_default-clause-does
+returns-in_default-clause-does g c =
     let e = ap (λ (p : Progress). p.call.phase) (sym (c.behind-machine.view_is ∙ c.progress.ensures)) in
     let can = subst (CanWaitBits c.args.machine.now c.args.task c.args.ticks) e c.requires.can in
     let agrees =
@@ -63,4 +63,10 @@ returns-in_default g c =
     let after = g.L.Log.logged c.finish_wait.new.log in
     wait_at_last c.args.app.now old new log after c.args.task c.args.group
     c.args.condition c.args.ticks _ e c.in_default.not-Start c.in_default.not-Leave
-    (does_more 1 2 old new log after _ (omega arith) (does_any 1 old new log after _ agrees c.finish_wait.ensures))
+    (does_more 1 2 old new log after _ (omega arith) (does_any 1 old new log after _ agrees c.finish_wait.ensures.does))
+
+pub returns-in_default-clause-runs : goal.returns-in_default-clause-runs
+returns-in_default-clause-runs g c = λ t.
+    let e = ap (λ (p : Progress). p.call.phase) (sym (c.behind-machine.view_is ∙ c.progress.ensures)) in
+    let can = subst (CanWaitBits c.args.machine.now c.args.task c.args.ticks) e c.requires.can in
+    (decides_at_last c.args.machine.now c.args.task c.args.ticks _ c.in_default.not-Start c.in_default.not-Leave can).runs

@@ -5,8 +5,8 @@ use Rattle.machine.specs.StandsFor.{At}
 use Rattle.ops.proofs.Working.{since_at}
 use Rattle.ops.proofs.time.since.Goals as goal
 
-pub returns : goal.returns
-returns g c = record {
+pub returns-clause-does : goal.returns-clause-does
+returns-clause-does g c = record {
   at = λ s h.
       since_at c.args.app.now c.answer.new.self (g.L.Log.logged c.answer.new.log).told
       s c.args.task c.now.result c.behind-machine.inside.stamp

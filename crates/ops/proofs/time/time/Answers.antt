@@ -4,8 +4,8 @@ use Rattle.model.specs.Ops.{answer}
 use Rattle.machine.specs.StandsFor.{At}
 use Rattle.ops.proofs.time.time.Goals as goal
 
-pub returns : goal.returns
-returns g c = record {
+pub returns-clause-does : goal.returns-clause-does
+returns-clause-does g c = record {
   at = λ s h.
       let P : ℕ → Type 0 = λ n.
       At c.answer.new.self (g.L.Log.logged c.answer.new.log).told (answer c.args.app.now c.args.task (Some n) s) in

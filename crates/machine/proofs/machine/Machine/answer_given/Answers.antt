@@ -1,6 +1,7 @@
 use Rattle.std.proofs.Common.{◌∙◌}
 use Rattle.machine.specs.contracts.progress.Progress.{the_view}
 use Rattle.machine.proofs.Acting.{answered}
+use Rattle.machine.proofs.Acting.{placed_then}
 use Rattle.machine.proofs.machine.Machine.answer_given.Goals as goal
 
 pub returns-clause-does : goal.returns-clause-does
@@ -13,3 +14,8 @@ returns-clause-does g c = record {
   few = c.write.ensures.does.few;
   before = c.write.ensures.does.before;
 }
+
+pub returns-clause-amid : goal.returns-clause-amid
+returns-clause-amid g c = λ t.
+    placed_then c.args.self.now c.set_answer.new.self c.complete.new.self
+    c.args.task _ c.set_answer.ensures (c.complete.ensures.amid t)
