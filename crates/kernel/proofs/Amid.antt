@@ -39,8 +39,8 @@ use Rattle.machine.specs.Can.{Runs}
 use Rattle.machine.specs.StandsFor.Stands.{Placed, Placing}
 use Rattle.kernel.specs.contracts.acting.Following.{the_type}
 use Rattle.kernel.specs.declared.acting.Following.{Following}
-use Rattle.kernel.specs.declared.acting.Following.TheVariants.{NextOp}
-use Rattle.kernel.specs.InScript.{IsAt, may_stay_amid}
+use Rattle.kernel.specs.declared.acting.Following.TheVariants.{NextOp, Answered}
+use Rattle.kernel.specs.InScript.{IsAt, is_amid, may_stay_amid}
 use Rattle.kernel.specs.Over.{is_over}
 use Rattle.kernel.proofs.Ending.{begun, handled_before, stepped}
 use Rattle.kernel.proofs.Left.{on_if_ready}
@@ -192,8 +192,11 @@ other-act app i (NextCommand o) s t = absurd (cc)
 other-act app i Obey s t = absurd (cc)
 
 -- What may follow is the task's next op.
-pub same_following : (a : Following) → true ≡ sameb the_type a NextOp → a ≡ NextOp
-same_following a e = same_true the_type (search rules) a NextOp (sym e)
+pub amid_next : (a : Following) → true ≡ sameb the_type a NextOp → is_amid a ≡ true
+amid_next a e = ap is_amid (same_true the_type (search rules) a NextOp (sym e))
+
+pub amid_answered : (a : Following) → true ≡ sameb the_type a Answered → is_amid a ≡ true
+amid_answered a e = ap is_amid (same_true the_type (search rules) a Answered (sym e))
 
 -- A log that has reported nothing in this step holds what was reported before.
 pub all_before : (log : Logged) → log.told ≡ [] → all_of log ≡ log.before

@@ -46,14 +46,6 @@ impl Following {
     ghost use Rattle.kernel.specs.declared.acting.Following.TheVariants as following;
     ghost use Rattle.kernel.specs.InScript.{is_amid};
 
-    /// Whether the task is at another op of its script, and nothing else changed but what was reported.
-    #[inline(always)]
-    pub(crate) fn is_amid(self) -> bool
-        ensures { result ≡ is_amid self }
-    {
-        matches!(self, Following::NextOp | Following::Answered)
-    }
-
     /// The task's next op, if it is still amid its script.
     #[inline(always)]
     fn op_if(stays: bool) -> Following

@@ -31,7 +31,10 @@ pub(crate) fn pass_more(
     ensures { GoesOn app.now limits.now until kernel.old kernel.new (all_of trail.old) (all_of trail.new) }
 {
     app.well_formed();
-    if following == Following::Nothing || following.is_amid() {
+    if following == Following::Nothing
+        || following == Following::NextOp
+        || following == Following::Answered
+    {
         return;
     }
     if !trail.is_silent() {

@@ -171,9 +171,13 @@ fn step_at<L: Log>(
     let following = act(machine, app, task, op, log);
     // The end of the step is here three times, so that nothing is asked behind an op that nothing may follow, and no switch is looked for
     // behind one that only takes its task to another op.
-    if following.is_amid() {
+    if following == Following::NextOp {
         machine.steps += 1;
-        return following;
+        return Following::NextOp;
+    }
+    if following == Following::Answered {
+        machine.steps += 1;
+        return Following::Answered;
     }
     if following == Following::Nothing {
         machine.settle(log);
@@ -404,21 +408,23 @@ pub(crate) fn count_steps(meter: &mut Meter, steps: u32)
     }
 }
 
-/// Begins a step behind one after which the running task is at another op of its script, where the trail has room for it, or gets it.
-/// A step that reported nothing has left the room that it had.
+/// Whether the next step, which has this number, may be done with the task in hand: behind one after which the running task is at another
+/// op of its script, up to the last step that may be done so. The trail has no event of the next step then, and room for it. A step that
+/// reported nothing has left the room that it had.
 #[inline(always)]
-fn begin_behind(behind: Following, trail: &mut Trail) -> bool
-    requires amid { is_amid behind ≡ true }
+fn goes_on_amid(behind: Following, steps: u32, last: u32, trail: &mut Trail) -> bool
     requires begun { behind ≡ following.NextOp → trail.old.told ≡ [] }
     requires room { behind ≡ following.NextOp → 128 ≤ trail.old.room }
+    ensures amid { result ≡ true → is_amid behind ≡ true }
+    ensures soon { result ≡ true → steps ≤ last }
     ensures begun { result ≡ true → trail.new.told ≡ [] }
     ensures room { result ≡ true → 128 ≤ trail.new.room }
     ensures kept { all_of trail.new ≡ all_of trail.old }
 {
-    if behind == Following::NextOp {
-        return true;
+    if behind == Following::Answered {
+        return steps <= last && trail.begin().is_ok();
     }
-    trail.begin().is_ok()
+    behind == Following::NextOp && steps <= last
 }
 
 /// Does the steps in which the running task only goes on amid its script, beginning with this op, and the next one, which does more. It
@@ -450,11 +456,8 @@ fn step_along_script(
     let mut op = first;
     'steps: loop {
         let following = step_at(kernel, app, task, op, limits, trail);
-        if !following.is_amid() || last < kernel.steps {
+        if !goes_on_amid(following, kernel.steps, last, trail) {
             return following;
-        }
-        if !begin_behind(following, trail) {
-            return Following::Nothing;
         }
         let Some(next) = op_of(app, task, kernel.progress(task).op_index) else {
             return Following::Nothing;

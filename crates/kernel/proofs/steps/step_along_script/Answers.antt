@@ -43,53 +43,8 @@ step_at-following-requires-clause-begun c = c.steps.invariant.told
 pub step_at-following-requires-clause-room : goal.step_at-following-requires-clause-room
 step_at-following-requires-clause-room c = c.steps.invariant.room
 
-pub returns-then-not-is_amid-clause-along : goal.returns-then-not-is_amid-clause-along
-returns-then-not-is_amid-clause-along c =
-    let inv = c.steps.invariant in
-    let app = c.args.app.now in
-    let limits = c.args.limits.now in
-    let g : IsGoing app limits c.args.until c.steps.kernel c.args.injections.now =
-    goes_still inv.along c.requires.going (inv.going c.args.injections.now c.requires.going) in
-    let short : c.steps.kernel.steps < c.args.until = (let soon = inv.soon in omega arith) in
-    let further =
-    goes_further app c.well_formed-2.ensures limits c.well_formed-3.ensures c.args.until
-    c.steps.kernel c.step_at-following.new.machine short c.step_at-following.ensures.stands
-    g (all_of c.steps.trail) (all_of c.step_at-following.new.log)
-    (λ s h.
-    told_after c.step_at-following.new.log _ _ (c.step_at-following.ensures.before ∙ sym (all_before c.steps.trail inv.told))
-    (c.step_at-following.ensures.told s h)) in
-    further_then inv.along inv.going further
-
-pub returns-then-not-is_amid-clause-on : goal.returns-then-not-is_amid-clause-on
-returns-then-not-is_amid-clause-on c =
-    let inv = c.steps.invariant in
-    let app = c.args.app.now in
-    let limits = c.args.limits.now in
-    let g : IsGoing app limits c.args.until c.steps.kernel c.args.injections.now =
-    goes_still inv.along c.requires.going (inv.going c.args.injections.now c.requires.going) in
-    let short : c.steps.kernel.steps < c.args.until = (let soon = inv.soon in omega arith) in
-    let one =
-    one_step app c.well_formed-2.ensures limits c.well_formed-3.ensures c.args.until c.steps.kernel
-    c.step_at-following.new.machine short c.step_at-following.ensures.stands g in
-    let on = inv.along.on in
-    omega arith
-
-pub returns-then-not-is_amid-clause-soon : goal.returns-then-not-is_amid-clause-soon
-returns-then-not-is_amid-clause-soon c =
-    let inv = c.steps.invariant in
-    let app = c.args.app.now in
-    let limits = c.args.limits.now in
-    let g : IsGoing app limits c.args.until c.steps.kernel c.args.injections.now =
-    goes_still inv.along c.requires.going (inv.going c.args.injections.now c.requires.going) in
-    let short : c.steps.kernel.steps < c.args.until = (let soon = inv.soon in omega arith) in
-    let one =
-    one_step app c.well_formed-2.ensures limits c.well_formed-3.ensures c.args.until c.steps.kernel
-    c.step_at-following.new.machine short c.step_at-following.ensures.stands g in
-    let soon = inv.soon in
-    omega arith
-
-pub returns-then-not-begin_behind-clause-along : goal.returns-then-not-begin_behind-clause-along
-returns-then-not-begin_behind-clause-along c =
+pub returns-then-not-goes_on_amid-clause-along : goal.returns-then-not-goes_on_amid-clause-along
+returns-then-not-goes_on_amid-clause-along c =
     let inv = c.steps.invariant in
     let app = c.args.app.now in
     let limits = c.args.limits.now in
@@ -104,10 +59,10 @@ returns-then-not-begin_behind-clause-along c =
     told_after c.step_at-following.new.log _ _ (c.step_at-following.ensures.before ∙ sym (all_before c.steps.trail inv.told))
     (c.step_at-following.ensures.told s h)) in
     subst (GoesFurther app limits c.args.until c.args.kernel.now c.step_at-following.new.machine (all_of c.args.trail.now))
-    (sym c.begin_behind.ensures.kept) (further_then inv.along inv.going further)
+    (sym c.goes_on_amid.ensures.kept) (further_then inv.along inv.going further)
 
-pub returns-then-not-begin_behind-clause-on : goal.returns-then-not-begin_behind-clause-on
-returns-then-not-begin_behind-clause-on c =
+pub returns-then-not-goes_on_amid-clause-on : goal.returns-then-not-goes_on_amid-clause-on
+returns-then-not-goes_on_amid-clause-on c =
     let inv = c.steps.invariant in
     let app = c.args.app.now in
     let limits = c.args.limits.now in
@@ -118,6 +73,20 @@ returns-then-not-begin_behind-clause-on c =
     one_step app c.well_formed-2.ensures limits c.well_formed-3.ensures c.args.until c.steps.kernel
     c.step_at-following.new.machine short c.step_at-following.ensures.stands g in
     let on = inv.along.on in
+    omega arith
+
+pub returns-then-not-goes_on_amid-clause-soon : goal.returns-then-not-goes_on_amid-clause-soon
+returns-then-not-goes_on_amid-clause-soon c =
+    let inv = c.steps.invariant in
+    let app = c.args.app.now in
+    let limits = c.args.limits.now in
+    let g : IsGoing app limits c.args.until c.steps.kernel c.args.injections.now =
+    goes_still inv.along c.requires.going (inv.going c.args.injections.now c.requires.going) in
+    let short : c.steps.kernel.steps < c.args.until = (let soon = inv.soon in omega arith) in
+    let one =
+    one_step app c.well_formed-2.ensures limits c.well_formed-3.ensures c.args.until c.steps.kernel
+    c.step_at-following.new.machine short c.step_at-following.ensures.stands g in
+    let soon = inv.soon in
     omega arith
 
 pub op_of-requires : goal.op_of-requires
@@ -149,7 +118,7 @@ returns-in_default-clause-along c =
     told_after c.step_at-following.new.log _ _ (c.step_at-following.ensures.before ∙ sym (all_before c.steps.trail inv.told))
     (c.step_at-following.ensures.told s h)) in
     subst (GoesFurther app limits c.args.until c.args.kernel.now c.step_at-following.new.machine (all_of c.args.trail.now))
-    (sym c.begin_behind.ensures.kept) (further_then inv.along inv.going further)
+    (sym c.goes_on_amid.ensures.kept) (further_then inv.along inv.going further)
 
 pub returns-in_default-clause-on : goal.returns-in_default-clause-on
 returns-in_default-clause-on c =
@@ -178,9 +147,8 @@ steps-smaller c =
     c.step_at-following.new.machine short c.step_at-following.ensures.stands g in
     omega arith
 
-pub begin_behind-requires : goal.begin_behind-requires
-begin_behind-requires c = record {
-  amid = sym c.is_amid.ensures ∙ c.if-not-is_amid.false;
+pub goes_on_amid-requires : goal.goes_on_amid-requires
+goes_on_amid-requires c = record {
   begun = λ e. ap (λ (l : Logged). l.told) (c.step_at-following.ensures.silent e) ∙ c.steps.invariant.told;
   room = λ e.
       let r = c.steps.invariant.room in
@@ -203,12 +171,12 @@ steps-preserved c =
     (λ s h.
     told_after c.step_at-following.new.log _ _ (c.step_at-following.ensures.before ∙ sym (all_before c.steps.trail inv.told))
     (c.step_at-following.ensures.told s h)) in
-    let e = sym c.is_amid.ensures ∙ c.if-not-is_amid.false in
-    let begun = c.if-not-begin_behind.false in
+    let begun = c.if-not-goes_on_amid.false in
+    let e = c.goes_on_amid.ensures.amid begun in
     record {
       along =
           subst (GoesFurther app limits c.args.until c.args.kernel.now c.step_at-following.new.machine (all_of c.args.trail.now))
-          (sym c.begin_behind.ensures.kept) (further_then inv.along inv.going further);
+          (sym c.goes_on_amid.ensures.kept) (further_then inv.along inv.going further);
       going = λ plan f.
           still_going app c.well_formed-2.ensures limits c.well_formed-3.ensures c.args.until c.steps.kernel
           c.step_at-following.new.machine short c.step_at-following.ensures.stands (goes_still inv.along f (inv.going plan f))
@@ -220,7 +188,7 @@ steps-preserved c =
             subst P (c.behind-kernel.view_is ∙ c.progress.ensures) c.in-Some.ensures.some);
         awake = c.step_at-following.ensures.awake e;
       };
-      soon = (let l = c.if-last-kernel.false in let soon = c.requires.soon in omega arith);
-      told = c.begin_behind.ensures.begun begun;
-      room = c.begin_behind.ensures.room begun;
+      soon = (let l = c.goes_on_amid.ensures.soon begun in let soon = c.requires.soon in omega arith);
+      told = c.goes_on_amid.ensures.begun begun;
+      room = c.goes_on_amid.ensures.room begun;
     }

@@ -2,7 +2,7 @@ use Rattle.std.proofs.Common.{[], ◌∙◌, ap, sym, arith}
 use Rattle.model.specs.Step.{step}
 use Rattle.machine.specs.Logged.{Logged}
 use Rattle.machine.proofs.Either.{steps_are}
-use Rattle.kernel.proofs.Amid.{on_amid, reporting, stands_amid, told_amid}
+use Rattle.kernel.proofs.Amid.{amid_answered, amid_next, on_amid, reporting, stands_amid, told_amid}
 use Rattle.kernel.proofs.Bounds.{below_limits, can_do}
 use Rattle.kernel.proofs.Counting.{steps_still}
 use Rattle.kernel.proofs.Ending.{begun, handled_before, stepped}
@@ -15,8 +15,8 @@ act-following-requires-clause-can g c =
     can_do c.args.app.now c.well_formed-2.ensures c.args.machine.now
     c.requires.going c.args.task at.current at.awake c.args.op.now at.at
 
-pub overflow_add-machine-then-eq : goal.overflow_add-machine-then-eq
-overflow_add-machine-then-eq g c =
+pub overflow_add-machine-then-eq-3 : goal.overflow_add-machine-then-eq-3
+overflow_add-machine-then-eq-3 g c =
     let going = c.requires.going in
     let a =
     c.settle.ensures.at _ ((acts c.args.app.now c.args.limits.now c.args.machine.now c.args.task c.requires.at.current
@@ -32,8 +32,8 @@ overflow_add-machine-then-eq g c =
     let most = going.are.3 in
     omega arith
 
-pub returns-then-eq-clause-stands : goal.returns-then-eq-clause-stands
-returns-then-eq-clause-stands g c = λ s h.
+pub returns-then-eq-3-clause-stands : goal.returns-then-eq-3-clause-stands
+returns-then-eq-3-clause-stands g c = λ s h.
     let a =
     c.settle.ensures.at _ ((acts c.args.app.now c.args.limits.now c.args.machine.now c.args.task c.requires.at.current
     c.args.op.now c.requires.at.at c.act-following.new.machine _ _ c.act-following.ensures.does).at
@@ -45,9 +45,9 @@ returns-then-eq-clause-stands g c = λ s h.
     stepped c.args.app.now c.args.limits.now [] s c.settle.new.self (g.L.Log.logged c.settle.new.log).told
     c.settle.new.self.steps (still ∙ steps_are c.args.machine.now s h) a
 
-pub returns-then-eq-clause-told : goal.returns-then-eq-clause-told
+pub returns-then-eq-3-clause-told : goal.returns-then-eq-3-clause-told
 unfolding step
-returns-then-eq-clause-told g c = λ s h.
+returns-then-eq-3-clause-told g c = λ s h.
     (c.settle.ensures.at _
     ((acts c.args.app.now c.args.limits.now c.args.machine.now c.args.task c.requires.at.current
     c.args.op.now c.requires.at.at c.act-following.new.machine _ _ c.act-following.ensures.does).at
@@ -93,9 +93,9 @@ returns-clause-told g c = λ s h.
     _ (handled_before c.args.app.now [] s c.args.machine.now _
     (begun c.args.machine.now (g.L.Log.logged c.args.log.now).told s h c.requires.begun)))).log
 
-pub returns-then-is_amid-clause-stands : goal.returns-then-is_amid-clause-stands
-returns-then-is_amid-clause-stands g c = λ s h.
-    let e = sym c.is_amid.ensures ∙ c.if-is_amid.true in
+pub returns-then-eq-clause-stands : goal.returns-then-eq-clause-stands
+returns-then-eq-clause-stands g c = λ s h.
+    let e = amid_next c.act-following.result c.if-eq.ensures in
     let does =
     reporting c.args.machine.now c.act-following.new.machine (g.L.Log.logged c.args.log.now) (g.L.Log.logged c.act-following.new.log) _
     (acts c.args.app.now c.args.limits.now c.args.machine.now c.args.task c.requires.at.current
@@ -105,9 +105,9 @@ returns-then-is_amid-clause-stands g c = λ s h.
     c.args.op.now c.requires.at (c.act-following.ensures.plain e) (c.act-following.ensures.runs e)
     (c.act-following.ensures.amid e) (g.L.Log.logged c.act-following.new.log).told does s h
 
-pub returns-then-is_amid-clause-told : goal.returns-then-is_amid-clause-told
-returns-then-is_amid-clause-told g c = λ s h.
-    let e = sym c.is_amid.ensures ∙ c.if-is_amid.true in
+pub returns-then-eq-clause-told : goal.returns-then-eq-clause-told
+returns-then-eq-clause-told g c = λ s h.
+    let e = amid_next c.act-following.result c.if-eq.ensures in
     let does =
     reporting c.args.machine.now c.act-following.new.machine (g.L.Log.logged c.args.log.now) (g.L.Log.logged c.act-following.new.log) _
     (acts c.args.app.now c.args.limits.now c.args.machine.now c.args.task c.requires.at.current
@@ -117,9 +117,45 @@ returns-then-is_amid-clause-told g c = λ s h.
     c.args.op.now c.requires.at (c.act-following.ensures.plain e) (c.act-following.ensures.runs e)
     (c.act-following.ensures.amid e) (g.L.Log.logged c.act-following.new.log).told does s h
 
-pub returns-then-is_amid-clause-on : goal.returns-then-is_amid-clause-on
-returns-then-is_amid-clause-on g c = λ next s h going.
-    let e = sym c.is_amid.ensures ∙ c.if-is_amid.true in
+pub returns-then-eq-clause-on : goal.returns-then-eq-clause-on
+returns-then-eq-clause-on g c = λ next s h going.
+    let e = amid_next c.act-following.result c.if-eq.ensures in
+    let does =
+    reporting c.args.machine.now c.act-following.new.machine (g.L.Log.logged c.args.log.now) (g.L.Log.logged c.act-following.new.log) _
+    (acts c.args.app.now c.args.limits.now c.args.machine.now c.args.task c.requires.at.current
+    c.args.op.now c.requires.at.at c.act-following.new.machine _ _ c.act-following.ensures.does)
+    c.requires.begun in
+    on_amid c.args.app.now c.args.limits.now c.args.machine.now c.act-following.new.machine c.args.task
+    c.args.op.now c.requires.at (c.act-following.ensures.plain e) (c.act-following.ensures.runs e)
+    (c.act-following.ensures.amid e) (g.L.Log.logged c.act-following.new.log).told does s h going
+
+pub returns-then-eq-2-clause-stands : goal.returns-then-eq-2-clause-stands
+returns-then-eq-2-clause-stands g c = λ s h.
+    let e = amid_answered c.act-following.result c.if-eq-2.ensures in
+    let does =
+    reporting c.args.machine.now c.act-following.new.machine (g.L.Log.logged c.args.log.now) (g.L.Log.logged c.act-following.new.log) _
+    (acts c.args.app.now c.args.limits.now c.args.machine.now c.args.task c.requires.at.current
+    c.args.op.now c.requires.at.at c.act-following.new.machine _ _ c.act-following.ensures.does)
+    c.requires.begun in
+    stands_amid c.args.app.now c.args.limits.now c.args.machine.now c.act-following.new.machine c.args.task
+    c.args.op.now c.requires.at (c.act-following.ensures.plain e) (c.act-following.ensures.runs e)
+    (c.act-following.ensures.amid e) (g.L.Log.logged c.act-following.new.log).told does s h
+
+pub returns-then-eq-2-clause-told : goal.returns-then-eq-2-clause-told
+returns-then-eq-2-clause-told g c = λ s h.
+    let e = amid_answered c.act-following.result c.if-eq-2.ensures in
+    let does =
+    reporting c.args.machine.now c.act-following.new.machine (g.L.Log.logged c.args.log.now) (g.L.Log.logged c.act-following.new.log) _
+    (acts c.args.app.now c.args.limits.now c.args.machine.now c.args.task c.requires.at.current
+    c.args.op.now c.requires.at.at c.act-following.new.machine _ _ c.act-following.ensures.does)
+    c.requires.begun in
+    told_amid c.args.app.now c.args.limits.now c.args.machine.now c.act-following.new.machine c.args.task
+    c.args.op.now c.requires.at (c.act-following.ensures.plain e) (c.act-following.ensures.runs e)
+    (c.act-following.ensures.amid e) (g.L.Log.logged c.act-following.new.log).told does s h
+
+pub returns-then-eq-2-clause-on : goal.returns-then-eq-2-clause-on
+returns-then-eq-2-clause-on g c = λ next s h going.
+    let e = amid_answered c.act-following.result c.if-eq-2.ensures in
     let does =
     reporting c.args.machine.now c.act-following.new.machine (g.L.Log.logged c.args.log.now) (g.L.Log.logged c.act-following.new.log) _
     (acts c.args.app.now c.args.limits.now c.args.machine.now c.args.task c.requires.at.current
