@@ -1,6 +1,6 @@
 -- A step behind which the running task is at another op of its script, and nothing else changed but what the step reported.
 use denote.Enum.Bare.{sameb, same_true}
-use Rattle.std.proofs.Common.{◌≡◌, ◌≢◌, rules, ◌+◌, ◌||◌, ℕ, Bool, true, false, eqb, leb, List, [], ◌∷◌, Option, Some, None, ◌≤◌}
+use Rattle.std.proofs.Common.{◌≡◌, ◌≢◌, rules, ◌+◌, ◌||◌, ℕ, Bool, true, false, not, eqb, leb, List, [], ◌∷◌, Option, Some, None, ◌≤◌}
 use Rattle.std.proofs.Common.{refl, ap, sym, subst, ◌∙◌, arith, append-nil}
 use Rattle.model.specs.declared.op.Op.{Op}
 use Rattle.model.specs.declared.op.Op.TheVariants.{Work, Delay, DelayUntil, Yield, Time, Mark, Expect, Repeat, End as EndLoop, If}
@@ -197,6 +197,19 @@ amid_next a e = ap is_amid (same_true the_type (search rules) a NextOp (sym e))
 
 pub amid_answered : (a : Following) → true ≡ sameb the_type a Answered → is_amid a ≡ true
 amid_answered a e = ap is_amid (same_true the_type (search rules) a Answered (sym e))
+
+pub next_op : (a : Following) → false ≡ not (sameb the_type a NextOp) → a ≡ NextOp
+next_op a e = same_true the_type (search rules) a NextOp (unequal (sameb the_type a NextOp) e) where
+  unequal : (x : Bool) → false ≡ not x → x ≡ true
+  unequal true e = refl
+  unequal false e = absurd (cc)
+
+pub not_another : (a : Following) → false ≡ not (sameb the_type a NextOp) → is_amid a ≡ true
+not_another a e = ap is_amid (next_op a e)
+
+-- A log in which the next step begins holds what was reported before.
+pub begun_anew : (old new : Logged) → new.before ≡ all_of old → new.told ≡ [] → all_of new ≡ all_of old
+begun_anew old new before told = told_after new (all_of old) [] before told ∙ append-nil (all_of old)
 
 -- A log that has reported nothing in this step holds what was reported before.
 pub all_before : (log : Logged) → log.told ≡ [] → all_of log ≡ log.before

@@ -408,25 +408,6 @@ pub(crate) fn count_steps(meter: &mut Meter, steps: u32)
     }
 }
 
-/// Whether the next step, which has this number, may be done with the task in hand: behind one after which the running task is at another
-/// op of its script, up to the last step that may be done so. The trail has no event of the next step then, and room for it. A step that
-/// reported nothing has left the room that it had.
-#[inline(always)]
-fn goes_on_amid(behind: Following, steps: u32, last: u32, trail: &mut Trail) -> bool
-    requires begun { behind ≡ following.NextOp → trail.old.told ≡ [] }
-    requires room { behind ≡ following.NextOp → 128 ≤ trail.old.room }
-    ensures amid { result ≡ true → is_amid behind ≡ true }
-    ensures soon { result ≡ true → steps ≤ last }
-    ensures begun { result ≡ true → trail.new.told ≡ [] }
-    ensures room { result ≡ true → 128 ≤ trail.new.room }
-    ensures kept { all_of trail.new ≡ all_of trail.old }
-{
-    if behind == Following::Answered {
-        return steps <= last && trail.begin().is_ok();
-    }
-    behind == Following::NextOp && steps <= last
-}
-
 /// Does the steps in which the running task only goes on amid its script, beginning with this op, and the next one, which does more. It
 /// does none from the step before `until` on. The run is under way, and isn't over; the trail has no event of this step yet. It answers
 /// what may come behind the last of them (`pass_more`).
@@ -456,7 +437,11 @@ fn step_along_script(
     let mut op = first;
     'steps: loop {
         let following = step_at(kernel, app, task, op, limits, trail);
-        if !goes_on_amid(following, kernel.steps, last, trail) {
+        if following == Following::Answered {
+            if last < kernel.steps || trail.begin().is_err() {
+                return Following::Nothing;
+            }
+        } else if following != Following::NextOp || last < kernel.steps {
             return following;
         }
         let Some(next) = op_of(app, task, kernel.progress(task).op_index) else {

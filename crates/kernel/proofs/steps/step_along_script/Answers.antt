@@ -1,4 +1,4 @@
-use Rattle.std.proofs.Common.{◌≡◌, ◌<◌, ◌∙◌, ℕ, Option, Some, length, refl, ap, sym, subst, arith}
+use Rattle.std.proofs.Common.{rules, ◌≡◌, ◌<◌, ◌≤◌, ◌+◌, ◌∙◌, true, ℕ, Option, Some, length, refl, ap, sym, subst, arith}
 use Rattle.std.specs.Option.{IfSome}
 use Rattle.model.specs.Application.{op_at}
 use Rattle.model.specs.Invariant.{hold_of}
@@ -8,9 +8,13 @@ use Rattle.soundness.proofs.Reached.{reached_after}
 use Rattle.machine.specs.Logged.{Logged, all_of}
 use Rattle.kernel.specs.Along.{GoesFurther, IsGoing}
 use Rattle.kernel.proofs.Along.{ends_not, further_nowhere, further_then, goes_further, goes_still, one_step, still_going}
-use Rattle.kernel.proofs.Amid.{all_before}
+use Rattle.kernel.proofs.Amid.{all_before, amid_answered, begun_anew, next_op, not_another}
 use Rattle.kernel.proofs.Bounds.{runs_there}
 use Rattle.kernel.proofs.Running.{can_step, told_after}
+use Rattle.kernel.specs.InScript.{is_amid}
+use Rattle.kernel.proofs.steps.step_along_script.Goals.{then-last-kernel-via-then-last-kernel}
+use Rattle.kernel.proofs.steps.step_along_script.Goals.{then-last-kernel-via-else-last-kernel+then-is_err}
+use Rattle.kernel.proofs.steps.step_along_script.Goals.{then-eq+else-last-kernel+else-is_err, else-eq+else-ne+else-last-kernel-2}
 use Rattle.kernel.proofs.steps.step_along_script.Goals as goal
 
 pub steps-init : goal.steps-init
@@ -43,8 +47,8 @@ step_at-following-requires-clause-begun c = c.steps.invariant.told
 pub step_at-following-requires-clause-room : goal.step_at-following-requires-clause-room
 step_at-following-requires-clause-room c = c.steps.invariant.room
 
-pub returns-then-not-goes_on_amid-clause-along : goal.returns-then-not-goes_on_amid-clause-along
-returns-then-not-goes_on_amid-clause-along c =
+pub returns-then-ne-clause-along : goal.returns-then-ne-clause-along
+returns-then-ne-clause-along c =
     let inv = c.steps.invariant in
     let app = c.args.app.now in
     let limits = c.args.limits.now in
@@ -58,11 +62,10 @@ returns-then-not-goes_on_amid-clause-along c =
     (λ s h.
     told_after c.step_at-following.new.log _ _ (c.step_at-following.ensures.before ∙ sym (all_before c.steps.trail inv.told))
     (c.step_at-following.ensures.told s h)) in
-    subst (GoesFurther app limits c.args.until c.args.kernel.now c.step_at-following.new.machine (all_of c.args.trail.now))
-    (sym c.goes_on_amid.ensures.kept) (further_then inv.along inv.going further)
+    further_then inv.along inv.going further
 
-pub returns-then-not-goes_on_amid-clause-on : goal.returns-then-not-goes_on_amid-clause-on
-returns-then-not-goes_on_amid-clause-on c =
+pub returns-then-ne-clause-on : goal.returns-then-ne-clause-on
+returns-then-ne-clause-on c =
     let inv = c.steps.invariant in
     let app = c.args.app.now in
     let limits = c.args.limits.now in
@@ -75,8 +78,36 @@ returns-then-not-goes_on_amid-clause-on c =
     let on = inv.along.on in
     omega arith
 
-pub returns-then-not-goes_on_amid-clause-soon : goal.returns-then-not-goes_on_amid-clause-soon
-returns-then-not-goes_on_amid-clause-soon c =
+pub returns-then-ne-clause-soon : goal.returns-then-ne-clause-soon
+returns-then-ne-clause-soon c =
+    let inv = c.steps.invariant in
+    let app = c.args.app.now in
+    let limits = c.args.limits.now in
+    let g : IsGoing app limits c.args.until c.steps.kernel c.args.injections.now =
+    goes_still inv.along c.requires.going (inv.going c.args.injections.now c.requires.going) in
+    let short : c.steps.kernel.steps < c.args.until = (let soon = inv.soon in omega arith) in
+    let one =
+    one_step app c.well_formed-2.ensures limits c.well_formed-3.ensures c.args.until c.steps.kernel
+    c.step_at-following.new.machine short c.step_at-following.ensures.stands g in
+    let soon = inv.soon in
+    omega arith
+
+pub returns-then-last-kernel-clause-on : goal.returns-then-last-kernel-clause-on
+returns-then-last-kernel-clause-on c =
+    let inv = c.steps.invariant in
+    let app = c.args.app.now in
+    let limits = c.args.limits.now in
+    let g : IsGoing app limits c.args.until c.steps.kernel c.args.injections.now =
+    goes_still inv.along c.requires.going (inv.going c.args.injections.now c.requires.going) in
+    let short : c.steps.kernel.steps < c.args.until = (let soon = inv.soon in omega arith) in
+    let one =
+    one_step app c.well_formed-2.ensures limits c.well_formed-3.ensures c.args.until c.steps.kernel
+    c.step_at-following.new.machine short c.step_at-following.ensures.stands g in
+    let on = inv.along.on in
+    omega arith
+
+pub returns-then-last-kernel-clause-soon : goal.returns-then-last-kernel-clause-soon
+returns-then-last-kernel-clause-soon c =
     let inv = c.steps.invariant in
     let app = c.args.app.now in
     let limits = c.args.limits.now in
@@ -101,24 +132,6 @@ op_of-requires c =
     subst (λ (o : Option ℕ). IfSome o (λ task. task < length app.tasks)) inv.at.current
     (runs_there app c.steps.kernel s (hold_of s) g.free.way.stands
     (reached_after app c.well_formed-2.ensures limits c.args.injections.now c.steps.kernel.steps).sound)
-
-pub returns-in_default-clause-along : goal.returns-in_default-clause-along
-returns-in_default-clause-along c =
-    let inv = c.steps.invariant in
-    let app = c.args.app.now in
-    let limits = c.args.limits.now in
-    let g : IsGoing app limits c.args.until c.steps.kernel c.args.injections.now =
-    goes_still inv.along c.requires.going (inv.going c.args.injections.now c.requires.going) in
-    let short : c.steps.kernel.steps < c.args.until = (let soon = inv.soon in omega arith) in
-    let further =
-    goes_further app c.well_formed-2.ensures limits c.well_formed-3.ensures c.args.until
-    c.steps.kernel c.step_at-following.new.machine short c.step_at-following.ensures.stands
-    g (all_of c.steps.trail) (all_of c.step_at-following.new.log)
-    (λ s h.
-    told_after c.step_at-following.new.log _ _ (c.step_at-following.ensures.before ∙ sym (all_before c.steps.trail inv.told))
-    (c.step_at-following.ensures.told s h)) in
-    subst (GoesFurther app limits c.args.until c.args.kernel.now c.step_at-following.new.machine (all_of c.args.trail.now))
-    (sym c.goes_on_amid.ensures.kept) (further_then inv.along inv.going further)
 
 pub returns-in_default-clause-on : goal.returns-in_default-clause-on
 returns-in_default-clause-on c =
@@ -147,14 +160,53 @@ steps-smaller c =
     c.step_at-following.new.machine short c.step_at-following.ensures.stands g in
     omega arith
 
-pub goes_on_amid-requires : goal.goes_on_amid-requires
-goes_on_amid-requires c = record {
-  begun = λ e. ap (λ (l : Logged). l.told) (c.step_at-following.ensures.silent e) ∙ c.steps.invariant.told;
-  room = λ e.
-      let r = c.steps.invariant.room in
-      let same = ap (λ (l : Logged). l.room) (c.step_at-following.ensures.silent e) in
-      omega arith;
-}
+pub returns-then-last-kernel-clause-along : goal.returns-then-last-kernel-clause-along
+returns-then-last-kernel-clause-along c =
+    let inv = c.steps.invariant in
+    let app = c.args.app.now in
+    let limits = c.args.limits.now in
+    let g : IsGoing app limits c.args.until c.steps.kernel c.args.injections.now =
+    goes_still inv.along c.requires.going (inv.going c.args.injections.now c.requires.going) in
+    let short : c.steps.kernel.steps < c.args.until = (let soon = inv.soon in omega arith) in
+    let further =
+    goes_further app c.well_formed-2.ensures limits c.well_formed-3.ensures c.args.until
+    c.steps.kernel c.step_at-following.new.machine short c.step_at-following.ensures.stands
+    g (all_of c.steps.trail) (all_of c.step_at-following.new.log)
+    (λ s h.
+    told_after c.step_at-following.new.log _ _ (c.step_at-following.ensures.before ∙ sym (all_before c.steps.trail inv.told))
+    (c.step_at-following.ensures.told s h)) in
+    let kept : all_of c.then-last-kernel.trail ≡ all_of c.step_at-following.new.log = elim c.then-last-kernel.branch [
+      | then-last-kernel-via-then-last-kernel w ↦ ap all_of w.trail-is
+      | then-last-kernel-via-else-last-kernel+then-is_err w ↦
+          ap all_of w.trail-is
+          ∙ begun_anew c.step_at-following.new.log w.begin.new.self w.begin.ensures.before w.begin.ensures.told
+    ] in
+    subst (GoesFurther app limits c.args.until c.args.kernel.now c.step_at-following.new.machine (all_of c.args.trail.now))
+    (sym kept) (further_then inv.along inv.going further)
+
+pub returns-in_default-clause-along : goal.returns-in_default-clause-along
+returns-in_default-clause-along c =
+    let inv = c.steps.invariant in
+    let app = c.args.app.now in
+    let limits = c.args.limits.now in
+    let g : IsGoing app limits c.args.until c.steps.kernel c.args.injections.now =
+    goes_still inv.along c.requires.going (inv.going c.args.injections.now c.requires.going) in
+    let short : c.steps.kernel.steps < c.args.until = (let soon = inv.soon in omega arith) in
+    let further =
+    goes_further app c.well_formed-2.ensures limits c.well_formed-3.ensures c.args.until
+    c.steps.kernel c.step_at-following.new.machine short c.step_at-following.ensures.stands
+    g (all_of c.steps.trail) (all_of c.step_at-following.new.log)
+    (λ s h.
+    told_after c.step_at-following.new.log _ _ (c.step_at-following.ensures.before ∙ sym (all_before c.steps.trail inv.told))
+    (c.step_at-following.ensures.told s h)) in
+    let kept : all_of c.if-eq.trail ≡ all_of c.step_at-following.new.log = elim c.if-eq.branch [
+      | then-eq+else-last-kernel+else-is_err w ↦
+          ap all_of w.trail-is
+          ∙ begun_anew c.step_at-following.new.log w.begin.new.self w.begin.ensures.before w.begin.ensures.told
+      | else-eq+else-ne+else-last-kernel-2 w ↦ ap all_of w.trail-is
+    ] in
+    subst (GoesFurther app limits c.args.until c.args.kernel.now c.step_at-following.new.machine (all_of c.args.trail.now))
+    (sym kept) (further_then inv.along inv.going further)
 
 pub steps-preserved : goal.steps-preserved
 steps-preserved c =
@@ -171,12 +223,24 @@ steps-preserved c =
     (λ s h.
     told_after c.step_at-following.new.log _ _ (c.step_at-following.ensures.before ∙ sym (all_before c.steps.trail inv.told))
     (c.step_at-following.ensures.told s h)) in
-    let begun = c.if-not-goes_on_amid.false in
-    let e = c.goes_on_amid.ensures.amid begun in
+    let kept : all_of c.if-eq.trail ≡ all_of c.step_at-following.new.log = elim c.if-eq.branch [
+      | then-eq+else-last-kernel+else-is_err w ↦
+          ap all_of w.trail-is
+          ∙ begun_anew c.step_at-following.new.log w.begin.new.self w.begin.ensures.before w.begin.ensures.told
+      | else-eq+else-ne+else-last-kernel-2 w ↦ ap all_of w.trail-is
+    ] in
+    let e : is_amid c.step_at-following.result ≡ true = elim c.if-eq.branch [
+      | then-eq+else-last-kernel+else-is_err w ↦ amid_answered c.step_at-following.result w.if-eq.ensures
+      | else-eq+else-ne+else-last-kernel-2 w ↦ not_another c.step_at-following.result w.if-ne.ensures
+    ] in
+    let early : c.step_at-following.new.machine.steps + 2 ≤ c.args.until = elim c.if-eq.branch [
+      | then-eq+else-last-kernel+else-is_err w ↦ (let l = w.if-last-kernel.false in let soon = c.requires.soon in omega arith)
+      | else-eq+else-ne+else-last-kernel-2 w ↦ (let l = w.if-last-kernel-2.false in let soon = c.requires.soon in omega arith)
+    ] in
     record {
       along =
           subst (GoesFurther app limits c.args.until c.args.kernel.now c.step_at-following.new.machine (all_of c.args.trail.now))
-          (sym c.goes_on_amid.ensures.kept) (further_then inv.along inv.going further);
+          (sym kept) (further_then inv.along inv.going further);
       going = λ plan f.
           still_going app c.well_formed-2.ensures limits c.well_formed-3.ensures c.args.until c.steps.kernel
           c.step_at-following.new.machine short c.step_at-following.ensures.stands (goes_still inv.along f (inv.going plan f))
@@ -188,7 +252,20 @@ steps-preserved c =
             subst P (c.behind-kernel.view_is ∙ c.progress.ensures) c.in-Some.ensures.some);
         awake = c.step_at-following.ensures.awake e;
       };
-      soon = (let l = c.goes_on_amid.ensures.soon begun in let soon = c.requires.soon in omega arith);
-      told = c.goes_on_amid.ensures.begun begun;
-      room = c.goes_on_amid.ensures.room begun;
+      soon = omega arith;
+      told = elim c.if-eq.branch [
+        | then-eq+else-last-kernel+else-is_err w ↦ ap (λ (l : Logged). l.told) w.trail-is ∙ w.begin.ensures.told
+        | else-eq+else-ne+else-last-kernel-2 w ↦
+            ap (λ (l : Logged). l.told) (w.trail-is ∙ c.step_at-following.ensures.silent (next_op c.step_at-following.result w.if-ne.ensures))
+            ∙ inv.told
+      ];
+      room = elim c.if-eq.branch [
+        | then-eq+else-last-kernel+else-is_err w ↦
+            subst (λ (l : Logged). 128 ≤ l.room) (sym w.trail-is) (search rules)
+        | else-eq+else-ne+else-last-kernel-2 w ↦
+            (let r = inv.room in
+            let same = ap (λ (l : Logged). l.room)
+            (w.trail-is ∙ c.step_at-following.ensures.silent (next_op c.step_at-following.result w.if-ne.ensures)) in
+            omega arith)
+      ];
     }
