@@ -3,7 +3,6 @@ pub mod Kinds
 pub mod Made
 pub mod Marks
 pub mod OneRun
-pub mod Options
 pub mod Points
 pub mod Seen
 pub mod Serving

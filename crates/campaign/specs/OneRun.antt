@@ -9,7 +9,7 @@ use Rattle.model.specs.declared.plan.Injection.{Injection}
 use Rattle.report.specs.Text.{run_text}
 use Rattle.report.specs.declared.title.Title.{Title}
 use Rattle.report.specs.declared.title.Title.TheVariants.{Base, Row}
-use Rattle.campaign.specs.declared.at.At.{At}
+use Rattle.requests.specs.declared.at.At.{At}
 use Rattle.campaign.specs.declared.file.ServeFault.{ServeFault}
 use Rattle.campaign.specs.declared.file.ServeFault.TheVariants.{UnknownHandler, Memory}
 use Rattle.campaign.specs.Serving.{IsFileOf, HasFileFault, Serves}

@@ -3,7 +3,6 @@
 #![tactic(auto)]
 
 mod ahead;
-mod at;
 mod file;
 mod gate;
 mod gathering;
@@ -13,7 +12,6 @@ mod mark_steps;
 mod mark_table;
 mod meetings;
 mod one_run;
-mod options;
 mod points;
 mod recent;
 mod runner;
@@ -21,12 +19,11 @@ mod serving;
 mod tallying;
 mod worker;
 
-pub use at::At;
 pub use file::{ServeFault, app_in};
 pub use gate::{Gate, NoGate};
 pub use making::{Finished, campaign};
 pub use one_run::{serve_run, serve_run_of};
-pub use options::{BadOption, Options};
 pub use points::{ExpandFault, expand};
+pub use requests::{At, BadOption, Options};
 pub use rows::{Report, write_report};
 pub use serving::{serve, serve_of};

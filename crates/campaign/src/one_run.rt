@@ -4,11 +4,11 @@ ghost use Rattle.model.specs.Run.{IsRun, IsRow};
 ghost use Rattle.campaign.specs.OneRun.{IsAsked, IsRunFault, ServesRun};
 ghost use Rattle.campaign.specs.Serving.{IsFileOf, Known};
 
-use crate::at::At;
 use crate::file::{ServeFault, app_in, app_of};
 use byte_io::{Sink, Source};
 use model::{App, End, Limits, Memory, Meter, Plan, Point, Run};
 use report::{Title, write_run};
+use requests::At;
 use std::alloc::Global;
 
 /// The base run: nothing is injected.

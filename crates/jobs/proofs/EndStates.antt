@@ -3,7 +3,7 @@ use Rattle.std.proofs.Common.{◌≡◌, ℕ, Bool, false, List, Option, refl}
 use Rattle.std.specs.Prelude.{Err}
 use Rattle.model.specs.declared.event.End.{End}
 use Rattle.model.specs.Application.{Application}
-use Rattle.campaign.specs.declared.at.At.{At}
+use Rattle.requests.specs.declared.at.At.{At}
 use Rattle.campaign.specs.declared.file.ServeFault.{ServeFault}
 use Rattle.campaign.specs.declared.file.ServeFault.TheVariants.{Read, NotToml, Load, UnknownHandler, TooManyPoints, Memory, Write}
 use Rattle.campaign.specs.OneRun.{IsRunFault, ServesRun}

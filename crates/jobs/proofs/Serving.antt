@@ -4,21 +4,22 @@ use Rattle.std.specs.Prelude.{Ok, Err, Result, IfSome}
 use Rattle.std.proofs.KnownBytes.{Keeps-refl}
 use Rattle.report.specs.Shards.{Shard}
 use Rattle.report.specs.declared.view.View.{View}
-use Rattle.campaign.specs.declared.at.At.{At}
+use Rattle.requests.specs.declared.at.At.{At}
 use Rattle.campaign.specs.declared.file.ServeFault.{ServeFault}
 use Rattle.campaign.specs.declared.file.ServeFault.TheVariants.{Read, NotToml, Load, UnknownHandler, TooManyPoints, Memory, Write}
 use Rattle.campaign.specs.Serving.{Known, of_reading, is_read_fault}
 use Rattle.campaign.proofs.Faulty.{campaign_serves_file_fault, reading_failed, serves_as_known, serves_file_fault}
 use Rattle.byte_io.specs.declared.read.ReadFault.{ReadFault}
 use Rattle.byte_io.specs.declared.read.ReadFault.TheVariants as read
-use Rattle.jobs.specs.declared.acting.Job.{Job}
-use Rattle.jobs.specs.declared.acting.Job.TheVariants.{Run, RunUnpaired, Campaign}
+use Rattle.requests.specs.declared.job.Job.{Job}
+use Rattle.requests.specs.declared.job.Job.TheVariants.{Run, RunUnpaired, Campaign}
 use Rattle.jobs.specs.declared.acting.JobFault.{JobFault}
 use Rattle.jobs.specs.declared.acting.JobFault.TheVariants.{Serve, TooLarge, Unpaired}
 use Rattle.jobs.specs.EndStates.{EndStateServed}
 use Rattle.jobs.proofs.EndStates.{end_state_file_fault}
 use Rattle.jobs.specs.Acting.{RunServed, CampaignServed, Served, Does, DoesOverFile, FailsToRead, LacksFile, OpensAndDoes, ReadsFor}
-use Rattle.jobs.specs.Acting.{is_unpaired, most_bytes}
+use Rattle.requests.specs.Jobs.{is_unpaired}
+use Rattle.jobs.specs.Acting.{most_bytes}
 
 -- A file that could not be opened.
 pub lacks_file : (old : Option (List ℕ)) (wf : Bool) (f : ServeFault)

@@ -10,7 +10,7 @@ use Rattle.model.specs.declared.totals.Totals.{Totals}
 use Rattle.model.specs.Campaign.{is_pass}
 use Rattle.script.specs.declared.fault.Fault.{Fault}
 use Rattle.script.specs.Faults.{fault_code, fault_name, place_words}
-use Rattle.campaign.specs.declared.at.At.{At}
+use Rattle.requests.specs.declared.at.At.{At}
 use Rattle.campaign.specs.declared.file.ServeFault.{ServeFault}
 use Rattle.campaign.specs.declared.file.ServeFault.TheVariants.{Read, NotToml, Load, UnknownHandler, TooManyPoints, Memory, Write}
 use Rattle.campaign.specs.Serving.{Known}
@@ -19,31 +19,13 @@ use Rattle.campaign.specs.Campaigns.{ServesCampaign}
 use Rattle.jobs.specs.EndStates.{EndStateServed}
 use Rattle.report.specs.Shards.{Shard}
 use Rattle.report.specs.declared.view.View.{View}
-use Rattle.jobs.specs.declared.acting.Job.{Job}
-use Rattle.jobs.specs.declared.acting.Job.TheVariants.{Run, RunUnpaired, Campaign}
+use Rattle.requests.specs.declared.job.Job.{Job}
+use Rattle.requests.specs.declared.job.Job.TheVariants.{Run, RunUnpaired, Campaign}
+use Rattle.requests.specs.Jobs.{file_of, handler_of, is_unpaired}
 use Rattle.jobs.specs.declared.acting.JobFault.{JobFault}
 use Rattle.jobs.specs.declared.acting.JobFault.TheVariants.{Unpaired, TooLarge, Serve}
 
 -- ---- jobs
-
--- the name of the file that a job reads
-abbrev pub file_of : Job → List ℕ
-file_of (Run file at state) = file.now
-file_of (RunUnpaired file) = file.now
-file_of (Campaign file view shard options quiet) = file.now
-
--- the name of the handler that a job injects; empty where it has none
-abbrev pub handler_of : Job → List ℕ
-handler_of (Run file (Some at) state) = at.handler.now
-handler_of (Run file None state) = []
-handler_of (RunUnpaired file) = []
-handler_of (Campaign file view shard options quiet) = []
-
--- A step was named for the job and no handler, or a handler and no step.
-abbrev pub is_unpaired : Job → Bool
-is_unpaired (Run file at state) = false
-is_unpaired (RunUnpaired file) = true
-is_unpaired (Campaign file view shard options quiet) = false
 
 -- Every row of a campaign, or of a part of it, passes.
 abbrev pub all_pass : Totals → Bool

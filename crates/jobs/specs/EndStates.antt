@@ -10,7 +10,7 @@ use Rattle.report.specs.declared.title.Title.{Title}
 use Rattle.report.specs.declared.title.Title.TheVariants.{Base, Row}
 use Rattle.report.specs.EndStates.{end_state_text}
 use Rattle.report.specs.Text.{run_text}
-use Rattle.campaign.specs.declared.at.At.{At}
+use Rattle.requests.specs.declared.at.At.{At}
 use Rattle.campaign.specs.declared.file.ServeFault.{ServeFault}
 use Rattle.campaign.specs.OneRun.{HasFault, IsAsked}
 use Rattle.campaign.specs.Serving.{IsFileOf, Serves}

@@ -1,6 +1,3 @@
 pub mod Acting
 pub mod Obeying
-pub mod Processors
-pub mod Shown
-pub mod Words
 pub mod EndStates

@@ -5,12 +5,12 @@ use Rattle.byte_io.specs.Shown.{shown_lines}
 use Rattle.clap.specs.Words.{IsAmong, subcommand_of}
 use Rattle.clap.specs.declared.error.kind.ErrorKind.{ErrorKind}
 use Rattle.clap.specs.declared.error.kind.ErrorKind.TheVariants.{DisplayHelp, DisplayVersion, OutOfMemory}
-use Rattle.jobs.specs.declared.acting.Job.{Job}
+use Rattle.requests.specs.declared.job.Job.{Job}
 use Rattle.jobs.specs.declared.acting.JobFault.{JobFault}
 use Rattle.jobs.specs.declared.acting.JobFault.TheVariants.{Serve}
 use Rattle.campaign.specs.declared.file.ServeFault.TheVariants.{Memory, Write}
 use Rattle.jobs.specs.Acting.{OpensAndDoes, Tells, fault_line, status_of, told}
-use Rattle.jobs.specs.Words.{IsJobOf, faults_of, rtosim_app}
+use Rattle.requests.specs.Words.{IsJobOf, faults_of, rtosim_app}
 
 -- ---- words that name no job
 

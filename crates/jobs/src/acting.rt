@@ -4,45 +4,22 @@ ghost use Rattle.std.specs.IoError.{error_kind};
 ghost use Rattle.campaign.specs.declared.file.ServeFault.{ServeFault};
 ghost use Rattle.jobs.specs.declared.acting.JobFault.{JobFault};
 ghost use Rattle.jobs.specs.declared.acting.JobFault.TheVariants as job_fault;
-ghost use Rattle.jobs.specs.Acting.{RunServed, CampaignServed, Does, DoesOverFile, OpensAndDoes, ReadsFor, FailsToRead, Tells, fault_line, is_unpaired, most_bytes, told, status_of};
+ghost use Rattle.requests.specs.Jobs.{is_unpaired};
+ghost use Rattle.jobs.specs.Acting.{RunServed, CampaignServed, Does, DoesOverFile, OpensAndDoes, ReadsFor, FailsToRead, Tells, fault_line, most_bytes, name_told, told, status_of};
 
 use crate::end_state::serve_end_state_at;
 use crate::fault_line::tell;
 use byte_io::{FromReader, ReadFault, Sink, Source, read_all, read_at_most};
-use campaign::{At, Gate, NoGate, Options, ServeFault, serve_of, serve_run_of};
+use campaign::{Gate, NoGate, ServeFault, serve_of, serve_run_of};
 use model::End;
 use report::{Shard, View};
+use requests::{At, Job, Options};
 use std::alloc::Global;
 use std::fs::File;
 use std::io::{self, ErrorKind};
 use std::rt::Files;
 use std::sync::Wait;
 use std::thread::Threads;
-
-/// What the program is to do.
-#[derive(Clone, Copy, PartialEq, Eq)]
-pub enum Job<'a> {
-    /// Write the report of the run of this file's application: the base run, or row 0, with this injection. The end state is
-    /// written too, or isn't.
-    Run {
-        file: &'a str,
-        at: Option<At<'a>>,
-        state: bool,
-    },
-    /// Nothing but to open this file: a run was asked for with a step and no handler, or with a handler and no step.
-    RunUnpaired {
-        file: &'a str,
-    },
-    /// Write what the view shows of the campaign of this file, or of this part of it, worked off as the options say. Where it is quiet,
-    /// nobody learns how far it has come.
-    Campaign {
-        file: &'a str,
-        view: View,
-        shard: Shard,
-        options: Options,
-        quiet: bool,
-    },
-}
 
 /// Why a job was not done, or not as a whole.
 #[derive(Clone, Copy)]
@@ -63,46 +40,13 @@ impl From<ServeFault> for JobFault {
     }
 }
 
-impl<'a> Job<'a> {
-    ghost use Rattle.jobs.specs.Acting.{file_of, handler_of, is_unpaired, name_told};
-
-    /// The name of the file that it reads.
-    pub fn file(&self) -> &'a str
-        ensures { result.now ≡ file_of self.now }
-    {
-        match self {
-            Job::Run { file, .. } | Job::RunUnpaired { file } | Job::Campaign { file, .. } => *file,
-        }
-    }
-
-    // The name of the handler that it injects; empty where it has none.
-    fn handler(&self) -> &'a str
-        ensures { result.now ≡ handler_of self.now }
-    {
-        match self {
-            Job::Run { at: Some(at), .. } => at.handler,
-            _ => "",
-        }
-    }
-
-    // The name in the line of this fault.
-    fn name_told(&self, fault: JobFault) -> &'a str
-        ensures { result.now ≡ name_told self.now fault }
-    {
-        match fault {
-            JobFault::Serve(ServeFault::UnknownHandler) => self.handler(),
-            _ => self.file(),
-        }
-    }
-
-    // Whether its step and its handler don't go together.
-    fn is_unpaired(&self) -> bool
-        ensures { result ≡ is_unpaired self.now }
-    {
-        match self {
-            Job::RunUnpaired { .. } => true,
-            Job::Run { .. } | Job::Campaign { .. } => false,
-        }
+// The name in the line of this fault of a job.
+fn name_told<'a>(job: &Job<'a>, fault: JobFault) -> &'a str
+    ensures { result.now ≡ name_told job.now fault }
+{
+    match fault {
+        JobFault::Serve(ServeFault::UnknownHandler) => job.handler(),
+        _ => job.file(),
     }
 }
 
@@ -150,7 +94,7 @@ pub fn conclude<F: Sink>(job: &Job<'_>, faults: &mut F, outcome: Result<bool, Jo
     ensures status { result ≡ status_of outcome }
 {
     if let Err(fault) = outcome {
-        tell(faults, job.name_told(fault), fault);
+        tell(faults, name_told(job, fault), fault);
     }
     status_of(outcome)
 }

@@ -7,11 +7,12 @@ ghost use Rattle.campaign.specs.Serving.{IsFileOf};
 ghost use Rattle.jobs.specs.EndStates.{EndStateServed, ServesEndState, end_state_of_run};
 
 use byte_io::Sink;
-use campaign::{At, ServeFault, app_in};
+use campaign::{ServeFault, app_in};
 use kernel::run_to_end_state;
 use model::{App, End, Memory, Meter, Plan, Point, Run};
 use outcome::EndState;
 use report::{Title, write_run_and_end_state};
+use requests::At;
 use std::alloc::Global;
 
 // The run of this plan, and its end state.

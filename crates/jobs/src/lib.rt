@@ -6,11 +6,8 @@ mod acting;
 mod end_state;
 mod fault_line;
 mod obeying;
-mod processors;
-mod shown;
-mod words;
 
-pub use acting::{Job, JobFault, act, conclude, open_and_act, refuse, status_of};
+pub use acting::{JobFault, act, conclude, open_and_act, refuse, status_of};
 pub use fault_line::tell;
 pub use obeying::{conclude_error, obey};
-pub use words::job_named;
+pub use requests::{Job, job_named};

@@ -6,15 +6,14 @@ ghost use Rattle.clap.specs.Words.{kind_of};
 ghost use Rattle.jobs.specs.Acting.{Tells};
 ghost use Rattle.clap.specs.declared.error.kind.ErrorKind.TheVariants.{OutOfMemory};
 ghost use Rattle.jobs.specs.Obeying.{Concludes, Obeys, RefusesWords, ShownTells, Shows, shown_status};
-ghost use Rattle.jobs.specs.Processors.{meant};
+ghost use Rattle.requests.specs.Processors.{meant};
 
 use crate::acting::{open_and_act, refuse};
-use crate::processors::meant;
-use crate::words::job_named;
 use byte_io::{Sink, WriteFault, put_all, put_lines};
 use campaign::{Gate, ServeFault};
 use clap::Error;
 use clap::error::ErrorKind;
+use requests::{job_named, meant};
 use std::alloc::{AllocError, Global};
 use std::num::NonZeroUsize;
 use std::rt::Files;

@@ -1,7 +1,0 @@
-use Rattle.jobs.specs.Words.{rtosim_app}
-use Rattle.jobs.proofs.Commands.{with_command}
-use Rattle.jobs.proofs.words.command.Goals as goal
-
-pub returns : goal.returns
-unfolding rtosim_app
-returns c = with_command _ _ _ _ _ c.in_ok-program.ensures c.in_ok-campaign.ensures c.subcommand.ensures

@@ -1,0 +1,5 @@
+pub mod Commands
+mod Listed
+pub mod Matches
+pub mod Meaning
+mod Splitting

@@ -1,0 +1,139 @@
+-- What the matches of the words say of the job.
+use Rattle.std.proofs.Common.{◌≡◌, ◌∙◌, ap, refl, sym, subst, codes, inl, inr, List, [], ◌∷◌, ℕ, Option, Some, None, Result, Ok}
+use Rattle.std.proofs.Common.{Err, option_map, IsNone}
+use Rattle.std.specs.Prelude.{Bool, true, false, MatchResult, if◌then◌else◌}
+use Rattle.std.specs.Str.{bytes_eq}
+use Rattle.std.specs.Result.{result_ok}
+use Rattle.std.specs.Str.Parse.{ParsesUnsigned}
+use Rattle.clap.specs.Words.{TriesOne, App, Row, is_simple, takes, fault_of, is_simple_and_free, Kinds, subcommand_of}
+use Rattle.clap.specs.Words.{subcommand_rows_of, HasKind, HasMatchesOf, IsAmong, kind_of}
+use Rattle.clap.specs.Kinds.{or_else}
+use Rattle.clap.specs.declared.error.Error.{Error}
+use Rattle.clap.specs.declared.error.kind.ErrorKind.{ErrorKind}
+use Rattle.clap.specs.declared.error.kind.ErrorKind.TheVariants.{OutOfMemory, ValueValidation}
+use Rattle.clap.specs.declared.parser.matches.ArgMatches.{ArgMatches}
+use Rattle.clap.proofs.OnLiterals.{clap_on_literals}
+use Rattle.requests.specs.declared.options.BadOption.{BadOption}
+use Rattle.requests.specs.declared.options.Options.{Options}
+use Rattle.requests.specs.Options.{bad_option}
+use Rattle.report.specs.Shards.{Shard}
+use Rattle.report.specs.declared.view.View.{View}
+use Rattle.requests.specs.declared.job.Job.{Job}
+use Rattle.requests.specs.declared.job.Job.TheVariants.{Campaign, Run, RunUnpaired}
+use Rattle.requests.specs.Words.{IsJobOf, IsNoNumber, NamesNoOptions, faults_of, faults_without, number_in, number_of, rtosim_app}
+use Rattle.requests.specs.Words.{shard_in_rows, value_faults, view_in}
+
+pub taken_as : (a b : App) (words : List (List ℕ)) (P : Type 0) → a ≡ b → (takes a words ≡ true → P) → takes b words ≡ true → P
+taken_as a b words P same gives took = gives (rw same took)
+
+is_simple-rtosim : is_simple rtosim_app ≡ true
+unfolding rtosim_app clap_on_literals
+is_simple-rtosim = refl
+
+-- the words of a command that were found
+pub found_as : (a : App) (words : List (List ℕ)) (m : ArgMatches) → a ≡ rtosim_app
+    → HasMatchesOf a words m → subcommand_rows_of m ≡ subcommand_of rtosim_app words
+found_as a words m same has = (has (ap is_simple same ∙ is_simple-rtosim)).1 ∙ ap (λ (x : App). subcommand_of x words) same
+
+pub job_as : (a : App) (words : List (List ℕ)) (m : ArgMatches) (job : Job) → a ≡ rtosim_app → HasMatchesOf a words m
+    → IsJobOf (subcommand_rows_of m) job → IsJobOf (subcommand_of rtosim_app words) job
+job_as a words m job same has is = subst (λ (s : Option (List ℕ × List Row)). IsJobOf s job) (found_as a words m same has) is
+
+is_free-rtosim : is_simple_and_free rtosim_app ≡ true
+unfolding rtosim_app clap_on_literals
+is_free-rtosim = refl
+
+pub kinds_as : (a : App) (words : List (List ℕ)) (P : Kinds → Type 0) → a ≡ rtosim_app
+    → (is_simple_and_free a ≡ true → P (fault_of a words)) → P (fault_of rtosim_app words)
+kinds_as a words P same gives = subst (λ (x : App). is_simple_and_free x ≡ true → P (fault_of x words)) same gives is_free-rtosim
+
+-- ---- the values of words that the command takes
+
+abbrev no_kinds : Kinds
+no_kinds = []
+
+none_if : (b : Bool) → (if b then [] else []) ≡ no_kinds
+none_if true = refl
+none_if false = refl
+
+-- words that name a job have no fault
+no_fault : (named : Option (List ℕ × List Row)) (job : Job) → IsJobOf named job → value_faults named ≡ []
+no_fault None job is = absurd is
+no_fault (Some named) job (inl is) = rw is.0 refl
+no_fault (Some named) (Run file at state) (inr is) = absurd is.1
+no_fault (Some named) (RunUnpaired file) (inr is) = absurd is.1
+no_fault (Some named) (Campaign file view shard options quiet) (inr is) =
+    rw (is.1.1, is.1.2) (none_if (bytes_eq named.0 (codes "campaign")))
+
+pub no_faults : (a : App) (words : List (List ℕ)) (job : Job) → a ≡ rtosim_app → IsJobOf (subcommand_of rtosim_app words) job
+    → (is_simple_and_free a ≡ true → fault_of a words ≡ []) → faults_of words ≡ []
+no_faults a words job same is gives =
+    rw (kinds_as a words (λ kinds. kinds ≡ []) same gives) (no_fault (subcommand_of rtosim_app words) job is)
+
+among_or : (k : ErrorKind) (kinds next : Kinds) → IsAmong k kinds → IsAmong k (or_else kinds next)
+among_or k [] next is = absurd is
+among_or k (x ∷ xs) next is = is
+
+-- words that the command doesn't take
+pub fails_as : (a : App) (words : List (List ℕ)) (e : Error) → a ≡ rtosim_app
+    → (is_simple_and_free a ≡ true → HasKind (fault_of a words) e) → HasKind (faults_of words) e
+fails_as a words e same gives = elim (kinds_as a words (λ (k : Kinds). HasKind k e) same gives) [
+  | inl memory ↦ inl memory
+  | inr among ↦ inr (among_or (kind_of e) (fault_of rtosim_app words) (value_faults (subcommand_of rtosim_app words)) among)
+]
+
+-- words that it takes, and a value of which is refused
+pub value_as : (a : App) (words : List (List ℕ)) (m : ArgMatches) (e : Error) → a ≡ rtosim_app
+    → HasMatchesOf a words m → (is_simple_and_free a ≡ true → fault_of a words ≡ [])
+    → HasKind (value_faults (subcommand_rows_of m)) e → HasKind (faults_of words) e
+value_as a words m e same has gives is =
+    rw (kinds_as a words (λ kinds. kinds ≡ []) same gives)
+    (subst (λ (s : Option (List ℕ × List Row)). HasKind (value_faults s) e) (found_as a words m same has) is)
+
+pub memory_alone : (kinds : Kinds) (e : Error) → HasKind kinds e → kinds ≡ [] → kind_of e ≡ OutOfMemory
+memory_alone kinds e is none = elim (subst (λ (k : Kinds). HasKind k e) none is) [ inl memory ↦ memory | inr among ↦ absurd among ]
+
+-- a value that is none
+pub bad_list : (named : Option (List ℕ × List Row)) (name : List ℕ) (rows : List Row)
+    → named ≡ Some (name, rows) → name ≡ codes "campaign" → view_in rows ≡ None
+    → value_faults named ≡ ValueValidation ∷ []
+bad_list named name rows is at none = rw (is, at, none) refl
+
+pub bad_shard : (named : Option (List ℕ × List Row)) (name : List ℕ) (rows : List Row)
+    → named ≡ Some (name, rows) → name ≡ codes "campaign" → shard_in_rows rows ≡ None
+    → value_faults named ≡ ValueValidation ∷ []
+bad_shard named name rows is at none = rw (is, at) (without_shard (view_in rows) (shard_in_rows rows) none)
+  where
+    without_shard : (view : Option View) (shard : Option Shard) → shard ≡ None → faults_without view shard ≡ ValueValidation ∷ []
+    without_shard None None e = refl
+    without_shard (Some view) None e = refl
+    without_shard None (Some shard) e = refl
+    without_shard (Some view) (Some shard) e = absurd (cc e)
+
+-- A text that is read as a number is one.
+pub number_read : {E : Type 0} (gives : List ℕ → Result ℕ E → Type 0) (text : Option (List ℕ)) (r : Result (Option ℕ) E)
+    → ((t : List ℕ) (q : Result ℕ E) → gives t q → ParsesUnsigned 32 10 t q)
+    → (text ≡ None → r ≡ Ok None) → ((t : List ℕ) → text ≡ Some t → TriesOne gives t r)
+    → MatchResult r (λ n. option_map number_of text ≡ n) (λ _. IsNoNumber text)
+number_read gives None r parses none some = rw (none refl) refl
+number_read gives (Some t) (Ok (Some n)) parses none some = ap Some (sym (parses t (Ok n) (some t refl)).1)
+number_read gives (Some t) (Ok None) parses none some = absurd (some t refl)
+number_read gives (Some t) (Err e) parses none some = parses t (Err e) (some t refl)
+
+-- Numbers of which no options are made are out of range.
+pub out_of_range : (rows : List Row) (workers stride block : ℕ) (r : Result Options BadOption)
+    → number_in (codes "workers") rows ≡ Some workers → number_in (codes "stride") rows ≡ Some stride
+    → number_in (codes "block") rows ≡ Some block
+    → MatchResult r (λ (options : Options).
+    (bad_option workers stride block ≡ None) × (options ≡ record { workers = workers; stride = stride; block = block }))
+    (λ fault. bad_option workers stride block ≡ Some fault)
+    → IsNone (result_ok r) → NamesNoOptions rows
+out_of_range rows workers stride block (Ok options) w s b made none = absurd (cc)
+out_of_range rows workers stride block (Err fault) w s b bad none = inr (inr (inr (record {
+  options = record { workers = workers; stride = stride; block = block };
+  workers = w;
+  stride = s;
+  block = b;
+  fault = fault;
+  bad = bad;
+})))

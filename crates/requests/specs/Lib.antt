@@ -1,0 +1,5 @@
+pub mod Jobs
+pub mod Options
+pub mod Processors
+pub mod Shown
+pub mod Words

@@ -1,0 +1,15 @@
+//! What the program is asked to do, and which words of the command line ask for it.
+#![tactic(auto)]
+
+mod at;
+mod job;
+mod options;
+mod processors;
+mod shown;
+mod words;
+
+pub use at::At;
+pub use job::Job;
+pub use options::{BadOption, Options};
+pub use processors::meant;
+pub use words::job_named;
