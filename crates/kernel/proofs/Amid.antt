@@ -1,6 +1,7 @@
 -- A step behind which the running task is at another op of its script, and nothing else changed but what the step reported.
 use denote.Enum.Bare.{sameb, same_true}
-use Rattle.std.proofs.Common.{◌≡◌, ◌≢◌, rules, ◌+◌, ◌||◌, ℕ, Bool, true, false, not, eqb, leb, List, [], ◌∷◌, Option, Some, None, ◌≤◌}
+use Rattle.std.proofs.Common.{◌≡◌, ◌≢◌, rules, ◌+◌, ◌||◌, ℕ, Bool, true, false, not, eqb, leb, List, [], ◌∷◌}
+use Rattle.std.proofs.Common.{Option, Some, None, ◌≤◌}
 use Rattle.std.proofs.Common.{refl, ap, sym, subst, ◌∙◌, arith, append-nil}
 use Rattle.model.specs.declared.op.Op.{Op}
 use Rattle.model.specs.declared.op.Op.TheVariants.{Work, Delay, DelayUntil, Yield, Time, Mark, Expect, Repeat, End as EndLoop, If}

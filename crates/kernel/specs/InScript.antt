@@ -9,8 +9,8 @@ use Rattle.machine.specs.StandsFor.{progress_in}
 use Rattle.kernel.specs.declared.acting.Following.{Following}
 use Rattle.kernel.specs.declared.acting.Following.TheVariants.{NextOp, Answered}
 
--- an op that may change nothing but where its task is in its script, and what the task keeps: one of the script alone, or a call that
--- answers and wakes nobody
+-- an op that may change nothing but where its task is in its script, and what the task keeps: one of the script alone, or a call
+-- that answers and wakes nobody
 abbrev pub may_stay_amid : Op → Bool
 may_stay_amid Time = true
 may_stay_amid (Mark number) = true

@@ -256,7 +256,8 @@ steps-preserved c =
       told = elim c.if-eq.branch [
         | then-eq+else-last-kernel+else-is_err w ↦ ap (λ (l : Logged). l.told) w.trail-is ∙ w.begin.ensures.told
         | else-eq+else-ne+else-last-kernel-2 w ↦
-            ap (λ (l : Logged). l.told) (w.trail-is ∙ c.step_at-following.ensures.silent (next_op c.step_at-following.result w.if-ne.ensures))
+            ap (λ (l : Logged). l.told)
+            (w.trail-is ∙ c.step_at-following.ensures.silent (next_op c.step_at-following.result w.if-ne.ensures))
             ∙ inv.told
       ];
       room = elim c.if-eq.branch [

@@ -97,7 +97,8 @@ pub returns-then-eq-clause-stands : goal.returns-then-eq-clause-stands
 returns-then-eq-clause-stands g c = λ s h.
     let e = amid_next c.act-following.result c.if-eq.ensures in
     let does =
-    reporting c.args.machine.now c.act-following.new.machine (g.L.Log.logged c.args.log.now) (g.L.Log.logged c.act-following.new.log) _
+    reporting c.args.machine.now c.act-following.new.machine (g.L.Log.logged c.args.log.now)
+    (g.L.Log.logged c.act-following.new.log) _
     (acts c.args.app.now c.args.limits.now c.args.machine.now c.args.task c.requires.at.current
     c.args.op.now c.requires.at.at c.act-following.new.machine _ _ c.act-following.ensures.does)
     c.requires.begun in
@@ -109,7 +110,8 @@ pub returns-then-eq-clause-told : goal.returns-then-eq-clause-told
 returns-then-eq-clause-told g c = λ s h.
     let e = amid_next c.act-following.result c.if-eq.ensures in
     let does =
-    reporting c.args.machine.now c.act-following.new.machine (g.L.Log.logged c.args.log.now) (g.L.Log.logged c.act-following.new.log) _
+    reporting c.args.machine.now c.act-following.new.machine (g.L.Log.logged c.args.log.now)
+    (g.L.Log.logged c.act-following.new.log) _
     (acts c.args.app.now c.args.limits.now c.args.machine.now c.args.task c.requires.at.current
     c.args.op.now c.requires.at.at c.act-following.new.machine _ _ c.act-following.ensures.does)
     c.requires.begun in
@@ -121,7 +123,8 @@ pub returns-then-eq-clause-on : goal.returns-then-eq-clause-on
 returns-then-eq-clause-on g c = λ next s h going.
     let e = amid_next c.act-following.result c.if-eq.ensures in
     let does =
-    reporting c.args.machine.now c.act-following.new.machine (g.L.Log.logged c.args.log.now) (g.L.Log.logged c.act-following.new.log) _
+    reporting c.args.machine.now c.act-following.new.machine (g.L.Log.logged c.args.log.now)
+    (g.L.Log.logged c.act-following.new.log) _
     (acts c.args.app.now c.args.limits.now c.args.machine.now c.args.task c.requires.at.current
     c.args.op.now c.requires.at.at c.act-following.new.machine _ _ c.act-following.ensures.does)
     c.requires.begun in
@@ -133,7 +136,8 @@ pub returns-then-eq-2-clause-stands : goal.returns-then-eq-2-clause-stands
 returns-then-eq-2-clause-stands g c = λ s h.
     let e = amid_answered c.act-following.result c.if-eq-2.ensures in
     let does =
-    reporting c.args.machine.now c.act-following.new.machine (g.L.Log.logged c.args.log.now) (g.L.Log.logged c.act-following.new.log) _
+    reporting c.args.machine.now c.act-following.new.machine (g.L.Log.logged c.args.log.now)
+    (g.L.Log.logged c.act-following.new.log) _
     (acts c.args.app.now c.args.limits.now c.args.machine.now c.args.task c.requires.at.current
     c.args.op.now c.requires.at.at c.act-following.new.machine _ _ c.act-following.ensures.does)
     c.requires.begun in
@@ -145,7 +149,8 @@ pub returns-then-eq-2-clause-told : goal.returns-then-eq-2-clause-told
 returns-then-eq-2-clause-told g c = λ s h.
     let e = amid_answered c.act-following.result c.if-eq-2.ensures in
     let does =
-    reporting c.args.machine.now c.act-following.new.machine (g.L.Log.logged c.args.log.now) (g.L.Log.logged c.act-following.new.log) _
+    reporting c.args.machine.now c.act-following.new.machine (g.L.Log.logged c.args.log.now)
+    (g.L.Log.logged c.act-following.new.log) _
     (acts c.args.app.now c.args.limits.now c.args.machine.now c.args.task c.requires.at.current
     c.args.op.now c.requires.at.at c.act-following.new.machine _ _ c.act-following.ensures.does)
     c.requires.begun in
@@ -157,7 +162,8 @@ pub returns-then-eq-2-clause-on : goal.returns-then-eq-2-clause-on
 returns-then-eq-2-clause-on g c = λ next s h going.
     let e = amid_answered c.act-following.result c.if-eq-2.ensures in
     let does =
-    reporting c.args.machine.now c.act-following.new.machine (g.L.Log.logged c.args.log.now) (g.L.Log.logged c.act-following.new.log) _
+    reporting c.args.machine.now c.act-following.new.machine (g.L.Log.logged c.args.log.now)
+    (g.L.Log.logged c.act-following.new.log) _
     (acts c.args.app.now c.args.limits.now c.args.machine.now c.args.task c.requires.at.current
     c.args.op.now c.requires.at.at c.act-following.new.machine _ _ c.act-following.ensures.does)
     c.requires.begun in
