@@ -7,6 +7,7 @@ ghost use Rattle.machine.specs.Logged.{all_of};
 ghost use Rattle.machine.specs.Can.{IsUnderWay};
 ghost use Rattle.kernel.specs.Leads.{IsLed, IsPast};
 ghost use Rattle.shelf.specs.Shelves.{IsShelf};
+ghost use Rattle.shelf.specs.Walks.{IsWalk};
 ghost use Rattle.report.specs.Views.{shows_events};
 ghost use Rattle.rows.specs.declared.link.Link.TheVariants as links;
 ghost use Rattle.rows.specs.Links.{AreLegs};
@@ -22,7 +23,7 @@ use kernel::{Kernel, RestEnding, StepLog, Trail, go_far};
 use model::{App, End, Injection, Limits, Memory, Meter, Point, Run};
 use report::View;
 use rows::{KeptRow, Leg, Link};
-use shelf::Shelf;
+use shelf::{Shelf, Walk};
 use std::alloc::Global;
 
 /// What a worker runs its rows with: a kernel, the log of a step, the trail and the legs of all of them, the marks at kernels that they
@@ -398,11 +399,14 @@ impl Runner {
         shelf: &Shelf,
         view: View,
         point: &Point,
+        walk: &mut Walk,
     ) -> Result<KeptRow, Memory>
         requires shelf { IsShelf app.now shelf.now }
+        requires walk { IsWalk app.now shelf.now.limits walk.old }
         requires reached { first_step point.now < shelf.now.base.steps }
         requires legs { AreLegs shelf.now.base.events (store_in self.old) }
         requires marks { AreMarked app.now shelf.now.limits view shelf.now.base (store_in self.old) self.old.table.marks.items }
+        ensures walk { OnOk result (IsWalk app.now shelf.now.limits walk.new) }
         ensures row { IfOk result (GainsRow app.now shelf.now.limits view shelf.now.base point.now
             (store_in self.old) (store_in self.new)) }
         ensures marks { OnOk result (AreMarked app.now shelf.now.limits view shelf.now.base (store_in self.new) self.new.table.marks.items) }
@@ -415,10 +419,11 @@ impl Runner {
         let last = point.last_step();
         let until = first_mark(self.spacing, last);
         let mut meter = Meter::new();
-        let begun = shelf.begin_row(
+        let begun = shelf.begin_row_after(
             app,
             point,
             until,
+            walk,
             &mut self.kernel,
             &mut meter,
             &mut self.log,
@@ -447,24 +452,27 @@ impl Runner {
         })
     }
 
-    /// The row of a point, as far as the view shows it. Where it shows events, the row's own go to the trail. At `Err(Memory)` the runner
-    /// is of no more use.
+    /// The row of a point, as far as the view shows it. Where it shows events, the row's own go to the trail. The walk goes along the base
+    /// run to the first injection. At `Err(Memory)` the runner and the walk are of no more use.
     pub(crate) fn run(
         &mut self,
         app: &App,
         shelf: &Shelf,
         view: View,
         point: &Point,
+        walk: &mut Walk,
     ) -> Result<KeptRow, Memory>
         requires shelf { IsShelf app.now shelf.now }
+        requires walk { IsWalk app.now shelf.now.limits walk.old }
         requires legs { AreLegs shelf.now.base.events (store_in self.old) }
         requires marks { AreMarked app.now shelf.now.limits view shelf.now.base (store_in self.old) self.old.table.marks.items }
+        ensures walk { OnOk result (IsWalk app.now shelf.now.limits walk.new) }
         ensures row { IfOk result (GainsRow app.now shelf.now.limits view shelf.now.base point.now
             (store_in self.old) (store_in self.new)) }
         ensures marks { OnOk result (AreMarked app.now shelf.now.limits view shelf.now.base (store_in self.new) self.new.table.marks.items) }
     {
         if shelf.reaches(point) {
-            self.reached(app, shelf, view, point)
+            self.reached(app, shelf, view, point, walk)
         } else {
             Ok(self.missed(app, shelf, view, point))
         }

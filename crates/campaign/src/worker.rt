@@ -1,6 +1,8 @@
 //! A worker, which makes the rows of the blocks that its lane is answered.
 ghost use Rattle.std.specs.Prelude.{◌≡◌, ◌≤◌, ◌+◌, ◌++◌, ◌∷◌, [], None, length, sum, take, drop, IfOk, IfSome, OnOk};
+ghost use Rattle.model.specs.Application.{Limits};
 ghost use Rattle.shelf.specs.Shelves.{IsShelf};
+ghost use Rattle.shelf.specs.Walks.{IsWalk};
 ghost use Rattle.campaign.specs.Working.{store_in, GainsRows, HasRoom, IsAmong, IsDone, IsJob, KeepsRow};
 ghost use Rattle.campaign.specs.Marks.{AreMarked, Knows};
 ghost use Rattle.campaign.specs.Setup.{work_of};
@@ -13,7 +15,7 @@ use deal::{Lane, Next, Tally, TallySeat};
 use model::{App, End, Memory, Point};
 use report::View;
 use rows::{KeptBlock, KeptRows, Part};
-use shelf::Shelf;
+use shelf::{Shelf, Walk};
 use std::alloc::Global;
 use std::sync::Wait;
 use std::sync::atomic::{AtomicU64, Ordering};
@@ -46,10 +48,11 @@ pub(crate) struct Done {
     pub(crate) refused: bool,
 }
 
-// What a worker has of its own: what it runs rows with, and the rows that it made.
+// What a worker has of its own: what it runs rows with, how far it has gone along the base run, and the rows that it made.
 #[derive(Drop)]
 struct Worker {
     runner: Runner,
+    walk: Walk,
     kept: KeptRows,
     blocks: Vec<KeptBlock>,
     recent: Recent,
@@ -73,6 +76,7 @@ fn again(kept: &KeptRows, recent: &Recent, point: &Point) -> Option<usize>
 impl Worker {
     // A worker that has made nothing, with this room for rows.
     fn new(alloc: Global, app: &App, stride: u32, kept: KeptRows) -> Worker
+        ensures walk { (limits : Limits) → IsWalk app.now limits result.walk }
         ensures kept { result.kept ≡ kept }
         ensures blocks { result.blocks.items ≡ [] }
         ensures legs { result.runner.legs.items ≡ [] }
@@ -80,6 +84,7 @@ impl Worker {
     {
         Worker {
             runner: Runner::new(alloc, app, stride),
+            walk: Walk::new(app),
             kept,
             blocks: Vec::new(alloc),
             recent: Recent::new(),
@@ -95,7 +100,9 @@ impl Worker {
         point: &Point,
     ) -> Result<End, Memory>
         requires shelf { IsShelf app.now shelf.now }
+        requires walk { IsWalk app.now shelf.now.limits self.old.walk }
         requires known { Knows app.now shelf.now.limits view shelf.now.base self.old.kept (store_in self.old.runner) self.old.runner.table.marks.items }
+        ensures walk { OnOk result (IsWalk app.now shelf.now.limits self.new.walk) }
         ensures blocks { self.new.blocks ≡ self.old.blocks }
         ensures row { IfOk result (KeepsRow app.now shelf.now.limits view shelf.now.base point.now self.old.kept self.new.kept
             (store_in self.old.runner) (store_in self.new.runner)) }
@@ -106,7 +113,7 @@ impl Worker {
             self.kept.repeat(number)?;
             return Ok(end);
         }
-        let row = self.runner.run(app, shelf, view, point)?;
+        let row = self.runner.run(app, shelf, view, point, &mut self.walk)?;
         let end = row.end;
         self.recent.set(point, self.kept.len());
         self.kept.push(row)?;
@@ -121,9 +128,11 @@ impl Worker {
         point: &Point,
     ) -> Result<(), Memory>
         requires shelf { IsShelf setup.now.app.now setup.now.shelf.now }
+        requires walk { IsWalk setup.now.app.now setup.now.shelf.now.limits self.old.walk }
         requires known { Knows setup.now.app.now setup.now.shelf.now.limits setup.now.view.now setup.now.shelf.now.base self.old.kept (store_in self.old.runner) self.old.runner.table.marks.items }
         requires seat { seat.old.sheet ≡ setup.now.tally.now }
         requires room { HasRoom 1 seat.old }
+        ensures walk { OnOk result (IsWalk setup.now.app.now setup.now.shelf.now.limits self.new.walk) }
         ensures known { OnOk result (Knows setup.now.app.now setup.now.shelf.now.limits setup.now.view.now setup.now.shelf.now.base self.new.kept (store_in self.new.runner) self.new.runner.table.marks.items) }
         ensures blocks { self.new.blocks ≡ self.old.blocks }
         ensures row { OnOk result (GainsRows setup.now.app.now setup.now.shelf.now.limits setup.now.view.now setup.now.shelf.now.base (point.now ∷ [])
@@ -146,10 +155,12 @@ impl Worker {
         count: usize,
     ) -> Result<(), Memory>
         requires shelf { IsShelf setup.now.app.now setup.now.shelf.now }
+        requires walk { IsWalk setup.now.app.now setup.now.shelf.now.limits self.old.walk }
         requires known { Knows setup.now.app.now setup.now.shelf.now.limits setup.now.view.now setup.now.shelf.now.base self.old.kept (store_in self.old.runner) self.old.runner.table.marks.items }
         requires seat { seat.old.sheet ≡ setup.now.tally.now }
         requires points { first + count ≤ length setup.now.points.now }
         requires room { HasRoom count seat.old }
+        ensures walk { OnOk result (IsWalk setup.now.app.now setup.now.shelf.now.limits self.new.walk) }
         ensures known { OnOk result (Knows setup.now.app.now setup.now.shelf.now.limits setup.now.view.now setup.now.shelf.now.base self.new.kept (store_in self.new.runner) self.new.runner.table.marks.items) }
         ensures block { OnOk result (self.new.blocks.items ≡ self.old.blocks.items
             ++ record { number = number; first = length self.old.kept; count = count } ∷ []) }
@@ -228,6 +239,7 @@ pub(crate) fn work<R: Wait, G: Gate>(
         kept,
         blocks,
         recent: _recent,
+        walk: _walk,
     } = worker;
     let (trail, legs) = runner.into_told();
     Done {

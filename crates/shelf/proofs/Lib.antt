@@ -1,3 +1,4 @@
 pub mod Along
 mod Begun
 pub mod Joining
+mod Walking

@@ -5,6 +5,8 @@
 mod row;
 mod shelf;
 mod stops;
+mod walk;
 
 pub use row::{Row, RowEnding};
 pub use shelf::Shelf;
+pub use walk::Walk;

@@ -11,9 +11,11 @@ ghost use Rattle.shelf.specs.Begun.{HasBegun};
 ghost use Rattle.shelf.specs.Rests.{JoinsBase};
 ghost use Rattle.shelf.specs.Rows.{IsRowFrom};
 ghost use Rattle.shelf.specs.Shelves.{IsShelf, cost_of};
+ghost use Rattle.shelf.specs.Walks.{IsWalk};
 
 use crate::row::{Row, RowEnding};
 use crate::stops::{Stop, put_stops};
+use crate::walk::Walk;
 use kernel::{Kernel, RowBeginning, StepLog, Trail, begin_row};
 use model::{App, Event, Limits, Memory, Meter, Point, Run};
 use std::alloc::Global;
@@ -228,6 +230,83 @@ impl Shelf {
         Ok(RowBeginning {
             before: told + beginning.before,
             ..beginning
+        })
+    }
+
+    // Sees to it that a walk is less than a stride before the first injection of a point that the base run reaches, or less far.
+    fn come_near(&self, app: &App, point: &Point, walk: &mut Walk)
+        requires shelf { IsShelf app.now self.now }
+        requires reached { first_step point.now < self.now.base.steps }
+        requires walk { IsWalk app.now self.now.limits walk.old }
+        ensures walk { IsWalk app.now self.now.limits walk.new }
+        ensures near { walk.new.kernel.steps ≤ first_step point.now }
+    {
+        let first = point.first_step();
+        let steps = walk.kernel.steps();
+        if first < steps || self.stride <= first - steps {
+            walk.told = self.go_to_stop(app, point, &mut walk.kernel);
+        }
+    }
+
+    // Goes along the base run to the first injection of a point that it reaches. What the base run reports on the way leaves the trail.
+    fn walk_to(
+        &self,
+        app: &App,
+        point: &Point,
+        walk: &mut Walk,
+        log: &mut StepLog,
+        trail: &mut Trail,
+    ) -> Result<(), Memory>
+        requires shelf { IsShelf app.now self.now }
+        requires reached { first_step point.now < self.now.base.steps }
+        requires walk { IsWalk app.now self.now.limits walk.old }
+        ensures walk { OnOk result (IsWalk app.now self.now.limits walk.new) }
+        ensures there { OnOk result (walk.new.kernel.steps ≡ first_step point.now) }
+        ensures trail { OnOk result (all_of trail.new ≡ all_of trail.old) }
+    {
+        self.come_near(app, point, walk);
+        // The base run has no more events than fit, so the sum below does.
+        let _ = self.count_events();
+        let before = trail.len();
+        walk.go_to(app, point.first_step(), &self.limits, log, trail)?;
+        walk.told += trail.len() - before;
+        trail.truncate(before);
+        Ok(())
+    }
+
+    /// Begins the row of a point as `begin_row` does, but from its first injection on, to which the walk goes along the base run. So most
+    /// points that come in order take no more steps than their rows have of their own. The meter rises by these alone.
+    ///
+    /// `Memory` is answered only where a growth was refused. Then the walk and the trail are of no more use.
+    pub fn begin_row_after(
+        &self,
+        app: &App,
+        point: &Point,
+        until: u32,
+        walk: &mut Walk,
+        kernel: &mut Kernel,
+        meter: &mut Meter,
+        log: &mut StepLog,
+        trail: &mut Trail,
+    ) -> Result<RowBeginning, Memory>
+        requires shelf { IsShelf app.now self.now }
+        requires reached { first_step point.now < self.now.base.steps }
+        requires beyond { min (last_step point.now + 1) self.now.limits.steps ≤ until }
+        requires walk { IsWalk app.now self.now.limits walk.old }
+        requires meter { meter.old < 2 ^ 62 }
+        ensures walk { OnOk result (IsWalk app.now self.now.limits walk.new) }
+        ensures there { IfOk result (λ beginning. beginning.end ≡ None → kernel.new.steps ≡ until) }
+        ensures begun { IfOk result (HasBegun app.now point.now self.now.limits kernel.new (all_of trail.old) (all_of trail.new)) }
+        ensures before { IfOk result (λ beginning. beginning.before ≡ length (events_after app.now self.now.limits [] (first_step point.now))) }
+        ensures meter { OnOk result (meter.new + first_step point.now ≡ meter.old + kernel.new.steps) }
+    {
+        point.well_formed();
+        self.walk_to(app, point, walk, log, trail)?;
+        kernel.set_from(&walk.kernel);
+        let row = begin_row(kernel, app, point, until, &self.limits, meter, log, trail)?;
+        Ok(RowBeginning {
+            before: walk.told,
+            ..row
         })
     }
 

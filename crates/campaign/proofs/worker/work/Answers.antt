@@ -21,6 +21,7 @@ loop-init g c =
       finite = tt;
       refused = refl;
       game = refl;
+      walk = new.walk shelf.limits;
       known =
           record {
             rows = rw none tt;
@@ -65,6 +66,7 @@ loop-preserved-else-is_err g c =
       finite = tt;
       refused = c.loop.invariant.refused;
       game = game;
+      walk = on_ok_at c.add_block.result ok c.add_block.ensures.walk;
       known = on_ok_at c.add_block.result ok c.add_block.ensures.known;
       worked =
           subst (λ (l : List ℕ).

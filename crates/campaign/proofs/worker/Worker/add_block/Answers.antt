@@ -7,6 +7,7 @@ use Rattle.campaign.proofs.worker.Worker.add_block.Goals as goal
 
 pub loop-point-init : goal.loop-point-init
 loop-point-init c = record {
+  walk = c.requires.walk;
   blocks = refl;
   known = c.requires.known;
   rows =
@@ -39,6 +40,7 @@ loop-point-preserved c =
     let shelf = c.args.setup.now.shelf.now in
     let points = take (c.args.first + c.args.count - c.args.first) (drop c.args.first c.args.setup.now.points.now) in
     record {
+      walk = c.in_ok-add_row.ensures.walk;
       blocks = c.in_ok-add_row.ensures.blocks ∙ c.loop-point.invariant.blocks;
       known = c.in_ok-add_row.ensures.known;
       rows = rw (next_point points c.loop-point.point-index c.point-item.result c.loop-point-test.true c.point-item.is)

@@ -1,10 +1,12 @@
 use Rattle.std.proofs.Common.{◌≡◌, take}
+use Rattle.shelf.specs.Walks.{IsWalk}
 use Rattle.campaign.specs.Marks.{Knows}
 use Rattle.campaign.specs.Working.{store_in, GainsRows}
 use Rattle.campaign.proofs.worker.Worker.add_block.Given as goal
 
 abbrev pub invariant-loop-point : goal.invariant-loop-point
 invariant-loop-point l = record {
+  walk : IsWalk l.setup.app.now l.setup.shelf.now.limits l.self.walk;
   blocks : l.self.blocks ≡ l.fn.self.blocks;
   known : Knows l.setup.app.now l.setup.shelf.now.limits l.setup.view.now l.setup.shelf.now.base
       l.self.kept (store_in l.self.runner) l.self.runner.table.marks.items;

@@ -1,0 +1,69 @@
+//! A kernel that goes along the base run.
+ghost use Rattle.std.specs.Prelude.{◌≡◌, ◌≤◌, ℕ, [], None, OnOk};
+ghost use Rattle.model.specs.Application.{Limits};
+ghost use Rattle.model.specs.Run.{end_of, state_after};
+ghost use Rattle.machine.specs.Can.{IsUnderWay};
+ghost use Rattle.machine.specs.Logged.{all_of};
+ghost use Rattle.kernel.specs.Leads.{IsLed};
+ghost use Rattle.shelf.specs.Walks.{IsWalk};
+
+use kernel::{Kernel, StepLog, Trail, go_far};
+use model::{App, End, Limits, Memory, Meter};
+
+/// A kernel that goes along the base run, from the first injection of one point to that of the next, and how many events that run has
+/// reported before it. Where points come in order, it does each step of the base run once for all of them.
+#[derive(Drop)]
+pub struct Walk {
+    pub(crate) kernel: Kernel,
+    pub(crate) told: usize,
+}
+
+impl Walk {
+    /// It is before the first step.
+    pub fn new(app: &App) -> Walk
+        ensures { (limits : Limits) → IsWalk app.now limits result }
+    {
+        Walk {
+            kernel: Kernel::boot(app),
+            told: 0,
+        }
+    }
+
+    /// Goes along the base run up to this step, which that reaches. The trail gains what it reports on the way.
+    pub(crate) fn go_to(
+        &mut self,
+        app: &App,
+        step: u32,
+        limits: &Limits,
+        log: &mut StepLog,
+        trail: &mut Trail,
+    ) -> Result<(), Memory>
+        requires way { IsUnderWay app.now [] limits.now self.old.kernel }
+        requires ahead { self.old.kernel.steps ≤ step }
+        requires reached { (n : ℕ) → n ≤ step → end_of app.now limits.now (state_after app.now limits.now [] n) ≡ None }
+        ensures told { self.new.told ≡ self.old.told }
+        ensures way { OnOk result (IsUnderWay app.now [] limits.now self.new.kernel) }
+        ensures there { OnOk result (self.new.kernel.steps ≡ step) }
+        ensures led { OnOk result (IsLed app.now limits.now self.old.kernel self.new.kernel (all_of trail.old) (all_of trail.new)) }
+    {
+        let mut meter = Meter::new();
+        let ending = go_far(
+            &mut self.kernel,
+            app,
+            &[],
+            step,
+            limits,
+            &mut meter,
+            log,
+            trail,
+        )?;
+        match ending {
+            None => Ok(()),
+            Some(ending) => {
+                // The base run goes on here.
+                let _end: End = ending.end;
+                unreachable!()
+            }
+        }
+    }
+}
