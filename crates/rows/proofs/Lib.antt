@@ -5,6 +5,7 @@ pub mod LookedUp
 mod Pieces
 pub mod Placed
 mod Sending
+mod Stretched
 mod Telling
 mod Texts
 pub mod Totalling

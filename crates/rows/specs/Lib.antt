@@ -2,4 +2,5 @@ pub mod Links
 pub mod Pieces
 pub mod Placing
 pub mod Report
+pub mod Stretches
 pub mod Texts

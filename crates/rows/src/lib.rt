@@ -13,6 +13,7 @@ mod row_texts;
 mod rows;
 mod side_by_side;
 mod speller;
+mod stretches;
 mod writing;
 
 pub use campaign_report::{Report, Rows};

@@ -6,10 +6,12 @@ ghost use Rattle.byte_io.specs.Bytes.{Writes};
 ghost use Rattle.report.specs.Text.{row_text};
 ghost use Rattle.rows.specs.Links.{AreLegs};
 ghost use Rattle.rows.specs.Report.{row_of, store_of, AreKept, IsKept, IsSound};
+ghost use Rattle.rows.specs.Stretches.{AreOfPart};
 ghost use Rattle.rows.specs.Texts.{IsTextOf};
 
 use crate::campaign_report::Rows;
 use crate::rows::{KeptRow, Part};
+use crate::stretches::{Stretches, stretches_of};
 use crate::writing::add_row;
 use byte_io::{Buffer, Sink, WriteFault};
 use model::{App, Run};
@@ -38,14 +40,16 @@ pub(crate) struct Known {
     firsts: Vec<usize>,
 }
 
-/// What is known of the texts of a report's rows: that of the base run's events, with which rows begin, and of those rows that
-/// come again all but their numbers. A row that comes again is spelled once.
+/// What is known of the texts of a report's rows: that of the base run's events, with which rows begin, that of the long stretches of the
+/// rows' own events, and of those rows that come again all but their numbers. A row that comes again is spelled once, and so is a stretch
+/// that many rows have.
 ///
 /// Which texts are found is a guess: each is taken only for a row that is kept as the one that was spelled.
 #[derive(Drop)]
 pub(crate) struct RowTexts<'a> {
     rows: &'a Rows,
     events: BaseEvents<'a>,
+    stretches: Option<Vec<Stretches<'a>>>,
     known: Option<Known>,
 }
 
@@ -53,6 +57,7 @@ pub(crate) struct RowTexts<'a> {
 impl<'a> Model for RowTexts<'a> {
     ghost use Rattle.std.specs.Prelude.{◌≡◌, IfSome};
     ghost use Rattle.std.specs.List.{AllByRecursion};
+    ghost use Rattle.rows.specs.Stretches.{AreOfParts};
     ghost use Rattle.rows.specs.Texts.{Texts, IsText};
 
     ghost Value = { Texts };
@@ -60,6 +65,7 @@ impl<'a> Model for RowTexts<'a> {
     ghost view = { λ t. record { app = t.events.app; rows = t.rows.now } };
 
     ghost invariant = { λ t. (t.events.events ≡ t.rows.now.base.events)
+        × IfSome t.stretches (λ s. AreOfParts t.events.app t.rows.now s.items)
         × IfSome t.known (λ k. AllByRecursion (IsText t.events.app t.rows.now) k.texts.items) };
 }
 
@@ -82,7 +88,7 @@ fn write_row<W: Sink>(
     ensures text { Writes (W.held writer.old) (W.held writer.new) result
         (row_text report.old.app 0 (row_of base.now (store_of part.now) row.now)) }
 {
-    add_row(writer, report, 0, row, base, events, part)?;
+    add_row(writer, report, 0, row, base, events, part, None)?;
     report.finish(writer)
 }
 
@@ -123,6 +129,7 @@ impl<'a> RowTexts<'a> {
         RowTexts {
             rows,
             events: BaseEvents::new(app, rows.base.events.as_slice()),
+            stretches: None,
             known: None,
         }
     }
@@ -140,6 +147,7 @@ impl<'a> RowTexts<'a> {
         let mut texts = RowTexts {
             rows,
             events: BaseEvents::spelled(alloc, app, rows.base.events.as_slice()),
+            stretches: stretches_of(alloc, app, rows).ok(),
             known: Some(known),
         };
         texts.add_parts(alloc, app);
@@ -152,6 +160,19 @@ impl<'a> RowTexts<'a> {
         ensures events { result.now.events ≡ self.now.rows.base.events }
     {
         &self.events
+    }
+
+    /// The stretches of the trail of the part of this number, as far as they are spelled.
+    pub(crate) fn stretches(&self, part_number: usize) -> Option<&Stretches<'a>>
+        ensures { IfSome result (λ s. AreOfPart self.now.app self.now.rows part_number s.now) }
+    {
+        match &self.stretches {
+            Some(stretches) => {
+                let found = stretches.get(part_number)?;
+                Some(found)
+            }
+            None => None,
+        }
     }
 
     // How many texts are known.

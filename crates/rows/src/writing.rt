@@ -1,8 +1,9 @@
 //! The text of a campaign's report, to a sink.
-ghost use Rattle.std.specs.Prelude.{◌≡◌, ◌≤◌, ◌<◌, ◌+◌, false, [], ◌∷◌, length, nat_lt, slice_get, Some, IfSome, OnOk};
+ghost use Rattle.std.specs.Prelude.{◌≡◌, ◌≤◌, ◌<◌, ◌+◌, false, [], ◌∷◌, length, nat_lt, slice_get, slice_range, Some, IfSome, OnOk};
 ghost use Rattle.std.specs.List.{flat_map};
 ghost use Rattle.std.specs.Result.{is_err};
 ghost use Rattle.byte_io.specs.Bytes.{Adds, Writes};
+ghost use Rattle.machine.specs.Logged.{all_of};
 ghost use Rattle.model.specs.Points.{first_step};
 ghost use Rattle.model.specs.Scripts.{most_points};
 ghost use Rattle.model.specs.Campaign.{totals_of};
@@ -11,6 +12,7 @@ ghost use Rattle.report.specs.Views.{report_text, row_head, shown_row, shown_row
 ghost use Rattle.report.specs.declared.title.Title.TheVariants as title;
 ghost use Rattle.rows.specs.Links.{told_at, AreLegs, IsLink, Store};
 ghost use Rattle.rows.specs.Report.{row_of, rows_in, store_of, whole, AreKept, IsKept, IsSound};
+ghost use Rattle.rows.specs.Stretches.{AreOf};
 ghost use Rattle.rows.specs.Pieces.{piece_text, AreFresh, ArePairs, ArePieces, IsPiece, IsSpelling};
 
 use crate::campaign_report::{Report, Rows};
@@ -21,8 +23,9 @@ use crate::row_texts::RowTexts;
 use crate::rows::{KeptRow, Part};
 use crate::side_by_side::write_side_by_side;
 use crate::speller::Spelling;
+use crate::stretches::Stretches;
 use byte_io::{Sink, WriteFault};
-use model::{App, Ending, Run};
+use model::{App, Ending, Event, Run};
 use report::{BaseEvents, ReportWriter, Title, View};
 use std::alloc::Global;
 use std::sync::Wait;
@@ -36,6 +39,9 @@ const MOST_PIECE: usize = 1 << 16;
 
 // No text that is longer than this is kept in memory, in bytes.
 const MOST_TEXT: usize = 1 << 24;
+
+// Rows of fewer lines than this have no text that is worth writing as it is.
+const LEAST_SHARED: usize = 4096;
 
 // What the head line of a row begins with.
 fn title_of(number: usize, row: &KeptRow, base: &Run) -> Title
@@ -69,6 +75,56 @@ fn leg_at(legs: &[Leg], number: usize) -> Leg
     legs[number]
 }
 
+// Adds the lines of a trail's events between these places, which are on the leg of this number: by their text, where that is spelled.
+fn add_leg<W: Sink>(
+    writer: &mut W,
+    text: &mut ReportWriter<'_>,
+    stretches: &Stretches<'_>,
+    trail: &[Event],
+    number: usize,
+    from: usize,
+    to: usize,
+) -> Result<(), WriteFault>
+    requires working { W.has_failed writer.old ≡ false }
+    requires stretches { AreOf text.old.app trail.now stretches.now }
+    requires rises { from ≤ to }
+    requires within { to ≤ length trail.now }
+    ensures app { text.new.app ≡ text.old.app }
+    ensures text { Adds (W.held writer.old) (W.held writer.new) text.old.page text.new.page result
+        (flat_map (event_text text.old.app) (slice_range trail.now from to)) }
+    ensures failed { W.has_failed writer.new ≡ is_err result }
+{
+    match stretches.find(number, from, to) {
+        Some(found) => text.add_base_from(writer, found.events, found.before),
+        None => text.add_events(writer, &trail[from..to]),
+    }
+}
+
+// The same, where there may be no stretches.
+fn add_stretch<W: Sink>(
+    writer: &mut W,
+    text: &mut ReportWriter<'_>,
+    stretches: Option<&Stretches<'_>>,
+    trail: &[Event],
+    number: usize,
+    from: usize,
+    to: usize,
+) -> Result<(), WriteFault>
+    requires working { W.has_failed writer.old ≡ false }
+    requires stretches { IfSome stretches (λ s. AreOf text.old.app trail.now s.now) }
+    requires rises { from ≤ to }
+    requires within { to ≤ length trail.now }
+    ensures app { text.new.app ≡ text.old.app }
+    ensures text { Adds (W.held writer.old) (W.held writer.new) text.old.page text.new.page result
+        (flat_map (event_text text.old.app) (slice_range trail.now from to)) }
+    ensures failed { W.has_failed writer.new ≡ is_err result }
+{
+    match stretches {
+        Some(stretches) => add_leg(writer, text, stretches, trail, number, from, to),
+        None => text.add_events(writer, &trail[from..to]),
+    }
+}
+
 // Adds the lines of the events behind a link of a part.
 fn add_told<W: Sink>(
     writer: &mut W,
@@ -76,9 +132,11 @@ fn add_told<W: Sink>(
     first: Link,
     events: &BaseEvents<'_>,
     part: &Part,
+    stretches: Option<&Stretches<'_>>,
 ) -> Result<(), WriteFault>
     requires working { W.has_failed writer.old ≡ false }
     requires app { events.now.app ≡ text.old.app }
+    requires stretches { IfSome stretches (λ s. AreOf text.old.app (all_of part.now.trail) s.now) }
     requires legs { AreLegs events.now.events (store_of part.now) }
     requires link { IsLink events.now.events (store_of part.now) first }
     ensures app { text.new.app ≡ text.old.app }
@@ -93,7 +151,7 @@ fn add_told<W: Sink>(
             Link::Base { from } => return text.add_base_from(writer, events, from),
             Link::Leg { number, from } => {
                 let leg = leg_at(&part.legs, number);
-                text.add_events(writer, &trail[from..leg.to])?;
+                add_stretch(writer, text, stretches, trail, number, from, leg.to)?;
                 link = leg.next;
             }
         }
@@ -109,9 +167,11 @@ pub(crate) fn add_row<W: Sink>(
     base: &Run,
     events: &BaseEvents<'_>,
     part: &Part,
+    stretches: Option<&Stretches<'_>>,
 ) -> Result<(), WriteFault>
     requires working { W.has_failed writer.old ≡ false }
     requires app { events.now.app ≡ text.old.app }
+    requires stretches { IfSome stretches (λ s. AreOf text.old.app (all_of part.now.trail) s.now) }
     requires base { events.now.events ≡ base.now.events }
     requires few { number ≤ most_points }
     requires legs { AreLegs base.now.events (store_of part.now) }
@@ -123,7 +183,7 @@ pub(crate) fn add_row<W: Sink>(
 {
     let title = title_of(number, row, base);
     text.begin_row(writer, title, ending_of(row), events, row.shared)?;
-    add_told(writer, text, row.told, events, part)
+    add_told(writer, text, row.told, events, part, stretches)
 }
 
 // Adds the head line of a row of this number.
@@ -154,9 +214,11 @@ fn add_kept_row<W: Sink>(
     base: &Run,
     events: &BaseEvents<'_>,
     part: &Part,
+    stretches: Option<&Stretches<'_>>,
 ) -> Result<(), WriteFault>
     requires working { W.has_failed writer.old ≡ false }
     requires app { events.now.app ≡ text.old.app }
+    requires stretches { IfSome stretches (λ s. AreOf text.old.app (all_of part.now.trail) s.now) }
     requires base { events.now.events ≡ base.now.events }
     requires few { number ≤ most_points }
     requires legs { AreLegs base.now.events (store_of part.now) }
@@ -169,7 +231,7 @@ fn add_kept_row<W: Sink>(
 {
     match known {
         Some(known) => text.add_row_again(writer, number as u32, known),
-        None => add_row(writer, text, number, row, base, events, part),
+        None => add_row(writer, text, number, row, base, events, part, stretches),
     }
 }
 
@@ -184,9 +246,11 @@ fn add_shown_row<W: Sink>(
     base: &Run,
     events: &BaseEvents<'_>,
     part: &Part,
+    stretches: Option<&Stretches<'_>>,
 ) -> Result<(), WriteFault>
     requires working { W.has_failed writer.old ≡ false }
     requires app { events.now.app ≡ text.old.app }
+    requires stretches { IfSome stretches (λ s. AreOf text.old.app (all_of part.now.trail) s.now) }
     requires base { events.now.events ≡ base.now.events }
     requires few { number ≤ most_points }
     requires legs { AreLegs base.now.events (store_of part.now) }
@@ -203,7 +267,9 @@ fn add_shown_row<W: Sink>(
     if view.heads {
         return add_row_head(writer, text, number, row, base);
     }
-    add_kept_row(writer, text, number, row, known, base, events, part)
+    add_kept_row(
+        writer, text, number, row, known, base, events, part, stretches,
+    )
 }
 
 // Adds what the view shows of this many rows of the part of this number, from the first on, which are numbered from here.
@@ -233,6 +299,7 @@ fn add_place<W: Sink>(
 {
     // A part has no more rows than fit, so the sums below do.
     let _ = part.kept.len();
+    let stretches = texts.stretches(part_number);
     for index in 0..count {
         let row_number = first + index;
         let row = part.kept.at(row_number);
@@ -247,6 +314,7 @@ fn add_place<W: Sink>(
             base,
             texts.events(),
             part,
+            stretches,
         )?;
     }
     Ok(())
@@ -394,6 +462,27 @@ pub fn write_report<W: Sink>(app: &App, report: &Report, writer: &mut W) -> Resu
     write_rows(app, rows, &texts, writer)
 }
 
+// How many events the rows have of their own.
+fn own_events(rows: &Rows) -> usize {
+    let mut events: usize = 0;
+    for part in &rows.parts {
+        events = events.saturating_add(part.trail.len());
+    }
+    events
+}
+
+// Whether the text is mostly that of stretches which many rows have, by a guess at it: as many lines for each row as the base run has. Such
+// stretches are written as they are; to hand on copies of them would take longer than all the rest.
+fn is_mostly_shared(rows: &Rows) -> bool
+    requires { IsSound rows.now }
+{
+    let lines = rows.base.events.len();
+    if rows.view.heads || lines < LEAST_SHARED {
+        return false;
+    }
+    own_events(rows).saturating_mul(8) < lines.saturating_mul(rows.count())
+}
+
 // How long the text of a piece is, in bytes: all that are in memory at a time take some sixteenth of the rows' memory at most,
 // where a row with its leg takes some 100 bytes and each of its own events 16. They are neither so short that handing them on takes
 // time, nor too long for a processor's own cache.
@@ -402,11 +491,7 @@ fn length_of_pieces(rows: &Rows, spellers: usize) -> usize
     requires sound { IsSound rows.now }
     ensures { 0 < result }
 {
-    let mut events: usize = 0;
-    for part in &rows.parts {
-        events = events.saturating_add(part.trail.len());
-    }
-    let bytes = events.saturating_add(rows.count().saturating_mul(6));
+    let bytes = own_events(rows).saturating_add(rows.count().saturating_mul(6));
     (bytes / spellers / 4).clamp(LEAST_PIECE, MOST_PIECE)
 }
 
@@ -442,7 +527,7 @@ pub fn write_report_in<R: Threads + Wait + Sync, W: Sink>(
 {
     let rows = report.rows();
     let texts = texts_of(alloc, app, rows);
-    if threads < 2 {
+    if threads < 2 || is_mostly_shared(rows) {
         return write_rows(app, rows, &texts, writer);
     }
     let Ok(mut lanes) = lanes_of(alloc, threads, MOST_TEXT) else {

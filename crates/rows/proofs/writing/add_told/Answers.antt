@@ -1,5 +1,5 @@
 use Rattle.std.specs.List.{flat_map}
-use Rattle.std.proofs.Common.{◌≡◌, ◌<◌, ◌∙◌, ap, arith, drop, length, refl}
+use Rattle.std.proofs.Common.{◌<◌, ◌∙◌, ap, arith, drop, length, refl}
 use Rattle.std.proofs.lemmas.Option.{slice_get_within}
 use Rattle.std.proofs.lemmas.Result.{MatchResult-from_err}
 use Rattle.byte_io.proofs.Sending.{Sent_none}
@@ -33,25 +33,25 @@ legs-preserved g c =
     let leg = c.leg_at-leg.result in
     let at = rw c.deref.ensures.value at c.leg_at-leg.ensures in
     let sent = rw c.in-Leg.is at i.sent in
-    let added = rw (i.app, i.trail) at c.in_ok-add_events-in-Leg.ensures.text in
+    let added = rw (i.app, i.trail) at c.in_ok-add_stretch-in-Leg.ensures.text in
     record {
-      app = c.in_ok-add_events-in-Leg.ensures.app ∙ i.app;
+      app = c.in_ok-add_stretch-in-Leg.ensures.app ∙ i.app;
       trail = i.trail;
       there = (c.requires.legs c.in-Leg.number leg at).next;
       sent =
           leg_sent c.args.text.now.app c.args.events.now.events store c.requires.legs
           c.in-Leg.number c.in-Leg.from leg at _ _ _ _ _ sent _ added;
-      working = c.in_ok-add_events-in-Leg.ensures.failed;
+      working = c.in_ok-add_stretch-in-Leg.ensures.failed;
     }
 
-pub returns-in_err-add_events-in-Leg-clause-text : goal.returns-in_err-add_events-in-Leg-clause-text
-returns-in_err-add_events-in-Leg-clause-text g c =
+pub returns-in_err-add_stretch-in-Leg-clause-text : goal.returns-in_err-add_stretch-in-Leg-clause-text
+returns-in_err-add_stretch-in-Leg-clause-text g c =
     let i = c.legs.invariant in
     let store = store_of c.args.part.now in
     let leg = c.leg_at-leg.result in
     let at = rw c.deref.ensures.value at c.leg_at-leg.ensures in
     let sent = rw c.in-Leg.is at i.sent in
-    let added = rw (i.app, i.trail) at c.in_err-add_events-in-Leg.ensures.text in
+    let added = rw (i.app, i.trail) at c.in_err-add_stretch-in-Leg.ensures.text in
     MatchResult-from_err c.from_residual.result _ _ c.from_residual.ensures.0
     (λ y.
     leg_stopped c.args.text.now.app c.args.events.now.events store c.requires.legs

@@ -1,0 +1,33 @@
+-- Stretches of a trail that are spelled once.
+use Rattle.std.proofs.Common.{◌≡◌, ◌+◌, ◌-◌, ◌≤◌, ◌∙◌, ℕ, List, take, drop, length, slice_range, ap, arith}
+use Rattle.std.proofs.lemmas.List.{drop-drop, drop-take, length-drop, length-take-le}
+use Rattle.model.specs.Application.{Application}
+use Rattle.model.specs.declared.event.Event.{Event}
+use Rattle.report.specs.Writing.{Events}
+use Rattle.rows.specs.declared.stretches.Found.{Found}
+use Rattle.rows.specs.declared.stretches.Stretch.{Stretch}
+use Rattle.rows.specs.Stretches.{IsStretch, IsTail}
+
+-- a stretch from a place of it on
+behind_first : (trail : List Event) (first from to before : ℕ) → from ≤ to → first + before ≡ from
+    → drop before (slice_range trail first to) ≡ slice_range trail from to
+behind_first trail first from to before rises at =
+    let long : to - first ≡ before + (to - from) = omega (arith, at) in
+    ap (λ (n : ℕ). drop before (take n (drop first trail))) long ∙ drop-take before (to - from) (drop first trail)
+    ∙ ap (take (to - from)) (drop-drop before first trail ∙ ap (λ (n : ℕ). drop n trail) at)
+
+pub tail_is : (app : Application) (trail : List Event) (stretch : Stretch) → IsStretch app trail stretch → (from to : ℕ)
+    → stretch.to ≡ to → stretch.first ≤ from → from ≤ to → to ≤ length trail → (found : Found)
+    → found.events.now ≡ stretch.events → found.before ≡ from - stretch.first → IsTail app (slice_range trail from to) found
+tail_is app trail stretch is from to end low rises within found events before =
+    let at : stretch.first + found.before ≡ from = omega (arith, before) in
+    let long : to - stretch.first ≤ length (drop stretch.first trail) = omega (arith, length-drop stretch.first trail) in
+    let count : length (slice_range trail stretch.first to) ≡ to - stretch.first = length-take-le (to - stretch.first) (drop stretch.first trail) long in
+    let its : found.events.now.events ≡ slice_range trail stretch.first to =
+    ap (λ (e : Events). e.events) events ∙ is.events_are ∙ ap (slice_range trail stretch.first) end in
+    let all = ap length its in
+    record {
+      app_is = ap (λ (e : Events). e.app) events ∙ is.app_is;
+      within = omega (arith, at, all, count);
+      behind = ap (drop found.before) its ∙ behind_first trail stretch.first from to found.before rises at;
+    }
