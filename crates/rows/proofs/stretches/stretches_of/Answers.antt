@@ -1,9 +1,9 @@
 use Rattle.std.proofs.Common.{◌≡◌, ◌∙◌, ◌∷◌, [], ap, length, length-append, subst, sym, arith}
 use Rattle.machine.specs.Logged.{all_of}
-use Rattle.shelf.proofs.Joining.{each_more}
 use Rattle.rows.specs.declared.rows.Part.{Part}
 use Rattle.rows.specs.Stretches.{AreOfPart, AreOfParts}
 use Rattle.rows.proofs.Linked.{some_same}
+use Rattle.rows.proofs.Stretched.{each_more}
 use Rattle.rows.proofs.Totalling.{got}
 use Rattle.rows.proofs.stretches.stretches_of.Goals as goal
 
