@@ -38,6 +38,23 @@ impl Rows {
     {
         self.totals.rows as usize
     }
+
+    /// How many events the rows have of their own, which are all that the workers kept.
+    pub(crate) fn own_events(&self) -> usize {
+        let mut events: usize = 0;
+        for part in &self.parts {
+            events = events.saturating_add(part.trail.len());
+        }
+        events
+    }
+
+    /// Whether most rows go on as others do: a guess, by as many events for each row as the base run has.
+    pub(crate) fn are_alike(&self) -> bool
+        requires { IsSound self.now }
+    {
+        let events = self.base.events.len().saturating_mul(self.count());
+        self.own_events().saturating_mul(8) < events
+    }
 }
 
 // Clauses see the view, the number of the first row, and the rows as a whole.

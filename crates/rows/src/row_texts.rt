@@ -6,7 +6,7 @@ ghost use Rattle.byte_io.specs.Bytes.{Writes};
 ghost use Rattle.report.specs.Text.{row_text};
 ghost use Rattle.rows.specs.Links.{AreLegs};
 ghost use Rattle.rows.specs.Report.{row_of, store_of, AreKept, IsKept, IsSound};
-ghost use Rattle.rows.specs.Stretches.{AreOfPart};
+ghost use Rattle.rows.specs.Stretches.{AreOfPart, AreOfParts};
 ghost use Rattle.rows.specs.Texts.{IsTextOf};
 
 use crate::campaign_report::Rows;
@@ -120,6 +120,18 @@ fn text_of(
     Some(buffer)
 }
 
+// The long stretches of each part's trail, where rows go on alike. Otherwise most are of one row, which is as well spelled when it is written.
+fn shared_stretches<'a>(alloc: Global, app: &'a App, rows: &'a Rows) -> Option<Vec<Stretches<'a>>>
+    requires { IsSound rows.now }
+    ensures { IfSome result (λ s. AreOfParts app.now rows.now s.items) }
+{
+    if rows.are_alike() {
+        stretches_of(alloc, app, rows).ok()
+    } else {
+        None
+    }
+}
+
 impl<'a> RowTexts<'a> {
     /// No row's text is known. It takes no memory.
     pub(crate) fn new(app: &'a App, rows: &'a Rows) -> RowTexts<'a>
@@ -147,7 +159,7 @@ impl<'a> RowTexts<'a> {
         let mut texts = RowTexts {
             rows,
             events: BaseEvents::spelled(alloc, app, rows.base.events.as_slice()),
-            stretches: stretches_of(alloc, app, rows).ok(),
+            stretches: shared_stretches(alloc, app, rows),
             known: Some(known),
         };
         texts.add_parts(alloc, app);

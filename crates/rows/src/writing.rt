@@ -462,25 +462,12 @@ pub fn write_report<W: Sink>(app: &App, report: &Report, writer: &mut W) -> Resu
     write_rows(app, rows, &texts, writer)
 }
 
-// How many events the rows have of their own.
-fn own_events(rows: &Rows) -> usize {
-    let mut events: usize = 0;
-    for part in &rows.parts {
-        events = events.saturating_add(part.trail.len());
-    }
-    events
-}
-
-// Whether the text is mostly that of stretches which many rows have, by a guess at it: as many lines for each row as the base run has. Such
-// stretches are written as they are; to hand on copies of them would take longer than all the rest.
+// Whether the text is mostly that of long stretches which many rows have. They are written as they are; to hand on copies of them would
+// take longer than all the rest.
 fn is_mostly_shared(rows: &Rows) -> bool
     requires { IsSound rows.now }
 {
-    let lines = rows.base.events.len();
-    if rows.view.heads || lines < LEAST_SHARED {
-        return false;
-    }
-    own_events(rows).saturating_mul(8) < lines.saturating_mul(rows.count())
+    !rows.view.heads && LEAST_SHARED <= rows.base.events.len() && rows.are_alike()
 }
 
 // How long the text of a piece is, in bytes: all that are in memory at a time take some sixteenth of the rows' memory at most,
@@ -491,7 +478,9 @@ fn length_of_pieces(rows: &Rows, spellers: usize) -> usize
     requires sound { IsSound rows.now }
     ensures { 0 < result }
 {
-    let bytes = own_events(rows).saturating_add(rows.count().saturating_mul(6));
+    let bytes = rows
+        .own_events()
+        .saturating_add(rows.count().saturating_mul(6));
     (bytes / spellers / 4).clamp(LEAST_PIECE, MOST_PIECE)
 }
 
