@@ -1,5 +1,6 @@
 -- Stretches of a trail that are spelled once.
-use Rattle.std.proofs.Common.{◌≡◌, ◌+◌, ◌-◌, ◌≤◌, ◌∙◌, ℕ, zero, suc, List, [], ◌∷◌, ◌++◌, take, drop, length, slice_range, ap, arith}
+use Rattle.std.proofs.Common.{◌≡◌, ◌+◌, ◌-◌, ◌≤◌, ◌∙◌, ℕ, zero, suc, List, [], ◌∷◌, ◌++◌, take, drop}
+use Rattle.std.proofs.Common.{length, slice_range, ap, arith}
 use Rattle.std.specs.Prelude.{IfSome, slice_get}
 use Rattle.std.proofs.lemmas.List.{drop-drop, drop-take, length-drop, length-take-le}
 use Rattle.model.specs.Application.{Application}
@@ -31,7 +32,8 @@ pub tail_is : (app : Application) (trail : List Event) (stretch : Stretch) → I
 tail_is app trail stretch is from to end low rises within found events before =
     let at : stretch.first + found.before ≡ from = omega (arith, before) in
     let long : to - stretch.first ≤ length (drop stretch.first trail) = omega (arith, length-drop stretch.first trail) in
-    let count : length (slice_range trail stretch.first to) ≡ to - stretch.first = length-take-le (to - stretch.first) (drop stretch.first trail) long in
+    let count : length (slice_range trail stretch.first to) ≡ to - stretch.first =
+    length-take-le (to - stretch.first) (drop stretch.first trail) long in
     let its : found.events.now.events ≡ slice_range trail stretch.first to =
     ap (λ (e : Events). e.events) events ∙ is.events_are ∙ ap (slice_range trail stretch.first) end in
     let all = ap length its in

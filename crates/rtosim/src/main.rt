@@ -13,7 +13,7 @@ use std::process::ExitCode;
 use std::thread::{Threads, available_parallelism};
 
 // This many bytes of stack a campaign takes at most, and some more.
-const CAMPAIGN_STACK: usize = 475_136;
+const CAMPAIGN_STACK: usize = 598_016;
 
 // And any other job.
 const STACK: usize = 303_104;

@@ -13,7 +13,8 @@ returns-then-stretch-from c =
     let lookup = c.in_ok-stretch.ensures.lookup in
     let there = rw c.deref-2.ensures.value at (got c.deref-2.result.now c.in_ok-place.field-0.now stretch (omega arith) lookup.1) in
     let is =
-    all_got (IsStretch inside.app.now inside.trail.now) inside.stretches.items c.in_ok-place.field-0.now stretch there c.self.invariant in
+    all_got (IsStretch inside.app.now inside.trail.now) inside.stretches.items c.in_ok-place.field-0.now stretch there
+    c.self.invariant in
     let within : c.args.to ≤ length inside.trail.now = rw (ap (λ (e : Events). e.events) c.self.view_is) c.requires.within in
     rw (← c.self.view_is)
     (tail_is inside.app.now inside.trail.now stretch is c.args.from c.args.to (omega (arith, c.if-stretch-to.true))
