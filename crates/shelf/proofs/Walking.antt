@@ -22,8 +22,15 @@ module _ (app : Application) (inside limits : Limits) (same : inside ≡ limits)
       let all = ap length led.kept in
       let counted = was.told in
       let long : told ≡ length (events_after app inside [] new.steps) =
-      omega (arith, more, all, counted, sum, length-append (events_after app inside [] old.kernel.steps) led.own,
-      length-append before led.own) in
+      omega (
+        arith,
+        more,
+        all,
+        counted,
+        sum,
+        length-append (events_after app inside [] old.kernel.steps) led.own,
+        length-append before led.own,
+      ) in
       rw (← same) (record { way = way; told = long })
 
 -- what came behind is left out again
