@@ -29,7 +29,7 @@ may_stay_amid (GetBits group) = true
 may_stay_amid (WaitBits group condition ticks) = true
 may_stay_amid _ = false
 
--- Such an op has changed nothing else.
+-- What may follow is the op to which the task has come: nothing else changed but what was reported.
 abbrev pub is_amid : Following → Bool
 is_amid NextOp = true
 is_amid Answered = true

@@ -169,7 +169,7 @@ fn step_at<L: Log>(
     app.well_formed();
     let _ = limits;
     let following = act(machine, app, task, op, log);
-    // The end of the step is here three times, so that nothing is asked behind an op that nothing may follow, and no switch is looked for
+    // The end of the step is here four times, so that nothing is asked behind an op that nothing may follow, and no switch is looked for
     // behind one that only takes its task to another op.
     if following == Following::NextOp {
         machine.steps += 1;
