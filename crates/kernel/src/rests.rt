@@ -1,7 +1,7 @@
 //! The rest of a run, into which nothing is injected any more. It is the same for each run that comes to the same kernel.
 ghost use Rattle.std.specs.Prelude.{◌≡◌, ◌<◌, ◌≤◌, ◌+◌, ◌^◌, ℕ, [], None, IfOk, IfSome, OnErr, OnOk, length};
 ghost use Rattle.model.specs.Run as definition;
-ghost use Rattle.model.specs.Run.{IsRun, end_of, injected, state_after};
+ghost use Rattle.model.specs.Run.{IsRun, end_of, events_after, injected, state_after};
 ghost use Rattle.machine.specs.Logged.{all_of};
 ghost use Rattle.machine.specs.Can.{IsUnderWay};
 ghost use Rattle.kernel.specs.Rows.{Extends};
@@ -59,6 +59,8 @@ pub fn go_far(
     ensures kept { OnErr result (Extends (all_of trail.old) (all_of trail.new)) }
     ensures refused { OnErr result ((run : definition.Run) → IsRun app.now injections.now limits.now run
         → (kernel.new.steps ≤ run.steps) × (0 < length run.events)) }
+    // the run has reported something by then
+    ensures memory { OnErr result (0 < length (events_after app.now limits.now injections.now kernel.new.steps)) }
 {
     app.well_formed();
     limits.well_formed();

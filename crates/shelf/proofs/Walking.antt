@@ -1,9 +1,14 @@
 -- A kernel that goes along the base run.
-use Rattle.std.proofs.Common.{◌≡◌, ◌+◌, ◌-◌, ◌++◌, ℕ, List, [], length, length-append, ap, take, arith}
+use Rattle.std.proofs.Common.{◌≡◌, ◌<◌, ◌≤◌, ◌+◌, ◌-◌, ◌++◌, ℕ, List, [], None, length, length-append, ap, take, arith, inl, inr, Result, Ok, Err}
+use Rattle.std.specs.Prelude.{OnErr}
+use Rattle.std.proofs.lemmas.Bool.{cases_lt}
 use Rattle.std.proofs.lemmas.List.{take-append-le, take_all}
 use Rattle.model.specs.declared.event.Event.{Event}
+use Rattle.model.specs.declared.plan.Injection.{Injection}
+use Rattle.model.specs.Points.{IsPoint, first_step}
 use Rattle.model.specs.Application.{Application, Limits}
-use Rattle.model.specs.Run.{events_after}
+use Rattle.model.specs.Run.{Run, IsRun, end_of, events_after, injected, state_after}
+use Rattle.model.proofs.Injected.{no_fewer, none_before, same_events, same_state}
 use Rattle.machine.specs.declared.machine.Machine.{Machine}
 use Rattle.machine.specs.Can.{IsUnderWay}
 use Rattle.kernel.specs.Leads.{IsLed}
@@ -38,3 +43,35 @@ pub as_before : (before after own cut : List Event) (count : ℕ) → after ≡ 
     → cut ≡ take count after → cut ≡ before
 as_before before after own cut count kept is taken =
     rw (taken, kept, is, take-append-le (length before) before own (omega arith)) (take_all (length before) before (omega arith))
+
+-- ---- a row whose walk was refused memory
+
+-- What is true holds where memory was refused.
+pub on_err : {X E P : Type 0} (r : Result X E) → P → OnErr r P
+on_err (Ok x) p = tt
+on_err (Err e) p = p
+
+module _ (app : Application) (limits : Limits) (point : List Injection) (formed : IsPoint point)
+    (goes : (n : ℕ) → n ≤ first_step point → end_of app limits (state_after app limits [] n) ≡ None) where
+  none : (n : ℕ) → n < first_step point → injected point n ≡ []
+  none = none_before point formed.in_order
+
+  -- It comes to its first injection,
+  row_comes : (run : Run) → IsRun app point limits run → first_step point ≤ run.steps
+  row_comes run is = elim (cases_lt run.steps (first_step point)) [
+    | inl less ↦
+        let same = ap (end_of app limits) (same_state app limits point (first_step point) none run.steps (omega (arith, less))) in
+        let on = goes run.steps (omega (arith, less)) in
+        let end = is.ends in
+        absurd (cc)
+    | inr more ↦ more
+  ]
+
+  -- so it reports what the base run reports before that.
+  pub row_tells : 0 < length (events_after app limits [] (first_step point))
+      → (run : Run) → IsRun app point limits run → 0 < length run.events
+  row_tells some run is =
+      let front = ap length (same_events app limits point (first_step point) none (first_step point) (omega arith)) in
+      let more = no_fewer app limits point (first_step point) run.steps (row_comes run is) in
+      let all = ap length is.trace in
+      omega (arith, some, front, more, all)

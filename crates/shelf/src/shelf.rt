@@ -1,5 +1,5 @@
 //! Rows from the nearest stop before their point.
-ghost use Rattle.std.specs.Prelude.{◌≡◌, Bool, true, false, nat_lt, ◌<◌, ◌≤◌, ◌+◌, ◌%◌, ◌^◌, ◌++◌, [], min, take, length, None, IfOk, IfSome, OnErr, OnOk};
+ghost use Rattle.std.specs.Prelude.{◌≡◌, Bool, true, false, nat_lt, ◌<◌, ◌≤◌, ◌+◌, ◌-◌, ◌%◌, ◌^◌, ◌++◌, [], min, take, length, None, IfOk, IfSome, OnErr, OnOk};
 ghost use Rattle.model.specs.Points.{first_step, last_step};
 ghost use Rattle.model.specs.Application.{Application};
 ghost use Rattle.model.specs.Run as definition;
@@ -249,6 +249,7 @@ impl Shelf {
     }
 
     // Goes along the base run to the first injection of a point that it reaches. What the base run reports on the way leaves the trail.
+    // `Memory` is answered only where the base run reports something before that.
     fn walk_to(
         &self,
         app: &App,
@@ -263,6 +264,8 @@ impl Shelf {
         ensures walk { OnOk result (IsWalk app.now self.now.limits walk.new) }
         ensures there { OnOk result (walk.new.kernel.steps ≡ first_step point.now) }
         ensures trail { OnOk result (all_of trail.new ≡ all_of trail.old) }
+        ensures kept { OnErr result (Extends (all_of trail.old) (all_of trail.new)) }
+        ensures memory { OnErr result (0 < length (events_after app.now self.now.limits [] (first_step point.now))) }
     {
         self.come_near(app, point, walk);
         // The base run has no more events than fit, so the sum below does.
@@ -277,7 +280,9 @@ impl Shelf {
     /// Begins the row of a point as `begin_row` does, but from its first injection on, to which the walk goes along the base run. So most
     /// points that come in order take no more steps than their rows have of their own. The meter rises by these alone.
     ///
-    /// `Memory` is answered only where a growth was refused. Then the walk and the trail are of no more use.
+    /// At `Err(Memory)`, answered only where a growth was refused, so never where the row reports nothing, the meter has risen by no more
+    /// than the row's steps from that injection on. The trail then has those events that it had, and some more behind them, and the walk
+    /// is of no more use.
     pub fn begin_row_after(
         &self,
         app: &App,
@@ -299,6 +304,10 @@ impl Shelf {
         ensures begun { IfOk result (HasBegun app.now point.now self.now.limits kernel.new (all_of trail.old) (all_of trail.new)) }
         ensures before { IfOk result (λ beginning. beginning.before ≡ length (events_after app.now self.now.limits [] (first_step point.now))) }
         ensures meter { OnOk result (meter.new + first_step point.now ≡ meter.old + kernel.new.steps) }
+        ensures rises { meter.old ≤ meter.new }
+        ensures kept { OnErr result (Extends (all_of trail.old) (all_of trail.new)) }
+        ensures refused { OnErr result ((run : definition.Run) → IsRun app.now point.now self.now.limits run
+            → (meter.new ≤ meter.old + (run.steps - first_step point.now)) × (0 < length run.events)) }
     {
         point.well_formed();
         self.walk_to(app, point, walk, log, trail)?;

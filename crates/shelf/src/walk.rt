@@ -1,10 +1,11 @@
 //! A kernel that goes along the base run.
-ghost use Rattle.std.specs.Prelude.{◌≡◌, ◌≤◌, ℕ, [], None, OnOk};
+ghost use Rattle.std.specs.Prelude.{◌≡◌, ◌<◌, ◌≤◌, ℕ, [], None, OnErr, OnOk, length};
 ghost use Rattle.model.specs.Application.{Limits};
-ghost use Rattle.model.specs.Run.{end_of, state_after};
+ghost use Rattle.model.specs.Run.{end_of, events_after, state_after};
 ghost use Rattle.machine.specs.Can.{IsUnderWay};
 ghost use Rattle.machine.specs.Logged.{all_of};
 ghost use Rattle.kernel.specs.Leads.{IsLed};
+ghost use Rattle.kernel.specs.Rows.{Extends};
 ghost use Rattle.shelf.specs.Walks.{IsWalk};
 
 use kernel::{Kernel, StepLog, Trail, go_far};
@@ -45,6 +46,8 @@ impl Walk {
         ensures way { OnOk result (IsUnderWay app.now [] limits.now self.new.kernel) }
         ensures there { OnOk result (self.new.kernel.steps ≡ step) }
         ensures led { OnOk result (IsLed app.now limits.now self.old.kernel self.new.kernel (all_of trail.old) (all_of trail.new)) }
+        ensures kept { OnErr result (Extends (all_of trail.old) (all_of trail.new)) }
+        ensures memory { OnErr result (0 < length (events_after app.now limits.now [] step)) }
     {
         let mut meter = Meter::new();
         let ending = go_far(

@@ -1,9 +1,10 @@
-use Rattle.std.proofs.Common.{◌≡◌, ◌<◌, ◌+◌, ◌∙◌, None, [], ap, sym, arith}
+use Rattle.std.proofs.Common.{◌≡◌, ◌<◌, ◌≤◌, ◌∙◌, ℕ, None, [], ap, sym, arith}
 use Rattle.model.specs.Points.{first_step, last_step}
 use Rattle.kernel.proofs.Running.{steps_under}
 use Rattle.model.proofs.Injected.{first_to_last}
 use Rattle.shelf.specs.Shelves.{Shelved}
 use Rattle.shelf.proofs.Begun.{has_begun}
+use Rattle.shelf.proofs.Walking.{on_err, row_tells}
 use Rattle.shelf.proofs.shelf.Shelf.begin_row_after.Goals as goal
 
 pub begin_row-requires-clause-beyond : goal.begin_row-requires-clause-beyond
@@ -27,3 +28,13 @@ returns-clause-begun c =
     has_begun c.args.app.now c.args.point.now c.well_formed-2.ensures _ c.args.self.now.limits
     (ap (λ (s : Shelved). s.limits) c.self.view_is) _ _ _ _ row.way row.past beyond row.end
     (rw c.in_ok-walk_to.ensures.trail at row.events)
+
+pub returns-in_err-walk_to-clause-refused : goal.returns-in_err-walk_to-clause-refused
+returns-in_err-walk_to-clause-refused c =
+    on_err c.from_residual.result (λ run is.
+    let goes = λ (n : ℕ) (l : n ≤ first_step c.args.point.now). (
+    c.requires.shelf.is_base.goes_on n (let reached = c.requires.reached in omega (arith, l))) in (
+      omega arith,
+      row_tells c.args.app.now c.args.self.now.limits c.args.point.now c.well_formed-2.ensures goes
+          c.in_err-walk_to.ensures.memory run is,
+    ))

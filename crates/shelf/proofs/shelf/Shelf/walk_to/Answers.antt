@@ -1,9 +1,7 @@
 use Rattle.std.proofs.Common.{◌≡◌, ◌+◌, ◌-◌, ◌∙◌, ℕ, [], length, ap, refl, subst, arith}
 use Rattle.machine.specs.Logged.{all_of}
-use Rattle.model.specs.Points.{first_step}
 use Rattle.model.specs.Run.{events_after}
 use Rattle.shelf.specs.Shelves.{Shelved}
-use Rattle.shelf.specs.Walks.{IsWalk}
 use Rattle.shelf.proofs.Along.{shares_few}
 use Rattle.shelf.proofs.Walking.{is_walk}
 use Rattle.shelf.proofs.shelf.Shelf.walk_to.Goals as goal
