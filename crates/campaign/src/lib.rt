@@ -16,6 +16,7 @@ mod points;
 mod recent;
 mod runner;
 mod serving;
+mod spacing;
 mod tallying;
 mod worker;
 

@@ -1,15 +1,15 @@
 //! At which steps a row looks for marks, and leaves them.
 ghost use Rattle.std.specs.Prelude.{◌<◌, ◌^◌};
 
-// How many steps are between two marks at least.
-const LEAST_SPACING: u32 = 64;
+// So many steps are between two marks near an injection, or a few more, until that is judged (`Spacing`).
+const WIDE: u32 = 64;
 
-/// The steps between two marks near an injection, where the base run has a stop before each `stride`-th step: the least of them that
-/// are 64 or more, so that rows meet the base run at its stops; 64 where these are further from each other.
+/// The steps between two marks near an injection at most, where the base run has a stop before each `stride`-th step: the least of
+/// the strides doubled that are 64 or more, so that rows meet the base run at its stops; 64 where these are further from each other.
 pub(crate) fn spacing_of(stride: u32) -> u32 {
-    let mut spacing = stride.clamp(1, LEAST_SPACING);
+    let mut spacing = stride.clamp(1, WIDE);
     for _ in 0..6 {
-        if spacing < LEAST_SPACING {
+        if spacing < WIDE {
             spacing *= 2;
         }
     }

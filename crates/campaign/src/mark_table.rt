@@ -11,7 +11,7 @@ use std::alloc::Global;
 // For so many marks there is room at first, before those are left out that no row will come to any more.
 const LEAST_ROOM: usize = 256;
 
-// So many marks are kept at most: of 6 kB each they take some 50 MB.
+// So many marks are kept at most: of few tasks they take some 30 MB, of 32 some 55 MB.
 const MOST_MARKS: usize = 8192;
 
 // How many places of the table there are.

@@ -16,9 +16,10 @@ ghost use Rattle.campaign.specs.Working.{store_in, GainsRow, IsPassed, IsRestOf}
 
 use crate::ahead::Ahead;
 use crate::mark::{Mark, Passed};
-use crate::mark_steps::{next_mark, spacing_of};
+use crate::mark_steps::next_mark;
 use crate::mark_table::MarkTable;
 use crate::meetings::Meetings;
+use crate::spacing::Spacing;
 use kernel::{Kernel, RestEnding, StepLog, Trail, go_far};
 use model::{App, End, Injection, Limits, Memory, Meter, Point, Run};
 use report::View;
@@ -38,7 +39,7 @@ pub(crate) struct Runner {
     pub(crate) table: MarkTable,
     passed: Vec<Passed>,
     meetings: Meetings,
-    spacing: u32,
+    spacing: Spacing,
 }
 
 // The first step at which a row looks for marks, whose last injection comes before this step. It is behind that, or behind each step that
@@ -97,7 +98,7 @@ impl Runner {
             table: MarkTable::new(alloc),
             passed: Vec::new(alloc),
             meetings: Meetings::new(),
-            spacing: spacing_of(stride),
+            spacing: Spacing::new(stride),
         }
     }
 
@@ -136,7 +137,7 @@ impl Runner {
         requires shelf { IsShelf app.now shelf.now }
         ensures { IfSome result (IsAhead app.now shelf.now.limits shelf.now.base self.now.table.marks.items self.now.kernel) }
     {
-        let Some(before) = shelf.known(&self.kernel) else {
+        let Some(before) = shelf.known(&self.kernel, hint) else {
             return self.table.find(&self.kernel, hint);
         };
         let base = shelf.base();
@@ -156,6 +157,7 @@ impl Runner {
         ensures table { self.new.table ≡ self.old.table }
         ensures passed { IsNoted (all_of self.old.trail) self.old.kernel self.old.passed.items self.new.passed.items }
     {
+        self.spacing.count_mark();
         let Ok(kernel) = self.kernel.boxed_snapshot(self.alloc) else {
             return;
         };
@@ -228,7 +230,7 @@ impl Runner {
         let limits = shelf.limits();
         limits.well_formed();
         'marks: loop {
-            let until = next_mark(self.spacing, last, self.kernel.steps());
+            let until = next_mark(self.spacing.steps(), last, self.kernel.steps());
             let ending = go_far(
                 &mut self.kernel,
                 app,
@@ -243,7 +245,7 @@ impl Runner {
                 self.meetings.count(false);
                 return Ok(ahead_of(ending, shelf.base()));
             }
-            let hint = self.kernel.hint();
+            let hint = self.kernel.hint(app);
             if let Some(rest) = self.known_rest(app, shelf, hint) {
                 self.meetings.count(true);
                 return Ok(rest);
@@ -273,7 +275,8 @@ impl Runner {
         ensures passed { OnOk result (AreBehind app.now shelf.now.limits (all_of self.new.trail) self.new.kernel self.new.passed.items) }
         ensures rest { IfOk result (IsAhead app.now shelf.now.limits shelf.now.base self.old.table.marks.items self.new.kernel) }
     {
-        let hint = self.kernel.hint();
+        self.spacing.count_row();
+        let hint = self.kernel.hint(app);
         if let Some(rest) = self.known_rest(app, shelf, hint) {
             return Ok(rest);
         }
@@ -417,7 +420,7 @@ impl Runner {
         self.passed.clear();
         let from = self.trail.len();
         let last = point.last_step();
-        let until = first_mark(self.spacing, last);
+        let until = first_mark(self.spacing.steps(), last);
         let mut meter = Meter::new();
         let begun = shelf.begin_row_after(
             app,

@@ -19,7 +19,7 @@ fn a_loop_that_is_closed_makes_no_difference(rt: HostRuntime) {
     let app = Dice::new(1).app(rt.alloc()).expect(&rt, "an application");
     let mut machine = at_reset(&app);
     let snapshot = machine.snapshot(rt.alloc()).ok().expect(&rt, "memory");
-    let hint = machine.hint();
+    let hint = machine.hint(32);
     assert!(rt; machine.is_at(&snapshot));
     let task = TaskId { number: 0 };
     machine.push_loop(
@@ -32,8 +32,8 @@ fn a_loop_that_is_closed_makes_no_difference(rt: HostRuntime) {
     assert!(rt; !machine.is_at(&snapshot));
     assert!(rt; machine.end_turn(task).is_none());
     assert!(rt; machine.is_at(&snapshot));
-    assert!(rt; machine.hint() == hint);
+    assert!(rt; machine.hint(32) == hint);
     machine.set_used(task, 1);
     assert!(rt; !machine.is_at(&snapshot));
-    assert!(rt; machine.hint() != hint);
+    assert!(rt; machine.hint(32) != hint);
 }

@@ -152,7 +152,7 @@ fn known_at_six(rt: &impl Abort, alloc: Global, app: &App, step: u32) -> Option<
             &mut trail,
         )
         .expect(rt, "memory");
-    shelf.known(&kernel)
+    shelf.known(&kernel, kernel.hint(app))
 }
 
 #[test]

@@ -8,3 +8,4 @@ pub mod Switches
 pub mod Acting
 pub mod Continuing
 pub mod Booting
+mod Fronts

@@ -5,3 +5,4 @@ pub mod Can
 pub mod Cells
 pub mod Boot
 pub mod Keeping
+pub mod Fronts

@@ -22,8 +22,8 @@ use model::{App, ObjectId, TaskDefinition, TaskId, WaitList};
 use objects::Objects;
 use sched::Sched;
 
-/// What is kept where no wait at an object has begun yet.
-const NO_WAIT_LIST: WaitList = WaitList::ToReceive(ObjectId { number: 0 });
+/// What is kept where no task is to be put into a waiting list: the same for all kernels, so that they can be compared.
+pub const NO_WAIT_LIST: WaitList = WaitList::ToReceive(ObjectId { number: 0 });
 
 /// The progress where there are no tasks.
 pub(crate) fn without_tasks() -> [Progress; 32]

@@ -37,12 +37,14 @@ impl Progress {
 
 impl Machine {
     /// A number that kernels have in common which are the same (`is_at`), and most others don't: it is made of nothing else than what
-    /// `is_at` compares. It is a hint, on which nothing rests. A task that is at its first op, with nothing done, is left out.
-    pub fn hint(&self) -> u64 {
+    /// `is_at` compares. It is a hint, on which nothing rests. It looks at so many of the first tasks, of which one that is at its
+    /// first op, with nothing done, is left out.
+    pub fn hint(&self, tasks: usize) -> u64 {
         let runs = self.sched.current().map(|task| task.number as u64);
         let time = mixed(self.clock.now(), self.clock.elapsed());
-        let mut hash = mixed(mixed(time, self.steps as u64), numbered(runs));
-        for task in 0..32 {
+        let counts = self.objects.hint();
+        let mut hash = mixed(mixed(time, counts ^ self.steps as u64), numbered(runs));
+        for task in 0..tasks.min(32) {
             if !self.progress[task].is_first() {
                 hash = mixed(hash, self.progress[task].hint() ^ task as u64);
             }

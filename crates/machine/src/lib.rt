@@ -4,6 +4,7 @@
 mod answering;
 mod boot;
 mod deadlines;
+mod front;
 mod hint;
 mod log;
 mod loops;
@@ -14,6 +15,7 @@ mod switching;
 mod trail;
 
 pub use answering::one_if;
+pub use boot::NO_WAIT_LIST;
 pub use deadlines::{place_sleeper, place_sleeper_for};
 pub use log::{Log, StepLog};
 pub use loops::Loops;

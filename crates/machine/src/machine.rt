@@ -4,7 +4,7 @@ ghost use Rattle.model.specs.State.{no_call, printed};
 ghost use Rattle.model.specs.Switching.{write};
 ghost use Rattle.model.specs.Suspension.{phase_resumed, resumed};
 ghost use Rattle.machine.specs.Loops.{after_turn, next_turn};
-ghost use Rattle.machine.specs.StandsFor.{AreBlankFrom, Does, DoesAny, progress_in, with_progress};
+ghost use Rattle.machine.specs.StandsFor.{Does, DoesAny, progress_in, with_progress};
 
 use crate::log::Log;
 use crate::progress::Progress;
@@ -22,48 +22,13 @@ pub struct Machine {
     pub clock: Clock,
     pub objects: Objects,
     pub groups: Groups,
-    /// The list in which the last wait at an object has begun, and into which its task is put.
+    /// The list in which a wait at an object has begun, whose task is still to be put there. Where there is none it is
+    /// `NO_WAIT_LIST`, on which nothing rests.
     pub wait_list: WaitList,
     /// The index of the base interrupt that is taken for the next. It is a guess, which is tested before it is used.
     pub next_interrupt: u32,
     pub steps: u32,
     pub stopped: Option<End>,
-}
-
-/// How many of the first tasks there are, behind which nothing is done.
-pub(crate) fn tasks_of(progress: &[Progress; 32]) -> usize
-    ensures few { result ≤ 32 }
-    ensures blank { AreBlankFrom result progress.now }
-{
-    for behind in 0..32 {
-        if !progress[31 - behind].is_blank() {
-            return 32 - behind;
-        }
-    }
-    0
-}
-
-/// Whether each progress is the same as the other at its place, which is blank behind the first `tasks`.
-pub(crate) fn is_same_progress(
-    progress: &[Progress; 32],
-    other: &[Progress; 32],
-    tasks: usize,
-) -> bool
-    requires few { tasks ≤ 32 }
-    requires blank { AreBlankFrom tasks other.now }
-    ensures { result ≡ true → progress.now ≡ other.now }
-{
-    for task in 0..tasks {
-        if !progress[task].is_same(&other[task]) {
-            return false;
-        }
-    }
-    for task in tasks..32 {
-        if !progress[task].is_blank() {
-            return false;
-        }
-    }
-    true
 }
 
 /// The phase in which a resumed task's call goes on: one that was to decide tries again.

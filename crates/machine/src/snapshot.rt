@@ -1,7 +1,9 @@
 //! A kernel as it once was.
-ghost use Rattle.std.specs.Prelude.{◌≡◌, true, IfOk};
+ghost use Rattle.std.specs.Prelude.{◌≡◌, ◌≤◌, length, true, IfOk};
+ghost use Rattle.machine.specs.Fronts.{with_blanks};
 
-use crate::machine::{Machine, is_same_progress, tasks_of};
+use crate::front::{fill_from, front_of, is_same_progress};
+use crate::machine::Machine;
 use crate::progress::Progress;
 use clock::Clock;
 use groups::Groups;
@@ -11,13 +13,12 @@ use sched::Sched;
 use std::alloc::Global;
 use std::marker::Model;
 
-/// A kernel as it was between two steps. It is smaller than a kernel, which has room for the most items that there can be:
-/// a snapshot has room for those of its application's queues.
+/// A kernel as it was between two steps. It is smaller than a kernel, which has room for the most tasks and items that there can
+/// be: a snapshot has room for its application's tasks, and for the items of its queues.
 #[derive(Drop)]
 pub struct Snapshot {
-    progress: [Progress; 32],
-    // So many of the first tasks may have done something.
-    tasks: usize,
+    // That of the first tasks, behind which nobody has done anything.
+    progress: Vec<Progress>,
     sched: Sched,
     clock: Clock,
     objects: ObjectsSnapshot,
@@ -30,15 +31,15 @@ pub struct Snapshot {
 
 // Clauses see the kernel.
 impl Model for Snapshot {
-    ghost use Rattle.std.specs.Prelude.{◌≤◌};
+    ghost use Rattle.std.specs.Prelude.{◌≤◌, length};
     ghost use Rattle.machine.specs.declared.machine.Machine as declared;
-    ghost use Rattle.machine.specs.StandsFor.{AreBlankFrom};
+    ghost use Rattle.machine.specs.Fronts.{with_blanks};
 
     ghost Value = { declared.Machine };
 
-    ghost view = { λ s. record { progress = s.progress; sched = s.sched; clock = s.clock; objects = s.objects; groups = s.groups; wait_list = s.wait_list; next_interrupt = s.next_interrupt; steps = s.steps; stopped = s.stopped } };
+    ghost view = { λ s. record { progress = with_blanks s.progress.items; sched = s.sched; clock = s.clock; objects = s.objects; groups = s.groups; wait_list = s.wait_list; next_interrupt = s.next_interrupt; steps = s.steps; stopped = s.stopped } };
 
-    ghost invariant = { λ s. (s.tasks ≤ 32) × AreBlankFrom s.tasks s.progress };
+    ghost invariant = { λ s. length s.progress.items ≤ 32 };
 }
 
 impl Snapshot {
@@ -51,34 +52,38 @@ impl Snapshot {
 }
 
 impl Machine {
-    /// The kernel as it is now. It takes some 6 kB, and four bytes of memory for each item that the queues can hold.
+    /// The kernel as it is now. It takes some 3 kB, and memory of 112 bytes for each task and of four for each item that the queues
+    /// can hold.
     ///
     /// `Memory` is answered only where a growth was refused.
     pub fn snapshot(&self, alloc: Global) -> Result<Snapshot, Memory>
         ensures { IfOk result (λ snapshot. snapshot ≡ self.now) }
     {
+        let progress = front_of(alloc, &self.progress)?;
         let objects = self.objects.snapshot(alloc)?;
-        Ok(self.snapshot_with(objects))
+        Ok(self.snapshot_with(progress, objects))
     }
 
     /// As `snapshot`, in a box.
     pub fn boxed_snapshot(&self, alloc: Global) -> Result<Box<Snapshot>, Memory>
         ensures { IfOk result (λ snapshot. snapshot.value ≡ self.now) }
     {
+        let progress = front_of(alloc, &self.progress)?;
         let objects = self.objects.snapshot(alloc)?;
-        let snapshot = Box::new(alloc, self.snapshot_with(objects))?;
+        let snapshot = Box::new(alloc, self.snapshot_with(progress, objects))?;
         Ok(snapshot)
     }
 
-    /// The kernel as it is now, with this snapshot of its objects.
+    /// The kernel as it is now, with this progress of its first tasks, and this snapshot of its objects.
     #[inline(always)]
-    fn snapshot_with(&self, objects: ObjectsSnapshot) -> Snapshot
-        requires { objects ≡ self.now.objects }
+    fn snapshot_with(&self, progress: Vec<Progress>, objects: ObjectsSnapshot) -> Snapshot
+        requires few { length progress.items ≤ 32 }
+        requires progress { with_blanks progress.items ≡ self.now.progress }
+        requires objects { objects ≡ self.now.objects }
         ensures { result ≡ self.now }
     {
         Snapshot {
-            progress: self.progress,
-            tasks: tasks_of(&self.progress),
+            progress,
             sched: self.sched.copy(),
             clock: self.clock.copy(),
             objects,
@@ -94,7 +99,7 @@ impl Machine {
     pub fn restore(&mut self, snapshot: &Snapshot)
         ensures { self.new ≡ snapshot.now }
     {
-        self.progress = snapshot.progress;
+        fill_from(&mut self.progress, snapshot.progress.as_slice());
         self.sched.set_from(&snapshot.sched);
         self.clock.set_from(&snapshot.clock);
         self.objects.restore(&snapshot.objects);
@@ -119,7 +124,7 @@ impl Machine {
         }
         self.clock.is_same(&snapshot.clock)
             && self.sched.is_same(&snapshot.sched)
-            && is_same_progress(&self.progress, &snapshot.progress, snapshot.tasks)
+            && is_same_progress(&self.progress, snapshot.progress.as_slice())
             && self.objects.is_at(&snapshot.objects)
             && self.groups.is_same(&snapshot.groups)
     }

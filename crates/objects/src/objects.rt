@@ -25,6 +25,7 @@ ghost use Rattle.task_lists.specs.Tasks.{insert_by_priority};
 ghost use Rattle.objects.specs.WaitersStand.{AreAwakened, AtLocked, Decider, opened};
 ghost use Rattle.objects.specs.Objects.{AreCounted, CountsNobody, HasRoom, StandsFor, after_unlock, after_wake, counted_by, readied_by};
 
+use crate::OBJECTS;
 use crate::items::{Items, ItemsSnapshot};
 use crate::lock::Lock;
 use crate::mutexes::Mutexes;
@@ -165,6 +166,18 @@ impl Objects {
             && self.semaphores.is_same(&snapshot.semaphores)
             && self.items.is_at(&snapshot.items)
             && self.waiting.is_same(&snapshot.waiting)
+    }
+
+    /// A number that objects have in common which are the same (`is_at`), and many others don't: it is made of how many items each
+    /// queue has, and of the counts of the semaphores. It is a hint, on which nothing rests.
+    pub fn hint(&self) -> u64 {
+        let mut hint: u64 = 0;
+        for object in 0..(self.number as usize).min(OBJECTS) {
+            let counts = self.items.len(object) as u64
+                | (self.semaphores.count(object) as u64) << 32;
+            hint = hint.rotate_left(7).wrapping_add(counts);
+        }
+        hint
     }
 
     /// The number of items in a queue (`uxQueueMessagesWaiting`).

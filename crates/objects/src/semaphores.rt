@@ -85,6 +85,14 @@ impl Semaphores {
         are_same(&self.counts, &other.counts) && are_same(&self.max_counts, &other.max_counts)
     }
 
+    /// The count of an object.
+    pub(crate) fn count(&self, object: usize) -> u16
+        requires { object < object_places }
+        ensures { result ≡ count_in self.now object }
+    {
+        self.counts[object]
+    }
+
     /// Whether one can be taken from a count.
     pub(crate) fn can_take(&self, object: usize) -> bool
         requires { object < object_places }

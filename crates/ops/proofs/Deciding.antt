@@ -319,11 +319,11 @@ module _ (new : Machine) (log : List Event) (s : State) (i o : ℕ) (a : Access)
 -- ---- a task is placed
 
 module _ (k : Machine) (log : List Event) (s : State) (i : ℕ) (list : WaitList) (b : StandsBefore i list k s)
-    (told : log ≡ s.log) (v : Schedule) (q : Objects) (t : Timeline) (new : Machine)
+    (told : log ≡ s.log) (v : Schedule) (q : Objects) (t : Timeline) (next : WaitList) (new : Machine)
     (on : sched.StandsFor v s) (there : objects.StandsFor q None s) (awake : clock.StandsFor t s)
     (is : new
     ≡ with_progress i (record (progress_in k.progress i) { call = record (progress_in k.progress i).call { phase = Unlock } })
-    (record k { sched = v; objects = q; clock = t })) where
+    (record k { sched = v; objects = q; clock = t; wait_list = next })) where
   l_then : i < length s.tasks
   l_then = let L : Option ℕ → Type 0 = λ o. IfSome o (λ j. j < length s.tasks) in subst L b.current on.table.current
 
@@ -352,8 +352,8 @@ module _ (k : Machine) (log : List Event) (s : State) (i : ℕ) (list : WaitList
       let shown = stands_same s later same q None there in
       let one : p ≡ record (progress_in k.progress i) { call = record (progress_in k.progress i).call { phase = Unlock } } =
       ap (λ (x : Progress). record x { call = record x.call { phase = Unlock } }) (sym (b.progress i)) in
-      let is_new : new ≡ with_progress i p (record k { sched = v; objects = q; clock = t }) =
-      is ∙ ap (λ (x : Progress). with_progress i x (record k { sched = v; objects = q; clock = t })) (sym one) in
+      let is_new : new ≡ with_progress i p (record k { sched = v; objects = q; clock = t; wait_list = next }) =
+      is ∙ ap (λ (x : Progress). with_progress i x (record k { sched = v; objects = q; clock = t; wait_list = next })) (sym one) in
       let table : IsTable later = kept_table in
       subst (λ (x : Machine). At x log later) (sym is_new) (record {
         stands = record {

@@ -17,7 +17,7 @@ ghost use Rattle.ops.specs.Can.{CanTry, CanDecide, CanPlace, CanLeave, CanGoOn};
 
 use crate::mutexes::{after_timeout, inherit};
 use crate::queues::{fulfil, refusal};
-use machine::{Log, Machine, place_sleeper, wake_all};
+use machine::{Log, Machine, NO_WAIT_LIST, place_sleeper, wake_all};
 use model::{Access, App, ObjectId, Phase, TaskId, WaitList};
 
 /// The list in which a call waits.
@@ -133,6 +133,7 @@ fn place(machine: &mut Machine, task: TaskId)
     machine.sched.block(task);
     let priority = machine.sched.priority(task);
     machine.objects.place(machine.wait_list, task, priority);
+    machine.wait_list = NO_WAIT_LIST;
     place_sleeper(&mut machine.clock, deadline, task);
     machine.set_phase(task, Phase::Unlock);
 }

@@ -42,8 +42,8 @@ impl Model for Shelf {
 
 impl Shelf {
     /// Runs an application to its end under these limits, without injections, and keeps the kernel as it is before every
-    /// `stride`-th step: 1 to 65,536. Each of these snapshots takes some 6 kB and four bytes for each item that the queues of
-    /// the application can hold.
+    /// `stride`-th step: 1 to 65,536. Each of these snapshots takes some 3 kB, 112 bytes for each task, and four for each item
+    /// that the queues of the application can hold.
     ///
     /// `Memory` is answered only where a growth was refused.
     pub fn make(alloc: Global, app: &App, limits: Limits, stride: u32) -> Result<Shelf, Memory>
@@ -113,15 +113,15 @@ impl Shelf {
         self.base.events.len()
     }
 
-    /// How many events the base run had reported at the stop where this kernel is, if it is at one. Each run that comes to this kernel, and
-    /// into which nothing is injected from there on, goes on as the base run does behind these.
-    pub fn known(&self, kernel: &Kernel) -> Option<usize>
+    /// How many events the base run had reported at the stop where this kernel is, of this hint, if it is found to be at one. Each
+    /// run that comes to this kernel, and into which nothing is injected from there on, goes on as the base run does behind these.
+    pub fn known(&self, kernel: &Kernel, hint: u64) -> Option<usize>
         requires apart { 0 < self.now.stride }
         ensures joins { IfSome result (λ before. (app : Application) → IsShelf app self.now
             → JoinsBase app self.now.limits self.now.base kernel.now before) }
     {
         let stop = self.stops.get((kernel.steps() / self.stride) as usize)?;
-        if kernel.is_at(&stop.kernel) {
+        if stop.hint == hint && kernel.is_at(&stop.kernel) {
             Some(stop.before)
         } else {
             None

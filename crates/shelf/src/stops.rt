@@ -12,6 +12,7 @@ use std::alloc::Global;
 #[derive(Drop)]
 pub(crate) struct Stop {
     pub(crate) kernel: Snapshot,
+    pub(crate) hint: u64,
     /// How many events the run had reported by then.
     pub(crate) before: usize,
 }
@@ -60,6 +61,7 @@ pub(crate) fn put_stops(
         }
         stops.push(Stop {
             kernel: kernel.snapshot(alloc)?,
+            hint: kernel.hint(app),
             before: trail.len(),
         })?;
         next += stride;

@@ -39,7 +39,8 @@ returns c = λ s h.
           let priority =
           c.priority-priority.ensures.priority
           ∙ ap (λ (v : Schedule). priority_in v.priorities i) c.block.ensures.schedule ∙ own.sched.priorities i in
-          (placed_at k s.log s i list own refl c.block.new.self c.place.new.self c.place_sleeper.new.clock c.set_phase.new.self
+          (placed_at k s.log s i list own refl c.block.new.self c.place.new.self c.place_sleeper.new.clock k.wait_list
+          c.set_phase.new.self
           (c.block.ensures.placed s own.sched)
           (c.place.ensures.stands s (subst
           (λ (w : WaitList).

@@ -32,7 +32,7 @@ returns-clause-does c = λ log s h.
     let priority =
     c.priority-priority.ensures.priority
     ∙ ap (λ (v : Schedule). priority_in v.priorities i) c.block.ensures.schedule ∙ own.sched.priorities i in
-    placed_at k log s i list own h.log c.block.new.self c.place.new.self c.place_sleeper.new.clock c.set_phase.new.self
+    placed_at k log s i list own h.log c.block.new.self c.place.new.self c.place_sleeper.new.clock _ c.set_phase.new.self
     (c.block.ensures.placed s own.sched)
     (c.place.ensures.stands s (subst
     (λ (w : WaitList). objects.StandsFor k.objects (Some (record { task = i; list = w; priority = c.priority-priority.result })) s)

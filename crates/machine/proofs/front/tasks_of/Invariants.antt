@@ -1,6 +1,6 @@
 use Rattle.std.proofs.Common.{◌-◌}
 use Rattle.machine.specs.StandsFor.{AreBlankFrom}
-use Rattle.machine.proofs.machine.tasks_of.Given as goal
+use Rattle.machine.proofs.front.tasks_of.Given as goal
 
 abbrev pub invariant-loop-behind : goal.invariant-loop-behind
 invariant-loop-behind l = AreBlankFrom (32 - l.behind) l.progress

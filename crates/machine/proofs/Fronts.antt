@@ -1,0 +1,56 @@
+-- The progress of the first tasks, and of nobody behind them.
+use Rattle.std.proofs.Common.{◌≡◌, ◌<◌, ◌≤◌, ◌+◌, ◌-◌, ◌++◌, ◌∙◌, ℕ, List, drop, inl, inr, length, length-append, replicate, take}
+use Rattle.std.proofs.Common.{refl, ap, sym, arith}
+use Rattle.std.proofs.lemmas.Bool.{cases_lt}
+use Rattle.std.proofs.lemmas.List.{ext_get_or, get_or-append_right, get_or-drop, get_or-replicate, get_or-take, get_or_append_left}
+use Rattle.std.proofs.lemmas.List.{length-drop, length-replicate, length-take}
+use Rattle.std.proofs.Math.ListN.{get_or-eq_default}
+use Rattle.model.specs.State.{Progress, no_progress}
+use Rattle.machine.specs.StandsFor.{AreBlankFrom, progress_in}
+use Rattle.machine.specs.Fronts.{with_blanks}
+
+module _ (front : List Progress) (few : length front ≤ 32) where
+  abbrev blanks : List Progress
+  blanks = replicate (32 - length front) no_progress
+
+  pub long : length (with_blanks front) ≡ 32
+  long = omega (arith, few, length-append front blanks, length-replicate (32 - length front) no_progress)
+
+  -- Who is behind the front has done nothing.
+  pub in_front : (task : ℕ) → task < 32 → progress_in (with_blanks front) task ≡ progress_in front task
+  in_front task low = elim (cases_lt task (length front)) [
+    | inl there ↦ get_or_append_left front blanks no_progress task there
+    | inr behind ↦
+        get_or-append_right front blanks (length front) task no_progress refl behind
+        ∙ get_or-replicate (32 - length front) (task - length front) no_progress no_progress (omega (arith, low, behind))
+        ∙ sym (get_or-eq_default front no_progress behind)
+  ]
+
+  -- It is the progress of all tasks that has this front, and is blank behind it.
+  pub is_whole : (ps : List Progress) → length ps ≡ 32
+      → ((task : ℕ) → task < 32 → progress_in ps task ≡ progress_in front task) → ps ≡ with_blanks front
+  is_whole ps full same =
+      ext_get_or no_progress ps (with_blanks front) (full ∙ sym long)
+      (λ task below. let low : task < 32 = omega (arith, below, full) in same task low ∙ sym (in_front task low))
+
+-- The front of a progress that is blank behind it.
+pub front_is : (tasks : ℕ) (ps front : List Progress) → length ps ≡ 32 → tasks ≤ 32 → AreBlankFrom tasks ps
+    → front ≡ take tasks ps → with_blanks front ≡ ps
+front_is tasks ps front full few blank is =
+    let long : length (take tasks ps) ≡ tasks = omega (arith, full, few, length-take tasks ps) in
+    rw is (sym (is_whole (take tasks ps) (omega (arith, long, few)) ps full (λ task low. elim (cases_lt task tasks) [
+      | inl there ↦ sym (get_or-take tasks ps task no_progress there)
+      | inr behind ↦
+          blank task behind ∙ sym (get_or-eq_default (take tasks ps) no_progress (omega (arith, long, behind)))
+    ])))
+
+-- A front that is put over what is blank.
+pub filled : (front before : List Progress) → length front ≤ 32 → length before ≡ 32 → AreBlankFrom 0 before
+    → front ++ drop (length front) before ≡ with_blanks front
+filled front before few full blank =
+    let behind = length-drop (length front) before in
+    let blanks = length-replicate (32 - length front) no_progress in
+    ap (λ (rest : List Progress). front ++ rest) (ext_get_or no_progress (drop (length front) before)
+    (replicate (32 - length front) no_progress) (omega (arith, behind, full, blanks))
+    (λ i below. get_or-drop (length front) before i no_progress ∙ blank (length front + i) (omega arith)
+    ∙ sym (get_or-replicate (32 - length front) i no_progress no_progress (omega (arith, below, behind, full)))))
