@@ -1,6 +1,6 @@
 //! Where a task is in its script.
 use crate::loops::Loops;
-use model::CallProgress;
+use model::{CallProgress, Phase};
 use std::marker::Model;
 
 /// Where a task is in its script, and what it keeps there.
@@ -71,12 +71,17 @@ impl Progress {
     pub(crate) fn is_blank(&self) -> bool
         ensures { result ≡ true → self.now ≡ no_progress }
     {
-        if self.op_index != 0
+        // Where there is no task each of these is tested, so they are joined without jumps.
+        let call = &self.call;
+        let is_marked = call.waits | call.inherited;
+        let is_kept = self.answer.is_some() | call.deadline.is_some();
+        let is_called = call.wants.is_some() | call.kept.is_some();
+        if is_marked | is_kept | is_called
+            || self.op_index != 0
             || self.used != 0
-            || self.answer.is_some()
             || self.previous_wake != 0
             || self.stamp != 0
-            || self.call != CallProgress::default()
+            || call.phase != Phase::default()
         {
             return false;
         }

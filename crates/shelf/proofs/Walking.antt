@@ -1,5 +1,6 @@
 -- A kernel that goes along the base run.
-use Rattle.std.proofs.Common.{◌≡◌, ◌<◌, ◌≤◌, ◌+◌, ◌-◌, ◌++◌, ℕ, List, [], None, length, length-append, ap, take, arith, inl, inr, Result, Ok, Err}
+use Rattle.std.proofs.Common.{◌≡◌, ◌<◌, ◌≤◌, ◌+◌, ◌-◌, ◌++◌, ℕ, List, [], None, Result, Ok, Err, length, length-append, ap, take}
+use Rattle.std.proofs.Common.{arith, inl, inr}
 use Rattle.std.specs.Prelude.{OnErr}
 use Rattle.std.proofs.lemmas.Bool.{cases_lt}
 use Rattle.std.proofs.lemmas.List.{take-append-le, take_all}
