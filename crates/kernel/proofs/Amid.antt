@@ -40,7 +40,7 @@ use Rattle.machine.specs.Can.{Runs}
 use Rattle.machine.specs.StandsFor.Stands.{Placed, Placing}
 use Rattle.kernel.specs.contracts.acting.Following.{the_type}
 use Rattle.kernel.specs.declared.acting.Following.{Following}
-use Rattle.kernel.specs.declared.acting.Following.TheVariants.{NextOp, Answered}
+use Rattle.kernel.specs.declared.acting.Following.TheVariants.{NextOp, Answered, LettingGo}
 use Rattle.kernel.specs.InScript.{IsAt, is_amid, may_stay_amid}
 use Rattle.kernel.specs.Over.{is_over}
 use Rattle.kernel.proofs.Ending.{begun, handled_before, stepped}
@@ -198,6 +198,9 @@ amid_next a e = ap is_amid (same_true the_type (search rules) a NextOp (sym e))
 
 pub amid_answered : (a : Following) → true ≡ sameb the_type a Answered → is_amid a ≡ true
 amid_answered a e = ap is_amid (same_true the_type (search rules) a Answered (sym e))
+
+pub letting_go : (a : Following) → true ≡ sameb the_type a LettingGo → a ≡ LettingGo
+letting_go a e = same_true the_type (search rules) a LettingGo (sym e)
 
 pub next_op : (a : Following) → false ≡ not (sameb the_type a NextOp) → a ≡ NextOp
 next_op a e = same_true the_type (search rules) a NextOp (unequal (sameb the_type a NextOp) e) where

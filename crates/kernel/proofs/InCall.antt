@@ -2,8 +2,6 @@
 use denote.Enum.Bare.{sameb, same_true}
 use Rattle.std.proofs.Common.{◌≡◌, ◌≢◌, ◌<◌, ◌+◌, ℕ, Bool, true, false, not, rules, List, [], Option, None, refl, ap, sym, subst}
 use Rattle.std.proofs.Common.{◌∙◌, arith}
-use Rattle.std.specs.Prelude.{nat_lt}
-use Rattle.std.proofs.lemmas.Bool.{lt-ltb}
 use Rattle.model.specs.declared.op.Access.{Access}
 use Rattle.model.specs.declared.op.Access.TheVariants.{Receive}
 use Rattle.model.specs.declared.op.Op.TheVariants.{Await, NextCommand}
@@ -14,12 +12,8 @@ use Rattle.model.specs.contracts.call.Phase.{the_type}
 use Rattle.model.specs.declared.event.Event.{Event}
 use Rattle.model.specs.Application.{Application, Limits, op_at}
 use Rattle.model.specs.State.{State, Progress, progress_at}
-use Rattle.model.specs.Switching.{is_held, settle, unless_held}
 use Rattle.model.specs.Calls.{await, leave_call}
-use Rattle.model.specs.Step.{act_current, act_unless, before_step, misuse, step}
-use Rattle.sched.specs.StandsFor as sched
-use Rattle.sched.specs.Schedule.{Schedule}
-use Rattle.sched.proofs.Standing.{held_by_depth}
+use Rattle.model.specs.Step.{act_current, act_unless, misuse, step}
 use Rattle.machine.specs.declared.machine.Machine.{Machine}
 use Rattle.machine.specs.Logged.{Logged}
 use Rattle.machine.specs.StandsFor.{Stands, AtAny, Does, DoesAny, progress_in}
@@ -29,14 +23,12 @@ use Rattle.ops.specs.InCall.{IsSilent, Remains}
 use Rattle.kernel.specs.InCall.{IsCallOn, IsInPhase, IsLeaving}
 use Rattle.kernel.specs.InCall.IsCallOn.{Awaits, Receives}
 use Rattle.kernel.specs.Over.{is_over}
-use Rattle.machine.proofs.Either.{any, either, current_is, does_any, does_more, progress_is, steps_are, suspensions_are}
+use Rattle.machine.proofs.Either.{current_is, does_any, does_more, progress_is, suspensions_are}
 use Rattle.kernel.proofs.Acted.{any_by_form, two_within}
 use Rattle.ops.proofs.Commanding.{receive_in_phase}
 use Rattle.ops.proofs.Calling.{in_phase}
-use Rattle.kernel.proofs.Counting.{steps_still}
-use Rattle.machine.proofs.Switches.{settled_before, settled_held}
-use Rattle.kernel.proofs.Ending.{begun, handled_before, stepped}
 use Rattle.kernel.proofs.Running.{acts}
+use Rattle.kernel.proofs.Holding as holding
 use Rattle.kernel.proofs.Silent.{not_over_silently}
 
 -- A call reports nothing in three phases: in all but the first the scheduler is held before it too.
@@ -68,15 +60,6 @@ same_phase a b e = same_true the_type (search rules) a b (unequal (sameb the_typ
   unequal : (x : Bool) → false ≡ not x → x ≡ true
   unequal true e = refl
   unequal false e = absurd (cc)
-
-held_by : (v : Schedule) (s : State) → sched.StandsFor v s → 0 < v.depth → is_held s ≡ true
-held_by v s h some = held_by_depth s ∙ ap (λ (n : ℕ). nat_lt 0 n) (sym h.depth) ∙ lt-ltb 0 v.depth some
-
--- While the scheduler is held, a step ends without a switch.
-still_held : (k : Machine) (log : List Event) (s : State) → 0 < k.sched.depth → AtAny k log s → AtAny k log (unless_held settle s)
-still_held k log s some h = either k log s h
-    (λ a. any k log (unless_held settle s) (settled_held k log s (held_by k.sched s a.stands.sched some) a))
-    (λ task list b. settled_before k log s h task list b)
 
 module _ (app : Application) (limits : Limits) (k : Machine) (task object : ℕ)
     (access : Access) (phase : Phase) (c : IsInPhase app k task object access phase) where
@@ -135,18 +118,14 @@ module _ (app : Application) (limits : Limits) (k : Machine) (task object : ℕ)
 
     -- as it reports nothing, and switches nothing.
     module _ (held : 0 < new.sched.depth) (s : State) (h : Stands k s) where
-      there : AtAny new [] (unless_held settle (act_current app limits (before_step app [] s).current (before_step app [] s)))
-      there = still_held new [] _ held (acts_there [] (before_step app [] s) (handled_before app [] s k [] (begun k [] s h refl)))
-
       pub steps_held : new.steps ≡ k.steps
-      steps_held = steps_still app limits [] s k new [] h there
+      steps_held = holding.steps_held app limits k new [] (acts_there []) held s h
 
       pub stepped_held : Stands (record new { steps = new.steps + 1 }) (step app limits [] s)
-      stepped_held = stepped app limits [] s new [] new.steps (steps_held ∙ steps_are k s h) there
+      stepped_held = holding.stands_held app limits k new [] (acts_there []) held s h
 
       pub told_nothing : (step app limits [] s).log ≡ []
-      unfolding step
-      told_nothing = sym there.log
+      told_nothing = sym (holding.told_held app limits k new [] (acts_there []) held s h)
 
       -- Nor does it end the run.
       pub not_over_after : IsSilent phase → new.sched.current ≡ k.sched.current

@@ -11,6 +11,7 @@ pub mod Planned
 pub mod Held
 pub mod Unstopped
 pub mod Silent
+pub mod Holding
 pub mod InCall
 pub mod Counting
 pub mod LettingGo

@@ -1,14 +1,15 @@
 -- A phase of a call in which it reports nothing ends neither a task nor the run.
 use Rattle.std.proofs.Common.{◌≡◌, ◌≢◌, ◌||◌, ◌&&◌, leb, ℕ, true, false, eqb, ltb, List, [], ◌∷◌, ◌++◌, Option, Some, None, refl}
 use Rattle.std.proofs.Common.{ap, sym, subst, ◌∙◌}
-use Rattle.std.specs.Option.{is_some}
+use Rattle.std.specs.Option.{is_some, option_eq}
 use Rattle.model.specs.declared.event.End.{End}
 use Rattle.model.specs.declared.op.Access.{Access}
 use Rattle.std.specs.Prelude.{Bool, if◌then◌else◌}
 use Rattle.model.specs.declared.op.Command.{Command}
 use Rattle.model.specs.declared.op.Op.{Op}
-use Rattle.model.specs.declared.op.Op.TheVariants.{Obey, SuspendAll}
+use Rattle.model.specs.declared.op.Op.TheVariants.{Obey, SetBits, SuspendAll, WaitBits}
 use Rattle.model.specs.declared.call.CallProgress.{CallProgress}
+use Rattle.model.specs.declared.call.Condition.{Condition}
 use Rattle.model.specs.declared.call.Phase.{Phase}
 use Rattle.model.specs.declared.call.Phase.TheVariants.{Start, Try, Decide, Place, Unlock, Leave}
 use Rattle.model.specs.declared.call.WaitList.TheVariants.{ToReceive, ToSend}
@@ -18,10 +19,11 @@ use Rattle.model.specs.State.{with_call, for_one, for_each, no_task}
 use Rattle.model.specs.Order.{tasks_of}
 use Rattle.model.specs.Switching.{is_ready, is_same, is_off, choice, make_ready, to_back, dispatch, choose, settle, is_held}
 use Rattle.model.specs.Switching.{unless_held}
-use Rattle.model.specs.Waiting.{awakened, is_expired, wait_in, unlock_object, unlock}
+use Rattle.model.specs.Waiting.{awakened, is_expired, set_deadline, wait_in, unlock_object, unlock}
 use Rattle.model.specs.Objects.{list_for, possible}
 use Rattle.model.specs.Mutexes.{set_priority, raise, inherits, inherit_from, inherit}
-use Rattle.model.specs.Groups.{keep_answer, wake_with_bits, bits_set, met_by, set, begin_set, wake_all}
+use Rattle.model.specs.Groups.{keep_answer, wake_with_bits, bits_set, met_by, set, begin_set, wake_all, wait_bits, wait_for_bits}
+use Rattle.model.specs.Groups.{answer_bits, begin_bits_wait, check, is_met, set_bits, want}
 use Rattle.model.specs.Daemon.{clear_by_daemon, command_at, next_command, obey}
 use Rattle.model.specs.Calls.{decide, await}
 use Rattle.model.specs.Step.{is_ended, act, act_current, act_if, before_step, own_misuse, step}
@@ -181,6 +183,17 @@ stopped-begin_set : (s : State) (i group mask : ℕ) → (begin_set i group mask
 unfolding begin_set
 stopped-begin_set s i group mask = stopped-set (record s { call_hold = true }) group mask
 
+-- ---- the begin of a wait for bits
+
+on-begin_bits_wait : (s : State) (i group : ℕ) (c : Condition) (ticks : Option ℕ) → EndsNobody s (begin_bits_wait i group c ticks s)
+unfolding begin_bits_wait wait_for_bits set_deadline
+on-begin_bits_wait s i group c ticks j on =
+    let held : State = record s { call_hold = true } in
+    let due : State = set_deadline i ticks held in
+    let wanting : State = want i c due in
+    let waits : State = wait_for_bits i group wanting in
+    on-with_call waits i _ j (on-with_task wanting i _ (λ o. refl) j (on-with_call due i _ j (on-with_call held i _ j on)))
+
 -- ---- the step
 
 -- Where what is done in a step ends nobody and stops nothing, and lets no tick pass,
@@ -285,3 +298,51 @@ module _ (app : Application) (limits : Limits) (task : ℕ) (s : State) (runs : 
       (on-begin_set begun task command.group command.mask) (stopped-begin_set begun task command.group command.mask)
       (lasts-begin_set task command.group command.mask begun).elapsed
       still going
+
+-- So it is where a call of a task on an event group begins.
+module _ (app : Application) (limits : Limits) (task : ℕ) (op : Op) (s : State) (runs : s.current ≡ Some task)
+    (is : op_at app task (progress_at s task).op_index ≡ Some op) (reached : (call_at s task).phase ≡ Start)
+    (none : s.suspensions ≡ 0) where
+  anew : State
+  anew = record s { log = [] }
+
+  acts_as : (form : Op) → op ≡ form → own_misuse anew task form ≡ None → form ≢ SuspendAll
+      → act_current app limits s.current anew ≡ act app task form anew
+  unfolding anew
+  acts_as form same allowed apart =
+      ap (λ c. act_current app limits c anew) runs
+      ∙ ap (λ o. act_if app task o anew) (is ∙ ap Some same)
+      ∙ acts_calm app task form anew none allowed apart
+
+  module _ (group mask : ℕ) (same : op ≡ SetBits group mask) where
+    sets : act_current app limits s.current anew ≡ begin_set task group mask anew
+    unfolding anew
+    sets =
+        acts_as (SetBits group mask) same refl (λ e. absurd (cc))
+        ∙ ap (λ p. set_bits app task group mask p anew) reached
+
+    pub not_over_set : (step app limits [] s).current ≡ Some task
+        → is_over app limits s ≡ false → is_over app limits (step app limits [] s) ≡ false
+    unfolding anew
+    not_over_set =
+        not_over_by app limits task s (begin_set task group mask anew) sets
+        (on-begin_set anew task group mask) (stopped-begin_set anew task group mask)
+        (lasts-begin_set task group mask anew).elapsed
+
+  module _ (group : ℕ) (condition : Condition) (ticks : Option ℕ) (same : op ≡ WaitBits group condition ticks)
+      (unmet : is_met (bits_at s group) condition || option_eq eqb ticks (Some 0) ≡ false) where
+    waits : act_current app limits s.current anew ≡ begin_bits_wait task group condition ticks anew
+    unfolding anew check
+    waits =
+        acts_as (WaitBits group condition ticks) same refl (λ e. absurd (cc))
+        ∙ ap (λ p. wait_bits app task group condition ticks p anew) reached
+        ∙ ap (λ (b : Bool).
+        if b then answer_bits app task group condition anew else begin_bits_wait task group condition ticks anew)
+        unmet
+
+    pub not_over_wait : (step app limits [] s).current ≡ Some task
+        → is_over app limits s ≡ false → is_over app limits (step app limits [] s) ≡ false
+    unfolding anew begin_bits_wait wait_for_bits set_deadline
+    not_over_wait =
+        not_over_by app limits task s (begin_bits_wait task group condition ticks anew) waits
+        (on-begin_bits_wait anew task group condition ticks) refl refl

@@ -1,11 +1,13 @@
 -- The steps in which a call on an event group lets go of the scheduler.
-use Rattle.std.specs.Prelude.{◌≡◌, ℕ, Bool, true, false, Some}
+use Rattle.std.specs.Prelude.{◌≡◌, ℕ, Bool, true, false, Option, Some}
+use Rattle.model.specs.declared.call.Condition.{Condition}
 use Rattle.model.specs.declared.op.Op.{Op}
 use Rattle.model.specs.declared.op.Op.TheVariants.{SetBits, WaitBits, Obey}
-use Rattle.model.specs.declared.call.Phase.TheVariants.{Leave}
+use Rattle.model.specs.declared.call.Phase.TheVariants.{Start, Leave}
 use Rattle.model.specs.Application.{Application, op_at}
 use Rattle.machine.specs.declared.machine.Machine.{Machine}
 use Rattle.machine.specs.StandsFor.{progress_in}
+use Rattle.ops.specs.InCall.{IsUnmet, TakesHold}
 
 -- an op that sets bits, or waits for them, or does the daemon's command
 abbrev pub is_for_bits : Op → Bool
@@ -21,3 +23,15 @@ pub record IsLettingGo (app : Application) (k : Machine) (task : ℕ) (op : Op) 
   pub bits : is_for_bits op ≡ true
   pub reached : (progress_in k.progress task).call.phase ≡ Leave
   pub awake : k.sched.suspensions ≡ 0
+
+-- An op whose call on an event group may begin: it sets bits, or waits for some that aren't there.
+pub data Begins (k : Machine) (op : Op) : Type 0 where
+  Sets : (group mask : ℕ) → op ≡ SetBits group mask → Begins k op
+  Waits : (group : ℕ) → (condition : Condition) → (ticks : Option ℕ) → op ≡ WaitBits group condition ticks
+      → IsUnmet k group condition ticks → Begins k op
+
+-- The running task's op is such a one, and its call has taken hold of the scheduler.
+pub record HasTakenHold (old new : Machine) (task : ℕ) (op : Op) : Type 0 where
+  pub begins : Begins old op
+  pub start : (progress_in old.progress task).call.phase ≡ Start
+  pub takes : TakesHold old new task

@@ -1,9 +1,10 @@
 //! What the running task's op does.
-ghost use Rattle.std.specs.Prelude.{◌≡◌, ◌<◌, ◌≤◌, true};
+ghost use Rattle.std.specs.Prelude.{◌≡◌, ◌≢◌, ◌<◌, ◌≤◌, true, false};
 ghost use Rattle.model.specs.Step.{act_unless, misuse, act};
 ghost use Rattle.machine.specs.StandsFor.{DoesAny, Does, IsPlaced};
 ghost use Rattle.kernel.specs.declared.acting.Following.TheVariants as following;
 ghost use Rattle.kernel.specs.InScript.{is_amid, may_stay_amid};
+ghost use Rattle.kernel.specs.Bits.{HasTakenHold};
 ghost use Rattle.kernel.specs.Can.{CanOp};
 ghost use Rattle.model.specs.declared.op.Op.TheVariants as op;
 ghost use Rattle.model.specs.Ops.{use_up};
@@ -16,7 +17,7 @@ use machine::{Log, Machine};
 use model::{App, Misuse, Op, TaskId};
 use ops::calls::go_on_waiting;
 use ops::daemon::{next_command, obey};
-use ops::event_groups::{clear_bits, get_bits, set_bits, wait_bits};
+use ops::event_groups::{BitsWait, clear_bits, get_bits, set_bits, wait_bits};
 use ops::mutexes::give_mutex;
 use ops::queues::{do_now, messages_waiting, spaces_available};
 use ops::script::{branch, close_turn, end_if, expect, leave_loop, mark, open_loop, skip_branch};
@@ -37,19 +38,23 @@ pub(crate) enum Following {
     NextOp,
     /// The same behind a call that has answered, or a mark.
     Answered,
+    /// The one in which its call on an event group, which has taken hold of the scheduler, lets go of it.
+    LettingGo,
     /// Those that come while a `suspend_all` is in force.
     Suspended,
 }
 
 impl Following {
     ghost use Rattle.std.specs.Prelude.{◌≡◌, ◌≢◌, true, false};
+    ghost use Rattle.ops.specs.declared.event_groups.BitsWait.TheVariants as wait;
     ghost use Rattle.kernel.specs.declared.acting.Following.TheVariants as following;
     ghost use Rattle.kernel.specs.InScript.{is_amid};
 
     /// The task's next op, if it is still amid its script.
-    #[inline(always)]
+    #[inline]
     fn op_if(stays: bool) -> Following
         ensures amid { is_amid result ≡ true → stays ≡ true }
+        ensures letting { result ≢ following.LettingGo }
     {
         if stays {
             Following::NextOp
@@ -59,10 +64,11 @@ impl Following {
     }
 
     /// The same behind a call that has answered, or a mark.
-    #[inline(always)]
+    #[inline]
     fn answered_if(stays: bool) -> Following
         ensures amid { is_amid result ≡ true → stays ≡ true }
         ensures told { result ≢ following.NextOp }
+        ensures letting { result ≢ following.LettingGo }
     {
         if stays {
             Following::Answered
@@ -71,23 +77,39 @@ impl Following {
         }
     }
 
-    /// The same behind a call that waits for bits, if it has answered, otherwise the steps of such a call.
-    #[inline(always)]
-    fn answered_or_steps(stays: bool) -> Following
-        ensures amid { is_amid result ≡ true → stays ≡ true }
+    /// What may come behind a call that waits for bits.
+    #[inline]
+    fn behind_wait(came_to: BitsWait) -> Following
+        ensures amid { is_amid result ≡ true → came_to ≡ wait.Answered }
         ensures told { result ≢ following.NextOp }
+        ensures letting { result ≡ following.LettingGo → came_to ≡ wait.Begun }
     {
-        if stays {
-            Following::Answered
+        match came_to {
+            BitsWait::Begun => Following::LettingGo,
+            BitsWait::Answered => Following::Answered,
+            BitsWait::Other => Following::Nothing,
+        }
+    }
+
+    /// What may come behind a call that sets bits.
+    #[inline]
+    fn letting_go_if(begun: bool) -> Following
+        ensures amid { is_amid result ≡ false }
+        ensures told { result ≢ following.NextOp }
+        ensures letting { result ≡ following.LettingGo → begun ≡ true }
+    {
+        if begun {
+            Following::LettingGo
         } else {
-            Following::Steps
+            Following::Nothing
         }
     }
 
     /// Steps, if some may come.
-    #[inline(always)]
+    #[inline]
     fn steps_if(may_come: bool) -> Following
-        ensures { is_amid result ≡ false }
+        ensures amid { is_amid result ≡ false }
+        ensures letting { result ≢ following.LettingGo }
     {
         if may_come {
             Following::Steps
@@ -97,9 +119,10 @@ impl Following {
     }
 
     /// Those of a command, if one was received, otherwise those of the call that waits for one.
-    #[inline(always)]
+    #[inline]
     fn command_if(received: bool) -> Following
-        ensures { is_amid result ≡ false }
+        ensures amid { is_amid result ≡ false }
+        ensures letting { result ≢ following.LettingGo }
     {
         if received {
             Following::Command
@@ -109,16 +132,27 @@ impl Following {
     }
 }
 
-/// `work`: a tick of it is used up, and the tick passes.
+/// `work`: a tick of it is used up, and the tick passes. It answers what may come behind it.
 #[inline(always)]
-pub(crate) fn work<L: Log>(machine: &mut Machine, app: &App, task: TaskId, ticks: u32, log: &mut L)
+fn work<L: Log>(
+    machine: &mut Machine,
+    app: &App,
+    task: TaskId,
+    ticks: u32,
+    log: &mut L,
+) -> Following
     requires room { 65 ≤ (L.logged log.old).room }
     requires can { Can app.now machine.old task (op.Work ticks) }
-    ensures { Does 65 machine.old (L.logged log.old) machine.new (L.logged log.new)
+    ensures does { Does 65 machine.old (L.logged log.old) machine.new (L.logged log.new)
         (act app.now task (op.Work ticks)) }
+    ensures amid { is_amid result ≡ false }
+    ensures letting { result ≢ following.LettingGo }
 {
+    // This tick and the last aren't passed with others.
+    let left = ticks - machine.progress(task).used;
     use_up(machine, app, task, ticks);
     tick_interrupt(machine, app, log);
+    Following::steps_if(left > 2)
 }
 
 /// What the running task's op does, where no `suspend_all` is in force; a misuse ends the run, and does nothing else. It answers what
@@ -140,24 +174,20 @@ pub(crate) fn act<L: Log>(
     ensures runs { is_amid result ≡ true → Runs machine.old task }
     ensures plain { is_amid result ≡ true → may_stay_amid op.now ≡ true }
     ensures silent { result ≡ following.NextOp → L.logged log.new ≡ L.logged log.old }
+    ensures letting { result ≡ following.LettingGo
+        → HasTakenHold machine.old machine.new task op.now × (L.logged log.new ≡ L.logged log.old) }
 {
     match *op {
-        Op::Work(ticks) => {
-            // This tick and the last aren't passed with others.
-            let left = ticks - machine.progress(task).used;
-            work(machine, app, task, ticks, log);
-            return Following::steps_if(left > 2);
-        }
+        Op::Work(ticks) => return work(machine, app, task, ticks, log),
         Op::Await(object, access, ticks) => {
             go_on_waiting(machine, app, task, object, access, ticks, log);
             return Following::Steps;
         }
         Op::SetBits(group, mask) => {
-            set_bits(machine, app, task, group, mask, log);
-            return Following::Steps;
+            return Following::letting_go_if(set_bits(machine, app, task, group, mask, log));
         }
         Op::WaitBits(group, condition, ticks) => {
-            return Following::answered_or_steps(wait_bits(
+            return Following::behind_wait(wait_bits(
                 machine, app, task, group, condition, ticks, log,
             ));
         }
@@ -197,10 +227,7 @@ pub(crate) fn act<L: Log>(
         Op::NextCommand(queue) => {
             return Following::command_if(next_command(machine, app, task, queue, log));
         }
-        Op::Obey => {
-            obey(machine, app, task, log);
-            return Following::Steps;
-        }
+        Op::Obey => obey(machine, app, task, log),
     }
     Following::Nothing
 }

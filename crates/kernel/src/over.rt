@@ -1,5 +1,5 @@
 //! Whether a run is over, and how it ends.
-ghost use Rattle.std.specs.Prelude.{◌≡◌, Some, false, true, ◌&&◌};
+ghost use Rattle.std.specs.Prelude.{◌≡◌, ◌<◌, Some, false, true, ◌&&◌, length};
 ghost use Rattle.std.specs.List.{list_all, list_any};
 ghost use Rattle.model.specs.Application.{is_endless};
 ghost use Rattle.model.specs.State.{State, Task};
@@ -96,16 +96,23 @@ fn are_all_ended(machine: &Machine, app: &App) -> bool
     is_nobody_left(machine)
 }
 
+/// Whether no run waits for the end of this task, which is there.
+#[inline(always)]
+fn is_endless(app: &App, task: TaskId) -> bool
+    requires { task < length app.now.tasks }
+    ensures { result ≡ is_endless app.now task }
+{
+    app.tasks()[task.number as usize].is_endless()
+}
+
 /// Whether a task is endless, and every other that isn't is Ended.
 #[inline(always)]
 pub(crate) fn is_left_alone(machine: &Machine, app: &App, task: TaskId) -> bool
+    requires { task < length app.now.tasks }
     ensures { (s : State) → Stands machine.now s
         → result ≡ is_endless app.now task && are_all_ended app.now s }
 {
-    if !app.has_endless() {
-        return false;
-    }
-    if !app.is_endless(task) {
+    if !is_endless(app, task) {
         return false;
     }
     if is_awaited(machine, app, app.first_awaited()) {

@@ -5,7 +5,6 @@ ghost use Rattle.kernel.specs.Along.{IsFree, GoesOn, NoneIsOver};
 ghost use Rattle.kernel.specs.InCall.{IsLeaving};
 
 use crate::acting::Following;
-use crate::bits::{letting_go, pass_bits};
 use crate::commands::pass_command;
 use crate::in_call::{deciding, pass_call, pass_leave};
 use crate::quiet::{may_be_quiet, pass_quiet_steps, ticks_to_work};
@@ -34,6 +33,7 @@ pub(crate) fn pass_more(
     if following == Following::Nothing
         || following == Following::NextOp
         || following == Following::Answered
+        || following == Following::LettingGo
     {
         return;
     }
@@ -45,10 +45,6 @@ pub(crate) fn pass_more(
     }
     if following == Following::Command {
         pass_command(kernel, app, injections, until, limits, trail);
-        return;
-    }
-    if let Some(task) = letting_go(kernel) {
-        pass_bits(kernel, app, injections, until, task, limits, trail);
         return;
     }
     if let Some(task) = pass_on(kernel, app, injections, until, true, limits) {

@@ -16,11 +16,13 @@ ghost use Rattle.kernel.specs.Over.{is_over};
 ghost use Rattle.machine.specs.Can.{IsUnderWay};
 ghost use Rattle.kernel.specs.Can.{CanAct, CanStep};
 ghost use Rattle.kernel.specs.InScript.{IsAt, IsAtNone, is_amid};
+ghost use Rattle.kernel.specs.Bits.{IsLettingGo};
 ghost use Rattle.kernel.specs.declared.acting.Following.TheVariants as following;
 ghost use Rattle.kernel.specs.Along.{IsFree, GoesTo, GoesOn, IsGoing, GoesFurther};
 ghost use Rattle.kernel.specs.Rows.{events_from, Extends};
 
 use crate::acting::{Following, act};
+use crate::bits::pass_held;
 use crate::handlers::inject_all;
 use crate::idle::idle;
 use crate::kernel::Kernel;
@@ -161,6 +163,10 @@ fn step_at<L: Log>(
     ensures told { (s : State) → Stands machine.old s → (L.logged log.new).told ≡ (step app.now limits.now [] s).log }
     ensures before { (L.logged log.new).before ≡ (L.logged log.old).before }
     ensures silent { result ≡ following.NextOp → L.logged log.new ≡ L.logged log.old }
+    ensures letting { result ≡ following.LettingGo
+        → IsLettingGo app.now machine.new task op.now × (L.logged log.new ≡ L.logged log.old) }
+    ensures held { result ≡ following.LettingGo → (s : State) → Stands machine.old s → is_over app.now limits.now s ≡ false
+        → is_over app.now limits.now (step app.now limits.now [] s) ≡ false }
     ensures runs { is_amid result ≡ true → machine.new.sched.current ≡ Some task }
     ensures awake { is_amid result ≡ true → machine.new.sched.suspensions ≡ 0 }
     ensures on { is_amid result ≡ true → (s : State) → Stands machine.old s → is_over app.now limits.now s ≡ false
@@ -169,8 +175,8 @@ fn step_at<L: Log>(
     app.well_formed();
     let _ = limits;
     let following = act(machine, app, task, op, log);
-    // The end of the step is here four times, so that nothing is asked behind an op that nothing may follow, and no switch is looked for
-    // behind one that only takes its task to another op.
+    // The end of the step is here five times, so that nothing is asked behind an op that nothing may follow, and no switch is looked for
+    // behind one that only takes its task to another op, or whose call holds the scheduler.
     if following == Following::NextOp {
         machine.steps += 1;
         return Following::NextOp;
@@ -183,6 +189,10 @@ fn step_at<L: Log>(
         machine.settle(log);
         machine.steps += 1;
         return Following::Nothing;
+    }
+    if following == Following::LettingGo {
+        machine.steps += 1;
+        return Following::LettingGo;
     }
     machine.settle(log);
     machine.steps += 1;
@@ -408,8 +418,9 @@ pub(crate) fn count_steps(meter: &mut Meter, steps: u32)
     }
 }
 
-/// Does the steps in which the running task only goes on amid its script, beginning with this op, and the next one, which does more. It
-/// does none from the step before `until` on. The run is under way, and isn't over; the trail has no event of this step yet. It answers
+/// Does the steps in which the running task only goes on amid its script, beginning with this op, and the next one, which does more;
+/// where in that one it begins to set bits or to wait for some, also the one in which its call lets go of the scheduler. It does none from the step
+/// before `until` on. The run is under way, and isn't over; the trail has no event of this step yet. It answers
 /// what may come behind the last of them (`pass_more`).
 #[inline(always)]
 fn step_along_script(
@@ -441,6 +452,11 @@ fn step_along_script(
             if last < kernel.steps || trail.begin().is_err() {
                 return Following::Nothing;
             }
+        } else if following == Following::LettingGo {
+            if kernel.steps <= last {
+                pass_held(kernel, app, injections, until, task, op, limits, trail);
+            }
+            return Following::Nothing;
         } else if following != Following::NextOp || last < kernel.steps {
             return following;
         }

@@ -5,6 +5,7 @@ use Rattle.std.specs.Prelude.{if◌then◌else◌}
 use Rattle.std.specs.List.{AllByRecursion, filter}
 use Rattle.std.specs.Option.{is_some, option_eq, option_map}
 use Rattle.std.proofs.Math.ListN.{length-set}
+use Rattle.model.specs.declared.call.CallProgress.{CallProgress}
 use Rattle.model.specs.declared.call.Condition.{Condition}
 use Rattle.model.specs.declared.call.Phase.{Phase}
 use Rattle.model.specs.declared.call.Phase.TheVariants.{Start, Try, Decide, Place, Unlock, Leave}
@@ -214,6 +215,29 @@ wanting k log s h i c v calm held holds timed ticks times kept new condition is 
     }
 
 -- ---- a set
+
+-- A task's call changes, and its place in its script doesn't.
+pub placed_in : (call : CallProgress) (ps : List Progress) (i : ℕ)
+    → (progress_in (set ps i (record (progress_in ps i) { call = call })) i).op_index ≡ (progress_in ps i).op_index
+placed_in call [] i = refl
+placed_in call (p ∷ ps) zero = refl
+placed_in call (p ∷ ps) (suc i) = placed_in call ps i
+
+-- The answers that are kept change no task's place in its script, nor how many tasks there are.
+pub kept_place : (bits : ℕ) (is : List ℕ) (ps : List Progress) (i : ℕ)
+    → (progress_in (kept_by bits is ps) i).op_index ≡ (progress_in ps i).op_index
+kept_place bits [] ps i = refl
+kept_place bits (j ∷ is) ps i = kept_place bits is (keep_in bits ps j) i ∙ one ps j i where
+  one : (ps : List Progress) (j i : ℕ) → (progress_in (keep_in bits ps j) i).op_index ≡ (progress_in ps i).op_index
+  one [] j i = refl
+  one (p ∷ ps) zero zero = refl
+  one (p ∷ ps) zero (suc i) = refl
+  one (p ∷ ps) (suc j) zero = refl
+  one (p ∷ ps) (suc j) (suc i) = one ps j i
+
+pub kept_length : (bits : ℕ) (is : List ℕ) (ps : List Progress) → length (kept_by bits is ps) ≡ length ps
+kept_length bits [] ps = refl
+kept_length bits (j ∷ is) ps = kept_length bits is (keep_in bits ps j) ∙ length-set ps j _
 
 -- who waits for bits can become Ready
 pub record CanMeet (s : State) (i : ℕ) : Type 0 where

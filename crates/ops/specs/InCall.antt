@@ -1,9 +1,14 @@
 -- The phases of a call in which it reports nothing.
-use Rattle.std.specs.Prelude.{◌≡◌, ℕ}
+use Rattle.std.specs.Prelude.{◌≡◌, ◌||◌, ℕ, false, Option, Some, nat_eq}
+use Rattle.std.specs.Option.{option_eq}
+use Rattle.model.specs.declared.call.Condition.{Condition}
 use Rattle.model.specs.declared.call.Phase.{Phase}
-use Rattle.model.specs.declared.call.Phase.TheVariants.{Decide, Place, Unlock}
+use Rattle.model.specs.declared.call.Phase.TheVariants.{Decide, Place, Unlock, Leave}
+use Rattle.model.specs.Groups.{is_met}
+use Rattle.model.specs.State.{State, bits_at}
 use Rattle.machine.specs.declared.machine.Machine.{Machine}
-use Rattle.machine.specs.StandsFor.{progress_in}
+use Rattle.machine.specs.Can.{Agrees}
+use Rattle.machine.specs.StandsFor.{StandsFor, progress_in}
 
 -- In these phases a call reports nothing, and holds the scheduler after each.
 abbrev pub IsSilent : Phase → Type 0
@@ -17,3 +22,15 @@ pub record Remains (old new : Machine) (task : ℕ) : Type 0 where
   pub current : new.sched.current ≡ old.sched.current
   pub op_index : (progress_in new.progress task).op_index ≡ (progress_in old.progress task).op_index
   pub suspensions : new.sched.suspensions ≡ old.sched.suspensions
+
+-- The running task's call on an event group has taken hold of the scheduler, and lets go of it next.
+pub record TakesHold (old new : Machine) (task : ℕ) : Type 0 where
+  pub agrees : Agrees old
+  pub remains : Remains old new task
+  pub held : new.sched.depth ≡ 1
+  pub reached : (progress_in new.progress task).call.phase ≡ Leave
+
+-- The bits of a group don't meet a condition, and there are ticks to wait for them.
+abbrev pub IsUnmet : Machine → ℕ → Condition → Option ℕ → Type 0
+IsUnmet k group condition ticks =
+    (s : State) → StandsFor k s → is_met (bits_at s group) condition || option_eq nat_eq ticks (Some 0) ≡ false

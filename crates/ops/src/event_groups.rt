@@ -15,6 +15,8 @@ ghost use Rattle.machine.specs.StandsFor.{StandsFor, Does, DoesAny, IsPlaced, Mo
 ghost use Rattle.machine.specs.Keeping.{kept_by};
 ghost use Rattle.machine.specs.Can.{AreThere, AreToWake, Runs};
 ghost use Rattle.ops.specs.Can.{CanDecide, CanLeave, CanSetBits, CanWaitBits, IsShort};
+ghost use Rattle.ops.specs.InCall.{IsUnmet, Remains, TakesHold};
+ghost use Rattle.ops.specs.declared.event_groups.BitsWait.TheVariants as wait;
 
 use groups::Met;
 use machine::{Log, Machine, place_sleeper_for, wake_all};
@@ -99,6 +101,9 @@ fn wake_met(machine: &mut Machine, met: &Met)
     ensures woken { (s : State) → ClockStandsFor machine.old.clock s
         → AreThere s met.now.tasks.items
         → ClockStandsFor machine.new.clock (for_each make_ready met.now.tasks.items s) }
+    ensures current { machine.new.sched.current ≡ machine.old.sched.current }
+    ensures depth { machine.new.sched.depth ≡ machine.old.sched.depth }
+    ensures suspensions { machine.new.sched.suspensions ≡ machine.old.sched.suspensions }
 {
     let tasks = met.tasks.as_slice();
     keep_answers(machine, tasks, met.bits);
@@ -110,7 +115,10 @@ fn wake_met(machine: &mut Machine, met: &Met)
 #[inline(never)]
 pub fn begin_set(machine: &mut Machine, task: TaskId, group: GroupId, mask: u32)
     requires { CanDecide machine.old task }
-    ensures { Moves machine.old machine.new (definitions.begin_set task group mask) }
+    ensures does { Moves machine.old machine.new (definitions.begin_set task group mask) }
+    ensures remains { Remains machine.old machine.new task }
+    ensures held { machine.new.sched.depth ≡ 1 }
+    ensures reached { (progress_in machine.new.progress task).call.phase ≡ phase.Leave }
 {
     machine.sched.hold();
     let met = machine.groups.set(group, mask);
@@ -136,7 +144,8 @@ pub fn end_set<L: Log>(machine: &mut Machine, app: &App, task: TaskId, log: &mut
     machine.preempt(log);
 }
 
-/// The next phase of a set.
+/// The next phase of a set. It answers whether the set has begun: then nothing was reported, its call holds the scheduler, and lets go of
+/// it next.
 // Most steps of a task that sets bits come through here, and a call would cost a third of it.
 #[inline(always)]
 pub fn set_bits<L: Log>(
@@ -146,15 +155,24 @@ pub fn set_bits<L: Log>(
     group: GroupId,
     mask: u32,
     log: &mut L,
-)
+) -> bool
     requires room { 2 ≤ (L.logged log.old).room }
     requires can { CanSetBits machine.old task (progress_in machine.old.progress task).call.phase }
-    ensures { DoesAny 2 machine.old (L.logged log.old) machine.new (L.logged log.new)
+    ensures does { DoesAny 2 machine.old (L.logged log.old) machine.new (L.logged log.new)
         (act app.now task (op.SetBits group mask)) }
+    ensures start { result ≡ true → (progress_in machine.old.progress task).call.phase ≡ phase.Start }
+    ensures takes { result ≡ true → TakesHold machine.old machine.new task }
+    ensures silent { result ≡ true → L.logged log.new ≡ L.logged log.old }
 {
     match machine.progress(task).call.phase {
-        Phase::Start => begin_set(machine, task, group, mask),
-        _ => end_set(machine, app, task, log),
+        Phase::Start => {
+            begin_set(machine, task, group, mask);
+            true
+        }
+        _ => {
+            end_set(machine, app, task, log);
+            false
+        }
     }
 }
 
@@ -172,7 +190,10 @@ fn begin_bits_wait(
     requires short { IsShort ticks }
     requires some { ticks ≢ Some 0 }
     requires time { machine.old.clock.now + 2 ^ 32 < 2 ^ 63 }
-    ensures { Moves machine.old machine.new (definitions.begin_bits_wait task group condition ticks) }
+    ensures does { Moves machine.old machine.new (definitions.begin_bits_wait task group condition ticks) }
+    ensures remains { Remains machine.old machine.new task }
+    ensures held { machine.new.sched.depth ≡ 1 }
+    ensures reached { (progress_in machine.new.progress task).call.phase ≡ phase.Leave }
 {
     machine.sched.hold();
     machine.set_deadline(task, ticks);
@@ -198,7 +219,7 @@ fn need_not_wait_for_bits(
     machine.groups.check(group, condition) || ticks == Some(0)
 }
 
-/// A wait whose condition is met, or that has no ticks to wait, answers. Otherwise the task waits.
+/// A wait whose condition is met, or that has no ticks to wait, answers. Otherwise the task waits, and `true` is answered.
 #[inline(always)]
 fn check_bits<L: Log>(
     machine: &mut Machine,
@@ -208,19 +229,23 @@ fn check_bits<L: Log>(
     condition: Condition,
     ticks: Option<u32>,
     log: &mut L,
-)
+) -> bool
     requires room { 1 ≤ (L.logged log.old).room }
     requires can { CanDecide machine.old task }
     requires short { IsShort ticks }
     requires time { machine.old.clock.now + 2 ^ 32 < 2 ^ 63 }
-    ensures { Does 1 machine.old (L.logged log.old) machine.new (L.logged log.new)
+    ensures does { Does 1 machine.old (L.logged log.old) machine.new (L.logged log.new)
         (definitions.check app.now task group condition ticks) }
+    ensures takes { result ≡ true → TakesHold machine.old machine.new task }
+    ensures unmet { result ≡ true → IsUnmet machine.old group condition ticks }
+    ensures silent { result ≡ true → L.logged log.new ≡ L.logged log.old }
 {
     if need_not_wait_for_bits(machine, group, &condition, ticks) {
         answer_bits(machine, app, task, group, &condition, log);
-    } else {
-        begin_bits_wait(machine, task, group, condition, ticks);
+        return false;
     }
+    begin_bits_wait(machine, task, group, condition, ticks);
+    true
 }
 
 /// The hold ends, and the choice runs.
@@ -236,7 +261,50 @@ pub fn leave_bits_wait<L: Log>(machine: &mut Machine, task: TaskId, log: &mut L)
     machine.choose(log);
 }
 
-/// Woken, the task answers the bits that are kept for it, otherwise those of now. See `wait_bits` for what is answered here.
+/// What the next phase of a wait for bits has come to.
+#[derive(Clone, Copy, PartialEq)]
+pub enum BitsWait {
+    /// The task waits from now on, and its call holds the scheduler.
+    Begun,
+    /// It has answered the bits that were kept for it, and the task is still amid its script; nothing else changed.
+    Answered,
+    /// Anything else.
+    Other,
+}
+
+impl BitsWait {
+    ghost use Rattle.std.specs.Prelude.{◌≡◌, ◌≢◌, true};
+    ghost use Rattle.ops.specs.declared.event_groups.BitsWait.TheVariants as wait;
+
+    /// At its start it has begun, or has come to anything else.
+    #[inline]
+    fn begun_if(waits: bool) -> BitsWait
+        ensures begun { result ≡ wait.Begun → waits ≡ true }
+        ensures answered { result ≢ wait.Answered }
+    {
+        if waits {
+            BitsWait::Begun
+        } else {
+            BitsWait::Other
+        }
+    }
+
+    /// At its end it has answered so, or has come to anything else.
+    #[inline]
+    fn answered_if(stays: bool) -> BitsWait
+        ensures answered { result ≡ wait.Answered → stays ≡ true }
+        ensures begun { result ≢ wait.Begun }
+    {
+        if stays {
+            BitsWait::Answered
+        } else {
+            BitsWait::Other
+        }
+    }
+}
+
+/// Woken, the task answers the bits that are kept for it, otherwise those of now. It answers whether they were kept, and the task is still
+/// amid its script: then nothing else changed.
 #[inline(always)]
 fn finish_wait<L: Log>(
     machine: &mut Machine,
@@ -261,8 +329,7 @@ fn finish_wait<L: Log>(
     }
 }
 
-/// The next phase of a wait for bits. It answers whether the wait is over with the bits that were kept for it, and the task still amid its
-/// script: then nothing else changed.
+/// The next phase of a wait for bits. It answers what the wait has come to.
 // The step has what it takes at hand, and a call with so many arguments would cost a third of it.
 #[inline(always)]
 pub fn wait_bits<L: Log>(
@@ -273,24 +340,27 @@ pub fn wait_bits<L: Log>(
     condition: Condition,
     ticks: Option<u32>,
     log: &mut L,
-) -> bool
+) -> BitsWait
     requires room { 2 ≤ (L.logged log.old).room }
     requires can { CanWaitBits machine.old task ticks
         (progress_in machine.old.progress task).call.phase }
     ensures does { DoesAny 2 machine.old (L.logged log.old) machine.new (L.logged log.new)
         (act app.now task (op.WaitBits group condition ticks)) }
-    ensures amid { result ≡ true → IsPlaced machine.old machine.new task }
-    ensures runs { result ≡ true → Runs machine.old task }
+    ensures amid { result ≡ wait.Answered → IsPlaced machine.old machine.new task }
+    ensures runs { result ≡ wait.Answered → Runs machine.old task }
+    ensures start { result ≡ wait.Begun → (progress_in machine.old.progress task).call.phase ≡ phase.Start }
+    ensures takes { result ≡ wait.Begun → TakesHold machine.old machine.new task }
+    ensures unmet { result ≡ wait.Begun → IsUnmet machine.old group condition ticks }
+    ensures silent { result ≡ wait.Begun → L.logged log.new ≡ L.logged log.old }
 {
     match machine.progress(task).call.phase {
-        Phase::Start => {
-            check_bits(machine, app, task, group, condition, ticks, log);
-            false
-        }
+        Phase::Start => BitsWait::begun_if(check_bits(
+            machine, app, task, group, condition, ticks, log,
+        )),
         Phase::Leave => {
             leave_bits_wait(machine, task, log);
-            false
+            BitsWait::Other
         }
-        _ => finish_wait(machine, app, task, group, &condition, log),
+        _ => BitsWait::answered_if(finish_wait(machine, app, task, group, &condition, log)),
     }
 }

@@ -6,25 +6,19 @@ use Rattle.model.specs.declared.op.Op.TheVariants.{Obey}
 use Rattle.model.specs.declared.event.Misuse.TheVariants.{NotSuspended}
 use Rattle.model.specs.State.{Progress}
 use Rattle.machine.specs.StandsFor.{progress_in}
+use Rattle.kernel.specs.Bits.Begins.{Sets, Waits}
 use Rattle.kernel.specs.Can.{CanOp}
 use Rattle.kernel.proofs.Held.{misused_at, not_suspended}
 use Rattle.kernel.proofs.Acted.{all_within, any_by_form, does_by_form, one_within, room_for_one, room_for_two, two_within}
 use Rattle.machine.proofs.Either.{does_any, does_more, moves_any}
 use Rattle.kernel.proofs.acting.act.Goals as goal
 
-pub overflow_sub-left : goal.overflow_sub-left
-overflow_sub-left g c =
-    let can = subst (CanOp c.args.app.now c.args.machine.now c.args.task) c.in-Work.is c.requires.can in
-    let used : (progress_in c.args.machine.now.progress c.args.task).used < c.in-Work.ticks = can.used in
-    let same = ap (λ (p : Progress). p.used) (c.behind-machine.view_is ∙ c.progress.ensures) in
-    omega arith
-
 pub returns-in-Work-clause-does : goal.returns-in-Work-clause-does
 returns-in-Work-clause-does g c =
     let can = subst (CanOp c.args.app.now c.args.machine.now c.args.task) c.in-Work.is c.requires.can in
     does_by_form c.args.app.now c.args.machine.now c.work.new.machine (g.L.Log.logged c.args.log.now)
     (g.L.Log.logged c.work.new.log) c.args.task c.args.op.now (Work c.in-Work.ticks) c.in-Work.is
-    c.requires.awake (λ s. refl) refl 65 all_within can.tick.advance.agrees c.work.ensures
+    c.requires.awake (λ s. refl) refl 65 all_within can.tick.advance.agrees c.work.ensures.does
 
 pub returns-in-Delay-clause-does : goal.returns-in-Delay-clause-does
 returns-in-Delay-clause-does g c =
@@ -172,7 +166,7 @@ pub returns-in-SetBits-clause-does : goal.returns-in-SetBits-clause-does
 returns-in-SetBits-clause-does g c =
     any_by_form c.args.app.now c.args.machine.now c.set_bits.new.machine (g.L.Log.logged c.args.log.now)
     (g.L.Log.logged c.set_bits.new.log) c.args.task c.args.op.now (SetBits c.in-SetBits.group c.in-SetBits.mask)
-    c.in-SetBits.is c.requires.awake (λ s. refl) refl 2 two_within c.set_bits.ensures
+    c.in-SetBits.is c.requires.awake (λ s. refl) refl 2 two_within c.set_bits.ensures.does
 
 pub returns-in-ClearBits-clause-does : goal.returns-in-ClearBits-clause-does
 returns-in-ClearBits-clause-does g c =
@@ -367,3 +361,27 @@ obey-requires g c =
       room = room_for_two (g.L.Log.logged c.args.log.now).room c.requires.room;
       can = subst (CanOp c.args.app.now c.args.machine.now c.args.task) c.in-Obey.is c.requires.can;
     }
+
+pub returns-in-SetBits-clause-letting : goal.returns-in-SetBits-clause-letting
+returns-in-SetBits-clause-letting g c = λ e.
+    let begun = c.letting_go_if.ensures.letting e in (
+      record {
+        begins = Sets c.in-SetBits.group c.in-SetBits.mask c.in-SetBits.is;
+        start = c.set_bits.ensures.start begun;
+        takes = c.set_bits.ensures.takes begun;
+      },
+      c.set_bits.ensures.silent begun,
+    )
+
+pub returns-in-WaitBits-clause-letting : goal.returns-in-WaitBits-clause-letting
+returns-in-WaitBits-clause-letting g c = λ e.
+    let begun = c.behind_wait.ensures.letting e in (
+      record {
+        begins =
+            Waits c.in-WaitBits.group c.in-WaitBits.condition c.in-WaitBits.ticks c.in-WaitBits.is
+            (c.wait_bits.ensures.unmet begun);
+        start = c.wait_bits.ensures.start begun;
+        takes = c.wait_bits.ensures.takes begun;
+      },
+      c.wait_bits.ensures.silent begun,
+    )

@@ -40,6 +40,7 @@ returns-in-SetBits g c = λ limits.
     ends_set c.args.app.now c.args.machine.now c.args.task c.args.op.now c.requires.going c.requires.can
     c.in-SetBits.field-0 c.in-SetBits.field-1 c.in-SetBits.is limits c.end_set.new.machine _ _ c.end_set.ensures
 
-pub returns-in_default : goal.returns-in_default
-returns-in_default g c =
-    absurd (no_other c.args.op.now c.requires.going.bits c.in_default.not-SetBits c.in_default.not-WaitBits c.in_default.not-Obey)
+pub returns-in_default-op : goal.returns-in_default-op
+returns-in_default-op g c =
+    absurd (no_other c.args.op.now c.requires.going.bits c.in_default-op.not-SetBits c.in_default.not-WaitBits
+    c.in_default-op.not-Obey)

@@ -18,12 +18,23 @@ use Rattle.kernel.proofs.Ending.{not_over_undecided}
 use Rattle.kernel.proofs.InCall.{same_phase}
 use Rattle.kernel.proofs.in_call.pass_call.Goals as goal
 
+-- The running task is there.
+there : (app : Application) → IsWellFormed app → (limits : Limits) (until : ℕ) (k : Machine) (plan : List Injection)
+    → IsFree app limits until k plan → (task : ℕ) → k.sched.current ≡ Some task → task < length app.tasks
+there app formed limits until k plan free task runs =
+    let s = state_after app limits plan k.steps in
+    subst (λ (o : Option ℕ). IfSome o (λ task. task < length app.tasks)) runs
+    (runs_there app k s (hold_of s) free.way.stands (reached_after app formed limits plan k.steps).sound)
+
+pub is_left_alone-requires : goal.is_left_alone-requires
+is_left_alone-requires c =
+    there c.args.app.now c.well_formed-2.ensures c.args.limits.now c.args.until c.args.kernel.now c.args.injections.now
+    c.requires.free c.args.task c.requires.runs
+
 pub op_of-requires : goal.op_of-requires
 op_of-requires c =
-    let s = state_after c.args.app.now c.args.limits.now c.args.injections.now c.args.kernel.now.steps in
-    subst (λ (o : Option ℕ). IfSome o (λ task. task < length c.args.app.now.tasks)) c.requires.runs
-    (runs_there c.args.app.now c.args.kernel.now s (hold_of s) c.requires.free.way.stands
-    (reached_after c.args.app.now c.well_formed-2.ensures c.args.limits.now c.args.injections.now c.args.kernel.now.steps).sound)
+    there c.args.app.now c.well_formed-2.ensures c.args.limits.now c.args.until c.args.kernel.now c.args.injections.now
+    c.requires.free c.args.task c.requires.runs
 
 -- None is over before the task's call decides.
 none_over : (app : Application) → IsWellFormed app → (limits : Limits) (until : ℕ) (k : Machine) (task : ℕ)

@@ -1,12 +1,6 @@
 use Rattle.std.proofs.Common.{◌&&◌, Bool, ap, sym, ◌∙◌}
 use Rattle.model.specs.Run.{are_all_ended}
-use Rattle.kernel.proofs.Ending.{none_endless}
 use Rattle.kernel.proofs.over.is_left_alone.Goals as goal
-
-pub returns-then-not-has_endless : goal.returns-then-not-has_endless
-returns-then-not-has_endless c = λ s h.
-    sym (ap (λ (b : Bool). b && are_all_ended c.args.app.now s)
-    (none_endless c.args.app.now.tasks c.args.task (sym c.has_endless.ensures ∙ c.if-not-has_endless.true)))
 
 pub returns-then-not-is_endless : goal.returns-then-not-is_endless
 returns-then-not-is_endless c = λ s h.

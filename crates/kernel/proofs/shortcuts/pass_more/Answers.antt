@@ -10,12 +10,12 @@ pub pass_leave-requires-clause-going : goal.pass_leave-requires-clause-going
 pass_leave-requires-clause-going c =
     record {
       free = free_next c.pass_on.ensures.along.to c.requires.free;
-      going = c.in-Some-pass_on.ensures.going c.args.injections.now c.requires.free;
+      going = c.in-Some.ensures.going c.args.injections.now c.requires.free;
     }
 
-pub returns-in-Some-pass_on : goal.returns-in-Some-pass_on
-returns-in-Some-pass_on c =
-    tells_on (behind (all_of c.args.trail.now) c.pass_on.ensures.along) c.in-Some-pass_on.ensures.going c.pass_leave.ensures
+pub returns-in-Some : goal.returns-in-Some
+returns-in-Some c =
+    tells_on (behind (all_of c.args.trail.now) c.pass_on.ensures.along) c.in-Some.ensures.going c.pass_leave.ensures
 
-pub returns-in_default-pass_on : goal.returns-in_default-pass_on
-returns-in_default-pass_on c = behind (all_of c.args.trail.now) c.pass_on.ensures.along
+pub returns-in_default : goal.returns-in_default
+returns-in_default c = behind (all_of c.args.trail.now) c.pass_on.ensures.along

@@ -1,11 +1,12 @@
-use Rattle.std.proofs.Common.{[], ◌∙◌, ap, sym, arith}
+use Rattle.std.proofs.Common.{[], ◌∙◌, ◌<◌, ap, sym, refl, arith}
 use Rattle.model.specs.Step.{step}
 use Rattle.machine.specs.Logged.{Logged}
 use Rattle.machine.proofs.Either.{steps_are}
-use Rattle.kernel.proofs.Amid.{amid_answered, amid_next, on_amid, reporting, stands_amid, told_amid}
+use Rattle.kernel.proofs.Amid.{amid_answered, amid_next, letting_go, on_amid, reporting, stands_amid, told_amid}
 use Rattle.kernel.proofs.Bounds.{below_limits, can_do}
 use Rattle.kernel.proofs.Counting.{steps_still}
 use Rattle.kernel.proofs.Ending.{begun, handled_before, stepped}
+use Rattle.kernel.proofs.Holding.{letting_begun, on_begun, stands_held, steps_held, told_held}
 use Rattle.kernel.proofs.Running.{acts}
 use Rattle.kernel.proofs.steps.step_at.Goals as goal
 
@@ -170,3 +171,72 @@ returns-then-eq-2-clause-on g c = λ next s h going.
     on_amid c.args.app.now c.args.limits.now c.args.machine.now c.act-following.new.machine c.args.task
     c.args.op.now c.requires.at (c.act-following.ensures.plain e) (c.act-following.ensures.runs e)
     (c.act-following.ensures.amid e) (g.L.Log.logged c.act-following.new.log).told does s h going
+
+pub overflow_add-machine-then-eq-4 : goal.overflow_add-machine-then-eq-4
+overflow_add-machine-then-eq-4 g c =
+    let going = c.requires.going in
+    let w = (c.act-following.ensures.letting (letting_go c.act-following.result c.if-eq-4.ensures)).0 in
+    let held : 0 < c.act-following.new.machine.sched.depth = (let one = w.takes.held in omega arith) in
+    let does =
+    reporting c.args.machine.now c.act-following.new.machine (g.L.Log.logged c.args.log.now)
+    (g.L.Log.logged c.act-following.new.log) _
+    (acts c.args.app.now c.args.limits.now c.args.machine.now c.args.task c.requires.at.current
+    c.args.op.now c.requires.at.at c.act-following.new.machine _ _ c.act-following.ensures.does)
+    c.requires.begun in
+    let still =
+    steps_held c.args.app.now c.args.limits.now c.args.machine.now c.act-following.new.machine
+    (g.L.Log.logged c.act-following.new.log).told does held going.state going.stands in
+    let is = steps_are c.args.machine.now going.state going.stands in
+    let low = below_limits c.args.app.now c.args.limits.now going.state going.goes_on in
+    let few = low.1 in
+    let most = going.are.3 in
+    omega arith
+
+pub returns-then-eq-4-clause-stands : goal.returns-then-eq-4-clause-stands
+returns-then-eq-4-clause-stands g c = λ s h.
+    let w = (c.act-following.ensures.letting (letting_go c.act-following.result c.if-eq-4.ensures)).0 in
+    let held : 0 < c.act-following.new.machine.sched.depth = (let one = w.takes.held in omega arith) in
+    let does =
+    reporting c.args.machine.now c.act-following.new.machine (g.L.Log.logged c.args.log.now)
+    (g.L.Log.logged c.act-following.new.log) _
+    (acts c.args.app.now c.args.limits.now c.args.machine.now c.args.task c.requires.at.current
+    c.args.op.now c.requires.at.at c.act-following.new.machine _ _ c.act-following.ensures.does)
+    c.requires.begun in
+    stands_held c.args.app.now c.args.limits.now c.args.machine.now c.act-following.new.machine
+    (g.L.Log.logged c.act-following.new.log).told does held s h
+
+pub returns-then-eq-4-clause-told : goal.returns-then-eq-4-clause-told
+returns-then-eq-4-clause-told g c = λ s h.
+    let w = (c.act-following.ensures.letting (letting_go c.act-following.result c.if-eq-4.ensures)).0 in
+    let held : 0 < c.act-following.new.machine.sched.depth = (let one = w.takes.held in omega arith) in
+    let does =
+    reporting c.args.machine.now c.act-following.new.machine (g.L.Log.logged c.args.log.now)
+    (g.L.Log.logged c.act-following.new.log) _
+    (acts c.args.app.now c.args.limits.now c.args.machine.now c.args.task c.requires.at.current
+    c.args.op.now c.requires.at.at c.act-following.new.machine _ _ c.act-following.ensures.does)
+    c.requires.begun in
+    told_held c.args.app.now c.args.limits.now c.args.machine.now c.act-following.new.machine
+    (g.L.Log.logged c.act-following.new.log).told does held s h
+
+pub returns-then-eq-4-clause-letting : goal.returns-then-eq-4-clause-letting
+returns-then-eq-4-clause-letting g c = λ e.
+    let w = c.act-following.ensures.letting (letting_go c.act-following.result c.if-eq-4.ensures) in (
+      letting_begun c.args.app.now c.args.limits.now c.args.machine.now c.act-following.new.machine c.args.task
+          c.args.op.now c.requires.at w.0 _,
+      w.1,
+    )
+
+pub returns-then-eq-4-clause-held : goal.returns-then-eq-4-clause-held
+returns-then-eq-4-clause-held g c = λ e s h.
+    let w = (c.act-following.ensures.letting (letting_go c.act-following.result c.if-eq-4.ensures)).0 in
+    let held : 0 < c.act-following.new.machine.sched.depth = (let one = w.takes.held in omega arith) in
+    let does =
+    reporting c.args.machine.now c.act-following.new.machine (g.L.Log.logged c.args.log.now)
+    (g.L.Log.logged c.act-following.new.log) _
+    (acts c.args.app.now c.args.limits.now c.args.machine.now c.args.task c.requires.at.current
+    c.args.op.now c.requires.at.at c.act-following.new.machine _ _ c.act-following.ensures.does)
+    c.requires.begun in
+    on_begun c.args.app.now c.args.limits.now c.args.machine.now c.act-following.new.machine c.args.task
+    c.args.op.now c.requires.at w _ s h refl (
+    stands_held c.args.app.now c.args.limits.now c.args.machine.now c.act-following.new.machine
+    (g.L.Log.logged c.act-following.new.log).told does held s h)

@@ -18,4 +18,4 @@ returns-in-Start-2 g c =
     obey_in_phase c.args.app.now k c.begin_set.new.machine log log c.args.task
     c.command_of-command.result Start e c.command_of-command.ensures
     (obey_set c.args.app.now k c.begin_set.new.machine log log c.args.task c.command_of-command.result
-    c.if-command.false (moves_any 2 k c.begin_set.new.machine log _ can.agrees c.begin_set.ensures))
+    c.if-command.false (moves_any 2 k c.begin_set.new.machine log _ can.agrees c.begin_set.ensures.does))

@@ -1,14 +1,18 @@
-use Rattle.std.proofs.Common.{ℕ, List, true, ap, refl, subst, sym, ◌∙◌}
+use Rattle.std.proofs.Common.{◌≡◌, ◌<◌, ℕ, List, length, true, ap, get_or-set_same, refl, subst, sym, ◌∙◌, arith}
+use Rattle.std.proofs.Math.ListN.{length-set}
 use Rattle.model.specs.declared.call.Phase.TheVariants.{Leave}
-use Rattle.model.specs.State.{State}
+use Rattle.model.specs.State.{State, Progress}
 use Rattle.model.specs.Groups as definitions
 use Rattle.model.specs.Groups.{bits_set}
 use Rattle.soundness.proofs.Bits.{stays-set}
 use Rattle.machine.specs.declared.machine.Machine.{Machine}
-use Rattle.machine.specs.StandsFor.{At}
+use Rattle.machine.specs.StandsFor.{At, progress_in}
 use Rattle.machine.specs.Can.{AreToWake}
+use Rattle.sched.specs.Schedule.{Schedule}
+use Rattle.machine.proofs.Acting.{within}
 use Rattle.machine.proofs.Continuing.{gone_on}
-use Rattle.ops.proofs.EventBits.{held_then, met_wake, kept_there, sched_kept, clock_kept, set_at, left_at}
+use Rattle.ops.proofs.EventBits.{held_then, met_wake, kept_length, kept_place, kept_there, placed_in, sched_kept, clock_kept}
+use Rattle.ops.proofs.EventBits.{set_at, left_at}
 use Rattle.ops.proofs.event_groups.begin_set.Goals as goal
 
 pub wake_met-requires : goal.wake_met-requires
@@ -25,9 +29,9 @@ wake_met-requires c =
           (met_wake (record k { sched = c.hold.new.self }) held there.stands c.args.group (bits_set c.args.group c.args.mask held));
     }
 
-pub returns : goal.returns
+pub returns-clause-does : goal.returns-clause-does
 unfolding definitions.begin_set
-returns c = λ log s h.
+returns-clause-does c = λ log s h.
     let k = c.args.machine.now in
     let i : ℕ = c.args.task in
     let group : ℕ = c.args.group in
@@ -53,3 +57,43 @@ returns c = λ log s h.
     then i runs c.set-met.result.left _ (c.set-met.ensures.kept held h1.stands.rest.groups) c.keep_answer.ensures in
     gone_on c.keep_answer.new.self c.set_phase.new.self log _ answered i
     (ap (λ (x : Machine). x.sched.current) c.keep_answer.ensures ∙ runs) Leave c.set_phase.ensures (λ e. absurd (cc))
+
+pub returns-clause-remains : goal.returns-clause-remains
+returns-clause-remains c =
+    let i : ℕ = c.args.task in
+    record {
+      current =
+          ap (λ (x : Machine). x.sched.current) c.set_phase.ensures
+          ∙ ap (λ (x : Machine). x.sched.current) c.keep_answer.ensures
+          ∙ c.wake_met.ensures.current
+          ∙ ap (λ (v : Schedule). v.current) c.hold.ensures.schedule;
+      op_index =
+          ap (λ (x : Machine). (progress_in x.progress i).op_index) c.set_phase.ensures
+          ∙ placed_in _ c.keep_answer.new.self.progress i
+          ∙ ap (λ (x : Machine). (progress_in x.progress i).op_index) c.keep_answer.ensures
+          ∙ placed_in _ c.wake_met.new.machine.progress i
+          ∙ ap (λ (x : Machine). (progress_in x.progress i).op_index) c.wake_met.ensures.kept
+          ∙ kept_place c.set-met.result.bits c.set-met.result.tasks.items c.args.machine.now.progress i;
+      suspensions =
+          ap (λ (x : Machine). x.sched.suspensions) c.set_phase.ensures
+          ∙ ap (λ (x : Machine). x.sched.suspensions) c.keep_answer.ensures
+          ∙ c.wake_met.ensures.suspensions
+          ∙ ap (λ (v : Schedule). v.suspensions) c.hold.ensures.schedule;
+    }
+
+pub returns-clause-reached : goal.returns-clause-reached
+returns-clause-reached c =
+    let i : ℕ = c.args.task in
+    let k : Machine = c.args.machine.now in
+    let s = c.requires.agrees.0 in
+    let h = c.requires.agrees.1 in
+    let long : length c.keep_answer.new.self.progress ≡ length k.progress =
+    ap (λ (x : Machine). length x.progress) c.keep_answer.ensures
+    ∙ length-set c.wake_met.new.machine.progress i _
+    ∙ ap (λ (x : Machine). length x.progress) c.wake_met.ensures.kept
+    ∙ kept_length c.set-met.result.bits c.set-met.result.tasks.items k.progress in
+    let there : i < length c.keep_answer.new.self.progress =
+    (let n = h.rest.full in let few = h.sched.table.few in
+    let m = within k s.log s (record { stands = h; log = refl }) i c.requires.runs.current in omega arith) in
+    ap (λ (x : Machine). (progress_in x.progress i).call.phase) c.set_phase.ensures
+    ∙ ap (λ (p : Progress). p.call.phase) (get_or-set_same c.keep_answer.new.self.progress i _ _ there)

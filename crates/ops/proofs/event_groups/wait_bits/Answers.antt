@@ -21,7 +21,7 @@ returns-in-Start-clause-does g c =
     let log = g.L.Log.logged c.args.log.now in
     let after = g.L.Log.logged c.check_bits.new.log in
     wait_in_phase c.args.app.now old new log after c.args.task c.args.group c.args.condition c.args.ticks Start e
-    (does_more 1 2 old new log after _ (omega arith) (does_any 1 old new log after _ can.0.agrees c.check_bits.ensures))
+    (does_more 1 2 old new log after _ (omega arith) (does_any 1 old new log after _ can.0.agrees c.check_bits.ensures.does))
 
 pub leave_bits_wait-requires : goal.leave_bits_wait-requires
 leave_bits_wait-requires g c =
