@@ -89,6 +89,21 @@ fn the_first_goes_last(rt: HostRuntime) {
 }
 
 #[test]
+fn the_first_goes_out(rt: HostRuntime) {
+    let mut table: Table<2, 8, 10> = Table::new();
+    assert!(rt; table.is_clear() && table.pop_front(LIST).is_none());
+    put(&rt, &mut table, NodeId { number: 6 }, 10);
+    put(&rt, &mut table, NodeId { number: 3 }, 20);
+    assert!(rt; !table.is_clear());
+    assert!(rt; table.pop_front(LIST) == NodeId::new(6));
+    has_nodes(&rt, &table, &[3]);
+    assert!(rt; table.place(NodeId { number: 6 }).is_none());
+    assert!(rt; table.pop_front(LIST) == NodeId::new(3));
+    has_nodes(&rt, &table, &[]);
+    assert!(rt; table.is_clear());
+}
+
+#[test]
 fn the_first_of_a_list_is_told_from_the_others(rt: HostRuntime) {
     let mut table: Table<2, 8, 10> = Table::new();
     put(&rt, &mut table, NodeId { number: 3 }, 20);

@@ -1,14 +1,14 @@
--- The first node of a list goes last.
-use Rattle.std.proofs.Common.{◌≡◌, ℕ, ◌+◌, ◌<◌, ◌≤◌, Option, Some, None, List, [], ◌∷◌, ◌++◌, get_or, length, set, sym, ◌∙◌, ap}
-use Rattle.std.proofs.Common.{subst, arith, refl, append-nil}
+-- The first node of a list goes last, or out of the list.
+use Rattle.std.proofs.Common.{◌≡◌, ℕ, ◌+◌, ◌<◌, ◌≤◌, Option, Some, None, List, [], ◌∷◌, ◌++◌, drop, get_or, length, set, sym, ◌∙◌}
+use Rattle.std.proofs.Common.{ap, subst, arith, refl, append-nil}
 use Rattle.std.proofs.lemmas.List.{get_or-set_same, set-set, set-get_or}
-use Rattle.lists.specs.Lists.{Each, rotated, second_of}
+use Rattle.lists.specs.Lists.{Each, first_of, rotated, second_of}
 use Rattle.lists.specs.Links.{node_at, ends_of, at_link, Linked, IsStored, Spells, SpellsRings}
 use Rattle.lists.proofs.Entries.{first_split, no_first}
 use Rattle.lists.proofs.Links.{at_place}
 use Rattle.lists.proofs.Spelled.{first_is}
-use Rattle.lists.proofs.Rings.{around, end-none, next_room, node-below, node-none, read_end, read_node, ring_out, ring_put, splits}
-use Rattle.lists.proofs.Rings.{within}
+use Rattle.lists.proofs.Rings.{around, end-none, next_room, node-below, node-none, read_end, read_node, ring_first, ring_out}
+use Rattle.lists.proofs.Rings.{ring_put, splits, within}
 
 -- a list that stays as its first node goes last
 pub record Stays (ls : List (List (ℕ × ℕ))) (l : ℕ) : Type 0 where
@@ -72,6 +72,14 @@ module _ {L N M : ℕ} {next prev : List ℕ} {place : List (Option ℕ)} {value
       let room : N + l < length next = subst (λ (k : ℕ). N + l < k) (sym h.next_length) (within h l (N + l) hl (λ past. refl)) in
       read_end N l next room ∙ ap (node_at N) first ∙ node-below N n below
 
+  pub first_here : Some n ≡ first_of (get_or ls l [])
+  first_here = sym at_first ∙ first_is h.spells l hl
+
+  -- what is behind the first node is among the links
+  pub second_within : get_or next n 0 < M
+  second_within =
+      within h l (get_or next n 0) hl (around h n l below (first_placed h.spells l hl n at_first)).after_end
+
   -- before the first node is the end
   pub end_before : get_or prev n 0 ≡ N + l
   end_before =
@@ -92,6 +100,12 @@ module _ {L N M : ℕ} {next prev : List ℕ} {place : List (Option ℕ)} {value
         (set place n None) values (set ls l parts.1))
         end_before
         (ring_out h l n parts.0 [] parts.1 below (first_placed h.spells l hl n at_first) parts.2))
+
+    pub ring_popped : SpellsRings L N M (set next (N + l) q) (set prev q (N + l))
+        (set place n None) values (set ls l (drop 1 (get_or ls l [])))
+    ring_popped =
+        subst (SpellsRings L N M (set next (N + l) q) (set prev q (N + l)) (set place n None) values)
+        (ap (λ (xs : List (ℕ × ℕ)). set ls l (drop 1 xs)) (sym parts.2)) out
 
     rest_is : get_or (set ls l parts.1) l [] ≡ parts.1 ++ []
     rest_is =
@@ -146,3 +160,14 @@ pub nobody_first : {L N M : ℕ} {next prev : List ℕ} {place : List (Option �
 nobody_first {L} {N} {M} {next} h l hl past =
     let room : N + l < length next = subst (λ (k : ℕ). N + l < k) (sym h.next_length) (within h l (N + l) hl (λ past. refl)) in
     no_first_stays h.spells l hl (read_end N l next room ∙ end-none N (get_or next (N + l) 0) past)
+
+-- of an empty list nobody is first, and it stays without its first node
+pub nobody_popped : {L N M : ℕ} {next prev : List ℕ} {place : List (Option ℕ)} {values : List ℕ} {ls : List (List (ℕ × ℕ))}
+    → SpellsRings L N M next prev place values ls → (l : ℕ) → l < L → N ≤ get_or next (N + l) 0
+    → (None ≡ first_of (get_or ls l [])) × (ls ≡ set ls l (drop 1 (get_or ls l [])))
+nobody_popped {L} {N} {M} {next} {prev} {place} {values} {ls} h l hl past =
+    let none : None ≡ first_of (get_or ls l []) = sym (end-none N (get_or next (N + l) 0) past) ∙ ring_first h l hl in
+    let empty : get_or ls l [] ≡ [] = no_first (get_or ls l []) none in (
+      none,
+      sym (ap (λ (xs : List (ℕ × ℕ)). set ls l (drop 1 xs)) empty ∙ ap (set ls l) (sym empty) ∙ set-get_or ls l []),
+    )

@@ -2,10 +2,12 @@
 //!
 //! A table has `L` lists and `N` nodes. A node is named by its number, is in one list at most, and has
 //! a value there. Each call takes constant time, with these exceptions. `Table::new`, `Table::copy` and
-//! `Table::set_from` write the whole table, and `Table::is_same` reads it. `Table::insert_sorted` walks
-//! along its list from the first node, and `Table::insert_sorted_from_back` from the last.
+//! `Table::set_from` write the whole table, and `Table::is_same` reads it; `Table::is_clear` reads where
+//! each node is. `Table::insert_sorted` walks along its list from the first node, and
+//! `Table::insert_sorted_from_back` from the last.
 //!
-//! Tables are compared four numbers at a time. So are lists of numbers by `are_same`, and bytes by `are_same_bytes`.
+//! Tables are compared four numbers at a time. So are lists of numbers by `are_same`, and bytes, eight at a time, by
+//! `are_same_bytes`. `first_nonzero` passes four zeros at a time.
 #![tactic(auto)]
 
 mod ids;
@@ -15,4 +17,4 @@ mod words;
 
 pub use ids::{ListId, NodeId};
 pub use table::Table;
-pub use words::{are_same, are_same_bytes};
+pub use words::{are_same, are_same_bytes, first_nonzero};

@@ -1,5 +1,5 @@
 //! The table: its lists, and their links.
-ghost use Rattle.std.specs.Prelude.{◌≡◌, ◌≢◌, Some, ℕ, ◌+◌, ◌<◌, ◌≤◌, ◌↔◌, List, [], ◌∷◌, ◌++◌, get_or, length, replicate, slice_set, slice_index_or, map, option_map, true, IsTrue, IsNone};
+ghost use Rattle.std.specs.Prelude.{◌≡◌, ◌≢◌, Some, ℕ, ◌+◌, ◌<◌, ◌≤◌, ◌↔◌, List, [], ◌∷◌, ◌++◌, drop, get_or, length, replicate, slice_set, slice_index_or, map, option_map, true, IsTrue, IsNone};
 ghost use Rattle.std.specs.Option.{ForSome};
 ghost use Rattle.lists.specs.Links.{lists_of, links_of, ends_of, node_at, AreFree, IsRingTable, SplitsBefore, upper};
 ghost use Rattle.lists.specs.Lists.{entries_of, first_of, has_node, insert_sorted, next_of, place_of, rotated, second_of, value_of, without, IsSorted, IsSound};
@@ -207,6 +207,20 @@ impl<const L: usize, const N: usize, const M: usize> Table<L, N, M> {
         self.first(list).is_none()
     }
 
+    /// Whether no node is in a list. It may answer no of such a table too, where `N` is no multiple of 4.
+    pub fn is_clear(&self) -> bool
+        ensures { result ≡ true → (node : ℕ) → place_of self.now node ≡ None }
+    {
+        let mut node = 0;
+        while node < N {
+            if !are_free(&self.place, node) {
+                return false;
+            }
+            node += 4;
+        }
+        true
+    }
+
     /// The list that a node below `N` is in; `None` where it is in no list.
     pub fn place(&self, node: NodeId) -> Option<ListId>
         requires { node.number < N }
@@ -271,6 +285,30 @@ impl<const L: usize, const N: usize, const M: usize> Table<L, N, M> {
             self.prev[after as usize] = before;
             self.place[node.number as usize] = Link::none();
         }
+    }
+
+    /// Takes the first node out of a list below `L`, and answers it; `None` where the list is empty. The other entries keep
+    /// their order.
+    // It reads no link back, so it waits for one link alone where another node was taken just before.
+    pub fn pop_front(&mut self, list: ListId) -> Option<NodeId>
+        requires { list.number < L }
+        ensures first { option_map (λ node. node.number) result
+            ≡ first_of (entries_of self.old list.number) }
+        ensures rest { self.new ≡ slice_set self.old list.number
+            (drop 1 (entries_of self.old list.number)) }
+        ensures known { ForSome (option_map (λ node. node.number) result) (λ node. node < N) }
+        ensures sound { IsSound L N self.new }
+    {
+        let end = self.end(list);
+        let first = self.next[end];
+        if (first as usize) < N {
+            let second = self.next[first as usize];
+            self.next[end] = second;
+            self.prev[second as usize] = end as u16;
+            self.place[first as usize] = Link::none();
+            return Some(NodeId { number: first });
+        }
+        None
     }
 
     /// Puts the first node of a list below `L` last, with the value that it has. Answers the second node, which is the

@@ -1,6 +1,6 @@
 //! Numbers that are compared several at a time.
-ghost use Rattle.std.specs.Prelude.{◌≡◌, ◌+◌, ◌<◌, ◌≤◌, get_or, length, true};
-ghost use Rattle.lists.specs.Words.{word_of, word_of_bytes};
+ghost use Rattle.std.specs.Prelude.{◌≡◌, ◌≢◌, ℕ, ◌+◌, ◌<◌, ◌≤◌, get_or, length, true};
+ghost use Rattle.lists.specs.Words.{AreSameBetween, AreZeroBetween, word_of, word_of_bytes};
 
 /// Four numbers as one.
 #[inline(always)]
@@ -55,30 +55,75 @@ pub fn are_same(numbers: &[u16], others: &[u16]) -> bool
     true
 }
 
-/// Four bytes as one number.
+/// Whether four numbers from a place on are 0. They are looked at as one number.
 #[inline(always)]
-fn word_of_bytes(first: u8, second: u8, third: u8, fourth: u8) -> u32
-    ensures { result ≡ word_of_bytes first second third fourth }
+fn are_zero(numbers: &[u16], at: usize) -> bool
+    requires four { at + 4 ≤ length numbers.now }
+    requires small { get_or numbers.now (at + 3) 0 < 32768 }
+    ensures first { result ≡ true → get_or numbers.now at 0 ≡ 0 }
+    ensures second { result ≡ true → get_or numbers.now (at + 1) 0 ≡ 0 }
+    ensures third { result ≡ true → get_or numbers.now (at + 2) 0 ≡ 0 }
+    ensures fourth { result ≡ true → get_or numbers.now (at + 3) 0 ≡ 0 }
 {
-    first as u32 + 256 * (second as u32 + 256 * (third as u32 + 256 * fourth as u32))
+    let word = word_of(
+        numbers[at],
+        numbers[at + 1],
+        numbers[at + 2],
+        numbers[at + 3],
+    );
+    // A comparison with 0 itself the compiler takes apart into those of the four numbers.
+    (word as i64) < 1
 }
 
-/// Whether two lists have the same four bytes from a place on. These are compared as one number.
+/// The place of the first number from a place on that isn't 0, or the list's length where there is none. The numbers are
+/// below 32768. Zeros are passed four at a time.
 #[inline(always)]
-fn are_same_four_bytes(bytes: &[u8], others: &[u8], at: usize) -> bool
-    requires bytes { at + 4 ≤ length bytes.now }
-    requires others { at + 4 ≤ length others.now }
-    ensures first { result ≡ true → get_or bytes.now at 0 ≡ get_or others.now at 0 }
-    ensures second { result ≡ true → get_or bytes.now (at + 1) 0 ≡ get_or others.now (at + 1) 0 }
-    ensures third { result ≡ true → get_or bytes.now (at + 2) 0 ≡ get_or others.now (at + 2) 0 }
-    ensures fourth { result ≡ true → get_or bytes.now (at + 3) 0 ≡ get_or others.now (at + 3) 0 }
+pub fn first_nonzero(numbers: &[u16], from: usize) -> usize
+    requires from { from ≤ length numbers.now }
+    requires small { (k : ℕ) → get_or numbers.now k 0 < 32768 }
+    ensures behind { from ≤ result }
+    ensures within { result ≤ length numbers.now }
+    ensures zeros { AreZeroBetween numbers.now from result }
+    ensures found { result < length numbers.now → get_or numbers.now result 0 ≢ 0 }
 {
-    let word = word_of_bytes(bytes[at], bytes[at + 1], bytes[at + 2], bytes[at + 3]);
-    let other = word_of_bytes(others[at], others[at + 1], others[at + 2], others[at + 3]);
+    let count = numbers.len();
+    let mut at = from;
+    while count - at >= 4 && are_zero(numbers, at) {
+        at += 4;
+    }
+    while at < count {
+        if numbers[at] != 0 {
+            return at;
+        }
+        at += 1;
+    }
+    count
+}
+
+/// Four bytes of a list, from a place on, as one number.
+#[inline(always)]
+fn word_at(bytes: &[u8], at: usize) -> u32
+    requires { at + 4 ≤ length bytes.now }
+    ensures word { result ≡ word_of_bytes (get_or bytes.now at 0) (get_or bytes.now (at + 1) 0)
+        (get_or bytes.now (at + 2) 0) (get_or bytes.now (at + 3) 0) }
+{
+    bytes[at] as u32
+        + 256 * (bytes[at + 1] as u32 + 256 * (bytes[at + 2] as u32 + 256 * bytes[at + 3] as u32))
+}
+
+/// Whether two lists have the same eight bytes from a place on. These are compared as one number.
+#[inline(always)]
+fn are_same_eight_bytes(bytes: &[u8], others: &[u8], at: usize) -> bool
+    requires bytes { at + 8 ≤ length bytes.now }
+    requires others { at + 8 ≤ length others.now }
+    ensures { result ≡ true → AreSameBetween bytes.now others.now at (at + 8) }
+{
+    let word = word_at(bytes, at) as u64 + 4294967296 * word_at(bytes, at + 4) as u64;
+    let other = word_at(others, at) as u64 + 4294967296 * word_at(others, at + 4) as u64;
     word == other
 }
 
-/// Whether two lists of bytes are the same. Four bytes are compared at a time.
+/// Whether two lists of bytes are the same. Eight bytes are compared at a time.
 #[inline(always)]
 pub fn are_same_bytes(bytes: &[u8], others: &[u8]) -> bool
     ensures { result ≡ true → bytes.now ≡ others.now }
@@ -88,11 +133,11 @@ pub fn are_same_bytes(bytes: &[u8], others: &[u8]) -> bool
         return false;
     }
     let mut at = 0;
-    while count - at >= 4 {
-        if !are_same_four_bytes(bytes, others, at) {
+    while count - at >= 8 {
+        if !are_same_eight_bytes(bytes, others, at) {
             return false;
         }
-        at += 4;
+        at += 8;
     }
     while at < count {
         if bytes[at] != others[at] {

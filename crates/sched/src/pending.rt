@@ -82,14 +82,13 @@ impl PendingReadyList {
     }
 
     /// Takes the first task out, if there is one.
+    #[inline]
     pub(crate) fn pop_front(&mut self) -> Option<TaskId>
         ensures first { result ≡ slice_get self.old 0 }
         ensures rest { self.new ≡ drop 1 self.old }
         ensures once { IfSome result (λ task. is_among task self.new ≡ false) }
     {
-        let task = self.lists.first(ListId { number: 0 })?;
-        self.lists.remove(task);
-        Some(task)
+        self.lists.pop_front(ListId { number: 0 })
     }
 
     /// Takes a task out, if it is pending.

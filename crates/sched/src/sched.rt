@@ -464,6 +464,7 @@ impl Sched {
     }
 
     /// Takes the first of the pending tasks, if there is one: it isn't Ready any more.
+    #[inline]
     fn take_pending(&mut self) -> Option<TaskId>
         ensures first { result ≡ slice_get self.old.pending 0 }
         ensures rest { self.new ≡ record self.old { pending = drop 1 self.old.pending } }

@@ -1,5 +1,5 @@
 //! Lists of tasks, by their typed numbers.
-ghost use Rattle.std.specs.Prelude.{◌≡◌, ◌≢◌, Some, ℕ, ◌+◌, ◌<◌, ◌≤◌, ◌↔◌, List, [], ◌∷◌, ◌++◌, replicate, slice_set, map, option_map, true, IsTrue, IsNone};
+ghost use Rattle.std.specs.Prelude.{◌≡◌, ◌≢◌, Some, ℕ, ◌+◌, ◌<◌, ◌≤◌, ◌↔◌, List, [], ◌∷◌, ◌++◌, drop, replicate, slice_set, map, option_map, true, IsTrue, IsNone};
 ghost use Rattle.std.specs.Option.{ForSome, is_some};
 ghost use Rattle.lists.specs.Lists.{entries_of, first_of, has_node, insert_sorted, next_of, place_of, rotated, second_of, value_of, without, IsSorted, IsSound};
 
@@ -174,6 +174,14 @@ impl<const L: usize, const M: usize> TaskLists<L, M> {
         self.table.is_empty(list)
     }
 
+    /// Whether no task is in a list. It may answer no of such lists too.
+    #[inline]
+    pub fn is_clear(&self) -> bool
+        ensures { result ≡ true → (task : ℕ) → place_of self.now task ≡ None }
+    {
+        self.table.is_clear()
+    }
+
     /// Whether a task is in a list.
     #[inline]
     pub fn contains(&self, task: TaskId) -> bool
@@ -221,6 +229,18 @@ impl<const L: usize, const M: usize> TaskLists<L, M> {
     {
         self.table
             .insert_sorted_from_back(list, node_of(task), value);
+    }
+
+    /// Takes the first task out of a list, and answers it; `None` where the list is empty. The other entries keep their order.
+    #[inline]
+    pub fn pop_front(&mut self, list: ListId) -> Option<TaskId>
+        requires { list.number < L }
+        ensures first { result ≡ first_of (entries_of self.old list.number) }
+        ensures rest { self.new ≡ slice_set self.old list.number
+            (drop 1 (entries_of self.old list.number)) }
+        ensures sound { IsSound L 32 self.new }
+    {
+        task_of(self.table.pop_front(list))
     }
 
     /// Puts the first task of a list last, with the value that it has. Answers the second task, which is the first from
