@@ -106,3 +106,21 @@ fn the_order_of_waits_that_are_over_makes_no_difference(rt: HostRuntime) {
     set(&rt, &mut other, 0b0100, &[], 0b0100, 0b0100);
     assert!(rt; !groups.is_same(&other));
 }
+
+#[test]
+fn what_a_task_waited_for_last_makes_no_difference(rt: HostRuntime) {
+    let any = condition(0b0011, false, false);
+    let mut groups = Groups::new();
+    wait(&rt, &mut groups, 7, any);
+    let mut other = Groups::new();
+    wait(&rt, &mut other, 2, any);
+    other.drop_waiter(TaskId { number: 2 });
+    wait(&rt, &mut other, 7, condition(0b0011, true, false));
+    assert!(rt; !groups.is_same(&other) && !other.is_same(&groups));
+    groups.drop_waiter(TaskId { number: 7 });
+    other.drop_waiter(TaskId { number: 7 });
+    assert!(rt; groups.is_same(&other) && other.is_same(&groups));
+    wait(&rt, &mut groups, 2, any);
+    wait(&rt, &mut other, 2, any);
+    assert!(rt; groups.is_same(&other) && other.is_same(&groups));
+}

@@ -16,7 +16,7 @@ use Rattle.model.proofs.Tables.{table-make_ready, table-set}
 use Rattle.lists.specs.Lists.{IsSound, entries_of, has_node, place_of, without}
 use Rattle.lists.proofs.Entries.{apart_from_test, has_node-without_it, has_node-without_other}
 use Rattle.lists.proofs.Laws.{entries_of-without, place_of-None}
-use Rattle.groups.specs.EventGroups.{EventGroups, waiting_in}
+use Rattle.groups.specs.EventGroups.{EventGroups, waiting_in, wanted_by}
 use Rattle.task_lists.specs.Tasks.{tasks_in}
 use Rattle.groups.specs.StandsFor.{SameBitWaits, StandsFor, bits_wait}
 use Rattle.model.specs.Groups.{waiters_for_bits, bits_key}
@@ -83,6 +83,21 @@ stands_same v s t h same table = record {
       (list_alike (bits_key group) refl s.tasks t.tasks (λ i. sym (key_same group (task_at t i) (task_at s i) (same.waits i))));
   conditions = λ group i has. same.wants i (waits_for_bits v s h i group has) ∙ h.conditions group i has;
   table = table;
+}
+
+-- ---- groups that are the same, whatever somebody waited for last
+
+pub stands_alike : (v w : EventGroups) (s : State) → IsSound 16 32 v.waiting → v.bits ≡ w.bits → v.waiting ≡ w.waiting
+    → ((task : ℕ) → is_some (place_of v.waiting task) ≡ true → wanted_by w.wants task ≡ wanted_by v.wants task)
+    → StandsFor v s → StandsFor w s
+stands_alike v w s sound bits waiting wants h = record {
+  bits = λ group. ap (λ (bs : List ℕ). get_or bs group 0) (sym bits) ∙ h.bits group;
+  tasks = λ group. ap (λ (ls : List (List (ℕ × ℕ))). tasks_in (entries_of ls group)) (sym waiting) ∙ h.tasks group;
+  conditions = λ group i has.
+      let here : has_node i (waiting_in v group) ≡ true =
+      ap (λ (ls : List (List (ℕ × ℕ))). has_node i (entries_of ls group)) waiting ∙ has in
+      h.conditions group i here ∙ ap Some (sym (wants i (ap is_some (sound.one_place i group here))));
+  table = h.table;
 }
 
 -- ---- a task leaves its list

@@ -7,7 +7,7 @@ ghost use Rattle.model.specs.State.{State, Suspended, Task, bits_at, status_at, 
 ghost use Rattle.model.specs.Switching.{make_ready};
 ghost use Rattle.model.specs.Invariant.{IsTable};
 ghost use Rattle.model.specs.Groups as definitions;
-ghost use Rattle.groups.specs.EventGroups.{bits_in, after_set, left_by, met_of, no_condition, waiting_in};
+ghost use Rattle.groups.specs.EventGroups.{bits_in, after_set, left_by, met_of, no_condition, waiting_in, wanted_by};
 ghost use Rattle.groups.specs.StandsFor.{StandsFor, bits_wait};
 
 use crate::bits::{bits_left, bits_without, is_met};
@@ -94,14 +94,31 @@ impl Groups {
     }
 
     /// Whether the other groups have the same bits, and the same tasks wait for bits of them, in the same order and for the
-    /// same. What a task waited for last is compared too.
+    /// same. What a task that waits for nothing waited for last doesn't count.
     pub fn is_same(&self, other: &Self) -> bool
-        ensures { result ≡ true → self.now ≡ other.now }
+        // Whatever state these groups represent, the other ones do too.
+        ensures { result ≡ true → (s : State) → StandsFor self.now s → StandsFor other.now s }
     {
-        if self.bits != other.bits || self.wants != other.wants {
+        if self.bits != other.bits || !self.lists.is_same(&other.lists) {
             return false;
         }
-        self.lists.is_same(&other.lists)
+        self.lists.is_clear() || self.has_same_wants(other)
+    }
+
+    /// Whether each task that waits for bits waits for those for which it waits, or waited last, in the other.
+    fn has_same_wants(&self, other: &Self) -> bool
+        ensures { result ≡ true → (task : ℕ) → IsTrue (is_some (place_of self.now.waiting task))
+            → wanted_by other.now.wants task ≡ wanted_by self.now.wants task }
+    {
+        for task in 0..32 {
+            if !self.lists.contains(TaskId { number: task }) {
+                continue;
+            }
+            if self.wants[task as usize] != other.wants[task as usize] {
+                return false;
+            }
+        }
+        true
     }
 
     /// The bits of a group (`xEventGroupGetBits`).

@@ -44,17 +44,21 @@ pub(crate) fn take_met(
         (wake_all result.tasks.items bits s) }
     ensures sound { IsSound 16 32 lists.new }
 {
-    let mut tasks = ArrayVec::new();
-    let mut left = bits;
+    // It is filled in place, since a copy by words waits for what was just written by bytes.
+    let mut met = Met {
+        tasks: ArrayVec::new(),
+        bits,
+        left: bits,
+    };
     let mut at = lists.first(list);
     while let Some(task) = at {
         at = lists.next_in_list(task);
         let condition = &wants[task.number as usize];
         if is_met(bits, condition) {
             lists.remove(task);
-            tasks.push(task);
-            left = bits_left(left, condition);
+            met.tasks.push(task);
+            met.left = bits_left(met.left, condition);
         }
     }
-    Met { tasks, bits, left }
+    met
 }

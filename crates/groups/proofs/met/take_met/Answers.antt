@@ -11,10 +11,10 @@ push-requires c =
     let ls = c.loop-at.lists in
     let l = c.args.list.number in
     let ws = c.args.wants.now in
-    let P : Option ℕ → Type 0 = λ o. Passed c.args.lists.now ls l ws c.args.bits o c.loop-at.tasks.items c.loop-at.left in
-    let few : length c.loop-at.tasks.items < 32 =
-    has_room c.args.lists.now ls l ws c.args.bits n c.loop-at.tasks.items c.loop-at.left c.next_in_list-at.result
-    (subst P c.in-Some.is c.loop-at.invariant) c.next_in_list-at.ensures.next c.requires.sound in
+    let P : Option ℕ → Type 0 = λ o. Passed c.args.lists.now ls l ws c.args.bits o c.loop-at.met.tasks.items c.loop-at.met.left in
+    let few : length c.loop-at.met.tasks.items < 32 =
+    has_room c.args.lists.now ls l ws c.args.bits n c.loop-at.met.tasks.items c.loop-at.met.left c.next_in_list-at.result
+    (subst P c.in-Some.is c.loop-at.invariant.0) c.next_in_list-at.ensures.next c.requires.sound in
     (search rules, few)
 
 pub loop-at-preserved : goal.loop-at-preserved
@@ -24,11 +24,13 @@ loop-at-preserved c =
     let l = c.args.list.number in
     let ws = c.args.wants.now in
     let bits = c.args.bits in
-    let P : Option ℕ → Type 0 = λ o. Passed c.args.lists.now ls l ws bits o c.loop-at.tasks.items c.loop-at.left in
+    let P : Option ℕ → Type 0 = λ o. Passed c.args.lists.now ls l ws bits o c.loop-at.met.tasks.items c.loop-at.met.left in
     let unmet : is_met bits (wanted_by ws n) ≡ false =
-    subst (λ (k : ℕ). is_met bits (wanted_by ws k) ≡ false) c.task.view_is (sym c.is_met.ensures.met ∙ c.if-is_met.false) in
-    turn_unmet c.args.lists.now ls l ws bits n c.loop-at.tasks.items c.loop-at.left c.next_in_list-at.result
-    (subst P c.in-Some.is c.loop-at.invariant) c.next_in_list-at.ensures.next unmet
+    subst (λ (k : ℕ). is_met bits (wanted_by ws k) ≡ false) c.task.view_is (sym c.is_met.ensures.met ∙ c.if-is_met.false) in (
+      turn_unmet c.args.lists.now ls l ws bits n c.loop-at.met.tasks.items c.loop-at.met.left c.next_in_list-at.result
+          (subst P c.in-Some.is c.loop-at.invariant.0) c.next_in_list-at.ensures.next unmet,
+      c.loop-at.invariant.1,
+    )
 
 pub loop-at-smaller : goal.loop-at-smaller
 loop-at-smaller c =
@@ -37,12 +39,12 @@ loop-at-smaller c =
     let l = c.args.list.number in
     let ws = c.args.wants.now in
     let bits = c.args.bits in
-    let P : Option ℕ → Type 0 = λ o. Passed c.args.lists.now ls l ws bits o c.loop-at.tasks.items c.loop-at.left in
+    let P : Option ℕ → Type 0 = λ o. Passed c.args.lists.now ls l ws bits o c.loop-at.met.tasks.items c.loop-at.met.left in
     let unmet : is_met bits (wanted_by ws n) ≡ false =
     subst (λ (k : ℕ). is_met bits (wanted_by ws k) ≡ false) c.task.view_is (sym c.is_met.ensures.met ∙ c.if-is_met.false) in
     let less =
-    shorter_unmet c.args.lists.now ls l ws bits n c.loop-at.tasks.items c.loop-at.left c.next_in_list-at.result
-    (subst P c.in-Some.is c.loop-at.invariant) c.next_in_list-at.ensures.next unmet in
+    shorter_unmet c.args.lists.now ls l ws bits n c.loop-at.met.tasks.items c.loop-at.met.left c.next_in_list-at.result
+    (subst P c.in-Some.is c.loop-at.invariant.0) c.next_in_list-at.ensures.next unmet in
     subst (λ (o : Option ℕ). length (from c.next_in_list-at.result (entries_of ls l)) < length (from o (entries_of ls l)))
     (sym c.in-Some.is) less
 
@@ -53,25 +55,29 @@ loop-at-preserved-then-is_met c =
     let l = c.args.list.number in
     let ws = c.args.wants.now in
     let bits = c.args.bits in
-    let tasks = c.loop-at.tasks.items in
-    let P : Option ℕ → Type 0 = λ o. Passed c.args.lists.now ls l ws bits o tasks c.loop-at.left in
+    let tasks = c.loop-at.met.tasks.items in
+    let P : Option ℕ → Type 0 = λ o. Passed c.args.lists.now ls l ws bits o tasks c.loop-at.met.left in
     let met : is_met bits (wanted_by ws n) ≡ true =
     subst (λ (k : ℕ). is_met bits (wanted_by ws k) ≡ true) c.task.view_is (sym c.is_met.ensures.met ∙ c.if-is_met.true) in
     let sound : IsSound 16 32 (map (without n) ls) = subst (IsSound 16 32) c.remove.ensures.removed c.remove.ensures.sound in
-    let left : c.bits_left-left.result ≡ bits_left c.loop-at.left (wanted_by ws n) =
-    subst (λ (k : ℕ). c.bits_left-left.result ≡ bits_left c.loop-at.left (wanted_by ws k))
-    c.task.view_is c.bits_left-left.ensures.left in
+    let left : c.bits_left.result ≡ bits_left c.loop-at.met.left (wanted_by ws n) =
+    subst (λ (k : ℕ). c.bits_left.result ≡ bits_left c.loop-at.met.left (wanted_by ws k))
+    c.task.view_is c.bits_left.ensures.left in
     let one =
-    turn_met c.args.lists.now ls l ws bits n tasks c.loop-at.left c.next_in_list-at.result
-    (subst P c.in-Some.is c.loop-at.invariant) c.next_in_list-at.ensures.next met sound in
-    subst (λ (k : ℕ). Passed c.args.lists.now c.remove.new.self l ws bits c.next_in_list-at.result c.push.new.self.items k)
-    (sym left)
-    (subst (λ (ts : List ℕ).
-    Passed c.args.lists.now c.remove.new.self l ws bits c.next_in_list-at.result ts (bits_left c.loop-at.left (wanted_by ws n)))
-    (sym c.push.ensures.items)
-    (subst (λ (ms : List (List (ℕ × ℕ))).
-    Passed c.args.lists.now ms l ws bits c.next_in_list-at.result (tasks ++ n ∷ []) (bits_left c.loop-at.left (wanted_by ws n)))
-    (sym c.remove.ensures.removed) one))
+    turn_met c.args.lists.now ls l ws bits n tasks c.loop-at.met.left c.next_in_list-at.result
+    (subst P c.in-Some.is c.loop-at.invariant.0) c.next_in_list-at.ensures.next met sound in (
+      subst (λ (k : ℕ). Passed c.args.lists.now c.remove.new.self l ws bits c.next_in_list-at.result c.push.new.self.items k)
+          (sym left)
+          (subst (λ (ts : List ℕ).
+          Passed c.args.lists.now c.remove.new.self l ws bits c.next_in_list-at.result ts
+          (bits_left c.loop-at.met.left (wanted_by ws n)))
+          (sym c.push.ensures.items)
+          (subst (λ (ms : List (List (ℕ × ℕ))).
+          Passed c.args.lists.now ms l ws bits c.next_in_list-at.result (tasks ++ n ∷ [])
+          (bits_left c.loop-at.met.left (wanted_by ws n)))
+          (sym c.remove.ensures.removed) one)),
+      c.loop-at.invariant.1,
+    )
 
 pub loop-at-smaller-then-is_met : goal.loop-at-smaller-then-is_met
 loop-at-smaller-then-is_met c =
@@ -80,14 +86,14 @@ loop-at-smaller-then-is_met c =
     let l = c.args.list.number in
     let ws = c.args.wants.now in
     let bits = c.args.bits in
-    let tasks = c.loop-at.tasks.items in
-    let P : Option ℕ → Type 0 = λ o. Passed c.args.lists.now ls l ws bits o tasks c.loop-at.left in
+    let tasks = c.loop-at.met.tasks.items in
+    let P : Option ℕ → Type 0 = λ o. Passed c.args.lists.now ls l ws bits o tasks c.loop-at.met.left in
     let met : is_met bits (wanted_by ws n) ≡ true =
     subst (λ (k : ℕ). is_met bits (wanted_by ws k) ≡ true) c.task.view_is (sym c.is_met.ensures.met ∙ c.if-is_met.true) in
     let sound : IsSound 16 32 (map (without n) ls) = subst (IsSound 16 32) c.remove.ensures.removed c.remove.ensures.sound in
     let less =
-    shorter_met c.args.lists.now ls l ws bits n tasks c.loop-at.left c.next_in_list-at.result
-    (subst P c.in-Some.is c.loop-at.invariant) c.next_in_list-at.ensures.next met sound in
+    shorter_met c.args.lists.now ls l ws bits n tasks c.loop-at.met.left c.next_in_list-at.result
+    (subst P c.in-Some.is c.loop-at.invariant.0) c.next_in_list-at.ensures.next met sound in
     subst (λ (ms : List (List (ℕ × ℕ))).
     length (from c.next_in_list-at.result (entries_of ms l)) < length (from c.loop-at.at (entries_of ls l)))
     (sym c.remove.ensures.removed)
@@ -97,18 +103,18 @@ loop-at-smaller-then-is_met c =
 
 pub returns-clause-tasks : goal.returns-clause-tasks
 returns-clause-tasks c =
-    let h = c.loop-at.invariant in
+    let h = c.loop-at.invariant.0 in
     let P : Option ℕ → Type 0 = λ o.
     Passed c.args.lists.now c.loop-at.lists c.args.list.number
-    c.args.wants.now c.args.bits o c.loop-at.tasks.items c.loop-at.left in
+    c.args.wants.now c.args.bits o c.loop-at.met.tasks.items c.loop-at.met.left in
     (passed_all c.args.lists.now c.loop-at.lists c.args.list.number c.args.wants.now c.args.bits
-    c.loop-at.tasks.items c.loop-at.left c.requires.list c.requires.sound (subst P c.in_default.is h)).0
+    c.loop-at.met.tasks.items c.loop-at.met.left c.requires.list c.requires.sound (subst P c.in_default.is h)).0
 
 pub returns-clause-unmet : goal.returns-clause-unmet
 returns-clause-unmet c =
-    let h = c.loop-at.invariant in
+    let h = c.loop-at.invariant.0 in
     let P : Option ℕ → Type 0 = λ o.
     Passed c.args.lists.now c.loop-at.lists c.args.list.number
-    c.args.wants.now c.args.bits o c.loop-at.tasks.items c.loop-at.left in
+    c.args.wants.now c.args.bits o c.loop-at.met.tasks.items c.loop-at.met.left in
     (passed_all c.args.lists.now c.loop-at.lists c.args.list.number c.args.wants.now c.args.bits
-    c.loop-at.tasks.items c.loop-at.left c.requires.list c.requires.sound (subst P c.in_default.is h)).1
+    c.loop-at.met.tasks.items c.loop-at.met.left c.requires.list c.requires.sound (subst P c.in_default.is h)).1
