@@ -1,13 +1,13 @@
 -- Who holds how many mutexes, when one is locked or freed.
 use Rattle.std.proofs.Common.{◌≡◌, ◌≢◌, ℕ, zero, suc, ◌+◌, ◌-◌, ◌<◌, ◌≤◌, inl, inr, cond, Option, Some, None, List, [], ◌∷◌, get_or}
-use Rattle.std.proofs.Common.{set, length, replicate, sym, ◌∙◌, ap, subst, refl, arith}
+use Rattle.std.proofs.Common.{set, length, map, replicate, sym, ◌∙◌, ap, ap₂, subst, refl, arith}
 use Rattle.std.proofs.lemmas.Bool.{cases_eq}
-use Rattle.std.proofs.lemmas.List.{get_or-replicate, get_or-set_same, get_or-set_other, length-set}
+use Rattle.std.proofs.lemmas.List.{get_or-replicate, get_or-set_same, get_or-set_other, length-set, map-set}
 use Rattle.model.specs.Switching.{is_same}
 use Rattle.model.proofs.Sorting.{by_test}
 use Rattle.model.proofs.Lists.{eqb-apart, eqb-refl}
 use Rattle.objects.specs.Places.{object_places}
-use Rattle.objects.specs.Mutexes.{AreMutexes, count_held, holder_in}
+use Rattle.objects.specs.Mutexes.{AreMutexes, count_held, holder_in, named_by}
 
 -- 1 where this task is the holder
 abbrev one_of : ℕ → Option ℕ → ℕ
@@ -42,6 +42,12 @@ free_at_first = record {
   for_all = refl;
   counted = λ task l. get_or-replicate 32 task 0 0 l ∙ sym (none_held task object_places);
 }
+
+-- another byte names another holder
+pub named_put : (bytes : List ℕ) (o byte : ℕ) {holders : List (Option ℕ)} {holder : Option ℕ} → map named_by bytes ≡ holders
+    → named_by byte ≡ holder → map named_by (set bytes o byte) ≡ set holders o holder
+named_put bytes o byte name names =
+    map-set named_by bytes o byte ∙ ap₂ (λ (hs : List (Option ℕ)) (h : Option ℕ). set hs o h) name names
 
 -- A holder of one more, and of one less: the counts of the others stay.
 module _ (holders : List (Option ℕ)) (held : List ℕ) (h : AreMutexes holders held) (o : ℕ) (known : o < object_places) where

@@ -1,7 +1,11 @@
 -- What callers see of the mutexes: who holds each object.
-use Rattle.std.specs.Prelude.{◌≡◌, ℕ, ◌<◌, Option, Some, None, List, length, filter, slice_index_or}
+use Rattle.std.specs.Prelude.{◌≡◌, ℕ, ◌<◌, nat_lt, if◌then◌else◌, Option, Some, None, List, length, filter, slice_index_or}
 use Rattle.model.specs.Switching.{is_same}
 use Rattle.objects.specs.Places.{object_places}
+
+-- the holder that a byte names, which is nobody from 32 on
+abbrev pub named_by : ℕ → Option ℕ
+named_by byte = if nat_lt byte 32 then Some byte else None
 
 -- who holds the object of this number
 abbrev pub holder_in : List (Option ℕ) → ℕ → Option ℕ

@@ -9,7 +9,7 @@ ghost use Rattle.objects.specs.Places.{object_places};
 ghost use Rattle.objects.specs.Rings.{wrap};
 
 use crate::OBJECTS;
-use lists::are_same;
+use lists::{are_same, first_nonzero};
 use model::{Memory, ObjectKind};
 use std::alloc::Global;
 use std::marker::Model;
@@ -270,13 +270,13 @@ impl Items {
         {
             return false;
         }
-        for queue in 0..OBJECTS {
-            if self.counts[queue] == 0 {
-                continue;
-            }
+        // Most queues are empty, as they then are in both.
+        let mut queue = first_nonzero(&self.counts, 0);
+        while queue < OBJECTS {
             if !self.is_queue_at(queue, snapshot) {
                 return false;
             }
+            queue = first_nonzero(&self.counts, queue + 1);
         }
         true
     }

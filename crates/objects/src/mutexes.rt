@@ -1,30 +1,45 @@
 //! Who holds the mutexes.
 ghost use Rattle.std.specs.Prelude.{◌≡◌, ◌<◌, length, replicate, slice_set, true, Some, None};
-ghost use Rattle.objects.specs.Mutexes.{count_held, holder_in};
+ghost use Rattle.objects.specs.Mutexes.{count_held, holder_in, named_by};
 ghost use Rattle.objects.specs.Places.{object_places};
 
 use crate::OBJECTS;
+use lists::are_same_bytes;
 use model::TaskId;
 use std::marker::Model;
+
+/// The byte that is kept where there is no holder.
+const NOBODY: u8 = 255;
 
 /// The holder of each object, and how many each task holds, which is kept and never searched for. An object that is
 /// free, or is no mutex, has no holder.
 #[derive(Drop)]
 pub(crate) struct Mutexes {
-    holders: [Option<TaskId>; OBJECTS],
+    // Their numbers, since bytes are compared several at a time.
+    holders: [u8; OBJECTS],
     held: [u8; 32],
 }
 
 // Clauses see the holders.
 impl Model for Mutexes {
-    ghost use Rattle.std.specs.Prelude.{ℕ, Option, List};
-    ghost use Rattle.objects.specs.Mutexes.{AreMutexes};
+    ghost use Rattle.std.specs.Prelude.{ℕ, Option, List, map};
+    ghost use Rattle.objects.specs.Mutexes.{AreMutexes, named_by};
 
     ghost Value = { List (Option ℕ) };
 
-    ghost view = { λ m. m.holders };
+    ghost view = { λ m. map named_by m.holders };
 
-    ghost invariant = { λ m. AreMutexes m.holders m.held };
+    ghost invariant = { λ m. AreMutexes (map named_by m.holders) m.held };
+}
+
+/// The byte that is kept of a holder, or of none.
+fn byte_of(holder: Option<TaskId>) -> u8
+    ensures { named_by result ≡ holder }
+{
+    match holder {
+        Some(task) => task.number,
+        None => NOBODY,
+    }
 }
 
 impl Mutexes {
@@ -33,7 +48,7 @@ impl Mutexes {
         ensures free { result ≡ replicate object_places None }
     {
         Mutexes {
-            holders: [None; OBJECTS],
+            holders: [NOBODY; OBJECTS],
             held: [0; 32],
         }
     }
@@ -42,16 +57,17 @@ impl Mutexes {
     pub(crate) fn copy(&self) -> Self
         ensures { result ≡ self.now }
     {
-        let mut copy = Mutexes::new();
-        copy.set_from(self);
-        copy
+        Mutexes {
+            holders: self.holders,
+            held: self.held,
+        }
     }
 
     /// Becomes a copy of the other, in place.
     pub(crate) fn set_from(&mut self, other: &Self)
         ensures { self.new ≡ other.now }
     {
-        self.holders.copy_from_slice(&other.holders);
+        self.holders = other.holders;
         self.held = other.held;
     }
 
@@ -59,12 +75,7 @@ impl Mutexes {
     pub(crate) fn is_same(&self, other: &Self) -> bool
         ensures { result ≡ true → self.now ≡ other.now }
     {
-        for object in 0..OBJECTS {
-            if self.holders[object] != other.holders[object] {
-                return false;
-            }
-        }
-        true
+        are_same_bytes(&self.holders, &other.holders)
     }
 
     /// The holder of an object; `None` where it has none.
@@ -72,7 +83,7 @@ impl Mutexes {
         requires { object < object_places }
         ensures holder { result ≡ holder_in self.now object }
     {
-        self.holders[object]
+        TaskId::new(self.holders[object])
     }
 
     /// How many mutexes a task holds (`uxMutexesHeld`).
@@ -90,8 +101,8 @@ impl Mutexes {
         ensures locked { self.new ≡ slice_set self.old object task }
         ensures many { length self.new ≡ object_places }
     {
-        self.holders[object] = task;
-        // Through a reference, since the borrow checker takes a value that was stored for moved.
+        self.holders[object] = byte_of(task);
+        // Through a reference, since the borrow checker takes a value that was passed on for moved.
         if let Some(task) = &task {
             self.held[task.number as usize] += 1;
         }
@@ -104,7 +115,7 @@ impl Mutexes {
         ensures free { self.new ≡ slice_set self.old object None }
         ensures many { length self.new ≡ object_places }
     {
-        self.holders[object] = None;
+        self.holders[object] = NOBODY;
         self.held[task.number as usize] -= 1;
     }
 }
