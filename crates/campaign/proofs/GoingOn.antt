@@ -1,6 +1,6 @@
 -- How rows go on from a kernel that they have come to.
 use Rattle.std.proofs.Common.{◌≡◌, ◌≤◌, ◌<◌, ℕ, true, false, Some, List, [], ◌∷◌, ◌++◌, drop, length, length-append, refl, sym, ap}
-use Rattle.std.proofs.Common.{subst, ◌∙◌, append-nil, arith}
+use Rattle.std.proofs.Common.{subst, suc, zero, get_or, ◌∙◌, append-nil, arith}
 use Rattle.std.specs.List.{AllByRecursion}
 use Rattle.std.proofs.lemmas.List.{drop-append-le}
 use Rattle.std.proofs.Math.Seq.{drop-length}
@@ -9,14 +9,17 @@ use Rattle.model.specs.declared.event.End.{End}
 use Rattle.model.specs.declared.plan.Injection.{Injection}
 use Rattle.model.specs.Points.{IsPoint, last_step}
 use Rattle.model.specs.Application.{Application, Limits}
+use Rattle.model.specs.State.{State}
 use Rattle.model.specs.Run.{Run, end_of, events_after, injected, state_after}
 use Rattle.model.proofs.Injected.{none_past}
 use Rattle.machine.specs.declared.machine.Machine.{Machine}
+use Rattle.machine.specs.StandsFor.{Stands}
 use Rattle.machine.specs.Can.{IsUnderWay}
 use Rattle.report.specs.Views.{shows_events}
 use Rattle.report.specs.declared.view.View.{View}
 use Rattle.kernel.specs.Leads.{IsLed}
 use Rattle.kernel.specs.Rests.{IsRest}
+use Rattle.kernel.proofs.Alike.{rest_alike}
 use Rattle.kernel.proofs.Leading.{leads_here, leads_then, rest_before}
 use Rattle.deal.specs.Tallies.{Tallied}
 use Rattle.campaign.specs.declared.ahead.Ahead.{Ahead}
@@ -26,7 +29,7 @@ use Rattle.campaign.specs.declared.mark.Mark.{Mark}
 use Rattle.campaign.specs.declared.mark.Passed.{Passed}
 use Rattle.rows.specs.declared.rows.KeptRow.{KeptRow}
 use Rattle.rows.specs.Links.{Store, AreLegs, Grows, Tells}
-use Rattle.campaign.specs.Marks.{rest_from, AreBehind, AreMarked, ArePut, IsBehind, IsPutAt, Knows}
+use Rattle.campaign.specs.Marks.{rest_from, AreBehind, AreMarked, ArePut, IsBehind, IsPutAt, IsRestAt, Knows}
 use Rattle.campaign.specs.Working.{GainsRows, IsPassed, IsRestIn, IsRestOf}
 use Rattle.campaign.proofs.Keeping.{known_more}
 use Rattle.rows.proofs.Linked.{closed_tells, still_tells, told_no_more}
@@ -39,6 +42,26 @@ none_from point formed k l n from = none_past point formed.in_order n (omega ari
 pub all_more : {X : Type 0} (P : X → Type 0) (xs : List X) (x : X) → AllByRecursion P xs → P x → AllByRecursion P (xs ++ x ∷ [])
 all_more P [] x all is = (is, tt)
 all_more P (y ∷ xs) x all is = (all.0, all_more P xs x all.1 is)
+
+-- What holds of each mark holds of the one at a place.
+pub at_place : {X : Type 0} (P : X → Type 0) (xs : List X) (place : ℕ) (d : X) → AllByRecursion P xs → place < length xs
+    → P (get_or xs place d)
+at_place P [] place d all below = absurd (omega arith)
+at_place P (x ∷ xs) zero d all below = all.0
+at_place P (x ∷ xs) (suc place) d all below = at_place P xs place d all.1 (omega arith)
+
+-- A row that comes to a kernel which the one of a mark is found to be goes on as the mark says.
+pub rest_found : (marks : List Mark) (place : ℕ) (m : Mark) (k : Machine) → place < length marks → m ≡ get_or marks place m
+    → k.steps ≡ m.kernel.value.steps → ((s : State) → Stands k s → Stands m.kernel.value s) → IsRestAt marks k m.rest
+rest_found marks place m k below found steps alike app limits view base store marked =
+    let there : IsRestIn app limits view base store m.kernel.value m.rest =
+    subst (λ (x : Mark). IsRestIn app limits view base store x.kernel.value x.rest) (sym found)
+    (at_place (λ (x : Mark). IsRestIn app limits view base store x.kernel.value x.rest) marks place m marked below) in
+    record {
+      events = there.events;
+      told = there.told;
+      is_rest = rest_alike app limits k m.kernel.value _ steps alike there.is_rest;
+    }
 
 -- ---- kernels on the way
 

@@ -18,9 +18,9 @@ fn at_reset(app: &App) -> Machine
 fn a_loop_that_is_closed_makes_no_difference(rt: HostRuntime) {
     let app = Dice::new(1).app(rt.alloc()).expect(&rt, "an application");
     let mut machine = at_reset(&app);
-    let snapshot = machine.snapshot(rt.alloc()).ok().expect(&rt, "memory");
+    let snapshot = machine.snapshot(rt.alloc(), 32).ok().expect(&rt, "memory");
     let hint = machine.hint(32);
-    assert!(rt; machine.is_at(&snapshot));
+    assert!(rt; machine.is_at(&snapshot, 32));
     let task = TaskId { number: 0 };
     machine.push_loop(
         task,
@@ -29,11 +29,11 @@ fn a_loop_that_is_closed_makes_no_difference(rt: HostRuntime) {
             left: Some(1),
         },
     );
-    assert!(rt; !machine.is_at(&snapshot));
+    assert!(rt; !machine.is_at(&snapshot, 32));
     assert!(rt; machine.end_turn(task).is_none());
-    assert!(rt; machine.is_at(&snapshot));
+    assert!(rt; machine.is_at(&snapshot, 32));
     assert!(rt; machine.hint(32) == hint);
     machine.set_used(task, 1);
-    assert!(rt; !machine.is_at(&snapshot));
+    assert!(rt; !machine.is_at(&snapshot, 32));
     assert!(rt; machine.hint(32) != hint);
 }

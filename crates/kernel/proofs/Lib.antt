@@ -18,6 +18,7 @@ pub mod LettingGo
 pub mod Setting
 pub mod Along
 pub mod Leading
+pub mod Alike
 pub mod Ahead
 pub mod Amid
 pub mod EndStates

@@ -25,19 +25,27 @@ use sched::Sched;
 use std::alloc::Global;
 use std::marker::Model;
 
+/// So many tasks a kernel has room for.
+const MOST_TASKS: usize = 32;
+
 /// A kernel between two steps: FreeRTOS's scheduler and its tick, over tasks that follow scripts (profile).
 #[derive(Drop)]
 pub struct Kernel {
     pub(crate) machine: Machine,
+    /// Nobody behind so many tasks has done anything.
+    pub(crate) tasks: usize,
 }
 
 // Clauses see its state.
 impl Model for Kernel {
     ghost use Rattle.machine.specs.declared.machine.Machine as declared;
+    ghost use Rattle.machine.specs.StandsFor.{AreBlankFrom};
 
     ghost Value = { declared.Machine };
 
     ghost view = { λ k. k.machine };
+
+    ghost invariant = { λ k. AreBlankFrom k.tasks k.machine.progress };
 }
 
 impl Kernel {
@@ -51,6 +59,7 @@ impl Kernel {
     {
         Kernel {
             machine: Machine::boot(app),
+            tasks: MOST_TASKS,
         }
     }
 
@@ -60,6 +69,7 @@ impl Kernel {
     {
         Kernel {
             machine: self.machine.copy(),
+            tasks: self.tasks,
         }
     }
 
@@ -67,7 +77,9 @@ impl Kernel {
     pub fn set_from(&mut self, other: &Self)
         ensures { self.new ≡ other.now }
     {
-        self.machine.set_from(&other.machine);
+        let tasks = self.tasks.max(other.tasks);
+        self.machine.set_from_first(&other.machine, tasks);
+        self.tasks = other.tasks;
     }
 
     /// The kernel as it is now. It takes some 3 kB, and memory of 112 bytes for each task and of four for each item that the queues
@@ -77,14 +89,14 @@ impl Kernel {
     pub fn snapshot(&self, alloc: Global) -> Result<Snapshot, Memory>
         ensures { IfOk result (λ snapshot. snapshot ≡ self.now) }
     {
-        self.machine.snapshot(alloc)
+        self.machine.snapshot(alloc, self.tasks)
     }
 
     /// As `snapshot`, in a box.
     pub fn boxed_snapshot(&self, alloc: Global) -> Result<Box<Snapshot>, Memory>
         ensures { IfOk result (λ snapshot. snapshot.value ≡ self.now) }
     {
-        self.machine.boxed_snapshot(alloc)
+        self.machine.boxed_snapshot(alloc, self.tasks)
     }
 
     /// Becomes the kernel of a snapshot, in place. It takes no memory.
@@ -92,14 +104,16 @@ impl Kernel {
         ensures { self.new ≡ snapshot.now }
     {
         self.machine.restore(snapshot);
+        self.tasks = snapshot.tasks();
     }
 
-    /// Whether it is as it was in this snapshot: for the same states, and before the same step. How many places its lists and
-    /// items have gone round doesn't count.
+    /// Whether it is as it was in this snapshot: before the same step, and then the snapshot represents each state that it represents. How
+    /// many places its lists and items have gone round doesn't count, nor does what a task waited for last.
     pub fn is_at(&self, snapshot: &Snapshot) -> bool
-        ensures { result ≡ true → self.now ≡ snapshot.now }
+        ensures steps { result ≡ true → self.now.steps ≡ snapshot.now.steps }
+        ensures stands { result ≡ true → (s : State) → Stands self.now s → Stands snapshot.now s }
     {
-        self.machine.is_at(snapshot)
+        self.machine.is_at(snapshot, self.tasks)
     }
 
     /// A number that kernels of an application have in common which are the same (`is_at`), and most others don't. It is a hint, on
@@ -185,6 +199,7 @@ impl Kernel {
             → log.new.items ≡ (step app.now limits.now handlers.now s).log }
         ensures meter { meter.new ≡ meter.old + 1 }
     {
+        self.tasks = MOST_TASKS;
         step(&mut self.machine, app, handlers, limits, meter, log);
     }
 

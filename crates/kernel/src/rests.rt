@@ -64,6 +64,7 @@ pub fn go_far(
 {
     app.well_formed();
     limits.well_formed();
+    kernel.tasks = app.tasks().len();
     let machine = &mut kernel.machine;
     'steps: loop {
         if let Some(end) = ended(machine, app, limits) {

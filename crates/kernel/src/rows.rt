@@ -94,6 +94,8 @@ pub fn begin_row(
         → (kernel.new.steps ≤ run.steps) × (0 < length run.events)) }
 {
     point.well_formed();
+    app.well_formed();
+    kernel.tasks = app.tasks().len();
     let first = point.first_step();
     let before = advance(&mut kernel.machine, app, first, limits, meter, log);
     let injections = point.injections();

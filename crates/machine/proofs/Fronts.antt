@@ -1,9 +1,9 @@
 -- The progress of the first tasks, and of nobody behind them.
-use Rattle.std.proofs.Common.{◌≡◌, ◌<◌, ◌≤◌, ◌+◌, ◌-◌, ◌++◌, ◌∙◌, ℕ, List, drop, inl, inr, length, length-append, replicate, take}
-use Rattle.std.proofs.Common.{refl, ap, sym, arith}
+use Rattle.std.proofs.Common.{◌≡◌, ◌<◌, ◌≤◌, ◌+◌, ◌-◌, ◌++◌, ◌∙◌, ℕ, List, drop, inl, inr, length, length-append, min, replicate}
+use Rattle.std.proofs.Common.{refl, ap, sym, arith, take}
 use Rattle.std.proofs.lemmas.Bool.{cases_lt}
 use Rattle.std.proofs.lemmas.List.{ext_get_or, get_or-append_right, get_or-drop, get_or-replicate, get_or-take, get_or_append_left}
-use Rattle.std.proofs.lemmas.List.{length-drop, length-replicate, length-take}
+use Rattle.std.proofs.lemmas.List.{length-drop, length-replicate, length-take, take-append-drop}
 use Rattle.std.proofs.Math.ListN.{get_or-eq_default}
 use Rattle.model.specs.State.{Progress, no_progress}
 use Rattle.machine.specs.StandsFor.{AreBlankFrom, progress_in}
@@ -33,6 +33,19 @@ module _ (front : List Progress) (few : length front ≤ 32) where
       ext_get_or no_progress ps (with_blanks front) (full ∙ sym long)
       (λ task below. let low : task < 32 = omega (arith, below, full) in same task low ∙ sym (in_front task low))
 
+  -- So it is where it is the same as the front as far as that goes, blank behind it up to some task, and from that on.
+  pub is_same : (ps : List Progress) (tasks : ℕ) → length ps ≡ 32
+      → ((task : ℕ) → task < length front → progress_in ps task ≡ progress_in front task)
+      → ((task : ℕ) → length front ≤ task → task < min tasks 32 → progress_in ps task ≡ no_progress)
+      → AreBlankFrom tasks ps → ps ≡ with_blanks front
+  is_same ps tasks full same blank behind = is_whole ps full (λ task low. elim (cases_lt task (length front)) [
+    | inl there ↦ same task there
+    | inr past ↦ elim (cases_lt task tasks) [
+      | inl there ↦ blank task past (omega (arith, low, there)) ∙ sym (get_or-eq_default front no_progress past)
+      | inr further ↦ behind task further ∙ sym (get_or-eq_default front no_progress past)
+    ]
+  ])
+
 -- The front of a progress that is blank behind it.
 pub front_is : (tasks : ℕ) (ps front : List Progress) → length ps ≡ 32 → tasks ≤ 32 → AreBlankFrom tasks ps
     → front ≡ take tasks ps → with_blanks front ≡ ps
@@ -54,3 +67,16 @@ filled front before few full blank =
     (replicate (32 - length front) no_progress) (omega (arith, behind, full, blanks))
     (λ i below. get_or-drop (length front) before i no_progress ∙ blank (length front + i) (omega arith)
     ∙ sym (get_or-replicate (32 - length front) i no_progress no_progress (omega (arith, below, behind, full)))))
+
+-- The front of one progress, and what is behind that in another, where both are blank behind it.
+pub front_copied : (tasks count : ℕ) (ps qs : List Progress) → count ≡ min tasks 32 → length ps ≡ 32 → length qs ≡ 32
+    → AreBlankFrom tasks ps → AreBlankFrom tasks qs → take count qs ++ drop count ps ≡ qs
+front_copied tasks count ps qs is full as_full blank other =
+    let short = length-drop count ps in
+    let as_short = length-drop count qs in
+    ap (λ (rest : List Progress). take count qs ++ rest)
+    (ext_get_or no_progress (drop count ps) (drop count qs) (omega (arith, short, as_short, full, as_full)) (λ i below.
+    let behind : tasks ≤ count + i = omega (arith, is, below, short, full) in
+    get_or-drop count ps i no_progress ∙ blank (count + i) behind ∙ sym (other (count + i) behind)
+    ∙ sym (get_or-drop count qs i no_progress)))
+    ∙ take-append-drop count qs

@@ -2,6 +2,7 @@ pub mod Compared
 pub mod Looping
 pub mod Parts
 pub mod Either
+pub mod Alike
 pub mod Renewed
 pub mod Waking
 pub mod Switches

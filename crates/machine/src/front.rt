@@ -1,6 +1,7 @@
 //! The progress of the first tasks, where nobody behind them has done anything.
-ghost use Rattle.std.specs.Prelude.{◌≡◌, ◌≤◌, length, true, IfOk};
-ghost use Rattle.machine.specs.StandsFor.{AreBlankFrom};
+ghost use Rattle.std.specs.Prelude.{◌≡◌, ◌<◌, ◌≤◌, ℕ, length, min, true, IfOk};
+ghost use Rattle.model.specs.State.{no_progress};
+ghost use Rattle.machine.specs.StandsFor.{AreBlankFrom, progress_in};
 ghost use Rattle.machine.specs.Fronts.{with_blanks};
 
 use crate::boot::without_tasks;
@@ -8,25 +9,31 @@ use crate::progress::Progress;
 use model::Memory;
 use std::alloc::Global;
 
-/// How many of the first tasks there are, behind which nothing is done.
-fn tasks_of(progress: &[Progress; 32]) -> usize
+/// How many of so many first tasks there are, behind which nothing is done, where nothing is done behind these.
+fn tasks_of(progress: &[Progress; 32], most: usize) -> usize
     ensures few { result ≤ 32 }
-    ensures blank { AreBlankFrom result progress.now }
+    ensures blank { AreBlankFrom most progress.now → AreBlankFrom result progress.now }
 {
-    for behind in 0..32 {
-        if !progress[31 - behind].is_blank() {
-            return 32 - behind;
+    let most = most.min(32);
+    for behind in 0..most {
+        if !progress[most - 1 - behind].is_blank() {
+            return most - behind;
         }
     }
     0
 }
 
-/// The progress of the first tasks, behind which nothing is done. `Memory` is answered only where a growth was refused.
-pub(crate) fn front_of(alloc: Global, progress: &[Progress; 32]) -> Result<Vec<Progress>, Memory>
+/// The progress of the first tasks, behind which nothing is done. There are so many at most, and nobody behind these has done anything.
+/// `Memory` is answered only where a growth was refused.
+pub(crate) fn front_of(
+    alloc: Global,
+    progress: &[Progress; 32],
+    most: usize,
+) -> Result<Vec<Progress>, Memory>
     ensures few { IfOk result (λ front. length front.items ≤ 32) }
-    ensures front { IfOk result (λ front. with_blanks front.items ≡ progress.now) }
+    ensures front { IfOk result (λ front. AreBlankFrom most progress.now → with_blanks front.items ≡ progress.now) }
 {
-    let tasks = tasks_of(progress);
+    let tasks = tasks_of(progress, most);
     let mut front = Vec::new(alloc);
     front.reserve_exact(tasks)?;
     front.extend_from_slice(&progress[..tasks])?;
@@ -42,21 +49,36 @@ pub(crate) fn fill_from(progress: &mut [Progress; 32], front: &[Progress])
     progress[..front.len()].copy_from_slice(front);
 }
 
-/// Whether each progress is the same as the other at its place, and blank where there is no other.
-pub(crate) fn is_same_progress(progress: &[Progress; 32], other: &[Progress]) -> bool
+/// Whether each progress is the same as the other at its place.
+fn are_same(progress: &[Progress; 32], other: &[Progress]) -> bool
     requires { length other.now ≤ 32 }
-    ensures { result ≡ true → progress.now ≡ with_blanks other.now }
+    ensures { result ≡ true → (task : ℕ) → task < length other.now → progress_in progress.now task ≡ progress_in other.now task }
 {
-    let tasks = other.len();
-    for task in 0..tasks {
+    for task in 0..other.len() {
         if !progress[task].is_same(&other[task]) {
             return false;
         }
     }
-    for task in tasks..32 {
+    true
+}
+
+/// Whether that of the tasks between these two is blank; the second counts as 32 where it is more.
+fn are_blank(progress: &[Progress; 32], first: usize, end: usize) -> bool
+    ensures { result ≡ true → (task : ℕ) → first ≤ task → task < min end 32 → progress_in progress.now task ≡ no_progress }
+{
+    for task in first..end.min(32) {
         if !progress[task].is_blank() {
             return false;
         }
     }
     true
+}
+
+/// Whether each progress is the same as the other at its place, and blank where there is no other. There are so many tasks, and nobody
+/// behind them has done anything.
+pub(crate) fn is_same_progress(progress: &[Progress; 32], other: &[Progress], tasks: usize) -> bool
+    requires { length other.now ≤ 32 }
+    ensures { result ≡ true → AreBlankFrom tasks progress.now → progress.now ≡ with_blanks other.now }
+{
+    are_same(progress, other) && are_blank(progress, other.len(), tasks)
 }

@@ -4,7 +4,7 @@ ghost use Rattle.model.specs.State.{no_call, printed};
 ghost use Rattle.model.specs.Switching.{write};
 ghost use Rattle.model.specs.Suspension.{phase_resumed, resumed};
 ghost use Rattle.machine.specs.Loops.{after_turn, next_turn};
-ghost use Rattle.machine.specs.StandsFor.{Does, DoesAny, progress_in, with_progress};
+ghost use Rattle.machine.specs.StandsFor.{AreBlankFrom, Does, DoesAny, progress_in, with_progress};
 
 use crate::log::Log;
 use crate::progress::Progress;
@@ -64,6 +64,23 @@ impl Machine {
         ensures { self.new ≡ other.now }
     {
         self.progress = other.progress;
+        self.set_parts_from(other);
+    }
+
+    /// The same where nobody behind so many tasks has done anything, in either.
+    pub fn set_from_first(&mut self, other: &Self, tasks: usize)
+        ensures { AreBlankFrom tasks self.old.progress → AreBlankFrom tasks other.now.progress → self.new ≡ other.now }
+    {
+        let tasks = tasks.min(32);
+        self.progress[..tasks].copy_from_slice(&other.progress[..tasks]);
+        self.set_parts_from(other);
+    }
+
+    /// Becomes a copy of the other, and keeps its own progress of the tasks.
+    #[inline(always)]
+    fn set_parts_from(&mut self, other: &Self)
+        ensures { self.new ≡ record other.now { progress = self.old.progress } }
+    {
         self.sched.set_from(&other.sched);
         self.clock.set_from(&other.clock);
         self.objects.set_from(&other.objects);

@@ -1,6 +1,8 @@
 //! A kernel as it once was.
 ghost use Rattle.std.specs.Prelude.{◌≡◌, ◌≤◌, length, true, IfOk};
+ghost use Rattle.model.specs.State.{State};
 ghost use Rattle.machine.specs.Fronts.{with_blanks};
+ghost use Rattle.machine.specs.StandsFor.{AreBlankFrom, Stands};
 
 use crate::front::{fill_from, front_of, is_same_progress};
 use crate::machine::Machine;
@@ -49,38 +51,44 @@ impl Snapshot {
     {
         self.steps
     }
+
+    /// How many of the first tasks there are, 32 at most, behind which nobody has done anything.
+    pub fn tasks(&self) -> usize
+        ensures { AreBlankFrom result self.now.progress }
+    {
+        self.progress.len()
+    }
 }
 
 impl Machine {
-    /// The kernel as it is now. It takes some 3 kB, and memory of 112 bytes for each task and of four for each item that the queues
-    /// can hold.
+    /// The kernel as it is now, which is of so many tasks. It takes some 3 kB, and memory of 112 bytes for each task and of four for each
+    /// item that the queues can hold.
     ///
     /// `Memory` is answered only where a growth was refused.
-    pub fn snapshot(&self, alloc: Global) -> Result<Snapshot, Memory>
-        ensures { IfOk result (λ snapshot. snapshot ≡ self.now) }
+    pub fn snapshot(&self, alloc: Global, tasks: usize) -> Result<Snapshot, Memory>
+        ensures { IfOk result (λ snapshot. AreBlankFrom tasks self.now.progress → snapshot ≡ self.now) }
     {
-        let progress = front_of(alloc, &self.progress)?;
+        let progress = front_of(alloc, &self.progress, tasks)?;
         let objects = self.objects.snapshot(alloc)?;
         Ok(self.snapshot_with(progress, objects))
     }
 
     /// As `snapshot`, in a box.
-    pub fn boxed_snapshot(&self, alloc: Global) -> Result<Box<Snapshot>, Memory>
-        ensures { IfOk result (λ snapshot. snapshot.value ≡ self.now) }
+    pub fn boxed_snapshot(&self, alloc: Global, tasks: usize) -> Result<Box<Snapshot>, Memory>
+        ensures { IfOk result (λ snapshot. AreBlankFrom tasks self.now.progress → snapshot.value ≡ self.now) }
     {
-        let progress = front_of(alloc, &self.progress)?;
+        let progress = front_of(alloc, &self.progress, tasks)?;
         let objects = self.objects.snapshot(alloc)?;
         let snapshot = Box::new(alloc, self.snapshot_with(progress, objects))?;
         Ok(snapshot)
     }
 
-    /// The kernel as it is now, with this progress of its first tasks, and this snapshot of its objects.
+    /// The kernel as it is now, but with this progress of its first tasks, and with this snapshot of its objects.
     #[inline(always)]
     fn snapshot_with(&self, progress: Vec<Progress>, objects: ObjectsSnapshot) -> Snapshot
         requires few { length progress.items ≤ 32 }
-        requires progress { with_blanks progress.items ≡ self.now.progress }
         requires objects { objects ≡ self.now.objects }
-        ensures { result ≡ self.now }
+        ensures { result ≡ record self.now { progress = with_blanks progress.items } }
     {
         Snapshot {
             progress,
@@ -110,10 +118,11 @@ impl Machine {
         self.stopped = snapshot.stopped;
     }
 
-    /// Whether the kernel is as it was in this snapshot. What its lists, queues and loops have kept of entries, items and
-    /// turns that are gone doesn't count.
-    pub fn is_at(&self, snapshot: &Snapshot) -> bool
-        ensures { result ≡ true → self.now ≡ snapshot.now }
+    /// Whether the kernel, which is of so many tasks, is the same as in this snapshot, whatever its event groups are.
+    fn is_same_but_groups(&self, snapshot: &Snapshot, tasks: usize) -> bool
+        ensures steps { result ≡ true → self.now.steps ≡ snapshot.now.steps }
+        ensures same { result ≡ true → AreBlankFrom tasks self.now.progress
+            → self.now ≡ record snapshot.now { groups = self.now.groups } }
     {
         if self.steps != snapshot.steps
             || self.next_interrupt != snapshot.next_interrupt
@@ -124,8 +133,20 @@ impl Machine {
         }
         self.clock.is_same(&snapshot.clock)
             && self.sched.is_same(&snapshot.sched)
-            && is_same_progress(&self.progress, snapshot.progress.as_slice())
+            && is_same_progress(&self.progress, snapshot.progress.as_slice(), tasks)
             && self.objects.is_at(&snapshot.objects)
-            && self.groups.is_same(&snapshot.groups)
+    }
+
+    /// Whether the kernel, which is of so many tasks, is as it was in this snapshot: then that represents each state that the kernel
+    /// represents. What lists, queues, loops and event groups have kept of entries, items, turns and waits that are gone doesn't count.
+    pub fn is_at(&self, snapshot: &Snapshot, tasks: usize) -> bool
+        ensures steps { result ≡ true → self.now.steps ≡ snapshot.now.steps }
+        ensures stands { result ≡ true → AreBlankFrom tasks self.now.progress
+            → (s : State) → Stands self.now s → Stands snapshot.now s }
+    {
+        if !self.is_same_but_groups(snapshot, tasks) {
+            return false;
+        }
+        self.groups.is_same(&snapshot.groups)
     }
 }

@@ -1,5 +1,6 @@
-use Rattle.std.proofs.Common.{◌≡◌, ◌≢◌, ◌≤◌, suc, None, sym, ap, subst, ◌∙◌, arith}
+use Rattle.std.proofs.Common.{◌≡◌, ◌≢◌, ◌≤◌, suc, None, List, length, sym, ap, subst, ◌∙◌, arith}
 use Rattle.std.proofs.lemmas.Result.{err_from_is_err_and}
+use Rattle.model.specs.Application.{Definition}
 use Rattle.model.specs.Run.{end_of, state_after}
 use Rattle.machine.specs.declared.machine.Machine.{Machine}
 use Rattle.machine.specs.Logged.{all_of}
@@ -8,6 +9,7 @@ use Rattle.machine.proofs.Either.{elapsed_is, steps_are}
 use Rattle.kernel.specs.Along.{IsFree}
 use Rattle.kernel.specs.Leads.{IsLed, IsPast}
 use Rattle.kernel.proofs.Along.{free_of_limits}
+use Rattle.kernel.proofs.Alike.{blank_on_the_way}
 use Rattle.kernel.proofs.Bounds.{below_limits}
 use Rattle.kernel.proofs.Leading.{end_here, led_here, led_on, led_then, past_on}
 use Rattle.kernel.proofs.Running.{extends_on, moves_on, no_further, told_some}
@@ -130,3 +132,26 @@ returns-in_err-go_on-clause-refused c =
       no_further c.args.app.now c.args.injections.now c.args.limits.now c.go_on.new.kernel way run is,
       told_some c.args.app.now c.args.injections.now c.args.limits.now c.go_on.new.kernel way run is c.in_err-go_on.ensures.memory,
     ))
+
+pub invariant_of-kernel : goal.invariant_of-kernel
+invariant_of-kernel c = λ task behind.
+    blank_on_the_way c.args.app.now c.well_formed-2.ensures c.args.limits.now c.args.injections.now c.steps.machine
+    (c.steps.invariant.led.leads.way c.args.injections.now (record { way = c.requires.way; past = c.requires.past }))
+    task (subst (λ (ts : List Definition). length ts ≤ task) c.tasks.ensures behind)
+
+pub invariant_of-kernel-then-machine-until : goal.invariant_of-kernel-then-machine-until
+invariant_of-kernel-then-machine-until c = λ task behind.
+    blank_on_the_way c.args.app.now c.well_formed-2.ensures c.args.limits.now c.args.injections.now c.steps.machine
+    (c.steps.invariant.led.leads.way c.args.injections.now (record { way = c.requires.way; past = c.requires.past }))
+    task (subst (λ (ts : List Definition). length ts ≤ task) c.tasks.ensures behind)
+
+pub invariant_of-kernel-in_err-go_on : goal.invariant_of-kernel-in_err-go_on
+invariant_of-kernel-in_err-go_on c = λ task behind.
+    let on = c.steps.invariant.led.leads.on in
+    let free : IsFree c.args.app.now c.args.limits.now c.free_until-stop.result c.steps.machine c.args.injections.now =
+    free_of_limits c.args.app.now c.args.limits.now c.free_until-stop.result c.steps.machine c.args.injections.now
+    (c.steps.invariant.led.leads.way c.args.injections.now (record { way = c.requires.way; past = c.requires.past }))
+    (λ n from below. c.requires.past n (omega arith)) c.free_until-stop.ensures.ticks c.free_until-stop.ensures.steps in
+    blank_on_the_way c.args.app.now c.well_formed-2.ensures c.args.limits.now c.args.injections.now c.go_on.new.kernel
+    (c.go_on.ensures.to.way c.args.injections.now free) task
+    (subst (λ (ts : List Definition). length ts ≤ task) c.tasks.ensures behind)

@@ -2,6 +2,7 @@ use Rattle.std.proofs.Common.{◌≡◌, ◌≤◌, ◌++◌, ◌+◌, ℕ, List
 use Rattle.std.specs.List.{AllByRecursion}
 use Rattle.std.proofs.lemmas.Result.{err_from_is_err_and}
 use Rattle.model.specs.declared.plan.Injection.{Injection}
+use Rattle.model.specs.Application.{Definition}
 use Rattle.model.specs.Points.{first_step}
 use Rattle.model.specs.Plans.{IsPlan}
 use Rattle.model.specs.Run.{IsRun, end_of, events_after, state_after}
@@ -11,6 +12,7 @@ use Rattle.machine.specs.declared.machine.Machine.{Machine}
 use Rattle.machine.specs.Can.{IsUnderWay}
 use Rattle.machine.specs.Logged.{all_of}
 use Rattle.kernel.specs.Rows.{events_from}
+use Rattle.kernel.proofs.Alike.{blank_on_the_way}
 use Rattle.kernel.proofs.Injecting.{past_it, row_way}
 use Rattle.kernel.proofs.Running.{no_further, told_some}
 use Rattle.kernel.proofs.rows.begin_row.Goals as goal
@@ -153,3 +155,13 @@ returns-clause-meter c =
     let then = c.go_to_step.ensures.meter in
     let seen = ap (λ (k : Machine). k.steps) c.kernel.view_is in
     omega arith
+
+pub invariant_of-kernel : goal.invariant_of-kernel
+invariant_of-kernel c = λ task behind.
+    blank_on_the_way c.args.app.now c.well_formed-3.ensures c.args.limits.now c.as_slice.result.now c.go_to_step.new.kernel
+    c.go_to_step.ensures.way task (subst (λ (ts : List Definition). length ts ≤ task) c.tasks.ensures behind)
+
+pub invariant_of-kernel-2 : goal.invariant_of-kernel-2
+invariant_of-kernel-2 c = λ task behind.
+    blank_on_the_way c.args.app.now c.well_formed-3.ensures c.args.limits.now c.as_slice.result.now c.go_to_step.new.kernel
+    c.go_to_step.ensures.way task (subst (λ (ts : List Definition). length ts ≤ task) c.tasks.ensures behind)

@@ -4,9 +4,9 @@ use Rattle.machine.proofs.Fronts.{front_is}
 use Rattle.machine.proofs.front.front_of.Goals as goal
 
 pub returns-clause-front : goal.returns-clause-front
-returns-clause-front c =
+returns-clause-front c = λ behind.
     let none = c.in_ok-reserve_exact.ensures.items ∙ c.new-front.ensures.items in
     front_is c.tasks_of-tasks.result c.args.progress.now c.extend_from_slice.new.self.items c.told-progress
-    c.tasks_of-tasks.ensures.few c.tasks_of-tasks.ensures.blank
+    c.tasks_of-tasks.ensures.few (c.tasks_of-tasks.ensures.blank behind)
     (c.in_ok-extend_from_slice.ensures.items
     ∙ ap (λ (before : List Progress). before ++ take c.tasks_of-tasks.result c.args.progress.now) none)

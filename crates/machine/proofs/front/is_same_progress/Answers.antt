@@ -1,8 +1,7 @@
-use Rattle.std.proofs.Common.{arith}
-use Rattle.machine.proofs.Fronts.{is_whole}
+use Rattle.machine.proofs.Fronts.{is_same}
 use Rattle.machine.proofs.front.is_same_progress.Goals as goal
 
-pub returns : goal.returns
-returns c = λ told.
-    is_whole c.args.other.now c.requires c.args.progress.now c.told-progress
-    (λ task low. c.loop-task-2.invariant task (omega (arith, low)))
+pub returns-then-are_same : goal.returns-then-are_same
+returns-then-are_same c = λ told blank.
+    is_same c.args.other.now c.requires c.args.progress.now c.args.tasks c.told-progress
+    (c.are_same.ensures c.if-are_same.true) (c.are_blank.ensures told) blank
