@@ -7,6 +7,8 @@ use byte_io::{ReadFault, Source, WriteFault, read_all};
 use model::{App, Memory};
 use script::{Fault, FromDocument, LoadError};
 use std::alloc::Global;
+use std::mem::forget;
+use toml::Table;
 
 /// Why what is asked for of a file was not written, or not as a whole.
 #[derive(Clone, Copy)]
@@ -69,6 +71,17 @@ impl From<LoadError> for ServeFault {
     }
 }
 
+// Of a file of so many bytes at most the document stays in memory to the end of the program.
+const FEW: usize = 65_536;
+
+// Lets go of the document of a file of so many bytes. One of few bytes stays in memory: it takes 10 MB at most, mostly far less, and to
+// give back a thousand of its tables takes as long as ten thousand steps.
+fn let_go(document: Table, bytes: usize) {
+    if bytes <= FEW {
+        forget(document);
+    }
+}
+
 /// The application of a file of these bytes.
 pub fn app_in(alloc: Global, bytes: &[u8]) -> Result<App, ServeFault>
     ensures app { MatchResult result (IsFileOf bytes.now) (HasFileFault bytes.now) }
@@ -80,7 +93,9 @@ pub fn app_in(alloc: Global, bytes: &[u8]) -> Result<App, ServeFault>
         Err(error) if error.is_memory() => return Err(ServeFault::Memory),
         Err(_) => return Err(ServeFault::NotToml),
     };
-    Ok(App::from_document(alloc, &document)?)
+    let app = App::from_document(alloc, &document);
+    let_go(document, bytes.len());
+    Ok(app?)
 }
 
 /// The application of the file that the reader gives.

@@ -10,10 +10,10 @@ returns-in-Err-clause-app c =
     let memory : IsMemory c.in-Err.error = search rules in
     blank_or_some c.args.bytes.now (c.in-Err.ensures.memory memory)
 
-pub returns-in_err-from_document-clause-app : goal.returns-in_err-from_document-clause-app
-returns-in_err-from_document-clause-app c =
-    let told : c.from_residual.result ≡ Err (of_loading c.in_err-from_document.field-0.0) = search rules in
+pub returns-in_err-app-clause-app : goal.returns-in_err-app-clause-app
+returns-in_err-app-clause-app c =
+    let told : c.from_residual.result ≡ Err (of_loading c.in_err-app.field-0.0) = search rules in
     let is : IsDocument c.args.bytes.now (table_view c.in-Ok.document) =
     record { utf8 = c.in-Ok.ensures.ok.0; parsed = c.in-Ok.ensures.ok.1 } in
     rw told (loading_failed c.args.bytes.now (table_view c.in-Ok.document)
-    c.in_err-from_document.field-0.0 is c.in_err-from_document.ensures)
+    c.in_err-app.field-0.0 is c.in_err-app.ensures)
