@@ -1,7 +1,7 @@
 //! Tasks that wait for bits.
 ghost use Rattle.std.specs.Prelude.{◌<◌};
 
-use groups::Groups;
+use groups::{Groups, Met};
 use model::{Condition, GroupId, TaskId};
 use std::process::Abort;
 
@@ -23,7 +23,8 @@ fn wait(rt: &impl Abort, groups: &mut Groups, number: u8, condition: Condition)
 
 /// Sets bits, and compares the tasks that are met, by which bits, and which are left.
 fn set(rt: &impl Abort, groups: &mut Groups, mask: u32, tasks: &[TaskId], by: u32, left: u32) {
-    let met = groups.set(GROUP, mask);
+    let mut met = Met::none();
+    groups.set(GROUP, mask, &mut met);
     assert!(rt; met.tasks.as_slice() == tasks, "{tasks:?} are met");
     assert!(rt; met.bits == by, "met by {by}");
     assert!(rt; met.left == left, "{left} is left");

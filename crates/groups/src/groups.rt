@@ -222,29 +222,28 @@ impl Groups {
 
     /// Sets the mask's bits of a group (`xEventGroupSetBits`). The tasks that the bits then meet wait no more; once all
     /// are tested, the bits that these asked to clear are cleared.
-    pub fn set(&mut self, group: GroupId, mask: u32) -> Met
+    pub fn set(&mut self, group: GroupId, mask: u32, met: &mut Met)
         ensures set { self.new ≡ after_set group mask self.old }
-        ensures bits { result.bits ≡ bit_or (bits_in self.old group) mask }
-        ensures tasks { result.tasks.items
-            ≡ met_of self.old.wants result.bits (waiting_in self.old group) }
-        ensures left { result.left ≡ left_by self.old.wants result.bits result.tasks.items }
+        ensures bits { met.new.bits ≡ bit_or (bits_in self.old group) mask }
+        ensures tasks { met.new.tasks.items
+            ≡ met_of self.old.wants met.new.bits (waiting_in self.old group) }
+        ensures left { met.new.left ≡ left_by self.old.wants met.new.bits met.new.tasks.items }
         // In the definitions these are met, by these bits, and this is left.
         ensures met { (s : State) → StandsFor self.old s
-            → result.tasks.items ≡ definitions.met_by group (definitions.bits_set group mask s) s }
+            → met.new.tasks.items ≡ definitions.met_by group (definitions.bits_set group mask s) s }
         ensures with_bits { (s : State) → StandsFor self.old s
-            → result.bits ≡ definitions.bits_set group mask s }
+            → met.new.bits ≡ definitions.bits_set group mask s }
         ensures after { (s : State) → StandsFor self.old s
             → let bits = definitions.bits_set group mask s in
-            result.left ≡ definitions.left_by (definitions.met_by group bits s) bits s }
+            met.new.left ≡ definitions.left_by (definitions.met_by group bits s) bits s }
         ensures stands { (s : State) → StandsFor self.old s
             → StandsFor self.new (definitions.set group mask s) }
         ensures kept { (s : State) → StandsFor self.old s
-            → result.left ≡ bits_at (definitions.set group mask s) group }
+            → met.new.left ≡ bits_at (definitions.set group mask s) group }
     {
         let bits = self.bits(group) | mask;
-        let met = take_met(&mut self.lists, list_id(group), &self.wants, bits);
+        take_met(&mut self.lists, list_id(group), &self.wants, bits, met);
         self.bits[group.number as usize] = met.left;
-        met
     }
 
     /// Takes a task out of the list of those who wait for bits, if it is in one: it has timed out, or is suspended.

@@ -1,5 +1,5 @@
 //! The tasks that a group's bits meet.
-ghost use Rattle.std.specs.Prelude.{◌≡◌, ◌<◌, length, slice_set};
+ghost use Rattle.std.specs.Prelude.{◌≡◌, ◌<◌, [], length, slice_set};
 ghost use Rattle.lists.specs.Lists.{entries_of, IsSound};
 ghost use Rattle.model.specs.State.{State};
 ghost use Rattle.model.specs.Groups.{wake_all};
@@ -23,33 +23,46 @@ pub struct Met {
     pub left: u32,
 }
 
-/// Takes the tasks out of a list that these bits meet. Each is tested against all of the bits, whatever one before it
-/// clears.
+impl Met {
+    /// No tasks, no bits.
+    pub fn none() -> Met
+        ensures tasks { result.tasks.items ≡ [] }
+        ensures bits { result.bits ≡ 0 }
+        ensures left { result.left ≡ 0 }
+    {
+        Met {
+            tasks: ArrayVec::new(),
+            bits: 0,
+            left: 0,
+        }
+    }
+}
+
+/// Takes the tasks out of a list that these bits meet, and reports them in `met`, whatever that has. Each is tested against all of the
+/// bits, whatever one before it clears.
 pub(crate) fn take_met(
     lists: &mut TaskLists<16, 48>,
     list: ListId,
     wants: &[Condition; 32],
     bits: u32,
-) -> Met
+    met: &mut Met,
+)
     requires list { list.number < 16 }
     requires sound { IsSound 16 32 lists.old }
-    ensures tasks { result.tasks.items ≡ met_of wants.now bits (entries_of lists.old list.number) }
-    ensures bits { result.bits ≡ bits }
-    ensures left { result.left ≡ left_by wants.now bits result.tasks.items }
+    ensures tasks { met.new.tasks.items ≡ met_of wants.now bits (entries_of lists.old list.number) }
+    ensures bits { met.new.bits ≡ bits }
+    ensures left { met.new.left ≡ left_by wants.now bits met.new.tasks.items }
     ensures unmet { lists.new ≡ slice_set lists.old list.number
         (unmet_of wants.now bits (entries_of lists.old list.number)) }
     // In the definitions they are woken with the bits, one after another.
     ensures woken { (v : EventGroups) (s : State) → v.waiting ≡ lists.old → StandsFor v s
         → StandsFor (record v { waiting = lists.new })
-        (wake_all result.tasks.items bits s) }
+        (wake_all met.new.tasks.items bits s) }
     ensures sound { IsSound 16 32 lists.new }
 {
-    // It is filled in place, since a copy by words waits for what was just written by bytes.
-    let mut met = Met {
-        tasks: ArrayVec::new(),
-        bits,
-        left: bits,
-    };
+    met.tasks.clear();
+    met.bits = bits;
+    met.left = bits;
     let mut at = lists.first(list);
     while let Some(task) = at {
         at = lists.next_in_list(task);
@@ -60,5 +73,4 @@ pub(crate) fn take_met(
             met.left = bits_left(met.left, condition);
         }
     }
-    met
 }

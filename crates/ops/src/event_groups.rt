@@ -121,7 +121,8 @@ pub fn begin_set(machine: &mut Machine, task: TaskId, group: GroupId, mask: u32)
     ensures reached { (progress_in machine.new.progress task).call.phase ≡ phase.Leave }
 {
     machine.sched.hold();
-    let met = machine.groups.set(group, mask);
+    let mut met = Met::none();
+    machine.groups.set(group, mask, &mut met);
     wake_met(machine, &met);
     machine.keep_answer(task, met.left);
     machine.set_phase(task, Phase::Leave);

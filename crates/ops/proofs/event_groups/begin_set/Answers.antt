@@ -25,7 +25,7 @@ wake_met-requires c =
     held_then k s.log s (record { stands = h; log = refl }) c.requires.depth
     c.hold.new.self (λ free. c.hold.ensures.stands s h.sched free) in
     record {
-      free = subst (AreToWake c.hold.new.self) (sym (c.set-met.ensures.met held there.stands.rest.groups))
+      free = subst (AreToWake c.hold.new.self) (sym (c.set.ensures.met held there.stands.rest.groups))
           (met_wake (record k { sched = c.hold.new.self }) held there.stands c.args.group (bits_set c.args.group c.args.mask held));
     }
 
@@ -39,22 +39,22 @@ returns-clause-does c = λ log s h.
     let held : State = record s { call_hold = true } in
     let k1 : Machine = record k { sched = c.hold.new.self } in
     let h1 = held_then k log s h c.requires.depth c.hold.new.self (λ free. c.hold.ensures.stands s h.stands.sched free) in
-    let is : List ℕ = c.set-met.result.tasks.items in
-    let bits : ℕ = c.set-met.result.bits in
-    let met = c.set-met.ensures.met held h1.stands.rest.groups in
-    let by = c.set-met.ensures.with_bits held h1.stands.rest.groups in
+    let is : List ℕ = c.set.new.met.tasks.items in
+    let bits : ℕ = c.set.new.met.bits in
+    let met = c.set.ensures.met held h1.stands.rest.groups in
+    let by = c.set.ensures.with_bits held h1.stands.rest.groups in
     let there = kept_there k1 log held h1 group mask is bits met by in
     let on = c.wake_met.ensures.ready _ (sched_kept k1 log held h1 group mask is bits met by) there in
     let awake = c.wake_met.ensures.woken _ (clock_kept k1 log held h1 group mask is bits met by) there in
     let then : At c.wake_met.new.machine log (definitions.set group mask held) =
     subst (λ (x : Machine). At x log (definitions.set group mask held)) (sym c.wake_met.ensures.kept)
     (set_at k1 log held h1 group mask is bits met by c.wake_met.new.machine.sched c.wake_met.new.machine.clock
-    c.set-met.new.self on awake (c.set-met.ensures.stands held h1.stands.rest.groups)) in
+    c.set.new.self on awake (c.set.ensures.stands held h1.stands.rest.groups)) in
     let runs =
     then.stands.sched.current ∙ (stays-set group mask held).current ∙ sym h.stands.sched.current ∙ c.requires.runs.current in
     let answered =
     left_at c.wake_met.new.machine c.keep_answer.new.self log _
-    then i runs c.set-met.result.left _ (c.set-met.ensures.kept held h1.stands.rest.groups) c.keep_answer.ensures in
+    then i runs c.set.new.met.left _ (c.set.ensures.kept held h1.stands.rest.groups) c.keep_answer.ensures in
     gone_on c.keep_answer.new.self c.set_phase.new.self log _ answered i
     (ap (λ (x : Machine). x.sched.current) c.keep_answer.ensures ∙ runs) Leave c.set_phase.ensures (λ e. absurd (cc))
 
@@ -73,7 +73,7 @@ returns-clause-remains c =
           ∙ ap (λ (x : Machine). (progress_in x.progress i).op_index) c.keep_answer.ensures
           ∙ placed_in _ c.wake_met.new.machine.progress i
           ∙ ap (λ (x : Machine). (progress_in x.progress i).op_index) c.wake_met.ensures.kept
-          ∙ kept_place c.set-met.result.bits c.set-met.result.tasks.items c.args.machine.now.progress i;
+          ∙ kept_place c.set.new.met.bits c.set.new.met.tasks.items c.args.machine.now.progress i;
       suspensions =
           ap (λ (x : Machine). x.sched.suspensions) c.set_phase.ensures
           ∙ ap (λ (x : Machine). x.sched.suspensions) c.keep_answer.ensures
@@ -91,7 +91,7 @@ returns-clause-reached c =
     ap (λ (x : Machine). length x.progress) c.keep_answer.ensures
     ∙ length-set c.wake_met.new.machine.progress i _
     ∙ ap (λ (x : Machine). length x.progress) c.wake_met.ensures.kept
-    ∙ kept_length c.set-met.result.bits c.set-met.result.tasks.items k.progress in
+    ∙ kept_length c.set.new.met.bits c.set.new.met.tasks.items k.progress in
     let there : i < length c.keep_answer.new.self.progress =
     (let n = h.rest.full in let few = h.sched.table.few in
     let m = within k s.log s (record { stands = h; log = refl }) i c.requires.runs.current in omega arith) in

@@ -20,7 +20,7 @@ returns-clause-met c = λ s h.
     let lists : entries_of c.self.inside.lists c.list_id.result.number ≡ waiting_in v g =
     ap (λ (w : EventGroups). entries_of w.waiting c.list_id.result.number) c.self.view_is
     ∙ ap (waiting_in v) c.list_id.ensures.number in
-    c.take_met-met.ensures.tasks
+    c.take_met.ensures.tasks
     ∙ ap (λ (ws : List Condition).
     met_of ws (bit_or c.bits.result c.args.mask) (entries_of c.self.inside.lists c.list_id.result.number))
     wants
@@ -36,9 +36,9 @@ returns-clause-after c = λ s h.
     ap (λ (b : ℕ). bit_or b c.args.mask) c.bits.ensures.bits ∙ set_is v s h g c.args.mask in
     let wants : c.self.inside.wants ≡ v.wants = ap (λ (w : EventGroups). w.wants) c.self.view_is in
     let met = returns-clause-met c s h ∙ sym (met_is v s h g (bits_set g c.args.mask s)) in
-    c.take_met-met.ensures.left
-    ∙ ap (λ (ws : List Condition). left_by ws (bit_or c.bits.result c.args.mask) c.take_met-met.result.tasks.items) wants
-    ∙ ap (λ (b : ℕ). left_by v.wants b c.take_met-met.result.tasks.items) bits
+    c.take_met.ensures.left
+    ∙ ap (λ (ws : List Condition). left_by ws (bit_or c.bits.result c.args.mask) c.take_met.new.met.tasks.items) wants
+    ∙ ap (λ (b : ℕ). left_by v.wants b c.take_met.new.met.tasks.items) bits
     ∙ ap (left_by v.wants (bits_set g c.args.mask s)) met
     ∙ left_is v s h g (bits_set g c.args.mask s)
 
@@ -50,23 +50,23 @@ returns-clause-stands c = λ s h.
     let g = c.args.group in
     let bits : bit_or c.bits.result c.args.mask ≡ bits_set g c.args.mask s =
     ap (λ (b : ℕ). bit_or b c.args.mask) c.bits.ensures.bits ∙ set_is c.args.self.now s h g c.args.mask in
-    let new = c.take_met-met.new.lists in
-    let woken = c.take_met-met.ensures.woken w s refl h' in
+    let new = c.take_met.new.lists in
+    let woken = c.take_met.ensures.woken w s refl h' in
     let told = c.self.told in
     let known : c.group.inside.number < 16 = c.group.invariant in
     let there : g < length q.bits = subst (λ (k : ℕ). k < length q.bits) c.group.view_is (omega (arith, told, known)) in
     subst (λ (k : ℕ).
-    StandsFor (record { bits = set q.bits k c.take_met-met.result.left; waiting = new; wants = q.wants })
+    StandsFor (record { bits = set q.bits k c.take_met.new.met.left; waiting = new; wants = q.wants })
     (definitions.set g c.args.mask s))
     (sym c.group.view_is)
-    (stands_set w s g c.args.mask (bit_or c.bits.result c.args.mask) c.take_met-met.result.left
-    c.take_met-met.result.tasks.items new there bits (returns-clause-met c s h) (returns-clause-after c s h) woken)
+    (stands_set w s g c.args.mask (bit_or c.bits.result c.args.mask) c.take_met.new.met.left
+    c.take_met.new.met.tasks.items new there bits (returns-clause-met c s h) (returns-clause-after c s h) woken)
 
 pub returns-clause-kept : goal.returns-clause-kept
 returns-clause-kept c = λ s h.
     let bits : List ℕ = c.self.inside.bits in
     let n = c.group.inside.number in
-    let left = c.take_met-met.result.left in
+    let left = c.take_met.new.met.left in
     let told = c.self.told in
     let known : n < 16 = c.group.invariant in
     let stands = returns-clause-stands c s h in
