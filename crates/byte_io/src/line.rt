@@ -120,6 +120,8 @@ fn add_line<W: Sink>(
 
 /// Writes a line: its pieces, with a single space between each two, and a line feed. At `Err` the writer failed or took
 /// none of some bytes, and it has taken a beginning of the line.
+// It has a page on the stack, and few jobs end by such a line.
+#[inline(never)]
 pub fn write_line<W: Sink>(writer: &mut W, pieces: &[Piece<'_>]) -> Result<(), WriteFault>
     requires { W.has_failed writer.old ≡ false }
     ensures text { Writes (W.held writer.old) (W.held writer.new) result

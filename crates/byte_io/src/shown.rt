@@ -76,6 +76,8 @@ pub(crate) fn add_shown<W: Sink>(
 
 /// Puts a text of lines as it is shown: its control characters are escaped, except for the line feeds. At `Err` the writer failed
 /// or took none of some bytes, and it has taken a beginning of that.
+// It has a page on the stack, and few jobs put such a text.
+#[inline(never)]
 pub fn put_lines<W: Sink>(writer: &mut W, text: &str) -> Result<(), WriteFault>
     requires { W.has_failed writer.old ≡ false }
     ensures text { Writes (W.held writer.old) (W.held writer.new) result (shown_lines text.now) }
