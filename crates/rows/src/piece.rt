@@ -19,13 +19,23 @@ pub(crate) struct Piece {
     pub(crate) count: usize,
 }
 
-// A guess at how many bytes the text of the first row of a place takes: 32 for each line, and as many lines a step as the base run has.
+// How long a head line is taken to be, in bytes.
+const HEAD: usize = 64;
+
+// A guess at how many bytes the view shows of the first row of a place: 32 for each line, and as many lines a step as the base run has. It is
+// at least 1.
 fn guess(rows: &Rows, place: &Place) -> usize
     requires place { IsPlace rows.now.parts.items place.now }
     requires some { 0 < place.now.count }
     ensures { 0 < result }
 {
     let row = rows.parts[place.part].kept.at(place.first);
+    if !rows.view.shows(row.end) {
+        return 1;
+    }
+    if rows.view.heads {
+        return HEAD;
+    }
     let base = &rows.base;
     let steps = (base.steps as usize).max(1);
     let lines = base.events.len().saturating_mul(row.steps as usize) / steps;
