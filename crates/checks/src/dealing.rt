@@ -63,7 +63,7 @@ fn ones(alloc: Global, blocks: usize) -> Result<Division, Fail> {
 #[test]
 fn a_lane_steals(rt: HostRuntime) -> Result<(), Fail> {
     let division = ones(rt.alloc(), 3)?;
-    let (deal, mut lanes) = Deal::new(rt.alloc(), division, 2)?;
+    let (deal, mut lanes) = Deal::new(rt.alloc(), division, 2, true)?;
     for number in [0, 2, 1] {
         is_answered(&rt, &mut lanes, 0, block(number));
     }
@@ -79,7 +79,7 @@ fn a_lane_steals(rt: HostRuntime) -> Result<(), Fail> {
 #[test]
 fn other_lanes_are_tried_upwards_and_round(rt: HostRuntime) -> Result<(), Fail> {
     let division = ones(rt.alloc(), 3)?;
-    let (_deal, mut lanes) = Deal::new(rt.alloc(), division, 3)?;
+    let (_deal, mut lanes) = Deal::new(rt.alloc(), division, 3, true)?;
     for number in [1, 2, 0] {
         is_answered(&rt, &mut lanes, 1, block(number));
     }
@@ -89,12 +89,24 @@ fn other_lanes_are_tried_upwards_and_round(rt: HostRuntime) -> Result<(), Fail> 
 #[test]
 fn what_a_missing_lane_took_is_in_the_rest(rt: HostRuntime) -> Result<(), Fail> {
     let division = ones(rt.alloc(), 4)?;
-    let (deal, mut lanes) = Deal::new(rt.alloc(), division, 2)?;
+    let (deal, mut lanes) = Deal::new(rt.alloc(), division, 2, true)?;
     is_answered(&rt, &mut lanes, 0, block(0));
     is_answered(&rt, &mut lanes, 1, block(1));
     lose_last(&mut lanes);
     let closed = deal.close(lanes);
     has_list(&rt, &closed, 0, &[0]);
     has_rest(&rt, &closed, 1, &[1, 2, 3]);
+    Ok(())
+}
+
+#[test]
+fn the_last_block_is_dealt_first(rt: HostRuntime) -> Result<(), Fail> {
+    let division = ones(rt.alloc(), 5)?;
+    let (_deal, mut lanes) = Deal::new(rt.alloc(), division, 2, false)?;
+    is_answered(&rt, &mut lanes, 1, block(3));
+    for number in [4, 2, 0, 1] {
+        is_answered(&rt, &mut lanes, 0, block(number));
+    }
+    is_answered(&rt, &mut lanes, 1, Next::Empty);
     Ok(())
 }

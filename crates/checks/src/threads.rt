@@ -47,7 +47,7 @@ fn share<R: Threads + Wait + Sync>(
     requires { (0 < workers) × (workers ≤ 64) }
 {
     let division = Division::even(alloc, blocks, 1)?;
-    let (deal, lanes) = Deal::new(alloc, division, workers)?;
+    let (deal, lanes) = Deal::new(alloc, division, workers, true)?;
     let lanes = run_all(rt, lanes)?;
     Ok(deal.close(lanes))
 }

@@ -1,13 +1,13 @@
 -- The deques as they are dealt, and as the lanes get their ways to the others'.
 use Rattle.std.proofs.Common.{◌≡◌, ◌≢◌, ◌≤◌, ◌<◌, ◌%◌, ℕ, zero, suc, ◌+◌, ◌-◌, List, [], ◌∷◌, ◌++◌, length, set, refl, sym, ap, ◌∙◌}
-use Rattle.std.proofs.Common.{arith, subst, ⊎_elim, add-one, Bool, true, false, if◌then◌else◌, append-nil, ◌==◌}
+use Rattle.std.proofs.Common.{append_assoc, arith, subst, ⊎_elim, Bool, true, false, if◌then◌else◌, append-nil, ◌==◌}
 use Rattle.std.proofs.lemmas.Bool.Decides.{nat_tests}
 use mathlib.Core.Option.{some, some-ne-none}
 use lib.ListN.{get_elem?}
 use Rattle.atomic_table.specs.Seated.{TableId}
 use Rattle.atomic_table.proofs.Lists.{at_set, at_snoc}
 use Rattle.crossbeam_deque.specs.Handles.{SameWorker, worker_flavor, worker_view}
-use Rattle.deal.specs.Totals.{total, range}
+use Rattle.deal.specs.Totals.{total, range, falling, in_turn}
 use Rattle.std.specs.List.{AllByRecursion}
 use Rattle.deal.specs.Logs.{whose, log, first_log}
 use Rattle.deal.specs.Logs.{HasTicketsOf}
@@ -38,20 +38,37 @@ at_each_change {V} P Q vs i w mine others all k v e =
     ⊎_elim (λ (t : (k ≡ i) × (w ≡ v)). subst (λ j. Q j v) (sym t.0) (subst (Q i) t.1 mine))
     (λ (t : (k ≢ i) × (get_elem? vs k ≡ some v)). others k v t.0 (all k v t.1)) (at_set vs i k w v e)
 
-dealt_step : (workers k n : ℕ) → dealt_to workers k (n + 1) ≡ dealt_to workers k n ++ (if n % workers == k then n ∷ [] else [])
-dealt_step workers k n = ap (dealt_to workers k) (add-one n)
-
-pub dealt_here : (workers n : ℕ) → dealt_to workers (n % workers) (n + 1) ≡ dealt_to workers (n % workers) n ++ n ∷ []
-dealt_here workers n =
+pub dealt_here : (workers n : ℕ) (ns : List ℕ) → dealt_to workers (n % workers) (n ∷ ns) ≡ n ∷ dealt_to workers (n % workers) ns
+dealt_here workers n ns =
     let yes : (n % workers == n % workers) ≡ true = grind (arith, nat_tests) in
-    dealt_step workers (n % workers) n ∙ ap (λ (b : Bool). dealt_to workers (n % workers) n ++ (if b then n ∷ [] else [])) yes
+    ap (λ (b : Bool). (if b then n ∷ [] else []) ++ dealt_to workers (n % workers) ns) yes
 
-pub dealt_elsewhere : (workers k n : ℕ) → k ≢ n % workers → dealt_to workers k (n + 1) ≡ dealt_to workers k n
-dealt_elsewhere workers k n apart =
+pub dealt_elsewhere : (workers k n : ℕ) (ns : List ℕ) → k ≢ n % workers → dealt_to workers k (n ∷ ns) ≡ dealt_to workers k ns
+dealt_elsewhere workers k n ns apart =
     let no : (n % workers == k) ≡ false = grind (arith, nat_tests, apart) in
-    dealt_step workers k n ∙ ap (λ (b : Bool). dealt_to workers k n ++ (if b then n ∷ [] else [])) no ∙ append-nil _
+    ap (λ (b : Bool). (if b then n ∷ [] else []) ++ dealt_to workers k ns) no
 
--- the blocks that are still to be dealt
+-- the blocks that are still to be dealt at this turn, of n
+abbrev pub left_at : Bool → ℕ → ℕ → List ℕ
+left_at true n turn = range turn (n - turn)
+left_at false n turn = falling (n - turn)
+
+pub left_first : (rising : Bool) (n : ℕ) → left_at rising n 0 ≡ in_turn rising n
+left_first true n =
+    let all : n - 0 ≡ n = omega arith in
+    ap (range 0) all
+left_first false n =
+    let all : n - 0 ≡ n = omega arith in
+    ap falling all
+
+pub left_last : (rising : Bool) (n : ℕ) → left_at rising n n ≡ []
+left_last true n =
+    let none : n - n ≡ 0 = omega arith in
+    ap (range n) none
+left_last false n =
+    let none : n - n ≡ 0 = omega arith in
+    ap falling none
+
 pub range_next : (i n : ℕ) → i < n → range i (n - i) ≡ i ∷ range (i + 1) (n - (i + 1))
 range_next i n short = ap (range i) (count short)
   where
@@ -59,32 +76,44 @@ range_next i n short = ap (range i) (count short)
     count short = omega (arith, short)
 
 -- one more block is dealt
-pub deals_more : (z : TableId) (workers n : ℕ) (hands : List Hand) (hand new : Hand)
-    → get_elem? hands (n % workers) ≡ some hand → AreDealt z workers n hands
+pub deals_more : (z : TableId) (workers : ℕ) (all : List ℕ) (n : ℕ) (left : List ℕ) (hands : List Hand) (hand new : Hand)
+    → get_elem? hands (n % workers) ≡ some hand → AreDealt z workers all (n ∷ left) hands
     → SameWorker hand.own new.own
     → worker_view new.own ≡ log 8192 ((worker_view hand.own).dealt ++ n ∷ []) (worker_view hand.own).got z
     → new.others.items ≡ hand.others.items
-    → AreDealt z workers (n + 1) (set hands (n % workers) new)
-deals_more z workers n hands hand new at h same is others =
-    let mine = h (n % workers) hand at in
-    at_each_change (IsDealtHand z workers n) (IsDealtHand z workers (n + 1)) hands (n % workers) new (
+    → AreDealt z workers all left (set hands (n % workers) new)
+deals_more z workers all n left hands hand new at h same is others =
+    let lane = n % workers in
+    let mine = h lane hand at in
+    let dealt = (worker_view hand.own).dealt in
+    at_each_change (IsDealtHand z workers all (n ∷ left)) (IsDealtHand z workers all left) hands lane new (
       same.1 ∙ mine.0,
       ap (λ (v : Log). v.parts) is,
-      ap (λ (v : Log). v.dealt) is ∙ ap (λ l. l ++ n ∷ []) mine.2 ∙ sym (dealt_here workers n),
+      ap (λ (v : Log). v.dealt ++ dealt_to workers lane left) is
+          ∙ append_assoc dealt (n ∷ []) (dealt_to workers lane left)
+          ∙ ap (λ l. dealt ++ l) (sym (dealt_here workers n left)) ∙ mine.2,
       ap (λ (v : Log). v.got) is ∙ mine.3,
       (λ _. ap whose is),
       others ∙ mine.5,
     )
-    (λ k v apart t. (t.0, t.1, t.2 ∙ sym (dealt_elsewhere workers k n apart), t.3, t.4, t.5))
+    (λ k v apart t. (
+      t.0,
+      t.1,
+      ap (λ l. (worker_view v.own).dealt ++ l) (sym (dealt_elsewhere workers k n left apart)) ∙ t.2,
+      t.3,
+      t.4,
+      t.5,
+    ))
     h
 
 -- when all are dealt, no pass is cut off yet
-pub dealt_hands : (z : TableId) (workers n : ℕ) (hands : List Hand) → AreDealt z workers n hands → AreHands z workers n 0 hands
+pub dealt_hands : (z : TableId) (workers : ℕ) (n : List ℕ) (hands : List Hand)
+    → AreDealt z workers n [] hands → AreHands z workers n 0 hands
 dealt_hands z workers n hands h k hand e =
     let t = h k hand e in (
       t.0,
       omega (arith, t.1),
-      t.2,
+      sym (append-nil _) ∙ t.2,
       t.3,
       t.4,
       subst (AllByRecursion (HasTicketsOf z)) (sym t.5) tt,
@@ -92,14 +121,14 @@ dealt_hands z workers n hands h k hand e =
       λ _. (t.1, t.5),
     )
 
-pub hands_more : (z : TableId) (workers n cut cut' : ℕ) (hands : List Hand)
+pub hands_more : (z : TableId) (workers : ℕ) (n : List ℕ) (cut cut' : ℕ) (hands : List Hand)
     → cut ≤ cut' → AreHands z workers n cut hands → AreHands z workers n cut' hands
 hands_more z workers n cut cut' hands more h k hand e =
     let t = h k hand e in
     (t.0, omega (arith, t.1, more), t.2, t.3, t.4, t.5, t.6, t.7)
 
 -- a pass is cut off
-pub cuts_more : (z : TableId) (workers n cut j : ℕ) (hands : List Hand) (hand new : Hand) (way : Log)
+pub cuts_more : (z : TableId) (workers : ℕ) (n : List ℕ) (cut j : ℕ) (hands : List Hand) (hand new : Hand) (way : Log)
     → get_elem? hands j ≡ some hand → 1 < workers → cut < 8192 → AreHands z workers n cut hands
     → SameWorker hand.own new.own → Reached (worker_view hand.own) (worker_view new.own) way → new.others.items ≡ hand.others.items
     → AreHands z workers n (cut + 1) (set hands j new) × HasTicketsOf z way × ((h : ℕ → ℕ) → total h way.got ≡ 0)
@@ -121,7 +150,7 @@ cuts_more z workers n cut j hands hand new way at several few h same is others =
     )
 
 -- a lane keeps the way that was cut off for it
-pub keeps_way : (z : TableId) (workers n cut j : ℕ) (hands : List Hand) (hand new : Hand) (way : Log)
+pub keeps_way : (z : TableId) (workers : ℕ) (n : List ℕ) (cut j : ℕ) (hands : List Hand) (hand new : Hand) (way : Log)
     → get_elem? hands j ≡ some hand → 1 < workers → AreHands z workers n cut hands
     → HasTicketsOf z way → ((h : ℕ → ℕ) → total h way.got ≡ 0)
     → new.own ≡ hand.own → new.others.items ≡ hand.others.items ++ way ∷ []
@@ -148,7 +177,8 @@ keeps_way z workers n cut j hands hand new way at several h tickets none own oth
     h
 
 -- a way to one lane's deque goes to another lane
-pub gives_more : (z : TableId) (workers n cut j lane : ℕ) (hands : List Hand) (hand new hand' new' : Hand) (way : Log)
+pub gives_more : (z : TableId) (workers : ℕ) (n : List ℕ) (cut j lane : ℕ) (hands : List Hand) (hand new hand' new' : Hand)
+    (way : Log)
     → get_elem? hands j ≡ some hand → get_elem? (set hands j new) lane ≡ some hand' → 1 < workers → cut < 8192
     → SameWorker hand.own new.own → Reached (worker_view hand.own) (worker_view new.own) way → new.others.items ≡ hand.others.items
     → new'.own ≡ hand'.own → new'.others.items ≡ hand'.others.items ++ way ∷ []
@@ -158,15 +188,15 @@ gives_more z workers n cut j lane hands hand new hand' new' way at at' several f
     keeps_way z workers n (cut + 1) lane (set hands j new) hand' new' way at' several first.0 first.1 first.2 own more
 
 -- one more empty deque
-pub empty_more : (z : TableId) (workers : ℕ) (hands : List Hand) (new : Hand)
+pub empty_more : (z : TableId) (workers : ℕ) (n : List ℕ) (hands : List Hand) (new : Hand)
     → worker_flavor new.own ≡ 0 → worker_view new.own ≡ first_log → new.others.items ≡ []
-    → AreDealt z workers 0 hands → AreDealt z workers 0 (hands ++ new ∷ [])
-empty_more z workers hands new fifo is none h k v e =
+    → AreDealt z workers n n hands → AreDealt z workers n n (hands ++ new ∷ [])
+empty_more z workers n hands new fifo is none h k v e =
     ⊎_elim (λ (old : get_elem? hands k ≡ some v). h k v old)
-    (λ (same : new ≡ v). subst (IsDealtHand z workers 0 k) same (
+    (λ (same : new ≡ v). subst (IsDealtHand z workers n n k) same (
       fifo,
       ap (λ (u : Log). u.parts) is,
-      ap (λ (u : Log). u.dealt) is,
+      ap (λ (u : Log). u.dealt ++ dealt_to workers k n) is,
       ap (λ (u : Log). u.got) is,
       (λ some_dealt. absurd (omega (arith, some_dealt, ap (λ (u : Log). length u.dealt) is))),
       none,
@@ -183,11 +213,11 @@ at_front (x ∷ xs) ys zero v e = e
 at_front (x ∷ xs) ys (suc k) v e = at_front xs ys k v e
 
 -- the last hand, and those before it
-pub last_hand : (z : TableId) (workers n cut k : ℕ) (hands : List Hand) (hand : Hand)
+pub last_hand : (z : TableId) (workers : ℕ) (n : List ℕ) (cut k : ℕ) (hands : List Hand) (hand : Hand)
     → k ≡ length hands → AreHands z workers n cut (hands ++ hand ∷ []) → IsHand z workers n cut k hand
 last_hand z workers n cut k hands hand is h =
     subst (λ j. IsHand z workers n cut j hand) (sym is) (h (length hands) hand (at_end hands hand))
 
-pub hands_before : (z : TableId) (workers n cut : ℕ) (hands : List Hand) (hand : Hand)
+pub hands_before : (z : TableId) (workers : ℕ) (n : List ℕ) (cut : ℕ) (hands : List Hand) (hand : Hand)
     → AreHands z workers n cut (hands ++ hand ∷ []) → AreHands z workers n cut hands
 hands_before z workers n cut hands hand h k v e = h k v (at_front hands (hand ∷ []) k v e)

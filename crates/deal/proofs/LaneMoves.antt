@@ -1,5 +1,5 @@
 -- What a lane knows after it took a block, and where it finds none.
-use Rattle.std.proofs.Common.{◌≡◌, ◌<◌, ◌%◌, ◌^◌, ℕ, zero, suc, ◌+◌, List, [], ◌∷◌, ◌++◌, length, length-append, refl, sym, ap, ◌∙◌}
+use Rattle.std.proofs.Common.{◌≡◌, ◌<◌, ◌%◌, ◌^◌, ℕ, ◌+◌, List, [], ◌∷◌, ◌++◌, length, length-append, refl, sym, ap, ◌∙◌}
 use Rattle.std.proofs.Common.{arith, subst, Option, None, Some, Bool, true, ◌==◌, if◌then◌else◌}
 use Rattle.std.proofs.lemmas.Bool.Decides.{nat_tests}
 use Rattle.std.proofs.lemmas.List.{length-set}
@@ -12,7 +12,7 @@ use Rattle.deal.specs.declared.count.Ticket.{Ticket}
 use Rattle.deal.specs.declared.hand.Hand.{Hand}
 use Rattle.deal.specs.declared.log.Log.{Log}
 use Rattle.crossbeam_deque.specs.Handles.{worker_view}
-use Rattle.deal.specs.Totals.{total, range}
+use Rattle.deal.specs.Totals.{total, in_turn}
 use Rattle.deal.specs.Marks.{mark, lane_mark, IsTicketOf, IsShareOf}
 use Rattle.deal.specs.Logs.{Taking, IsAllTaken}
 use Rattle.deal.specs.Reaches.{Stealing}
@@ -24,7 +24,7 @@ use Rattle.deal.specs.Sharing.{Sight, IsTheBlock, MatchNext, dealt_to}
 use Rattle.deal.specs.declared.next.Next.{Next}
 use Rattle.deal.specs.declared.next.Next.TheVariants.{Block, Again, Empty}
 use Rattle.deal.proofs.Members.{each_at, each_with}
-use Rattle.deal.proofs.Sums.{total_set, total_append, total_length, length_range}
+use Rattle.deal.proofs.Sums.{total_set, total_append, total_length, length_in_turn}
 
 -- the table of a ticket that was taken
 ticket_of : (z : TableId) (v : Log) (t : Ticket) (w : Log) → HasTicketsOf z v → Taking v (t ∷ []) w → IsTicketOf z t
@@ -78,7 +78,7 @@ alone size lengths share own others got z h lone all =
     let only = h.10 lone in
     let f : ℕ → ℕ = λ _. 1 in
     let taken = all.1 only.0 f in
-    let dealt : total f own.dealt ≡ total f (range 0 (length lengths)) = ap (total f) only.2 in
+    let dealt : total f own.dealt ≡ total f (in_turn size.rising (length lengths)) = ap (total f) only.2 in
     let none : total (λ (v : Log). total f v.got) others ≡ 0 = ap (λ (l : List Log). total (λ (v : Log). total f v.got) l) only.1 in
     let sums : total f got ≡ total f own.got + total (λ (v : Log). total f v.got) others = h.9 f in
     omega (
@@ -89,8 +89,8 @@ alone size lengths share own others got z h lone all =
       none,
       sums,
       total_length got,
-      total_length (range 0 (length lengths)),
-      length_range 0 (length lengths),
+      total_length (in_turn size.rising (length lengths)),
+      length_in_turn size.rising (length lengths),
     )
 
 -- a lane that took a block, and counted it
@@ -129,24 +129,20 @@ answers_block Again old new n is fresh more = absurd is
 answers_block Empty old new n is fresh more = absurd is
 
 -- a lane alone is dealt every block
-pub dealt_alone : (n : ℕ) → dealt_to 1 0 n ≡ range 0 n
-dealt_alone zero = refl
-dealt_alone (suc n) =
+pub dealt_alone : (ns : List ℕ) → dealt_to 1 0 ns ≡ ns
+dealt_alone [] = refl
+dealt_alone (n ∷ ns) =
     let none : (n % 1 == 0) ≡ true = grind (arith, nat_tests) in
-    ap (λ (b : Bool). dealt_to 1 0 n ++ (if b then n ∷ [] else [])) none
-    ∙ ap (λ l. l ++ n ∷ []) (dealt_alone n) ∙ sym (range_last 0 n n (omega arith))
-  where
-    range_last : (first m y : ℕ) → first + m ≡ y → range first (suc m) ≡ range first m ++ y ∷ []
-    range_last first zero y e = ap (λ k. k ∷ []) (omega (arith, e))
-    range_last first (suc m) y e = ap (λ l. first ∷ l) (range_last (first + 1) m y (omega (arith, e)))
+    ap (λ (b : Bool). (if b then n ∷ [] else []) ++ dealt_to 1 0 ns) none ∙ ap (λ l. n ∷ l) (dealt_alone ns)
 
 -- a new lane
 pub new_lane : (size : Size) (lengths : List ℕ) (share dealer : Seat (Unit {0}) Mark) (hand : Hand) (got : List ℕ) (z : TableId)
     → size.blocks ≡ length lengths → length lengths < 2 ^ 64 → got ≡ []
     → IsDealer size z dealer.me.0.parts dealer → IsShareOf z share → share.me.0 ≡ lane_mark dealer.me.0
-    → IsSomeHand z size.lanes lengths hand → IsLane size lengths share (worker_view hand.own) hand.others.items got z
+    → IsSomeHand z size lengths hand → IsLane size lengths share (worker_view hand.own) hand.others.items got z
 new_lane size lengths share dealer hand got z blocks fits none d of is some_hand =
     let h = some_hand.2 in
+    let all = in_turn size.rising (length lengths) in
     let dealt = d.1 in (
       of,
       blocks,
@@ -162,7 +158,6 @@ new_lane size lengths share dealer hand got z blocks fits none d of is some_hand
           let first : some_hand.0 ≡ 0 = omega (arith, some_hand.1, lone) in (
             (h.7 lone).0,
             (h.7 lone).1,
-            h.2 ∙ ap (λ w. dealt_to w some_hand.0 (length lengths)) lone
-                ∙ ap (λ k. dealt_to 1 k (length lengths)) first ∙ dealt_alone (length lengths),
+            h.2 ∙ ap (λ w. dealt_to w some_hand.0 all) lone ∙ ap (λ k. dealt_to 1 k all) first ∙ dealt_alone all,
           )),
     )

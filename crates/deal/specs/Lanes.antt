@@ -2,7 +2,7 @@
 use Rattle.std.specs.Prelude.{◌≡◌, ℕ, ◌+◌, ◌<◌, ◌≤◌, ◌^◌, List, [], ◌++◌, length}
 use Rattle.atomic_table.specs.Seated.{TableId}
 use Rattle.atomic_table.specs.declared.shared.Seat.{Seat}
-use Rattle.deal.specs.Totals.{total, range}
+use Rattle.deal.specs.Totals.{total, in_turn}
 use Rattle.std.specs.List.{AllByRecursion}
 use Rattle.deal.specs.Marks.{mark, IsAmong, IsTicketOf, IsShareOf}
 use Rattle.deal.specs.Logs.{HasTicketsOf}
@@ -31,8 +31,8 @@ Took z own others own' others' t =
     × (own'.parts ≡ own.parts) × (own'.dealt ≡ own.dealt) × (length others' ≡ length others)
     × MayTake z own' others'
 
-abbrev pub game : TableId → ℕ → List ℕ → Game
-game table lanes lengths = record { table = table; lanes = lanes; lengths = lengths }
+abbrev pub game : TableId → Size → List ℕ → Game
+game table size lengths = record { table = table; lanes = size.lanes; rising = size.rising; lengths = lengths }
 
 abbrev pub sight : Game → Mark → Log → List ℕ → Sight
 sight g m own got = record { game = g; dealt = own.dealt; answered = got; seen = m.seen }
@@ -47,7 +47,7 @@ IsLane size lengths share own others got z =
     × (share.me.0.counted ≡ length got) × (share.me.0.blocks ≡ got)
     × MayTake z own others
     × ((h : ℕ → ℕ) → total h got ≡ taken_by h own others)
-    × (size.lanes ≡ 1 → (own.parts ≡ 8192) × (others ≡ []) × (own.dealt ≡ range 0 (length lengths)))
+    × (size.lanes ≡ 1 → (own.parts ≡ 8192) × (others ≡ []) × (own.dealt ≡ in_turn size.rising (length lengths)))
 
 -- the seat of a deal: it knows how many blocks and lanes there are, and represents the lanes that are not made yet
 abbrev pub IsDealer : Size → TableId → ℕ → Seat (Unit {0}) Mark → Type 0
@@ -69,8 +69,9 @@ IsShared size lengths starts =
     (size.blocks ≡ length lengths) × (length lengths < 2 ^ 64) × (0 < size.lanes) × AreStarts lengths starts
 
 -- the hand is that of some lane
-abbrev pub IsSomeHand : TableId → ℕ → List ℕ → Hand → Type 0
-IsSomeHand z lanes lengths hand = (k : ℕ) × (k < lanes) × IsHand z lanes (length lengths) 4096 k hand
+abbrev pub IsSomeHand : TableId → Size → List ℕ → Hand → Type 0
+IsSomeHand z size lengths hand =
+    (k : ℕ) × (k < size.lanes) × IsHand z size.lanes (in_turn size.rising (length lengths)) 4096 k hand
 
 -- a lane that has not been called, and what was dealt to it
 abbrev pub opened : Game → List ℕ → Sight

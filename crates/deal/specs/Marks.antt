@@ -5,7 +5,7 @@ use lib.ListN.{get_elem?}
 use Rattle.atomic_table.specs.Table.{State, Step, Me}
 use Rattle.atomic_table.specs.Seated.{TableId}
 use Rattle.atomic_table.specs.declared.shared.Seat.{Seat}
-use Rattle.deal.specs.Totals.{total, range}
+use Rattle.deal.specs.Totals.{total, range, in_turn}
 use Rattle.deal.specs.declared.count.Mark.{Mark}
 use Rattle.deal.specs.declared.count.Size.{Size}
 use Rattle.deal.specs.declared.count.Ticket.{Ticket}
@@ -17,9 +17,9 @@ mark all lanes parts counted seen blocks =
 abbrev pub no_mark : Mark
 no_mark = mark 0 0 0 0 0 []
 
--- at the start one seat represents all lanes, and has every block
+-- at the start one seat represents all lanes, and has every block, in the order in which they are dealt
 abbrev pub first_mark : Size → Mark
-first_mark k = mark k.blocks k.lanes k.lanes 0 0 (range 0 k.blocks)
+first_mark k = mark k.blocks k.lanes k.lanes 0 0 (in_turn k.rising k.blocks)
 
 abbrev pub both_marks : Mark → Mark → Mark
 both_marks v w =

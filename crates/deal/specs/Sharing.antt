@@ -3,17 +3,19 @@
 -- A schedule is the order in which the atomic steps of all threads come: a push, a pop, a steal, and a load or an add of one word.
 -- No promise names one. Each speaks of the values before and after a call of its own thread,
 -- and the steps of other threads may come between any two of its own.
-use Rattle.std.specs.Prelude.{◌≡◌, ℕ, zero, suc, ◌%◌, ◌<◌, ◌≤◌, List, [], ◌∷◌, ◌++◌, length, map, All, ◌==◌, ◌⊎◌, if◌then◌else◌}
+use Rattle.std.specs.Prelude.{◌≡◌, Bool, ℕ, ◌%◌, ◌<◌, ◌≤◌, List, [], ◌∷◌, ◌++◌, length, map, All, ◌==◌, ◌⊎◌, if◌then◌else◌}
 use Rattle.atomic_table.specs.Seated.{TableId}
-use Rattle.deal.specs.Totals.{times, range}
+use Rattle.deal.specs.Totals.{times, range, in_turn}
 use Rattle.deal.specs.Divisions.{IsBlock}
 use Rattle.deal.specs.declared.next.Next.{Next}
 use Rattle.deal.specs.declared.next.Next.TheVariants.{Block, Again, Empty}
 
--- Which deal it is: the table of its count, how many lanes it has, and the lengths of its blocks
+-- Which deal it is: the table of its count, how many lanes it has, whether its blocks are dealt in rising order or in falling
+-- order, and their lengths
 pub record Game : Type 0 where
   pub table : TableId
   pub lanes : ℕ
+  pub rising : Bool
   pub lengths : List ℕ
 
 -- What a lane has seen: its deal; the blocks that were dealt to it, and those that it was answered, both in order; and the highest
@@ -47,14 +49,19 @@ IsTheBlock lengths number (Block i first len) = (i ≡ number) × IsBlock length
 IsTheBlock lengths number Again = ⊥
 IsTheBlock lengths number Empty = ⊥
 
--- the blocks below n that are dealt to a lane: lane i mod lanes gets block i
-abbrev pub dealt_to : ℕ → ℕ → ℕ → List ℕ
-dealt_to lanes lane zero = []
-dealt_to lanes lane (suc n) = dealt_to lanes lane n ++ (if n % lanes == lane then n ∷ [] else [])
+-- those of these blocks that are dealt to a lane: lane i mod lanes gets block i
+abbrev pub dealt_to : ℕ → ℕ → List ℕ → List ℕ
+dealt_to lanes lane [] = []
+dealt_to lanes lane (n ∷ ns) = (if n % lanes == lane then n ∷ [] else []) ++ dealt_to lanes lane ns
 
 -- a lane that has not been called
 abbrev pub fresh : Game → ℕ → Sight
-fresh game number = record { game = game; dealt = dealt_to game.lanes number (length game.lengths); answered = []; seen = 0 }
+fresh game number = record {
+  game = game;
+  dealt = dealt_to game.lanes number (in_turn game.rising (length game.lengths));
+  answered = [];
+  seen = 0;
+}
 
 -- the lanes of a deal that was just made, in order of their numbers
 abbrev pub fresh_lanes : Game → List Sight

@@ -1,5 +1,5 @@
 -- Sums over lists, and how often a number is in one.
-use Rattle.std.specs.Prelude.{ℕ, zero, suc, ◌+◌, ◌≡◌, List, [], ◌∷◌, ◌==◌, nat_lt, if◌then◌else◌}
+use Rattle.std.specs.Prelude.{Bool, true, false, ℕ, zero, suc, ◌+◌, ◌≡◌, List, [], ◌∷◌, ◌==◌, nat_lt, if◌then◌else◌}
 
 -- f of each, added up
 abbrev pub total : {V : Type 0} → (V → ℕ) → List V → ℕ
@@ -10,6 +10,16 @@ total f (v ∷ vs) = f v + total f vs
 abbrev pub range : ℕ → ℕ → List ℕ
 range first zero = []
 range first (suc n) = first ∷ range (first + 1) n
+
+-- the numbers below n, the greatest first
+abbrev pub falling : ℕ → List ℕ
+falling zero = []
+falling (suc n) = n ∷ falling n
+
+-- the numbers below n, rising or falling
+abbrev pub in_turn : Bool → ℕ → List ℕ
+in_turn true n = range 0 n
+in_turn false n = falling n
 
 -- 1 at x, and 0 elsewhere
 abbrev pub one_at : ℕ → ℕ → ℕ

@@ -8,11 +8,13 @@ use atomic_table::{Badge, Join, Play, Seat, Split, Table, TableRule};
 use std::alloc::Global;
 use std::collections::LinkedList;
 
-/// What the table is given once: how many blocks there are, and how many lanes.
+/// What the table is given once: how many blocks there are, and how many lanes, and whether the blocks are dealt in rising order or in
+/// falling order.
 #[derive(Clone, Copy)]
 pub struct Size {
     pub blocks: u64,
     pub lanes: u64,
+    pub rising: bool,
 }
 
 // What a seat knows: the number of blocks and of lanes, how many lanes it represents, how many

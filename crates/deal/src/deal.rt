@@ -1,7 +1,7 @@
 //! A deal: the blocks of a division, handed out among lanes.
 ghost use Rattle.std.specs.Prelude.{◌≡◌, ◌+◌, ◌<◌, ◌≤◌, ◌++◌, [], ℕ, false, length, replicate, vec_len, vec_capacity, IfOk};
 ghost use Rattle.std.specs.List.{concat};
-ghost use Rattle.deal.specs.Totals.{HasEachOnce, times};
+ghost use Rattle.deal.specs.Totals.{HasEachOnce, times, in_turn};
 ghost use Rattle.deal.specs.Marks.{mark, IsAmong};
 ghost use Rattle.deal.specs.Dealing.{AreHands};
 ghost use Rattle.deal.specs.Lanes.{IsDealer, IsShared, game};
@@ -48,7 +48,7 @@ impl Model for Deal {
     ghost use Rattle.deal.specs.Lanes.{game, IsDealer};
     ghost use Rattle.std.specs.Prelude.{◌≡◌, ◌≤◌, [], false, length, replicate, vec_capacity};
 
-    ghost view = { λ d. game d.shared.value.count.shared.table_id d.shared.value.count.shared.key.lanes
+    ghost view = { λ d. game d.shared.value.count.shared.table_id d.shared.value.count.shared.key
         d.shared.value.division };
 
     ghost invariant = { λ d. (d.shared.value.count.shared.key.blocks ≡ length d.shared.value.division)
@@ -60,14 +60,15 @@ impl Model for Deal {
 
 impl Deal {
     /// Deals the blocks of a division among this many lanes, 1 to 64: block i to lane i modulo their
-    /// number. All room is made here.
+    /// number. Each lane has its blocks in rising order, or in falling order. All room is made here.
     pub fn new(
         alloc: Global,
         division: Division,
         workers: usize,
+        rising: bool,
     ) -> Result<(Deal, Vec<Lane>), Memory>
         requires { (0 < workers) × (workers ≤ 64) }
-        ensures deal { IfOk result (λ made. (made.0.lanes ≡ workers) × (made.0.lengths ≡ division)) }
+        ensures deal { IfOk result (λ made. (made.0.lanes ≡ workers) × (made.0.lengths ≡ division) × (made.0.rising ≡ rising)) }
         ensures lanes { IfOk result (λ made. made.1.items ≡ fresh_lanes made.0) }
         ensures of { IfOk result (λ made. AreLanesOf made.0 made.1.items) }
         ensures many { IfOk result (λ made. vec_len made.1 ≡ workers) }
@@ -77,9 +78,10 @@ impl Deal {
         let size = Size {
             blocks: blocks as u64,
             lanes: workers as u64,
+            rising,
         };
         let (count, mut dealer) = Table::of_words(alloc, &[0], &size)?;
-        let hands = make_hands(alloc, &count, &mut dealer, blocks, workers)?;
+        let hands = make_hands(alloc, &count, &mut dealer, blocks, workers, rising)?;
         let shared = Arc::new(
             alloc,
             Shared {
@@ -206,9 +208,9 @@ fn lanes_of(
         shared.now.value.count.shared.key.lanes dealer.old }
     requires hands { (vec_len hands ≡ shared.now.value.count.shared.key.lanes)
         × AreHands shared.now.value.count.shared.table_id shared.now.value.count.shared.key.lanes
-        (length shared.now.value.division) 4096 hands.items }
+        (in_turn shared.now.value.count.shared.key.rising (length shared.now.value.division)) 4096 hands.items }
     ensures lanes { IfOk result (λ lanes. lanes.items ≡ fresh_lanes
-        (game shared.now.value.count.shared.table_id shared.now.value.count.shared.key.lanes
+        (game shared.now.value.count.shared.table_id shared.now.value.count.shared.key
         shared.now.value.division)) }
     ensures dealer { IfOk result
         (λ _. IsDealer shared.now.value.count.shared.key shared.now.value.count.shared.table_id

@@ -1,12 +1,12 @@
 //! Dealing, before any lane is handed out.
-ghost use Rattle.std.specs.Prelude.{◌≡◌, ◌+◌, ◌*◌, ◌/◌, ◌<◌, ◌≤◌, ◌++◌, ◌∷◌, [], length, vec_len, IfOk};
+ghost use Rattle.std.specs.Prelude.{◌≡◌, ℕ, List, ◌+◌, ◌*◌, ◌/◌, ◌<◌, ◌≤◌, ◌++◌, ◌∷◌, [], length, vec_len, IfOk};
 ghost use Rattle.crossbeam_deque.specs.Handles.{SameWorker, worker_view};
 ghost use Rattle.atomic_table.specs.Seated.{TableId};
-ghost use Rattle.deal.specs.Totals.{range};
+ghost use Rattle.deal.specs.Totals.{in_turn};
 ghost use Rattle.deal.specs.Logs.{log};
 ghost use Rattle.deal.specs.Marks.{mark, IsShareOf, others_of, without_first};
 ghost use Rattle.deal.specs.Logs.{HasTicketsOf};
-ghost use Rattle.deal.specs.Dealing.{AreDealt, AreHands, HasHands, KeepsHands};
+ghost use Rattle.deal.specs.Dealing.{AreDealt, AreHands, HasHands, KeepsHands, number_at};
 
 use crate::count::{Count, Deals, Share, Ticket};
 use crate::dealt::{Own, Puts};
@@ -19,7 +19,7 @@ use std::alloc::Global;
 // An empty deque for each lane, with room for its blocks.
 fn empty_hands(alloc: Global, workers: usize, room: usize) -> Result<Vec<Hand>, Memory>
     ensures { IfOk result (λ hands. (vec_len hands ≡ workers)
-        × ((z : TableId) → AreDealt z workers 0 hands.items)) }
+        × ((z : TableId) (n : List ℕ) → AreDealt z workers n n hands.items)) }
 {
     let mut hands = Vec::with_capacity(alloc, workers)?;
     for _ in 0..workers {
@@ -50,25 +50,37 @@ fn deal_one(count: &Count, dealer: &mut Share, own: &mut Own, number: usize) -> 
     }
 }
 
-// Deals every block, each to the lane of its number modulo theirs.
+// The block that is dealt at this turn.
+fn number_at(rising: bool, blocks: usize, turn: usize) -> usize
+    requires { turn < blocks }
+    ensures { result ≡ number_at rising blocks turn }
+{
+    if rising { turn } else { blocks - 1 - turn }
+}
+
+// Deals every block, each to the lane of its number modulo theirs, in rising order or in falling order.
 fn deal_all(
     count: &Count,
     dealer: &mut Share,
     hands: &mut Vec<Hand>,
     blocks: usize,
+    rising: bool,
 ) -> Result<(), Memory>
     requires dealer { IsShareOf count.now.shared.table_id dealer.old
         × (dealer.old.me.0 ≡ mark blocks dealer.old.me.0.lanes dealer.old.me.0.parts 0 0
-        (range 0 blocks)) }
+        (in_turn rising blocks)) }
     requires hands { (0 < vec_len hands.old)
-        × AreDealt count.now.shared.table_id (vec_len hands.old) 0 hands.old.items }
+        × AreDealt count.now.shared.table_id (vec_len hands.old)
+        (in_turn rising blocks) (in_turn rising blocks) hands.old.items }
     ensures dealer { IfOk result (λ _. IsShareOf count.now.shared.table_id dealer.new
         × (dealer.new.me.0 ≡ mark blocks dealer.old.me.0.lanes dealer.old.me.0.parts 0 0 [])) }
     ensures hands { IfOk result (λ _. (vec_len hands.new ≡ vec_len hands.old)
-        × AreDealt count.now.shared.table_id (vec_len hands.old) blocks hands.new.items) }
+        × AreDealt count.now.shared.table_id (vec_len hands.old)
+        (in_turn rising blocks) [] hands.new.items) }
 {
     let workers = hands.len();
-    for number in 0..blocks {
+    for turn in 0..blocks {
+        let number = number_at(rising, blocks, turn);
         let hand = &mut hands[number % workers];
         deal_one(count, dealer, &mut hand.own, number)?;
     }
@@ -105,26 +117,27 @@ fn give_all_others(hands: &mut Vec<Hand>) -> Result<(), Memory>
     Ok(())
 }
 
-/// Deals the blocks of the dealer's seat, lane by lane in turn.
+/// Deals the blocks of the dealer's seat, lane by lane in turn, in rising order or in falling order.
 pub fn make_hands(
     alloc: Global,
     count: &Count,
     dealer: &mut Share,
     blocks: usize,
     workers: usize,
+    rising: bool,
 ) -> Result<Vec<Hand>, Memory>
     requires workers { (0 < workers) × (workers ≤ 64) }
     requires dealer { IsShareOf count.now.shared.table_id dealer.old
         × (dealer.old.me.0 ≡ mark blocks dealer.old.me.0.lanes dealer.old.me.0.parts 0 0
-        (range 0 blocks)) }
+        (in_turn rising blocks)) }
     ensures dealer { IfOk result (λ _. IsShareOf count.now.shared.table_id dealer.new
         × (dealer.new.me.0 ≡ mark blocks dealer.old.me.0.lanes dealer.old.me.0.parts 0 0 [])) }
     ensures hands { IfOk result (λ hands. (vec_len hands ≡ workers)
-        × AreHands count.now.shared.table_id workers blocks 4096 hands.items) }
+        × AreHands count.now.shared.table_id workers (in_turn rising blocks) 4096 hands.items) }
 {
     let room = blocks.div_ceil(workers);
     let mut hands = empty_hands(alloc, workers, room)?;
-    deal_all(count, dealer, &mut hands, blocks)?;
+    deal_all(count, dealer, &mut hands, blocks, rising)?;
     give_all_others(&mut hands)?;
     Ok(hands)
 }

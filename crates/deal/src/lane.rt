@@ -65,7 +65,7 @@ impl Model for Lane {
     ghost use Rattle.std.specs.Prelude.{◌≡◌, ◌≤◌, vec_capacity, length};
 
     ghost view = { λ s. sight
-        (game s.shared.value.count.shared.table_id s.shared.value.count.shared.key.lanes
+        (game s.shared.value.count.shared.table_id s.shared.value.count.shared.key
         s.shared.value.division) s.share.me.0 (worker_view s.own) s.got.items };
 
     ghost invariant = { λ s. (worker_flavor s.own ≡ 0) × (length s.shared.value.division ≤ vec_capacity s.got)
@@ -85,10 +85,10 @@ impl Lane {
         requires shared { IsShared shared.value.count.shared.key shared.value.division shared.value.starts.items }
         requires dealer { IsDealer shared.value.count.shared.key shared.value.count.shared.table_id
             dealer.old.me.0.parts dealer.old × (0 < dealer.old.me.0.parts) }
-        requires hand { IsSomeHand shared.value.count.shared.table_id shared.value.count.shared.key.lanes
+        requires hand { IsSomeHand shared.value.count.shared.table_id shared.value.count.shared.key
             shared.value.division hand }
         ensures lane { IfOk result (λ lane. lane ≡ opened
-            (game shared.value.count.shared.table_id shared.value.count.shared.key.lanes
+            (game shared.value.count.shared.table_id shared.value.count.shared.key
             shared.value.division) (worker_view hand.own).dealt) }
         ensures dealer { IfOk result
             (λ _. IsDealer shared.value.count.shared.key shared.value.count.shared.table_id

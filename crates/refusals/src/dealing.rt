@@ -24,7 +24,7 @@ fn first_next(lanes: &mut Vec<Lane>) -> Result<Next, Fault> {
 /// What the first of two lanes is answered at first.
 pub(crate) fn dealt(alloc: Global) -> Result<Next, Fault> {
     let division = divided(alloc)?;
-    match Deal::new(alloc, division, 2) {
+    match Deal::new(alloc, division, 2, true) {
         Ok((_deal, mut lanes)) => first_next(&mut lanes),
         Err(_) => Err(Fault::Memory),
     }

@@ -13,10 +13,10 @@ loop-preserved c =
     let own = c.in_ok-fifo_as.ensures in
     let hand : Hand = record { own = c.in_ok-fifo_as.field-0; others = c.in_ok-with_capacity.field-0 } in (
       omega (arith, c.loop.invariant.0, c.in_ok-push.ensures.len),
-      λ z.
-          subst (AreDealt z c.args.workers 0) (sym c.in_ok-push.ensures.items)
-          (empty_more z c.args.workers c.loop.hands.items hand own.1 own.4
-          c.in_ok-with_capacity.ensures.items (c.loop.invariant.1 z)),
+      λ z n.
+          subst (AreDealt z c.args.workers n n) (sym c.in_ok-push.ensures.items)
+          (empty_more z c.args.workers n c.loop.hands.items hand own.1 own.4
+          c.in_ok-with_capacity.ensures.items (c.loop.invariant.1 z n)),
     )
 
 pub returns : goal.returns

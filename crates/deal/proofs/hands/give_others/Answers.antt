@@ -64,7 +64,7 @@ loop-step-preserved c =
     let e = c.in_ok-other.ensures in
     let w = vec_len c.args.hands.now in
     let cut = 64 * lane + step in
-    let more : (z : TableId) (n : ℕ) → AreHands z w n cut hands
+    let more : (z : TableId) (n : List ℕ) → AreHands z w n cut hands
     → AreHands z w n (64 * lane + (step + 1)) (set hands' lane new') = λ z n old.
     hands_more z w n (cut + 1) (64 * lane + (step + 1)) (set hands' lane new') (omega arith)
     (gives_more z w n cut at lane hands hand new hand' new' c.in_ok-other.other here here'

@@ -72,7 +72,7 @@ returns-after-look-blocks c =
     let now = c.self.inside.shared.value in
     let old = c.args.self.now in
     let new : Sight =
-    sight (game now.count.shared.table_id now.count.shared.key.lanes now.division)
+    sight (game now.count.shared.table_id now.count.shared.key now.division)
     c.look.new.share.me.0 (worker_view c.take.new.own) c.self.inside.got.items in
     let goes : Goes old new = (
       ap (λ (s : Sight). s.game) v,
