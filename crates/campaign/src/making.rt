@@ -122,7 +122,10 @@ fn bring_all<R: Threads + Wait + Sync, G: Gate + Sync>(
     ensures brought { IfOk result (λ brought. IsBrought (work_of setup.now division) brought.deal setup.now.tally.now seats.items
         brought.apart.lanes.items brought.apart.seats.items brought.apart.parts.items) }
 {
-    let Ok((deal, lanes)) = Deal::new(alloc, division, workers) else {
+    // Where only heads are written the last points come first, since no row is then run far. Otherwise they don't, since a row's events would
+    // then lie on many short legs.
+    let rising = !setup.view.heads;
+    let Ok((deal, lanes)) = Deal::new(alloc, division, workers, rising) else {
         return Err(Memory);
     };
     let apart = work_off(rt, alloc, setup, gate, workers, lanes, seats)?;

@@ -4,6 +4,7 @@ ghost use Rattle.campaign.specs.Marks.{IsPart, IsPutAt, IsRestAt};
 
 use crate::ahead::Ahead;
 use crate::mark::Mark;
+use crate::mark_steps::may_look;
 use kernel::Kernel;
 use model::Memory;
 use std::alloc::Global;
@@ -70,7 +71,8 @@ impl MarkTable {
         None
     }
 
-    /// Puts a mark, where there is memory for it. Where there are too many, marks up to this step are left out first.
+    /// Puts a mark, where there is memory for it, of a row whose last injection comes before this step. Where there are too many, those are
+    /// left out first at which no row looks that was injected no later.
     pub(crate) fn put(&mut self, mark: Mark, step: u32)
         ensures { IsPutAt self.old.marks.items self.new.marks.items mark }
     {
@@ -115,11 +117,12 @@ impl MarkTable {
         self.slots[place(hint, number % PROBES, room)] = mark;
     }
 
-    // Leaves out the marks up to this step.
+    // Leaves out the marks at which no row looks whose last injection comes before this step, or before that.
     fn leave_out(&mut self, step: u32)
         ensures { IsPart self.old.marks.items self.new.marks.items }
     {
-        self.marks.retain(|mark| mark.kernel.steps() > step);
+        self.marks
+            .retain(|mark| may_look(step, mark.kernel.steps()));
     }
 
     // Where more than half of the room is taken, there is twice as much from now on; or all marks are left out, where that is too much.
@@ -136,7 +139,7 @@ impl MarkTable {
         self.marks.clear();
     }
 
-    // Where there is no room for one more mark, leaves out those up to this step, or more.
+    // Where there is no room for one more mark, leaves out some of a row whose last injection comes before this step.
     fn make_room(&mut self, step: u32)
         ensures { IsPart self.old.marks.items self.new.marks.items }
     {

@@ -1,5 +1,5 @@
 //! From the bytes of a file to the report of its campaign, or of a part of it.
-ghost use Rattle.std.specs.Prelude.{◌≡◌, ◌≤◌, ◌+◌, ℕ, List, Option, Some, false, length, IfOk, MatchResult};
+ghost use Rattle.std.specs.Prelude.{◌≡◌, ◌<◌, ◌≤◌, ◌+◌, ℕ, List, Option, Some, false, length, IfOk, MatchResult};
 ghost use Rattle.model.specs.Scripts.{most_points};
 ghost use Rattle.campaign.specs.Campaigns.{IsCampaignFault, IsShownOf, ServesCampaign};
 ghost use Rattle.campaign.specs.Seen.{AreSeen};
@@ -34,6 +34,15 @@ impl From<ExpandFault> for ServeFault {
     }
 }
 
+// How many points a block has: as many as are asked for, and four times as many where heads alone are written. There the last blocks come
+// first, and a worker begins each block at a stop of the base run.
+fn points_of_a_block(options: Options, view: View) -> usize
+    ensures { 0 < result }
+{
+    let block = options.block.clamp(1, Options::MOST_BLOCK) as usize;
+    if view.heads { 4 * block } else { block }
+}
+
 // The report of these points, of which the first has this number. The rows are counted by a tally of its own.
 fn report_from<R: Threads + Wait + Sync, G: Gate + Sync>(
     rt: &R,
@@ -53,7 +62,7 @@ fn report_from<R: Threads + Wait + Sync, G: Gate + Sync>(
     ensures rows { IfOk result (λ report. AreSeen app.now shelf.limits view points.now report.rows) }
 {
     let workers = options.workers.clamp(1, Options::MOST_WORKERS) as usize;
-    let block = options.block.clamp(1, Options::MOST_BLOCK) as usize;
+    let block = points_of_a_block(options, view);
     let Ok(division) = Division::even(alloc, points.len(), block) else {
         return Err(Memory);
     };
