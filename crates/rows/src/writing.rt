@@ -41,7 +41,7 @@ const MOST_PIECE: usize = 1 << 16;
 const MOST_TEXT: usize = 1 << 24;
 
 // Rows of fewer lines than this have no text that is worth writing as it is.
-const LEAST_SHARED: usize = 4096;
+const LEAST_SHARED: usize = 512;
 
 // What the head line of a row begins with.
 fn title_of(number: usize, row: &KeptRow, base: &Run) -> Title
