@@ -117,7 +117,7 @@ impl MarkTable {
         self.slots[place(hint, number % PROBES, room)] = mark;
     }
 
-    // Leaves out the marks at which no row looks whose last injection comes before this step, or before that.
+    // Leaves out the marks at which no row looks whose last injection comes before this step, or earlier.
     fn leave_out(&mut self, step: u32)
         ensures { IsPart self.old.marks.items self.new.marks.items }
     {
@@ -139,7 +139,7 @@ impl MarkTable {
         self.marks.clear();
     }
 
-    // Where there is no room for one more mark, leaves out some of a row whose last injection comes before this step.
+    // Where there is no room for one more mark of a row whose last injection comes before this step, leaves out some.
     fn make_room(&mut self, step: u32)
         ensures { IsPart self.old.marks.items self.new.marks.items }
     {
