@@ -3,6 +3,7 @@ ghost use Rattle.std.specs.Prelude.{◌≡◌, ℕ, []};
 ghost use Rattle.machine.specs.StandsFor.{progress_in};
 
 use dice::Dice;
+use kernel::Kernel;
 use machine::Machine;
 use model::{App, Loop, TaskId};
 use std::process::Abort;
@@ -36,4 +37,19 @@ fn a_loop_that_is_closed_makes_no_difference(rt: HostRuntime) {
     machine.set_used(task, 1);
     assert!(rt; !machine.is_at(&snapshot, 32));
     assert!(rt; machine.hint(32) != hint);
+}
+
+#[test]
+fn a_kernel_is_saved_into_a_snapshot_of_another_time(rt: HostRuntime) {
+    let app = Dice::new(1).app(rt.alloc()).expect(&rt, "an application");
+    let mut machine = at_reset(&app);
+    let kernel = Kernel::boot(&app);
+    machine.set_used(TaskId { number: 0 }, 1);
+    let mut snapshot = machine.snapshot(rt.alloc(), 32).ok().expect(&rt, "memory");
+    assert!(rt; !kernel.is_at(&snapshot));
+    assert!(rt; kernel.save(&mut snapshot));
+    assert!(rt; kernel.is_at(&snapshot));
+    assert!(rt; machine.save(&mut snapshot, 32));
+    assert!(rt; machine.is_at(&snapshot, 32));
+    assert!(rt; !kernel.is_at(&snapshot));
 }

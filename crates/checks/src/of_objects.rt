@@ -239,3 +239,14 @@ fn where_items_lie_and_who_has_waited_makes_no_difference(rt: HostRuntime) {
     other.drop_waiter(TaskId { number: 4 });
     assert!(rt; other.is_at(&snapshot));
 }
+
+#[test]
+fn objects_are_saved_into_a_snapshot_of_the_same_queues(rt: HostRuntime) {
+    let mut objects = some_objects();
+    let mut snapshot = objects.snapshot(rt.alloc()).ok().expect(&rt, "memory");
+    succeed(&rt, &mut objects, None, QUEUE, Access::Send(8));
+    assert!(rt; !objects.is_at(&snapshot));
+    assert!(rt; objects.save(&mut snapshot));
+    assert!(rt; objects.is_at(&snapshot));
+    assert!(rt; !most_queues().save(&mut snapshot));
+}

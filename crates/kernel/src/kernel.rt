@@ -99,6 +99,14 @@ impl Kernel {
         self.machine.boxed_snapshot(alloc, self.tasks)
     }
 
+    /// Makes a snapshot that of the kernel as it is now, in the memory that it has. `false` where that is too little, or the snapshot is of
+    /// another application; then it is of no more use.
+    pub fn save(&self, snapshot: &mut Snapshot) -> bool
+        ensures { result ≡ true → snapshot.new ≡ self.now }
+    {
+        self.machine.save(snapshot, self.tasks)
+    }
+
     /// Becomes the kernel of a snapshot, in place. It takes no memory.
     pub fn restore(&mut self, snapshot: &Snapshot)
         ensures { self.new ≡ snapshot.now }

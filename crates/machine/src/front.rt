@@ -1,5 +1,5 @@
 //! The progress of the first tasks, where nobody behind them has done anything.
-ghost use Rattle.std.specs.Prelude.{◌≡◌, ◌<◌, ◌≤◌, ℕ, length, min, true, IfOk};
+ghost use Rattle.std.specs.Prelude.{◌≡◌, ◌<◌, ◌≤◌, ℕ, length, min, true, IfOk, OnOk};
 ghost use Rattle.model.specs.State.{no_progress};
 ghost use Rattle.machine.specs.StandsFor.{AreBlankFrom, progress_in};
 ghost use Rattle.machine.specs.Fronts.{with_blanks};
@@ -33,11 +33,27 @@ pub(crate) fn front_of(
     ensures few { IfOk result (λ front. length front.items ≤ 32) }
     ensures front { IfOk result (λ front. AreBlankFrom most progress.now → with_blanks front.items ≡ progress.now) }
 {
-    let tasks = tasks_of(progress, most);
     let mut front = Vec::new(alloc);
+    save_front(progress, most, &mut front)?;
+    Ok(front)
+}
+
+/// Makes a front that of the first tasks as they are now, as `front_of` does, in the memory that it has. `Memory` is answered only where that
+/// is too little, and a growth was refused.
+pub(crate) fn save_front(
+    progress: &[Progress; 32],
+    most: usize,
+    front: &mut Vec<Progress>,
+) -> Result<(), Memory>
+    requires { length front.old.items ≤ 32 }
+    ensures few { length front.new.items ≤ 32 }
+    ensures front { OnOk result (AreBlankFrom most progress.now → with_blanks front.new.items ≡ progress.now) }
+{
+    let tasks = tasks_of(progress, most);
+    front.clear();
     front.reserve_exact(tasks)?;
     front.extend_from_slice(&progress[..tasks])?;
-    Ok(front)
+    Ok(())
 }
 
 /// Makes it that of these first tasks, with nothing done behind them.

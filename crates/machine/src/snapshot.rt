@@ -4,7 +4,7 @@ ghost use Rattle.model.specs.State.{State};
 ghost use Rattle.machine.specs.Fronts.{with_blanks};
 ghost use Rattle.machine.specs.StandsFor.{AreBlankFrom, Stands};
 
-use crate::front::{fill_from, front_of, is_same_progress};
+use crate::front::{fill_from, front_of, is_same_progress, save_front};
 use crate::machine::Machine;
 use crate::progress::Progress;
 use clock::Clock;
@@ -101,6 +101,27 @@ impl Machine {
             steps: self.steps,
             stopped: self.stopped,
         }
+    }
+
+    /// Makes a snapshot that of the kernel as it is now, which is of so many tasks, in the memory that it has. `false` where that is too
+    /// little, or the snapshot is of another application; then it is of no more use.
+    pub fn save(&self, snapshot: &mut Snapshot, tasks: usize) -> bool
+        ensures { result ≡ true → AreBlankFrom tasks self.now.progress → snapshot.new ≡ self.now }
+    {
+        if save_front(&self.progress, tasks, &mut snapshot.progress).is_err() {
+            return false;
+        }
+        if !self.objects.save(&mut snapshot.objects) {
+            return false;
+        }
+        snapshot.sched.set_from(&self.sched);
+        snapshot.clock.set_from(&self.clock);
+        snapshot.groups.set_from(&self.groups);
+        snapshot.wait_list = self.wait_list;
+        snapshot.next_interrupt = self.next_interrupt;
+        snapshot.steps = self.steps;
+        snapshot.stopped = self.stopped;
+        true
     }
 
     /// Becomes the kernel of a snapshot, in place. It takes no memory.

@@ -259,6 +259,23 @@ impl Items {
         })
     }
 
+    /// Makes a snapshot that of the queues as they are now, in the memory that it has. `false` where the regions of its queues are of
+    /// another size; then it is as it was.
+    pub(crate) fn save(&self, snapshot: &mut ItemsSnapshot) -> bool
+        ensures { result ≡ true → snapshot.new ≡ self.now }
+    {
+        let end = self.bases[LAST] as usize + self.lengths[LAST] as usize;
+        if snapshot.pool.len() != end {
+            return false;
+        }
+        snapshot.pool.copy_from_slice(&self.pool[..end]);
+        snapshot.bases = self.bases;
+        snapshot.lengths = self.lengths;
+        snapshot.heads = self.heads;
+        snapshot.counts = self.counts;
+        true
+    }
+
     /// Whether the queues are as in a snapshot: each has as many items, the same and in the same order. Where in the pool
     /// they lie doesn't count.
     pub(crate) fn is_at(&self, snapshot: &ItemsSnapshot) -> bool

@@ -144,6 +144,22 @@ impl Objects {
         })
     }
 
+    /// Makes a snapshot that of the objects as they are now. It takes no memory. `false` where the snapshot has other memory than these
+    /// objects ask for: so it is where it is of another application.
+    pub fn save(&self, snapshot: &mut ObjectsSnapshot) -> bool
+        ensures { result ≡ true → snapshot.new ≡ self.now }
+    {
+        if !self.items.save(&mut snapshot.items) {
+            return false;
+        }
+        snapshot.number = self.number;
+        snapshot.semaphores.set_from(&self.semaphores);
+        snapshot.mutexes.set_from(&self.mutexes);
+        snapshot.waiting.set_from(&self.waiting);
+        snapshot.lock = self.lock;
+        true
+    }
+
     /// Becomes what a snapshot holds, in place. It takes no memory.
     pub fn restore(&mut self, snapshot: &ObjectsSnapshot)
         ensures { self.new ≡ snapshot.now }
