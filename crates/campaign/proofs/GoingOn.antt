@@ -243,11 +243,11 @@ module _ (number : ℕ) (rest : Ahead) (passed : List Passed) (marks : List Mark
   right_here = record { marked = λ app limits view base store are all. are; still = λ app limits view base store all. all }
 
   -- the last one that was passed becomes a mark
-  pub right_then : (left : List Passed) (before : List Mark) (p : Passed) (fewer : List Passed) (more : List Mark)
+  pub right_then : (left : List Passed) (before : List Mark) (p : Passed) (step : ℕ) (fewer : List Passed) (more : List Mark)
       → LeavesRight number rest passed marks left before → left ≡ fewer ++ p ∷ []
-      → IsPutAt before more (record { kernel = p.kernel; hint = p.hint; rest = rest_from number rest p })
+      → IsPutAt before more (record { kernel = p.kernel; hint = p.hint; step = step; rest = rest_from number rest p })
       → LeavesRight number rest passed marks fewer more
-  right_then left before p fewer more right is put = record {
+  right_then left before p step fewer more right is put = record {
     marked = λ app limits view base store are all.
         let its =
         all_last (λ (q : Passed). IsRestIn app limits view base store q.kernel.value (rest_from number rest q))

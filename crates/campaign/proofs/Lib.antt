@@ -7,7 +7,6 @@ mod GoingOn
 mod Jobs
 mod Keeping
 mod Multiplicity
-mod Parts
 mod Seeing
 mod Started
 mod Whole

@@ -27,11 +27,6 @@ abbrev pub IsRestAt : List Mark → Machine → Ahead → Type 0
 IsRestAt marks k rest = (app : Application) (limits : Limits) (view : View) (base : Run) (store : Store)
     → AreMarked app limits view base store marks → IsRestIn app limits view base store k rest
 
--- Where the old marks are right, so are the new ones.
-abbrev pub IsPart : (old new : List Mark) → Type 0
-IsPart old new = (app : Application) (limits : Limits) (view : View) (base : Run) (store : Store)
-    → AreMarked app limits view base store old → AreMarked app limits view base store new
-
 -- Where the old marks and this one are right, so are the new ones.
 abbrev pub IsPutAt : (old new : List Mark) → Mark → Type 0
 IsPutAt old new mark = (app : Application) (limits : Limits) (view : View) (base : Run) (store : Store)

@@ -3,11 +3,12 @@ use crate::ahead::Ahead;
 use kernel::Snapshot;
 
 /// The kernel as it was before a step of some row, behind that row's last injection, and how the row went on from there. So does each row
-/// that comes to the same kernel.
+/// that comes to the same kernel. The hint and the step are that kernel's.
 #[derive(Drop)]
 pub(crate) struct Mark {
     pub(crate) kernel: Box<Snapshot>,
     pub(crate) hint: u64,
+    pub(crate) step: u32,
     pub(crate) rest: Ahead,
 }
 

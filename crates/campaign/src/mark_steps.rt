@@ -1,11 +1,8 @@
 //! At which steps a row looks for marks, and leaves them.
 ghost use Rattle.std.specs.Prelude.{◌<◌, ◌^◌};
 
-// So many steps are between two marks near an injection, or a few more, until that is judged (`Spacing`).
+// So many steps are between two marks near an injection, or a few more, where they are widest apart (`Spacing`).
 const WIDE: u32 = 64;
-
-// And at least so many.
-const CLOSE: u32 = 16;
 
 /// The steps between two marks near an injection at most, where the base run has a stop before each `stride`-th step: the least of
 /// the strides doubled that are 64 or more, so that rows meet the base run at its stops; 64 where these are further from each other.
@@ -30,10 +27,10 @@ fn spacing_at(spacing: u32, way: u32) -> u32 {
     }
 }
 
-/// Whether a row whose last injection comes before this step may look for a mark at that one, however close together its marks are. Where
-/// it doesn't, no row with an earlier last injection does.
-pub(crate) fn may_look(last: u32, mark: u32) -> bool {
-    last < mark && mark % spacing_at(CLOSE, mark - last).max(1) == 0
+/// Whether a row whose last injection comes before this step may look for a mark at that one, where so many steps are between two marks
+/// that are closest together. Where it doesn't, no row with an earlier last injection does.
+pub(crate) fn may_look(closest: u32, last: u32, mark: u32) -> bool {
+    last < mark && mark % spacing_at(closest, mark - last).max(1) == 0
 }
 
 /// The next step behind this one at which a row looks for a mark, whose last injection comes before that step.

@@ -1,19 +1,21 @@
 //! The marks of a worker's rows, and where to look for them.
-ghost use Rattle.std.specs.Prelude.{◌≡◌, ◌<◌, ◌++◌, ◌∷◌, [], IfSome, OnErr, OnOk};
-ghost use Rattle.campaign.specs.Marks.{IsPart, IsPutAt, IsRestAt};
+ghost use Rattle.std.specs.Prelude.{◌≡◌, ◌<◌, [], length, IfSome};
+ghost use Rattle.campaign.specs.Marks.{IsPutAt, IsRestAt};
 
 use crate::ahead::Ahead;
 use crate::mark::Mark;
 use crate::mark_steps::may_look;
-use kernel::Kernel;
-use model::Memory;
+use kernel::{Kernel, Snapshot};
 use std::alloc::Global;
 
-// For so many marks there is room at first, before those are left out that no row will come to any more.
+// So many marks are kept before any is replaced.
 const LEAST_ROOM: usize = 256;
 
 // So many marks are kept at most: of few tasks they take some 30 MB, of 32 some 55 MB.
 const MOST_MARKS: usize = 8192;
+
+// So many marks are looked at for one that may be replaced.
+const TRIES: usize = 4;
 
 // How many places of the table there are.
 const SLOTS: usize = 1 << 15;
@@ -30,26 +32,27 @@ const NO_MARK: u32 = u32::MAX;
 pub(crate) struct MarkTable {
     pub(crate) marks: Vec<Mark>,
     slots: Vec<u32>,
-    room: usize,
+    closest: u32,
+    // The number of the mark that is looked at next, whether it may be replaced.
+    turn: usize,
 }
 
-// The place of a hint in so many places, so far behind its own.
-fn place(hint: u64, probe: usize, room: usize) -> usize
-    requires { 0 < room }
-    ensures { result < room }
-{
-    (hint as usize).wrapping_add(probe) % room
+// The place so far behind that of a hint.
+fn place(hint: u64, probe: usize) -> usize {
+    (hint as usize).wrapping_add(probe) % SLOTS
 }
 
 impl MarkTable {
-    /// No marks. Where there is no memory for the table none will be found.
-    pub(crate) fn new(alloc: Global) -> MarkTable
+    /// No marks. So many steps are between two of a row where they are closest together. Where there is no memory for the table none will
+    /// be found.
+    pub(crate) fn new(alloc: Global, closest: u32) -> MarkTable
         ensures { result.marks.items ≡ [] }
     {
         MarkTable {
             marks: Vec::new(alloc),
             slots: vec![in alloc; NO_MARK; SLOTS].unwrap_or(Vec::new(alloc)),
-            room: LEAST_ROOM,
+            closest,
+            turn: 0,
         }
     }
 
@@ -57,13 +60,9 @@ impl MarkTable {
     pub(crate) fn find(&self, kernel: &Kernel, hint: u64) -> Option<Ahead>
         ensures { IfSome result (IsRestAt self.now.marks.items kernel.now) }
     {
-        let room = self.slots.len();
-        if room == 0 {
-            return None;
-        }
         for probe in 0..PROBES {
-            let number = self.slots[place(hint, probe, room)] as usize;
-            let mark = self.marks.get(number)?;
+            let slot = self.slots.get(place(hint, probe))?;
+            let mark = self.marks.get(*slot as usize)?;
             if mark.hint == hint && kernel.is_at(&mark.kernel) {
                 return Some(mark.rest);
             }
@@ -71,94 +70,106 @@ impl MarkTable {
         None
     }
 
-    /// Puts a mark, where there is memory for it, of a row whose last injection comes before this step. Where there are too many, those are
-    /// left out first at which no row looks that was injected no later.
-    pub(crate) fn put(&mut self, mark: Mark, step: u32)
+    /// Puts a mark, where there is memory for it, of a row whose last injection comes before this step. Where there are many, it takes the
+    /// place of one at which no row looks that was injected no later, if such a one is found soon. The snapshot of that one is then among
+    /// the spent ones.
+    pub(crate) fn put(&mut self, mark: Mark, step: u32, spent: &mut Vec<Box<Snapshot>>)
         ensures { IsPutAt self.old.marks.items self.new.marks.items mark }
     {
-        self.make_room(step);
         let hint = mark.hint;
-        let number = self.marks.len();
-        let Ok(()) = self.add(mark) else {
+        let Some(number) = self.spent(step) else {
+            let number = self.marks.len();
+            if self.marks.push(mark).is_ok() {
+                self.guess(hint, number);
+            }
             return;
         };
+        let old = std::mem::replace(&mut self.marks[number], mark);
+        self.forget(old.hint, number);
         self.guess(hint, number);
+        // Where there is no memory for that, the snapshot is given back.
+        let _ = spent.push(old.kernel);
     }
 
-    // Appends a mark.
-    fn add(&mut self, mark: Mark) -> Result<(), Memory>
-        ensures ok { OnOk result (self.new.marks.items ≡ self.old.marks.items ++ mark ∷ []) }
-        ensures err { OnErr result (self.new.marks.items ≡ self.old.marks.items) }
+    // Whether no row looks at this mark whose last injection comes before this step, or earlier.
+    fn is_spent(&self, number: usize, step: u32) -> bool {
+        let Some(mark) = self.marks.get(number) else {
+            return false;
+        };
+        !may_look(self.closest, step, mark.step)
+    }
+
+    // The number of the mark whose turn it is.
+    fn take_turn(&mut self) -> usize
+        ensures marks { self.new.marks ≡ self.old.marks }
     {
-        if self.marks.push(mark).is_err() {
-            return Err(Memory);
+        let turn = self.turn;
+        self.turn = if turn.saturating_add(1) < self.marks.len() {
+            turn + 1
+        } else {
+            0
+        };
+        turn
+    }
+
+    // The number of a mark in place of which another may be put. Where there are few marks there is none, and where there are too many it is
+    // any.
+    fn spent(&mut self, step: u32) -> Option<usize>
+        ensures marks { self.new.marks ≡ self.old.marks }
+        ensures within { IfSome result (λ number. number < length self.old.marks.items) }
+    {
+        if self.marks.len() < LEAST_ROOM {
+            return None;
         }
-        Ok(())
+        for _ in 0..TRIES {
+            let number = self.take_turn();
+            if self.is_spent(number, step) && number < self.marks.len() {
+                return Some(number);
+            }
+        }
+        if self.marks.len() < MOST_MARKS {
+            return None;
+        }
+        Some(self.turn.min(self.marks.len() - 1))
+    }
+
+    // Of the places to which this hint leads, gives the first that has this number another. Whether one had it.
+    fn change(&mut self, hint: u64, number: u32, new: u32) -> bool
+        ensures { self.new.marks ≡ self.old.marks }
+    {
+        for probe in 0..PROBES {
+            let Some(slot) = self.slots.get_mut(place(hint, probe)) else {
+                return false;
+            };
+            if *slot == number {
+                *slot = new;
+                return true;
+            }
+        }
+        false
+    }
+
+    // The mark of this number, which had this hint, is gone.
+    fn forget(&mut self, hint: u64, number: usize)
+        ensures { self.new.marks ≡ self.old.marks }
+    {
+        if let Ok(mark) = u32::try_from(number) {
+            self.change(hint, mark, NO_MARK);
+        }
     }
 
     // Notes where a mark of this hint may be; in place of another one where all places are taken.
     fn guess(&mut self, hint: u64, number: usize)
         ensures { self.new.marks ≡ self.old.marks }
     {
-        let room = self.slots.len();
         let Ok(mark) = u32::try_from(number) else {
             return;
         };
-        if room == 0 {
+        if self.change(hint, NO_MARK, mark) {
             return;
         }
-        for probe in 0..PROBES {
-            let slot = &mut self.slots[place(hint, probe, room)];
-            if *slot == NO_MARK {
-                *slot = mark;
-                return;
-            }
-        }
-        self.slots[place(hint, number % PROBES, room)] = mark;
-    }
-
-    // Leaves out the marks at which no row looks whose last injection comes before this step, or earlier.
-    fn leave_out(&mut self, step: u32)
-        ensures { IsPart self.old.marks.items self.new.marks.items }
-    {
-        self.marks
-            .retain(|mark| may_look(step, mark.kernel.steps()));
-    }
-
-    // Where more than half of the room is taken, there is twice as much from now on; or all marks are left out, where that is too much.
-    fn leave_half(&mut self)
-        ensures { IsPart self.old.marks.items self.new.marks.items }
-    {
-        if self.marks.len() <= self.room / 2 {
-            return;
-        }
-        if self.room < MOST_MARKS {
-            self.room *= 2;
-            return;
-        }
-        self.marks.clear();
-    }
-
-    // Where there is no room for one more mark of a row whose last injection comes before this step, leaves out some.
-    fn make_room(&mut self, step: u32)
-        ensures { IsPart self.old.marks.items self.new.marks.items }
-    {
-        if self.marks.len() < self.room {
-            return;
-        }
-        self.leave_out(step);
-        self.leave_half();
-        self.guess_anew();
-    }
-
-    // Notes anew where each mark is.
-    fn guess_anew(&mut self)
-        ensures { self.new.marks ≡ self.old.marks }
-    {
-        self.slots.fill(NO_MARK);
-        for number in 0..self.marks.len() {
-            let hint = self.marks[number].hint;
-            self.guess(hint, number);
+        if let Some(slot) = self.slots.get_mut(place(hint, number % PROBES)) {
+            *slot = mark;
         }
     }
 }

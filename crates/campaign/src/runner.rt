@@ -20,7 +20,7 @@ use crate::mark_steps::next_mark;
 use crate::mark_table::MarkTable;
 use crate::meetings::Meetings;
 use crate::spacing::Spacing;
-use kernel::{Kernel, RestEnding, StepLog, Trail, go_far};
+use kernel::{Kernel, RestEnding, Snapshot, StepLog, Trail, go_far};
 use model::{App, End, Injection, Limits, Memory, Meter, Point, Run};
 use report::View;
 use rows::{KeptRow, Leg, Link};
@@ -38,17 +38,20 @@ pub(crate) struct Runner {
     pub(crate) legs: Vec<Leg>,
     pub(crate) table: MarkTable,
     passed: Vec<Passed>,
+    // Snapshots of marks that were replaced, whose memory is used again.
+    spent: Vec<Box<Snapshot>>,
     meetings: Meetings,
     spacing: Spacing,
 }
 
 // The first step at which a row looks for marks, whose last injection comes before this step. It is behind that, or behind each step that
 // a run can come to.
-fn first_mark(spacing: u32, last: u32) -> u32
+fn first_mark(spacing: &Spacing, last: u32) -> u32
     ensures { min last 1000000 < result }
 {
     let last = last.min(Limits::MOST);
-    next_mark(spacing, last, last)
+    let delay = spacing.delay().min(Limits::MOST);
+    next_mark(spacing.steps(), last, last + delay)
 }
 
 // How many of the base run's events a row has that is the base run, as far as the view shows it.
@@ -83,22 +86,40 @@ fn end_of_base(base: &Run) -> Link
     }
 }
 
+// A snapshot of the kernel, where there is memory for it: in that of one of these, if it serves.
+fn snapshot_of(
+    alloc: Global,
+    kernel: &Kernel,
+    spent: &mut Vec<Box<Snapshot>>,
+) -> Option<Box<Snapshot>>
+    ensures { IfSome result (λ snapshot. snapshot.value ≡ kernel.now) }
+{
+    if let Some(mut snapshot) = spent.pop() {
+        if kernel.save(&mut snapshot) {
+            return Some(snapshot);
+        }
+    }
+    kernel.boxed_snapshot(alloc).ok()
+}
+
 impl Runner {
     /// No row is run. The base run has a stop before each `stride`-th step.
     pub(crate) fn new(alloc: Global, app: &App, stride: u32) -> Runner
         ensures legs { result.legs.items ≡ [] }
         ensures marks { result.table.marks.items ≡ [] }
     {
+        let spacing = Spacing::new(stride);
         Runner {
             alloc,
             kernel: Kernel::boot(app),
             log: StepLog::new(),
             trail: Trail::new(alloc),
             legs: Vec::new(alloc),
-            table: MarkTable::new(alloc),
+            table: MarkTable::new(alloc, spacing.closest()),
             passed: Vec::new(alloc),
+            spent: Vec::new(alloc),
             meetings: Meetings::new(),
-            spacing: Spacing::new(stride),
+            spacing,
         }
     }
 
@@ -157,8 +178,7 @@ impl Runner {
         ensures table { self.new.table ≡ self.old.table }
         ensures passed { IsNoted (all_of self.old.trail) self.old.kernel self.old.passed.items self.new.passed.items }
     {
-        self.spacing.count_mark();
-        let Ok(kernel) = self.kernel.boxed_snapshot(self.alloc) else {
+        let Some(kernel) = snapshot_of(self.alloc, &self.kernel, &mut self.spent) else {
             return;
         };
         let from = self.trail.len();
@@ -275,7 +295,6 @@ impl Runner {
         ensures passed { OnOk result (AreBehind app.now shelf.now.limits (all_of self.new.trail) self.new.kernel self.new.passed.items) }
         ensures rest { IfOk result (IsAhead app.now shelf.now.limits shelf.now.base self.old.table.marks.items self.new.kernel) }
     {
-        self.spacing.count_row();
         let hint = self.kernel.hint(app);
         if let Some(rest) = self.known_rest(app, shelf, hint) {
             return Ok(rest);
@@ -353,11 +372,12 @@ impl Runner {
                 from: passed.from,
             };
             let mark = Mark {
+                step: passed.kernel.steps(),
                 kernel: passed.kernel,
                 hint: passed.hint,
                 rest: Ahead { told, ..*rest },
             };
-            self.table.put(mark, last);
+            self.table.put(mark, last, &mut self.spent);
         }
     }
 
@@ -420,7 +440,7 @@ impl Runner {
         self.passed.clear();
         let from = self.trail.len();
         let last = point.last_step();
-        let until = first_mark(self.spacing.steps(), last);
+        let until = first_mark(&self.spacing, last);
         let mut meter = Meter::new();
         let begun = shelf.begin_row_after(
             app,
@@ -433,6 +453,8 @@ impl Runner {
             &mut self.trail,
         )?;
         let rest = self.rest(app, shelf, view, point, begun.end, &mut meter)?;
+        let own = self.kernel.steps().saturating_sub(last);
+        self.spacing.count_row(own, self.passed.len());
         if !view.shows_events(rest.end) {
             self.close_without_events(&rest, from, last);
             return Ok(KeptRow {

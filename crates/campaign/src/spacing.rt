@@ -1,56 +1,138 @@
-//! How many steps are between two marks near an injection.
+//! How far behind its last injection a row looks for marks first, and how many steps are between two marks near it.
 use crate::mark_steps::spacing_of;
 
-// So often the spacing may be halved.
-const MOST_HALVINGS: u32 = 2;
+/// Where rows look: how often the widest spacing is halved, and how many eighths of it they do behind their last injection first.
+#[derive(Clone, Copy)]
+struct Plan {
+    halvings: u32,
+    eighths: u32,
+}
 
-// After so many rows it is judged.
-const ROWS: u32 = 512;
+// So many are tried.
+const PLANS: usize = 8;
 
-/// How many steps are between two marks near an injection, and how many marks the rows left since that was judged. Where rows leave
-/// few, as they mostly come to one at the first step at which they look, the steps between two are halved, so that they look sooner.
-/// Where rows leave many, these cost more than the steps.
+impl Plan {
+    // What is tried. What a handler has brought about mostly fades after some steps, and a row that looks sooner finds no mark.
+    fn numbered(number: usize) -> Plan {
+        let (halvings, eighths) = match number {
+            0 => (0, 0),
+            1 => (1, 0),
+            2 => (2, 0),
+            3 => (3, 0),
+            4 => (3, 1),
+            5 => (2, 1),
+            6 => (2, 2),
+            _ => (1, 2),
+        };
+        Plan { halvings, eighths }
+    }
+}
+
+// So often the widest spacing is halved at most.
+const MOST_HALVINGS: u32 = 3;
+
+// After so many rows it is judged what they cost.
+const ROWS: u32 = 256;
+
+// So often as many rows look in the best way, before all are tried anew.
+const TURNS: u32 = 256;
+
+// So many steps cost as much as a look that finds no mark, and the one that it leaves.
+const MARK: u32 = 20;
+
+// Of a row no more counts than so many: few rows of a worker are run far, and it doesn't matter where these look first.
+const MOST: u32 = 512;
+
+/// How many steps are between two marks near an injection, and how far behind it a row looks for one first. Each way to look is tried with
+/// many rows. The one with which they cost least is kept for long, and then all are tried again.
 #[derive(Drop)]
 pub(crate) struct Spacing {
     widest: u32,
-    halvings: u32,
+    steps: u32,
+    delay: u32,
+    // The number of the plan that is followed, and of the best.
+    plan: usize,
+    best: usize,
+    least: u32,
+    // How many turns the best is still kept; 0 while all are tried.
+    turns: u32,
     rows: u32,
-    marks: u32,
+    cost: u32,
 }
 
 impl Spacing {
-    /// The widest, where the base run has a stop before each `stride`-th step.
+    /// The first way that is tried: marks are widest apart, where the base run has a stop before each `stride`-th step.
     pub(crate) fn new(stride: u32) -> Spacing {
+        let widest = spacing_of(stride);
         Spacing {
-            widest: spacing_of(stride),
-            halvings: 0,
+            widest,
+            steps: widest,
+            delay: 0,
+            plan: 0,
+            best: 0,
+            least: u32::MAX,
+            turns: 0,
             rows: 0,
-            marks: 0,
+            cost: 0,
         }
+    }
+
+    /// How many steps are between two marks near an injection, where these are closest together.
+    pub(crate) fn closest(&self) -> u32 {
+        self.widest >> MOST_HALVINGS
     }
 
     /// How many steps they are now.
     pub(crate) fn steps(&self) -> u32 {
-        self.widest >> self.halvings.min(MOST_HALVINGS)
+        self.steps
     }
 
-    /// A row left a mark.
-    pub(crate) fn count_mark(&mut self) {
-        self.marks = self.marks.saturating_add(1);
+    /// How many steps a row now does behind its last injection before it looks.
+    pub(crate) fn delay(&self) -> u32 {
+        self.delay
     }
 
-    /// A row goes on behind its injections. After many rows it is judged how far from each other marks are to be.
-    pub(crate) fn count_row(&mut self) {
+    /// A row did so many steps behind its last injection, and left so many marks. After many rows it is judged what they cost.
+    pub(crate) fn count_row(&mut self, steps: u32, marks: usize) {
+        let marks = (marks.min(MOST as usize) as u32).saturating_mul(MARK);
+        let cost = steps.saturating_add(marks).min(MOST);
+        self.cost = self.cost.saturating_add(cost);
         self.rows = self.rows.saturating_add(1);
-        if self.rows < ROWS {
+        if self.rows >= ROWS {
+            self.judge();
+            self.rows = 0;
+            self.cost = 0;
+        }
+    }
+
+    // From now on rows look as this plan says.
+    fn follow(&mut self, plan: usize) {
+        let Plan { halvings, eighths } = Plan::numbered(plan);
+        self.plan = plan;
+        self.steps = self.widest >> halvings.min(MOST_HALVINGS);
+        self.delay = (self.widest / 8).saturating_mul(eighths);
+    }
+
+    // What rows cost that look in this way is known: takes the next, or the best.
+    fn judge(&mut self) {
+        if self.turns > 0 {
+            self.turns -= 1;
+            if self.turns == 0 {
+                self.least = u32::MAX;
+                self.follow(0);
+            }
             return;
         }
-        if self.marks > ROWS / 3 {
-            self.halvings = self.halvings.saturating_sub(1);
-        } else if self.marks < ROWS / 10 && self.halvings < MOST_HALVINGS {
-            self.halvings += 1;
+        if self.cost < self.least {
+            self.least = self.cost;
+            self.best = self.plan;
         }
-        self.rows = 0;
-        self.marks = 0;
+        let next = self.plan.saturating_add(1);
+        if next < PLANS {
+            self.follow(next);
+        } else {
+            self.follow(self.best);
+            self.turns = TURNS;
+        }
     }
 }

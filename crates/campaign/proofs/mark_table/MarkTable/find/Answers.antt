@@ -10,11 +10,12 @@ pub returns-then-is_at : goal.returns-then-is_at
 returns-then-is_at c =
     let mark = c.in_ok-mark.mark.now in
     let marks = c.args.self.now.marks.items in
-    let number = c.index.result.now in
+    let number = c.in_ok-slot.slot.now in
     let lookup = c.in_ok-mark.ensures.lookup in
-    let below : number < length marks = subst (λ (ms : List Mark). number < length ms) c.deref.ensures.value lookup.3.0 in
+    let below : number < length marks =
+    subst (λ (ms : List Mark). number < length ms) c.deref-in-loop-probe.ensures.value lookup.3.0 in
     let found : mark ≡ get_or marks number mark =
-    subst (λ (ms : List Mark). mark ≡ get_or ms number mark) c.deref.ensures.value lookup.1 in
+    subst (λ (ms : List Mark). mark ≡ get_or ms number mark) c.deref-in-loop-probe.ensures.value lookup.1 in
     rest_found marks number mark c.args.kernel.now below found
     (subst (λ (k : Machine). c.args.kernel.now.steps ≡ k.steps) c.deref-then-mark-hint.ensures
     (c.is_at.ensures.steps c.if-is_at.true))
