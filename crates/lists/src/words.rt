@@ -1,6 +1,6 @@
 //! Numbers that are compared several at a time.
 ghost use Rattle.std.specs.Prelude.{◌≡◌, ◌≢◌, ℕ, ◌+◌, ◌<◌, ◌≤◌, get_or, length, true};
-ghost use Rattle.lists.specs.Words.{AreSameBetween, AreZeroBetween, word_of, word_of_bytes};
+ghost use Rattle.lists.specs.Words.{AreZeroBetween, word_of};
 
 /// Four numbers as one.
 #[inline(always)]
@@ -10,27 +10,7 @@ pub(crate) fn word_of(first: u16, second: u16, third: u16, fourth: u16) -> u64
     first as u64 + 65536 * (second as u64 + 65536 * (third as u64 + 65536 * fourth as u64))
 }
 
-/// Whether two lists have the same four numbers from a place on. These are compared as one number.
-#[inline(always)]
-fn are_same_four(numbers: &[u16], others: &[u16], at: usize) -> bool
-    requires numbers { at + 4 ≤ length numbers.now }
-    requires others { at + 4 ≤ length others.now }
-    ensures first { result ≡ true → get_or numbers.now at 0 ≡ get_or others.now at 0 }
-    ensures second { result ≡ true → get_or numbers.now (at + 1) 0 ≡ get_or others.now (at + 1) 0 }
-    ensures third { result ≡ true → get_or numbers.now (at + 2) 0 ≡ get_or others.now (at + 2) 0 }
-    ensures fourth { result ≡ true → get_or numbers.now (at + 3) 0 ≡ get_or others.now (at + 3) 0 }
-{
-    let word = word_of(
-        numbers[at],
-        numbers[at + 1],
-        numbers[at + 2],
-        numbers[at + 3],
-    );
-    let other = word_of(others[at], others[at + 1], others[at + 2], others[at + 3]);
-    word == other
-}
-
-/// Whether two lists of numbers are the same. Four numbers are compared at a time.
+/// Whether two lists of numbers are the same. It looks at all of them, whatever it finds, so that many are compared at a time.
 #[inline(always)]
 pub fn are_same(numbers: &[u16], others: &[u16]) -> bool
     ensures { result ≡ true → numbers.now ≡ others.now }
@@ -39,20 +19,11 @@ pub fn are_same(numbers: &[u16], others: &[u16]) -> bool
     if count != others.len() {
         return false;
     }
-    let mut at = 0;
-    while count - at >= 4 {
-        if !are_same_four(numbers, others, at) {
-            return false;
-        }
-        at += 4;
+    let mut same = true;
+    for at in 0..count {
+        same &= numbers[at] == others[at];
     }
-    while at < count {
-        if numbers[at] != others[at] {
-            return false;
-        }
-        at += 1;
-    }
-    true
+    same
 }
 
 /// Whether four numbers from a place on are 0. They are looked at as one number.
@@ -100,30 +71,7 @@ pub fn first_nonzero(numbers: &[u16], from: usize) -> usize
     count
 }
 
-/// Four bytes of a list, from a place on, as one number.
-#[inline(always)]
-fn word_at(bytes: &[u8], at: usize) -> u32
-    requires { at + 4 ≤ length bytes.now }
-    ensures word { result ≡ word_of_bytes (get_or bytes.now at 0) (get_or bytes.now (at + 1) 0)
-        (get_or bytes.now (at + 2) 0) (get_or bytes.now (at + 3) 0) }
-{
-    bytes[at] as u32
-        + 256 * (bytes[at + 1] as u32 + 256 * (bytes[at + 2] as u32 + 256 * bytes[at + 3] as u32))
-}
-
-/// Whether two lists have the same eight bytes from a place on. These are compared as one number.
-#[inline(always)]
-fn are_same_eight_bytes(bytes: &[u8], others: &[u8], at: usize) -> bool
-    requires bytes { at + 8 ≤ length bytes.now }
-    requires others { at + 8 ≤ length others.now }
-    ensures { result ≡ true → AreSameBetween bytes.now others.now at (at + 8) }
-{
-    let word = word_at(bytes, at) as u64 + 4294967296 * word_at(bytes, at + 4) as u64;
-    let other = word_at(others, at) as u64 + 4294967296 * word_at(others, at + 4) as u64;
-    word == other
-}
-
-/// Whether two lists of bytes are the same. Eight bytes are compared at a time.
+/// Whether two lists of bytes are the same. It looks at all of them, whatever it finds, so that many are compared at a time.
 #[inline(always)]
 pub fn are_same_bytes(bytes: &[u8], others: &[u8]) -> bool
     ensures { result ≡ true → bytes.now ≡ others.now }
@@ -132,18 +80,9 @@ pub fn are_same_bytes(bytes: &[u8], others: &[u8]) -> bool
     if count != others.len() {
         return false;
     }
-    let mut at = 0;
-    while count - at >= 8 {
-        if !are_same_eight_bytes(bytes, others, at) {
-            return false;
-        }
-        at += 8;
+    let mut same = true;
+    for at in 0..count {
+        same &= bytes[at] == others[at];
     }
-    while at < count {
-        if bytes[at] != others[at] {
-            return false;
-        }
-        at += 1;
-    }
-    true
+    same
 }

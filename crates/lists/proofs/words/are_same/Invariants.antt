@@ -1,15 +1,6 @@
-use Rattle.std.proofs.Common.{◌≤◌, ◌-◌}
+use Rattle.std.proofs.Common.{◌≡◌, true}
 use Rattle.lists.specs.Words.{AreSameBelow}
 use Rattle.lists.proofs.words.are_same.Given as goal
 
 abbrev pub invariant-loop-at : goal.invariant-loop-at
-invariant-loop-at l = record { within : l.at ≤ l.count; same : AreSameBelow l.numbers l.others l.at }
-
-abbrev pub decreases-loop-at : goal.decreases-loop-at
-decreases-loop-at l = l.count - l.at
-
-abbrev pub invariant-loop-at-2 : goal.invariant-loop-at-2
-invariant-loop-at-2 l = record { within : l.at ≤ l.count; same : AreSameBelow l.numbers l.others l.at }
-
-abbrev pub decreases-loop-at-2 : goal.decreases-loop-at-2
-decreases-loop-at-2 l = l.count - l.at
+invariant-loop-at l = record { same : l.same ≡ true → AreSameBelow l.numbers l.others l.at }
