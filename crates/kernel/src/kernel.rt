@@ -99,8 +99,8 @@ impl Kernel {
         self.machine.boxed_snapshot(alloc, self.tasks)
     }
 
-    /// Makes a snapshot that of the kernel as it is now, in the memory that it has. `false` where that is too little, or the snapshot is of
-    /// another application; then it is of no more use.
+    /// Makes a snapshot that of the kernel as it is now, in the memory that it has, and more only where more tasks have done something.
+    /// `false` where that is refused, or the snapshot is of another application; then it is of no more use.
     pub fn save(&self, snapshot: &mut Snapshot) -> bool
         ensures { result ≡ true → snapshot.new ≡ self.now }
     {

@@ -6,8 +6,8 @@
 //! each node is. `Table::insert_sorted` walks along its list from the first node, and
 //! `Table::insert_sorted_from_back` from the last.
 //!
-//! Tables are compared four numbers at a time. So are lists of numbers by `are_same`, and bytes, eight at a time, by
-//! `are_same_bytes`. `first_nonzero` passes four zeros at a time.
+//! `are_same` and `are_same_bytes` look at all of two lists, so that many numbers are compared at a time. Where tables are compared,
+//! nodes in no list are passed four at a time, and so are zeros by `first_nonzero`.
 #![tactic(auto)]
 
 mod ids;

@@ -38,8 +38,8 @@ pub(crate) fn front_of(
     Ok(front)
 }
 
-/// Makes a front that of the first tasks as they are now, as `front_of` does, in the memory that it has. `Memory` is answered only where that
-/// is too little, and a growth was refused.
+/// Makes a front that of the first tasks as they are now, as `front_of` does, in the memory that it has, and more only where that is too
+/// little. `Memory` is answered only where a growth was refused.
 pub(crate) fn save_front(
     progress: &[Progress; 32],
     most: usize,

@@ -103,8 +103,8 @@ impl Machine {
         }
     }
 
-    /// Makes a snapshot that of the kernel as it is now, which is of so many tasks, in the memory that it has. `false` where that is too
-    /// little, or the snapshot is of another application; then it is of no more use.
+    /// Makes a snapshot that of the kernel as it is now, which is of so many tasks, in the memory that it has, and more only where more tasks
+    /// have done something. `false` where that is refused, or the snapshot is of another application; then it is of no more use.
     pub fn save(&self, snapshot: &mut Snapshot, tasks: usize) -> bool
         ensures { result ≡ true → AreBlankFrom tasks self.now.progress → snapshot.new ≡ self.now }
     {

@@ -260,7 +260,7 @@ impl Items {
     }
 
     /// Makes a snapshot that of the queues as they are now, in the memory that it has. `false` where the regions of its queues are of
-    /// another size; then it is as it was.
+    /// another size.
     pub(crate) fn save(&self, snapshot: &mut ItemsSnapshot) -> bool
         ensures { result ≡ true → snapshot.new ≡ self.now }
     {
