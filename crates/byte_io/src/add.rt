@@ -10,6 +10,9 @@ use crate::page::Page;
 use crate::put::{WriteFault, put_all};
 use crate::stream::Sink;
 
+// A text that is longer than this goes to the sink as it is: to copy it takes longer than a call of the sink's.
+const MOST_COPIED: usize = 4096;
+
 /// Puts the bytes of the page, and empties it. At `Err` the sink failed or took none of some bytes, it has taken a
 /// beginning of the page's bytes, and the page is as it was.
 pub fn flush<W: Sink>(writer: &mut W, page: &mut Page) -> Result<(), WriteFault>
@@ -41,13 +44,13 @@ pub fn make_room<W: Sink>(writer: &mut W, page: &mut Page, count: usize) -> Resu
     flush(writer, page)
 }
 
-/// Adds a text of any length. One that is longer than a page goes to the sink as it is.
+/// Adds a text of any length. A long one goes to the sink as it is.
 pub fn add_text<W: Sink>(writer: &mut W, page: &mut Page, text: &[u8]) -> Result<(), WriteFault>
     requires { W.has_failed writer.old ≡ false }
     ensures text { Adds (W.held writer.old) (W.held writer.new) page.old page.new result text.now }
     ensures failed { W.has_failed writer.new ≡ is_err result }
 {
-    if text.len() > Page::SIZE {
+    if text.len() > MOST_COPIED {
         flush(writer, page)?;
         return put_all(writer, text);
     }

@@ -1,5 +1,5 @@
 -- A report that is being written.
-use Rattle.std.specs.Prelude.{◌≡◌, ℕ, ◌+◌, ◌*◌, ◌<◌, ◌≤◌, List, length, take, slice_index_or}
+use Rattle.std.specs.Prelude.{◌≡◌, ℕ, ◌+◌, ◌<◌, ◌≤◌, List, length, take, slice_index_or}
 use Rattle.std.specs.List.{flat_map}
 use Rattle.model.specs.Application.{Application}
 use Rattle.model.specs.declared.event.Event.{Event}
@@ -15,9 +15,9 @@ pub record Events : Type 0 where
   pub app : Application
   pub events : List Event
 
--- The first groups of eight events have this text, and each group ends here in it.
+-- The first events have this text, and the line of each ends here in it.
 pub record IsSpelled (app : Application) (events : List Event) (text ends : List ℕ) : Type 0 where
-  pub within : 8 * length ends ≤ length events
-  pub is : text ≡ flat_map (event_text app) (take (8 * length ends) events)
-  pub ending : (group : ℕ) → group < length ends
-      → slice_index_or ends group 0 ≡ length (flat_map (event_text app) (take (8 * (group + 1)) events))
+  pub within : length ends ≤ length events
+  pub is : text ≡ flat_map (event_text app) (take (length ends) events)
+  pub ending : (number : ℕ) → number < length ends
+      → slice_index_or ends number 0 ≡ length (flat_map (event_text app) (take (number + 1) events))

@@ -10,23 +10,19 @@ use model::{App, Event, Memory};
 use std::alloc::Global;
 use std::marker::Model;
 
-// Where the text ends is kept for each group of this many events.
-const GROUP: usize = 8;
-
-// No group is added to a text that is longer than this, in bytes.
+// No line is added to a text that is longer than this, in bytes.
 const MOST_TEXT: usize = 1 << 26;
 
-// The text of the first groups of some events, and where each group ends in it.
+// The text of the first of some events, and where the line of each ends in it.
 #[derive(Drop)]
 pub(crate) struct Spelled {
     text: Vec<u8>,
     ends: Vec<u32>,
 }
 
-/// Events in three parts: some, others by their text, and those behind them.
+/// Events in two parts: some by their text, and those behind them.
 #[derive(Drop)]
 pub(crate) struct Tail<'a> {
-    pub(crate) before: &'a [Event],
     pub(crate) text: &'a [u8],
     pub(crate) behind: &'a [Event],
 }
@@ -66,47 +62,46 @@ impl Spelled {
         }
     }
 
-    // Adds the text of the next group, by way of the page.
-    fn add(&mut self, lines: &mut Lines<'_>, page: &mut Page, group: &[Event]) -> Result<(), Memory>
-        requires few { length group.now ≤ GROUP }
+    // Adds the line of the next event, which is given as a list of one, by way of the page.
+    fn add(&mut self, lines: &mut Lines<'_>, page: &mut Page, next: &[Event]) -> Result<(), Memory>
+        requires few { length next.now ≤ 1 }
         requires short { vec_len self.old.text ≤ MOST_TEXT }
         ensures app { lines.new ≡ lines.old }
-        ensures text { OnOk result (self.new.text.items ≡ self.old.text.items ++ flat_map (event_text lines.old) group.now) }
+        ensures text { OnOk result (self.new.text.items ≡ self.old.text.items ++ flat_map (event_text lines.old) next.now) }
         ensures ends { OnOk result (self.new.ends.items ≡ self.old.ends.items ++ length self.new.text.items ∷ []) }
     {
         page.clear();
-        lines.push_all(page, group);
+        lines.push_all(page, next);
         self.text.extend_from_slice(page.bytes())?;
         self.ends.push(self.text.len() as u32)?;
         Ok(())
     }
 
-    // Where the text of the first so many groups ends.
-    fn end_of(&self, groups: usize) -> usize
-        requires { groups ≤ length self.now.ends.items }
-        ensures { result ≡ slice_index_or (0 ∷ self.now.ends.items) groups 0 }
+    // Where the text of the first so many events ends.
+    fn end_of(&self, count: usize) -> usize
+        requires { count ≤ length self.now.ends.items }
+        ensures { result ≡ slice_index_or (0 ∷ self.now.ends.items) count 0 }
     {
-        if groups == 0 {
+        if count == 0 {
             0
         } else {
-            self.ends[groups - 1] as usize
+            self.ends[count - 1] as usize
         }
     }
 }
 
-// Spells the events of an application, group by group.
+// Spells the events of an application, one after another.
 fn spell(alloc: Global, app: &App, events: &[Event]) -> Result<Spelled, Memory>
     ensures { IfOk result (λ s. IsSpelled app.now events.now s.text.items s.ends.items) }
 {
     let mut spelled = Spelled::new(alloc);
     let mut lines = Lines::new(app);
     let mut page = Page::new();
-    for number in 0..events.len() / GROUP {
+    for number in 0..events.len() {
         if spelled.text.len() > MOST_TEXT {
             break;
         }
-        let first = number * GROUP;
-        spelled.add(&mut lines, &mut page, &events[first..first + GROUP])?;
+        spelled.add(&mut lines, &mut page, &events[number..number + 1])?;
     }
     Ok(spelled)
 }
@@ -151,26 +146,23 @@ impl<'a> BaseEvents<'a> {
         let Some(spelled) = &self.spelled else {
             return (&[], 0);
         };
-        let groups = (count / GROUP).min(spelled.ends.len());
-        let end = spelled.end_of(groups);
-        (&spelled.text[..end], groups * GROUP)
+        let count = count.min(spelled.ends.len());
+        let end = spelled.end_of(count);
+        (&spelled.text[..end], count)
     }
 
-    /// The events from this one on: those up to the next group, the text of all groups that are spelled behind them, and the others.
+    /// The events from this one on: the text of those that are spelled, and the others.
     pub(crate) fn tail(&self, from: usize) -> Tail<'_>
         requires { from ≤ length self.now.events }
-        ensures { flat_map (event_text self.now.app) result.before.now ++ (result.text.now ++ flat_map (event_text self.now.app) result.behind.now)
+        ensures { result.text.now ++ flat_map (event_text self.now.app) result.behind.now
             ≡ flat_map (event_text self.now.app) (drop from self.now.events) }
     {
-        let first = from.div_ceil(GROUP);
         match &self.spelled {
-            Some(spelled) if first < spelled.ends.len() => Tail {
-                before: &self.events[from..first * GROUP],
-                text: &spelled.text[spelled.end_of(first)..],
-                behind: &self.events[spelled.ends.len() * GROUP..],
+            Some(spelled) if from < spelled.ends.len() => Tail {
+                text: &spelled.text[spelled.end_of(from)..],
+                behind: &self.events[spelled.ends.len()..],
             },
             _ => Tail {
-                before: &[],
                 text: &[],
                 behind: &self.events[from..],
             },

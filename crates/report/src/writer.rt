@@ -119,7 +119,6 @@ fn add_base_from<W: Sink>(
     ensures failed { W.has_failed writer.new ≡ is_err result }
 {
     let tail = base.tail(from);
-    add_events(writer, page, lines, tail.before)?;
     add_text(writer, page, tail.text)?;
     add_events(writer, page, lines, tail.behind)
 }

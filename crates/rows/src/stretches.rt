@@ -10,9 +10,8 @@ use report::BaseEvents;
 use std::alloc::Global;
 use std::marker::Model;
 
-// A leg of fewer events than this many is spelled for each row that goes over it. Most rows have a leg of some 100 events, which few others
-// go over.
-const LEAST_EVENTS: usize = 256;
+// A leg of fewer events than this many is spelled for each row that goes over it. Few others go over most of those.
+const LEAST_EVENTS: usize = 64;
 
 // So many events of a part are spelled at most, which are some 100 MB of text.
 const MOST_EVENTS: usize = 1 << 22;

@@ -5,6 +5,6 @@ use Rattle.report.proofs.base_events.spell.Given as goal
 abbrev pub invariant-loop-number : goal.invariant-loop-number
 invariant-loop-number l = record {
   app : l.lines ≡ l.app;
-  groups : length l.spelled.ends.items ≡ l.number;
+  as_many : length l.spelled.ends.items ≡ l.number;
   is : IsSpelled l.app l.events l.spelled.text.items l.spelled.ends.items;
 }
