@@ -34,13 +34,30 @@ impl From<ExpandFault> for ServeFault {
     }
 }
 
-// How many points a block has: as many as are asked for, and four times as many where heads alone are written. There the last blocks come
-// first, and a worker begins each block at a stop of the base run.
-fn points_of_a_block(options: Options, view: View) -> usize
+// So many blocks there are for each worker at least, where there are points enough: then none waits long for the others at the end.
+const LEAST_BLOCKS: usize = 8;
+
+// How many points a block has: as many as are asked for, or fewer, so that there are some blocks for each of so many workers.
+fn points_of_a_block(options: Options, points: usize, workers: usize) -> usize
+    requires { 0 < workers }
     ensures { 0 < result }
 {
-    let block = options.block.clamp(1, Options::MOST_BLOCK) as usize;
-    if view.heads { 4 * block } else { block }
+    let most = options.block.clamp(1, Options::MOST_BLOCK) as usize;
+    most.min(points / workers / LEAST_BLOCKS).max(1)
+}
+
+// How many steps are between two stops of the base run: as many as are asked for, and eight times as many where the report isn't a whole one.
+// There it is of no use that a row goes on as the base run does, and not as another row, so most stops would only take memory.
+fn steps_between_stops(options: Options, view: View) -> u32
+    ensures some { 0 < result }
+    ensures near { result ≤ 65536 }
+{
+    let stride = if view == View::plain() {
+        options.stride
+    } else {
+        options.stride.saturating_mul(8)
+    };
+    stride.clamp(1, Options::MOST_STRIDE)
 }
 
 // The report of these points, of which the first has this number. The rows are counted by a tally of its own.
@@ -62,7 +79,7 @@ fn report_from<R: Threads + Wait + Sync, G: Gate + Sync>(
     ensures rows { IfOk result (λ report. AreSeen app.now shelf.limits view points.now report.rows) }
 {
     let workers = options.workers.clamp(1, Options::MOST_WORKERS) as usize;
-    let block = points_of_a_block(options, view);
+    let block = points_of_a_block(options, points.len(), workers);
     let Ok(division) = Division::even(alloc, points.len(), block) else {
         return Err(Memory);
     };
@@ -87,7 +104,7 @@ fn report_of<R: Threads + Wait + Sync, G: Gate + Sync>(
 ) -> Result<Report, ServeFault>
     ensures { MatchResult result (IsShownOf app.now view shard) (IsCampaignFault app.now) }
 {
-    let stride = options.stride.clamp(1, Options::MOST_STRIDE);
+    let stride = steps_between_stops(options, view);
     let shelf = Shelf::make(alloc, app, app.limits(), stride)?;
     let points = expand(alloc, app, shelf.base())?;
     let first = shard.first(points.len());

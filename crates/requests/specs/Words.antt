@@ -87,7 +87,7 @@ abbrev pub stride_rule : Rule
 stride_rule = option_rule (codes "stride") (codes "64") 1 65536
 
 abbrev pub block_rule : Rule
-block_rule = option_rule (codes "block") (codes "16") 1 1000000
+block_rule = option_rule (codes "block") (codes "512") 1 1000000
 
 abbrev pub campaign_app : App
 campaign_app =

@@ -10,7 +10,7 @@ pub struct Options {
     pub workers: u32,
     /// How many steps lie between two states of the base run that are kept, 1 to 65,536.
     pub stride: u32,
-    /// How many points a worker takes at once, 1 to 1,000,000.
+    /// How many points a worker takes at once at most, 1 to 1,000,000.
     pub block: u32,
 }
 
@@ -26,14 +26,14 @@ pub enum BadOption {
 }
 
 impl Default for Options {
-    /// One worker, a state kept every 64 steps, blocks of 16 points.
+    /// One worker, a state kept every 64 steps, blocks of 512 points.
     fn default() -> Options
-        ensures { result ≡ record { workers = 1; stride = 64; block = 16 } }
+        ensures { result ≡ record { workers = 1; stride = 64; block = 512 } }
     {
         Options {
             workers: 1,
             stride: 64,
-            block: 16,
+            block: 512,
         }
     }
 }

@@ -146,8 +146,8 @@ fn stride_argument<'a>(alloc: Global) -> Arg<'a>
 fn block_argument<'a>(alloc: Global) -> Arg<'a>
     ensures { IsArgOf block_rule result }
 {
-    number_argument(alloc, "block", "B", 1_000_000, "16").help(
-        "Points that a worker takes at once, 1 to 1000000",
+    number_argument(alloc, "block", "B", 1_000_000, "512").help(
+        "Points that a worker takes at once at most, 1 to 1000000",
     )
 }
 
