@@ -128,27 +128,27 @@ struct NamedCampaign {
 const CAMPAIGNS: [NamedCampaign; 7] = [
     NamedCampaign {
         words: &["rtosim", "campaign", "app.toml"],
-        options: (1, 64, 16),
+        options: (1, 64, 512),
         quiet: false,
     },
     NamedCampaign {
         words: &["rtosim", "campaign", "app.toml", "--quiet"],
-        options: (1, 64, 16),
+        options: (1, 64, 512),
         quiet: true,
     },
     NamedCampaign {
         words: &["rtosim", "campaign", "--quiet", "app.toml"],
-        options: (1, 64, 16),
+        options: (1, 64, 512),
         quiet: true,
     },
     NamedCampaign {
         words: &["rtosim", "campaign", "app.toml", "--workers", "64"],
-        options: (64, 64, 16),
+        options: (64, 64, 512),
         quiet: false,
     },
     NamedCampaign {
         words: &["rtosim", "campaign", "--stride=65536", "app.toml"],
-        options: (1, 65_536, 16),
+        options: (1, 65_536, 512),
         quiet: false,
     },
     NamedCampaign {
