@@ -15,7 +15,7 @@ use deal::{Division, Tally};
 use model::{App, Memory, Point, Totals};
 use report::{Shard, View};
 use requests::Options;
-use rows::{Report, write_report_in};
+use rows::{Report, write_report};
 use shelf::Shelf;
 use std::alloc::Global;
 use std::sync::Wait;
@@ -131,7 +131,7 @@ fn serve_app<T: Threads + Wait + Sync, W: Sink, G: Gate + Sync>(
 {
     let threads = options.workers.clamp(1, Options::MOST_WORKERS) as usize;
     let report = report_of(rt, alloc, app, view, shard, options, gate)?;
-    write_report_in(rt, alloc, app, &report, threads, writer)?;
+    write_report(rt, alloc, app, &report, threads, writer)?;
     let totals = report.totals();
     report.free(rt);
     Ok(totals)

@@ -200,7 +200,8 @@ fn report_of<R: Abort + Threads + Wait + Sync>(
     let points = Vec::from_slice(alloc, points).ok().expect(rt, "memory");
     let finished = campaign_in(rt, alloc, app, points, manner, division, &NoGate);
     let mut text = Vec::new(alloc);
-    write_report(app, &finished.report, &mut ToWriter::new(&mut text))
+    let mut writer = ToWriter::new(&mut text);
+    write_report(rt, alloc, app, &finished.report, 1, &mut writer)
         .ok()
         .expect(rt, "memory");
     text

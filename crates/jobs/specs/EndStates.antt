@@ -5,7 +5,7 @@ use Rattle.model.specs.declared.plan.Injection.{Injection}
 use Rattle.model.specs.Application.{Application}
 use Rattle.model.specs.Campaign.{is_pass}
 use Rattle.model.specs.Run.{Run, state_after}
-use Rattle.outcome.specs.EndStates.{EndState, end_state_of}
+use Rattle.model.specs.EndStates.{EndState, end_state_of}
 use Rattle.report.specs.declared.title.Title.{Title}
 use Rattle.report.specs.declared.title.Title.TheVariants.{Base, Row}
 use Rattle.report.specs.EndStates.{end_state_text}

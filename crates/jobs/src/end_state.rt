@@ -1,7 +1,7 @@
 //! A run of a file, with its end state.
 ghost use Rattle.std.specs.Prelude.{◌≡◌, ℕ, List, [], Some, false, IfOk, MatchResult, if◌then◌else◌};
 ghost use Rattle.model.specs.Run.{IsRow, IsRun, state_after};
-ghost use Rattle.outcome.specs.EndStates.{end_state_of};
+ghost use Rattle.model.specs.EndStates.{end_state_of};
 ghost use Rattle.campaign.specs.OneRun.{IsAsked, IsRunFault};
 ghost use Rattle.campaign.specs.Serving.{IsFileOf};
 ghost use Rattle.jobs.specs.EndStates.{EndStateServed, ServesEndState, end_state_of_run};
@@ -9,8 +9,7 @@ ghost use Rattle.jobs.specs.EndStates.{EndStateServed, ServesEndState, end_state
 use byte_io::Sink;
 use campaign::{ServeFault, app_in};
 use kernel::run_to_end_state;
-use model::{App, End, Memory, Meter, Plan, Point, Run};
-use outcome::EndState;
+use model::{App, End, EndState, Memory, Meter, Plan, Point, Run};
 use report::{Title, write_run_and_end_state};
 use requests::At;
 use std::alloc::Global;

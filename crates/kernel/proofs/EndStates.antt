@@ -40,10 +40,10 @@ use Rattle.kernel.specs.EndStates.{Settles, StandsOpened}
 use Rattle.sched.specs.Schedule as schedule
 use Rattle.sched.specs.Schedule.{is_suspended}
 use Rattle.sched.proofs.Standing.{ready_same}
-use Rattle.outcome.specs.declared.end_state.HeldMutex.{HeldMutex}
-use Rattle.outcome.specs.declared.end_state.Situation.{Situation}
-use Rattle.outcome.specs.declared.end_state.Situation.TheVariants as situation
-use Rattle.outcome.specs.EndStates.{EndState, end_state_of, held_by, held_from, situation_by, situation_of}
+use Rattle.model.specs.declared.end_state.HeldMutex.{HeldMutex}
+use Rattle.model.specs.declared.end_state.Situation.{Situation}
+use Rattle.model.specs.declared.end_state.Situation.TheVariants as situation
+use Rattle.model.specs.EndStates.{EndState, end_state_of, held_by, held_from, situation_by, situation_of}
 
 -- ---- who has begun to wait, and isn't in its lists yet
 

@@ -12,7 +12,7 @@ use Rattle.objects.specs.Objects as objects
 use Rattle.objects.specs.WaitersStand.{is_awake}
 use Rattle.machine.specs.declared.machine.Machine.{Machine}
 use Rattle.machine.specs.StandsFor.{StandsFor, progress_in}
-use Rattle.outcome.specs.EndStates.{end_state_of}
+use Rattle.model.specs.EndStates.{end_state_of}
 
 -- The kernel represents a state of the application, in which each task is in its lists, and what is reported of it is what is
 -- reported of this one.

@@ -14,16 +14,17 @@ ghost use Rattle.objects.specs.WaitersStand.{AtLocked};
 ghost use Rattle.machine.specs.StandsFor.{Stands, StandsFor};
 ghost use Rattle.ops.specs.Can.{CanPlace};
 ghost use Rattle.kernel.specs.EndStates.{IsOpened, Settles, StandsOpened};
-ghost use Rattle.outcome.specs.declared.end_state.Situation.TheVariants as situation;
-ghost use Rattle.outcome.specs.EndStates.{end_state_of, held_by, held_from, situation_of, situations_of};
+ghost use Rattle.model.specs.declared.end_state.Situation.TheVariants as situation;
+ghost use Rattle.model.specs.EndStates.{end_state_of, held_by, held_from, situation_of, situations_of};
 
 use crate::in_call::phase;
 use crate::steps::finish;
 use arrayvec::ArrayVec;
 use machine::{Machine, StepLog, Trail, place_sleeper};
-use model::{App, Limits, Memory, Meter, ObjectId, Phase, Plan, Run, TaskId};
+use model::{
+    App, EndState, HeldMutex, Limits, Memory, Meter, ObjectId, Phase, Plan, Run, Situation, TaskId,
+};
 use objects::{Objects, Taken, Unlocked};
-use outcome::{EndState, HeldMutex, Situation};
 use std::alloc::Global;
 
 /// The task, which has begun to wait, is put into its waiting list and, if it waits until a deadline, among those who wake by

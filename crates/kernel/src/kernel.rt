@@ -63,16 +63,6 @@ impl Kernel {
         }
     }
 
-    /// A copy. It takes no memory.
-    pub fn copy(&self) -> Self
-        ensures { result ≡ self.now }
-    {
-        Kernel {
-            machine: self.machine.copy(),
-            tasks: self.tasks,
-        }
-    }
-
     /// Becomes a copy of the other, in place. It takes no memory.
     pub fn set_from(&mut self, other: &Self)
         ensures { self.new ≡ other.now }

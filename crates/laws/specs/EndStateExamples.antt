@@ -7,8 +7,8 @@ use Rattle.model.specs.declared.op.IsrOp.TheVariants as isr_op
 use Rattle.model.specs.declared.plan.Injection.{Injection}
 use Rattle.model.specs.Application.{Application}
 use Rattle.model.specs.Run.{state_after}
-use Rattle.outcome.specs.declared.end_state.Situation.TheVariants.{Runs, Ready, Awake, Waits, Sleeps, Suspended, Ended}
-use Rattle.outcome.specs.EndStates.{EndState, end_state_of, held_by}
+use Rattle.model.specs.declared.end_state.Situation.TheVariants.{Runs, Ready, Awake, Waits, Sleeps, Suspended, Ended}
+use Rattle.model.specs.EndStates.{EndState, end_state_of, held_by}
 use Rattle.laws.specs.Examples.{a_task, a_task_of, on_queue, a, b, c, with_objects}
 use Rattle.laws.specs.HandlerExamples.{point_at, sends, with_handler}
 use Rattle.laws.specs.MutexExamples.{lock, lock_forever, m, n}

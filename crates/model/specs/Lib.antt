@@ -21,6 +21,7 @@ pub mod Daemon
 pub mod Handlers
 pub mod Step
 pub mod Run
+pub mod EndStates
 pub mod Campaign
 pub mod Plans
 pub mod Invariant

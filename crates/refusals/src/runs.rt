@@ -6,10 +6,11 @@ use crate::fault::{Fault, of_expanding, of_loading, of_serving};
 use byte_io::{FromReader, ToWriter};
 use campaign::{NoGate, Options, Report, campaign, expand, serve, write_report};
 use deal::{Division, Tally};
-use model::{App, HandlerId, Meter, Plan, Point, Run};
+use kernel::{Kernel, StepLog, Trail};
+use model::{App, Event, HandlerId, Meter, Plan, Point, Run};
 use report::{Shard, Title, View, write_run};
 use script::FromDocument;
-use shelf::{Row, Shelf};
+use shelf::{Shelf, Walk};
 use std::alloc::Global;
 use std::sync::Wait;
 use std::thread::Threads;
@@ -59,16 +60,88 @@ pub(crate) fn shelf_of(alloc: Global, app: &App) -> Result<Shelf, Fault>
     }
 }
 
+/// A row with all its events.
+#[derive(Drop)]
+pub(crate) struct Row {
+    pub(crate) point: Point,
+    pub(crate) reached: bool,
+    pub(crate) run: Run,
+}
+
+// The first so many events of the base run, and behind them these.
+fn with_shared(
+    alloc: Global,
+    shelf: &Shelf,
+    count: usize,
+    own: &[Event],
+) -> Result<Vec<Event>, Fault> {
+    let mut events = Vec::new(alloc);
+    for event in shelf.base().events.iter().take(count) {
+        if events.push(*event).is_err() {
+            return Err(Fault::Memory);
+        }
+    }
+    match events.extend_from_slice(own) {
+        Ok(()) => Ok(events),
+        Err(_) => Err(Fault::Memory),
+    }
+}
+
+// The row of a point that the base run doesn't reach.
+fn missed_row(alloc: Global, shelf: &Shelf, point: Point) -> Result<Row, Fault> {
+    let base = shelf.base();
+    let run = Run {
+        events: with_shared(alloc, shelf, usize::MAX, &[])?,
+        steps: base.steps,
+        ticks: base.ticks,
+        end: base.end,
+    };
+    Ok(Row {
+        point,
+        reached: false,
+        run,
+    })
+}
+
 /// The row of the handler before this step, from the shelf.
 pub(crate) fn row_of(alloc: Global, app: &App, shelf: &Shelf, step: u32) -> Result<Row, Fault>
     requires { IsShelf app.now shelf.now }
 {
-    let handler = HandlerId { number: 0 };
-    let point = Point::one(step, handler);
-    match shelf.run_point(alloc, app, point, &mut Meter::new()) {
-        Ok(row) => Ok(row),
-        Err(_) => Err(Fault::Memory),
+    let point = Point::one(step, HandlerId { number: 0 });
+    if !shelf.reaches(&point) {
+        return missed_row(alloc, shelf, point);
     }
+    let limits = shelf.limits();
+    limits.well_formed();
+    let (mut walk, mut kernel) = (Walk::new(app), Kernel::boot(app));
+    let (mut meter, mut log) = (Meter::new(), StepLog::new());
+    let mut trail = Trail::new(alloc);
+    let Ok(begun) = shelf.begin_row_after(
+        app,
+        &point,
+        u32::MAX,
+        &mut walk,
+        &mut kernel,
+        &mut meter,
+        &mut log,
+        &mut trail,
+    ) else {
+        return Err(Fault::Memory);
+    };
+    let Some(end) = begun.end else {
+        return Err(Fault::Other);
+    };
+    let run = Run {
+        events: with_shared(alloc, shelf, begun.before, trail.events())?,
+        steps: kernel.steps(),
+        ticks: kernel.ticks(),
+        end,
+    };
+    Ok(Row {
+        point,
+        reached: true,
+        run,
+    })
 }
 
 /// The report of the application's campaign, by `expand` and `campaign`, with two workers.
@@ -108,7 +181,8 @@ pub(crate) fn show_run(rt: &HostRuntime, app: &App, title: Title, run: &Run) -> 
 
 /// Writes the report of a campaign.
 pub(crate) fn show_report(rt: &HostRuntime, app: &App, report: &Report) -> Result<(), Fault> {
-    match write_report(app, report, &mut ToWriter::new(rt.stdout())) {
+    let mut writer = ToWriter::new(rt.stdout());
+    match write_report(rt, rt.alloc(), app, report, 1, &mut writer) {
         Ok(()) => Ok(()),
         Err(_) => Err(Fault::Other),
     }

@@ -8,7 +8,7 @@ use Rattle.std.proofs.lemmas.Bool.{false≢true}
 use Rattle.byte_io.specs.Bytes.{SentFront, Writes}
 use Rattle.byte_io.proofs.Sending.{SentFront_longer, Sent_all, Sent_longer, Writes_then}
 use Rattle.model.specs.Application.{Application}
-use Rattle.outcome.specs.declared.end_state.Situation.{Situation}
+use Rattle.model.specs.declared.end_state.Situation.{Situation}
 use Rattle.report.specs.EndStates.{task_line, task_lines}
 
 pub lines_more : (app : Application) (task i : ℕ) (ss : List Situation) (d : Situation) → i < length ss

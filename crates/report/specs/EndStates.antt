@@ -3,10 +3,10 @@ use Rattle.std.specs.Prelude.{ℕ, ◌+◌, List, [], ◌∷◌, ◌++◌, codes
 use Rattle.std.specs.List.{flat_map}
 use Rattle.model.specs.Application.{Application}
 use Rattle.model.specs.Words.{name_of}
-use Rattle.outcome.specs.declared.end_state.HeldMutex.{HeldMutex}
-use Rattle.outcome.specs.declared.end_state.Situation.{Situation}
-use Rattle.outcome.specs.declared.end_state.Situation.TheVariants as situation
-use Rattle.outcome.specs.EndStates.{EndState}
+use Rattle.model.specs.declared.end_state.HeldMutex.{HeldMutex}
+use Rattle.model.specs.declared.end_state.Situation.{Situation}
+use Rattle.model.specs.declared.end_state.Situation.TheVariants as situation
+use Rattle.model.specs.EndStates.{EndState}
 
 -- until when a task waits
 abbrev pub until_text : Option ℕ → List ℕ

@@ -10,8 +10,7 @@ use crate::run::write_run;
 use crate::text::name;
 use crate::title::Title;
 use byte_io::{Page, Sink, WriteFault, flush};
-use model::{App, Run, TaskId};
-use outcome::{EndState, HeldMutex, Situation};
+use model::{App, EndState, HeldMutex, Run, Situation, TaskId};
 
 fn push_until(page: &mut Page, until: Option<u32>)
     requires { length page.old + 10 ≤ Page.SIZE }

@@ -449,19 +449,6 @@ fn write_rows_by<R: Threads + Wait + Sync, W: Sink>(
     write_totals(writer, &mut text, spelling.rows)
 }
 
-/// Writes the report of a campaign: its rows as its view shows them, and the line of their totals. The report is of this application.
-/// At `Err` the writer failed or took none of some bytes, and it has taken a beginning of the text. It takes no memory.
-pub fn write_report<W: Sink>(app: &App, report: &Report, writer: &mut W) -> Result<(), WriteFault>
-    requires { W.has_failed writer.old ≡ false }
-    ensures text { Writes (W.held writer.old) (W.held writer.new) result
-        (report_text app.now report.now.view report.now.first report.now.rows) }
-    ensures failed { W.has_failed writer.new ≡ is_err result }
-{
-    let rows = report.rows();
-    let texts = RowTexts::new(app, rows);
-    write_rows(app, rows, &texts, writer)
-}
-
 // Whether the text is mostly that of long stretches which many rows have. They are written as they are; to hand on copies of them would
 // take longer than all the rest.
 fn is_mostly_shared(rows: &Rows) -> bool
@@ -497,10 +484,29 @@ fn texts_of<'a>(alloc: Global, app: &'a App, rows: &'a Rows) -> RowTexts<'a>
     }
 }
 
-/// Writes the report of a campaign as `write_report` does, and faster: it takes memory for the text of the base run's events,
-/// with which rows begin, and for that of rows that come again. Where there are several threads, this many of them spell rows. What it
-/// gets no memory for is spelled for each row, and on this thread. The threads are at most 64.
-pub fn write_report_in<R: Threads + Wait + Sync, W: Sink>(
+// What several threads spell rows with, and the pieces that they spell; nothing where one thread writes all rows, or where there is no
+// memory for them.
+fn lanes_and_pieces(alloc: Global, rows: &Rows, threads: usize) -> Option<(Lanes, Vec<Piece>)>
+    requires { IsSound rows.now }
+    ensures pairs { IfSome result (λ parts. ArePairs (parts.0.own ∷ parts.0.others.items) parts.0.desks.items) }
+    ensures fresh { IfSome result (λ parts. AreFresh (parts.0.own ∷ parts.0.others.items)) }
+    ensures pieces { IfSome result (λ parts. ArePieces rows.now 0 (length (whole rows.now)) parts.1.items) }
+{
+    if threads < 2 || is_mostly_shared(rows) {
+        return None;
+    }
+    let pieces = pieces_of(alloc, rows, length_of_pieces(rows, threads)).ok()?;
+    let lanes = lanes_of(alloc, threads, MOST_TEXT).ok()?;
+    Some((lanes, pieces))
+}
+
+/// Writes the report of a campaign: its rows as its view shows them, and the line of their totals. The report is of this application.
+/// At `Err` the writer failed or took none of some bytes, and it has taken a beginning of the text.
+///
+/// It takes memory for the text of the base run's events, with which rows begin, and for that of rows that come again. Where there are
+/// several threads, this many of them spell rows. What it gets no memory for is spelled for each row, and on this thread. The threads are
+/// at most 64.
+pub fn write_report<R: Threads + Wait + Sync, W: Sink>(
     rt: &R,
     alloc: Global,
     app: &App,
@@ -516,13 +522,7 @@ pub fn write_report_in<R: Threads + Wait + Sync, W: Sink>(
 {
     let rows = report.rows();
     let texts = texts_of(alloc, app, rows);
-    if threads < 2 || is_mostly_shared(rows) {
-        return write_rows(app, rows, &texts, writer);
-    }
-    let Ok(mut lanes) = lanes_of(alloc, threads, MOST_TEXT) else {
-        return write_rows(app, rows, &texts, writer);
-    };
-    let Ok(pieces) = pieces_of(alloc, rows, length_of_pieces(rows, threads)) else {
+    let Some((mut lanes, pieces)) = lanes_and_pieces(alloc, rows, threads) else {
         return write_rows(app, rows, &texts, writer);
     };
     let spelling = Spelling {

@@ -1,23 +1,18 @@
--- Stops along a base run, and rows from them on.
-use Rattle.std.proofs.Common.{◌≡◌, ◌+◌, ◌*◌, ◌/◌, ◌%◌, ◌<◌, ◌≤◌, ℕ, suc, inl, inr, List, [], ◌∷◌, ◌++◌, None, get_or, take, length}
-use Rattle.std.proofs.Common.{length-append, ap, sym, subst, ◌∙◌, ap₂, arith, false, Bool, Result, Ok, Err}
-use Rattle.std.specs.Prelude.{IfSome, OnErr, nat_lt}
+-- Stops along a base run, and the one before a row.
+use Rattle.std.proofs.Common.{◌≡◌, ◌+◌, ◌*◌, ◌/◌, ◌%◌, ◌<◌, ◌≤◌, ℕ, suc, List, [], ◌∷◌, ◌++◌, get_or, length}
+use Rattle.std.proofs.Common.{length-append, ap, sym, subst, ◌∙◌, arith}
+use Rattle.std.specs.Prelude.{IfSome}
 use Rattle.std.proofs.lemmas.List.{length-take}
-use Rattle.std.proofs.lemmas.Bool.{cases_lt, ltb-false}
 use Rattle.std.proofs.lemmas.Option.{slice_get-get_or}
 use Rattle.std.proofs.Math.Nat.{mod-add-div', div-lt_iff_lt-mul, suc-mul}
-use Rattle.model.specs.declared.event.Event.{Event}
 use Rattle.model.specs.declared.plan.Injection.{Injection}
 use Rattle.model.specs.Points.{first_step}
 use Rattle.model.specs.Application.{Application, Limits}
-use Rattle.model.specs.Run.{Run, IsRun, IsRow, end_of, state_after, events_after}
-use Rattle.model.proofs.OneRun.{one_row}
+use Rattle.model.specs.Run.{events_after}
 use Rattle.model.proofs.Injected.{begins_with}
-use Rattle.shelf.specs.declared.row.RowEnding.{RowEnding}
-use Rattle.shelf.specs.Rows.{IsRowFrom}
 use Rattle.shelf.specs.declared.stops.Stop.{Stop}
 use Rattle.shelf.proofs.Joining.{each_more}
-use Rattle.shelf.specs.Shelves.{IsStop, AreStops, Shelved, IsShelf, cost_of}
+use Rattle.shelf.specs.Shelves.{IsStop, AreStops, Shelved, IsShelf}
 
 -- ---- putting stops
 
@@ -51,10 +46,6 @@ module _ (app : Application) (shelf : Shelved) (h : IsShelf app shelf) (step : �
       subst (λ o. IfSome o (IsStop app shelf.limits (number * shelf.stride)))
       (slice_get-get_or shelf.stops number d stop_below) (h.are_stops number)
 
-  -- the base run goes on there, and before
-  pub goes_on : (n : ℕ) → n ≤ step → end_of app shelf.limits (state_after app shelf.limits [] n) ≡ None
-  goes_on n m = h.is_base.goes_on n (omega (arith, l, m))
-
   -- no more events than the base run has
   pub few_before : length (events_after app shelf.limits [] step) ≤ length shelf.base.events
   few_before =
@@ -62,29 +53,6 @@ module _ (app : Application) (shelf : Shelved) (h : IsShelf app shelf) (step : �
       let cut = length-take (length (events_after app shelf.limits [] step)) (events_after app shelf.limits [] shelf.base.steps) in
       let all = ap length h.is_base.trace in
       omega (arith, front, cut, all)
-
-  -- which it begins with
-  pub shared_is : (count : ℕ) → count ≡ length (events_after app shelf.limits [] step)
-      → take count shelf.base.events ≡ events_after app shelf.limits [] step
-  shared_is count is = rw (is, h.is_base.trace) (begins_with app shelf.limits [] step shelf.base.steps (omega (arith, l)))
-
--- ---- a run is the only one
-
-module _ (app : Application) (plan : List Injection) (limits : Limits) where
-  no_longer : (one other : Run) → IsRun app plan limits one → IsRun app plan limits other → one.steps ≤ other.steps
-  no_longer one other is also = elim (cases_lt other.steps one.steps) [
-    | inl less ↦ let none = is.goes_on other.steps less in let end = also.ends in absurd (cc)
-    | inr more ↦ more
-  ]
-
-  pub same_steps : (one other : Run) → IsRun app plan limits one → IsRun app plan limits other → one.steps ≡ other.steps
-  same_steps one other is also =
-      let forth = no_longer one other is also in
-      let back = no_longer other one also is in
-      omega (arith, forth, back)
-
-  pub same_events : (one other : Run) → IsRun app plan limits one → IsRun app plan limits other → one.events ≡ other.events
-  same_events one other is also = is.trace ∙ ap (events_after app limits plan) (same_steps one other is also) ∙ sym also.trace
 
 -- ---- the row of a point that is reached
 
@@ -111,47 +79,3 @@ module _ (app : Application) (inside now : Shelved) (same : inside ≡ now) (kep
 
   pub shares_few : length (events_after app now.limits [] (first_step point)) ≤ length now.base.events
   shares_few = few_before app now kept (first_step point) reached
-
--- ---- a row with all its events, from those that came into an empty trail
-
-module _ (app : Application) (shelf : Shelved) (h : IsShelf app shelf)
-    (point : List Injection) (reached : first_step point < shelf.base.steps)
-    (old new : List Event) (none : old ≡ []) (ending : RowEnding) (row : IsRowFrom app point shelf.limits old new ending)
-    (before : ending.before ≡ length (events_after app shelf.limits [] (first_step point))) where
-  is_own : new ≡ row.own
-  is_own = row.kept ∙ ap (λ (events : List Event). events ++ row.own) none
-
-  pub whole_row : (events : List Event) → events ≡ take ending.before shelf.base.events ++ new
-      → IsRun app point shelf.limits (record { events = events; steps = ending.steps; ticks = ending.ticks; end = ending.end })
-  whole_row events e =
-      subst (λ (events : List Event).
-      IsRun app point shelf.limits (record { events = events; steps = ending.steps; ticks = ending.ticks; end = ending.end }))
-      (sym (e
-      ∙ ap₂ (λ (front own : List Event). front ++ own)
-      (shared_is app shelf h (first_step point) reached ending.before before) is_own))
-      row.run
-
-  -- where there was no memory for them, the meter has risen by the row's steps all the same
-  pub whole_refused : (from to : ℕ) → to ≡ from + cost_of shelf point ending.steps → 0 < ending.before + length new
-      → (run : Run) → IsRun app point shelf.limits run → (to ≤ from + cost_of shelf point run.steps) × (0 < length run.events)
-  whole_refused from to risen some run is =
-      let steps = same_steps app point shelf.limits run _ is row.run in
-      let events = ap length (same_events app point shelf.limits run _ is row.run) in
-      let own = ap length is_own in
-      let all = length-append (events_after app shelf.limits [] (first_step point)) row.own in
-      (rw steps (omega (arith, risen)), omega (arith, events, own, all, some, before))
-
--- ---- a point that the base run doesn't reach
-
--- Its row is the base run.
-pub missed_few : {X E : Type 0} (app : Application) (shelf : Shelved) (point : List Injection) (from : ℕ)
-    → IsShelf app shelf → false ≡ nat_lt (first_step point) shelf.base.steps
-    → (r : Result X E) → OnErr r (0 < length shelf.base.events)
-    → OnErr r ((reached : Bool) (run : Run) → IsRow app shelf.limits point reached run
-    → (from ≤ from + cost_of shelf point run.steps) × (0 < length run.events))
-missed_few app shelf point from h missed (Ok x) some = tt
-missed_few app shelf point from h missed (Err e) some = λ reached run is.
-    let row : IsRow app shelf.limits point false shelf.base =
-    (h.is_base, ltb-false (first_step point) shelf.base.steps (sym missed)) in
-    let same = (one_row app shelf.limits point reached false run shelf.base is row).1 in
-    (omega arith, rw same some)

@@ -1,5 +1,4 @@
 pub mod Begun
 pub mod Shelves
 pub mod Rests
-pub mod Rows
 pub mod Walks

@@ -1,7 +1,5 @@
--- A base run with the kernel as it was along it, and what rows cost from there.
-use Rattle.std.specs.Prelude.{◌≡◌, ℕ, ◌+◌, ◌-◌, ◌*◌, ◌%◌, ◌<◌, ◌≤◌, List, [], IfSome, length, nat_lt, slice_get, if◌then◌else◌}
-use Rattle.model.specs.declared.plan.Injection.{Injection}
-use Rattle.model.specs.Points.{first_step}
+-- A base run with the kernel as it was along it.
+use Rattle.std.specs.Prelude.{◌≡◌, ℕ, ◌*◌, ◌<◌, ◌≤◌, List, [], IfSome, length, slice_get}
 use Rattle.model.specs.Application.{Application, Limits}
 use Rattle.model.specs.Run.{Run, IsRun, events_after}
 use Rattle.machine.specs.Can.{IsUnderWay}
@@ -32,9 +30,3 @@ pub record IsShelf (app : Application) (shelf : Shelved) : Type 0 where
   pub are_stops : AreStops app shelf.limits shelf.stride shelf.stops
   pub rests : AreRests app shelf.limits shelf.base shelf.stops
   pub enough : shelf.base.steps ≤ length shelf.stops * shelf.stride
-
--- How many steps are done for the row of a point, which ends after this many: those from the stop before its first injection on;
--- none where the base run doesn't reach that.
-abbrev pub cost_of : Shelved → List Injection → ℕ → ℕ
-cost_of shelf point steps =
-    if nat_lt (first_step point) shelf.base.steps then first_step point % shelf.stride + (steps - first_step point) else 0

@@ -1,23 +1,21 @@
 //! Rows from the nearest stop before their point.
-ghost use Rattle.std.specs.Prelude.{◌≡◌, Bool, true, false, nat_lt, ◌<◌, ◌≤◌, ◌+◌, ◌-◌, ◌%◌, ◌^◌, ◌++◌, [], min, take, length, None, IfOk, IfSome, OnErr, OnOk};
+ghost use Rattle.std.specs.Prelude.{◌≡◌, nat_lt, ◌<◌, ◌≤◌, ◌+◌, ◌-◌, ◌%◌, ◌^◌, [], min, length, None, IfOk, IfSome, OnErr, OnOk};
 ghost use Rattle.model.specs.Points.{first_step, last_step};
 ghost use Rattle.model.specs.Application.{Application};
 ghost use Rattle.model.specs.Run as definition;
-ghost use Rattle.model.specs.Run.{IsRun, IsRow, events_after};
+ghost use Rattle.model.specs.Run.{IsRun, events_after};
 ghost use Rattle.machine.specs.Logged.{all_of};
 ghost use Rattle.machine.specs.Can.{IsUnderWay};
 ghost use Rattle.kernel.specs.Rows.{Extends};
 ghost use Rattle.shelf.specs.Begun.{HasBegun};
 ghost use Rattle.shelf.specs.Rests.{JoinsBase};
-ghost use Rattle.shelf.specs.Rows.{IsRowFrom};
-ghost use Rattle.shelf.specs.Shelves.{IsShelf, cost_of};
+ghost use Rattle.shelf.specs.Shelves.{IsShelf};
 ghost use Rattle.shelf.specs.Walks.{IsWalk};
 
-use crate::row::{Row, RowEnding};
 use crate::stops::{Stop, put_stops};
 use crate::walk::Walk;
 use kernel::{Kernel, RowBeginning, StepLog, Trail, begin_row};
-use model::{App, Event, Limits, Memory, Meter, Point, Run};
+use model::{App, Limits, Memory, Meter, Point, Run};
 use std::alloc::Global;
 use std::marker::Model;
 
@@ -69,13 +67,6 @@ impl Shelf {
         ensures { result.now ≡ self.now.base }
     {
         &self.base
-    }
-
-    /// The events of the base run, in order.
-    pub fn events(&self) -> &[Event]
-        ensures { result.now ≡ self.now.base.events }
-    {
-        self.base.events.as_slice()
     }
 
     /// The limits of the base run, which are those of the rows.
@@ -142,104 +133,14 @@ impl Shelf {
         stop.before
     }
 
-    /// Runs the row of a point that the base run reaches, from the nearest stop before its first injection. The trail gains the
-    /// row's events from that injection on; those before it are the base run's, and the answer says how many they are. What the
-    /// kernel and the log have doesn't matter.
-    ///
-    /// The meter, which is below 2^62, rises by the steps from that stop to the row's end. At `Err(Memory)`, answered only
-    /// where a growth was refused, so never where the row reports nothing, it has risen by no more than that, and the trail is
-    /// as it was.
-    pub fn run_reached(
-        &self,
-        app: &App,
-        point: &Point,
-        kernel: &mut Kernel,
-        meter: &mut Meter,
-        log: &mut StepLog,
-        trail: &mut Trail,
-    ) -> Result<RowEnding, Memory>
-        requires shelf { IsShelf app.now self.now }
-        requires reached { first_step point.now < self.now.base.steps }
-        requires meter { meter.old < 2 ^ 62 }
-        ensures row { IfOk result (λ row.
-            IsRowFrom app.now point.now self.now.limits (all_of trail.old) (all_of trail.new) row) }
-        ensures before { IfOk result (λ row. row.before ≡ length (events_after app.now self.now.limits [] (first_step point.now))) }
-        ensures meter { IfOk result (λ row. meter.new ≡ meter.old + cost_of self.now point.now row.steps) }
-        ensures rises { meter.old ≤ meter.new }
-        ensures kept { OnErr result (all_of trail.new ≡ all_of trail.old) }
-        ensures refused { OnErr result ((run : definition.Run) → IsRun app.now point.now self.now.limits run
-            → (meter.new ≤ meter.old + cost_of self.now point.now run.steps) × (0 < length run.events)) }
-    {
-        self.limits.well_formed();
-        let kept = trail.len();
-        let Ok(row) = self.begin_row(app, point, u32::MAX, kernel, meter, log, trail) else {
-            trail.truncate(kept);
-            return Err(Memory);
-        };
-        let RowBeginning { before, end } = row;
-        let Some(end) = end else {
-            // No run comes so far (profile).
-            unreachable!();
-        };
-        Ok(RowEnding {
-            before,
-            steps: kernel.steps(),
-            ticks: kernel.ticks(),
-            end,
-        })
-    }
-
-    /// Begins the row of a point that the base run reaches, from the nearest stop before its first injection, and goes along it up to
-    /// the step `until`, which is behind the last injection or no less than the limit of steps, or to its end before that. The trail
-    /// gains the row's events from the first injection on; those before it are the base run's, and the answer says how many they
-    /// are. What the kernel and the log have doesn't matter.
-    ///
-    /// The meter, which is below 2^62, rises by the steps that are done. At `Err(Memory)`, answered only where a growth was refused,
-    /// so never where the row reports nothing, it has risen by no more than the row's steps from that stop on; the trail then has those
-    /// events that it had, and some of the row's behind them.
-    pub fn begin_row(
-        &self,
-        app: &App,
-        point: &Point,
-        until: u32,
-        kernel: &mut Kernel,
-        meter: &mut Meter,
-        log: &mut StepLog,
-        trail: &mut Trail,
-    ) -> Result<RowBeginning, Memory>
-        requires shelf { IsShelf app.now self.now }
-        requires reached { first_step point.now < self.now.base.steps }
-        requires beyond { min (last_step point.now + 1) self.now.limits.steps ≤ until }
-        requires meter { meter.old < 2 ^ 62 }
-        ensures far { kernel.new.steps ≤ until }
-        ensures there { IfOk result (λ beginning. beginning.end ≡ None → kernel.new.steps ≡ until) }
-        ensures begun { IfOk result (HasBegun app.now point.now self.now.limits kernel.new (all_of trail.old) (all_of trail.new)) }
-        ensures before { IfOk result (λ beginning. beginning.before ≡ length (events_after app.now self.now.limits [] (first_step point.now))) }
-        ensures meter { OnOk result
-            (meter.new + first_step point.now ≡ meter.old + first_step point.now % self.now.stride + kernel.new.steps) }
-        ensures rises { meter.old ≤ meter.new }
-        ensures kept { OnErr result (Extends (all_of trail.old) (all_of trail.new)) }
-        ensures refused { OnErr result ((run : definition.Run) → IsRun app.now point.now self.now.limits run
-            → (meter.new ≤ meter.old + cost_of self.now point.now run.steps) × (0 < length run.events)) }
-    {
-        point.well_formed();
-        // No row shares more events with the base run than that has, so the sum below fits.
-        let _ = self.count_events();
-        let told = self.go_to_stop(app, point, kernel);
-        let beginning = begin_row(kernel, app, point, until, &self.limits, meter, log, trail)?;
-        Ok(RowBeginning {
-            before: told + beginning.before,
-            ..beginning
-        })
-    }
-
     // Sees to it that a walk is less than a stride before the first injection of a point that the base run reaches, or less far.
     fn come_near(&self, app: &App, point: &Point, walk: &mut Walk)
         requires shelf { IsShelf app.now self.now }
         requires reached { first_step point.now < self.now.base.steps }
         requires walk { IsWalk app.now self.now.limits walk.old }
         ensures walk { IsWalk app.now self.now.limits walk.new }
-        ensures near { walk.new.kernel.steps ≤ first_step point.now }
+        ensures before { walk.new.kernel.steps ≤ first_step point.now }
+        ensures near { first_step point.now < walk.new.kernel.steps + self.now.stride }
     {
         let first = point.first_step();
         let steps = walk.kernel.steps();
@@ -277,8 +178,13 @@ impl Shelf {
         Ok(())
     }
 
-    /// Begins the row of a point as `begin_row` does, but from its first injection on, to which the walk goes along the base run. So most
-    /// points that come in order take no more steps than their rows have of their own. The meter rises by these alone.
+    /// Begins the row of a point that the base run reaches, and goes along it up to the step `until`, which is behind the last injection or
+    /// no less than the limit of steps, or to its end before that. The trail gains the row's events from the first injection on; those
+    /// before it are the base run's, and the answer says how many they are. What the kernel and the log have doesn't matter.
+    ///
+    /// The walk goes along the base run to the first injection: from where it is, or from the nearest stop before that, if that is less
+    /// far. So most points that come in order take no more steps than their rows have of their own. The meter, which is below 2^62, rises
+    /// by these alone.
     ///
     /// At `Err(Memory)`, answered only where a growth was refused, so never where the row reports nothing, the meter has risen by no more
     /// than the row's steps from that injection on. The trail then has those events that it had, and some more behind them, and the walk
@@ -317,108 +223,5 @@ impl Shelf {
             before: walk.told,
             ..row
         })
-    }
-
-    /// The first `count` events of the base run, and behind them these.
-    fn with_shared(&self, alloc: Global, count: usize, own: &[Event]) -> Result<Vec<Event>, Memory>
-        requires { count ≤ length self.now.base.events }
-        ensures events { IfOk result (λ events. events.items ≡ take count self.now.base.events ++ own.now) }
-        ensures memory { OnErr result (0 < count + length own.now) }
-    {
-        let shared = &self.base.events[..count];
-        let mut events = Vec::new(alloc);
-        events.reserve_exact(shared.len() + own.len())?;
-        events.extend_from_slice(shared)?;
-        events.extend_from_slice(own)?;
-        Ok(events)
-    }
-
-    /// The row of a point that the base run doesn't reach.
-    fn missed_row(&self, alloc: Global, point: Point) -> Result<Row, Memory>
-        ensures row { IfOk result (λ row. row ≡ record { point = point; reached = false; run = self.now.base }) }
-        ensures memory { OnErr result (0 < length self.now.base.events) }
-    {
-        let events = self.with_shared(alloc, self.count_events(), &[])?;
-        Ok(Row {
-            point,
-            reached: false,
-            run: Run {
-                events,
-                steps: self.base.steps,
-                ticks: self.base.ticks,
-                end: self.base.end,
-            },
-        })
-    }
-
-    /// The row of a point that the base run reaches.
-    fn reached_row(
-        &self,
-        alloc: Global,
-        app: &App,
-        point: &Point,
-        meter: &mut Meter,
-    ) -> Result<Row, Memory>
-        requires shelf { IsShelf app.now self.now }
-        requires reached { first_step point.now < self.now.base.steps }
-        requires meter { meter.old < 2 ^ 62 }
-        ensures row { IfOk result (λ row. (row.point ≡ point.now) × (row.reached ≡ true)
-            × IsRun app.now point.now self.now.limits row.run) }
-        ensures meter { IfOk result (λ row. meter.new ≡ meter.old + cost_of self.now point.now row.run.steps) }
-        ensures rises { meter.old ≤ meter.new }
-        ensures refused { OnErr result ((run : definition.Run) → IsRun app.now point.now self.now.limits run
-            → (meter.new ≤ meter.old + cost_of self.now point.now run.steps) × (0 < length run.events)) }
-    {
-        let mut kernel = Kernel::boot(app);
-        let mut log = StepLog::new();
-        let mut trail = Trail::new(alloc);
-        let RowEnding {
-            before,
-            steps,
-            ticks,
-            end,
-        } = self.run_reached(app, point, &mut kernel, meter, &mut log, &mut trail)?;
-        let events = self.with_shared(alloc, before, trail.events())?;
-        let run = Run {
-            events,
-            steps,
-            ticks,
-            end,
-        };
-        Ok(Row {
-            point: *point,
-            reached: true,
-            run,
-        })
-    }
-
-    /// The row of a point: the run with all its injections where the base run gets beyond the step of the first, and otherwise the base
-    /// run.
-    ///
-    /// The meter, which is below 2^62, rises by the steps from the nearest stop before the first injection to the row's end; by
-    /// none where the point isn't reached. At `Err(Memory)`, answered only where a growth was refused, so never where the row
-    /// reports nothing, it has risen by no more than that.
-    pub fn run_point(
-        &self,
-        alloc: Global,
-        app: &App,
-        point: Point,
-        meter: &mut Meter,
-    ) -> Result<Row, Memory>
-        requires shelf { IsShelf app.now self.now }
-        requires meter { meter.old < 2 ^ 62 }
-        ensures point { IfOk result (λ row. row.point ≡ point) }
-        ensures row { IfOk result (λ row. IsRow app.now self.now.limits point row.reached row.run) }
-        ensures meter { IfOk result (λ row. meter.new ≡ meter.old + cost_of self.now point row.run.steps) }
-        ensures rises { meter.old ≤ meter.new }
-        ensures refused { OnErr result ((reached : Bool) (run : definition.Run)
-            → IsRow app.now self.now.limits point reached run
-            → (meter.new ≤ meter.old + cost_of self.now point run.steps) × (0 < length run.events)) }
-    {
-        if self.reaches(&point) {
-            self.reached_row(alloc, app, &point, meter)
-        } else {
-            self.missed_row(alloc, point)
-        }
     }
 }

@@ -1,7 +1,7 @@
 use Rattle.std.proofs.Common.{List, length, ◌∙◌, ap, ap₂, sym}
-use Rattle.outcome.specs.declared.end_state.HeldMutex.{HeldMutex}
-use Rattle.outcome.specs.declared.end_state.Situation.{Situation}
-use Rattle.outcome.specs.EndStates.{EndState}
+use Rattle.model.specs.declared.end_state.HeldMutex.{HeldMutex}
+use Rattle.model.specs.declared.end_state.Situation.{Situation}
+use Rattle.model.specs.EndStates.{EndState}
 use Rattle.kernel.proofs.end_state.end_state.Goals as goal
 
 pub returns : goal.returns

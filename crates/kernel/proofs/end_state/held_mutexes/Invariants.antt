@@ -2,7 +2,7 @@ use Rattle.std.proofs.Common.{◌≡◌, ◌≤◌, None, length, take}
 use Rattle.arrayvec.specs.ArrayVec.{array_vec_len}
 use Rattle.model.specs.State.{State}
 use Rattle.objects.specs.Objects.{StandsFor}
-use Rattle.outcome.specs.EndStates.{held_from}
+use Rattle.model.specs.EndStates.{held_from}
 use Rattle.kernel.proofs.end_state.held_mutexes.Given as goal
 
 abbrev pub invariant-loop-number : goal.invariant-loop-number

@@ -1,7 +1,7 @@
 use Rattle.std.proofs.Common.{◌≡◌, List, ℕ, ◌∙◌, subst}
 use Rattle.model.specs.declared.plan.Injection.{Injection}
 use Rattle.model.specs.Run.{IsRun, state_after}
-use Rattle.outcome.specs.EndStates.{end_state_of}
+use Rattle.model.specs.EndStates.{end_state_of}
 use Rattle.soundness.proofs.Reached.{reached_after}
 use Rattle.machine.proofs.Either.{elapsed_is}
 use Rattle.kernel.proofs.Running.{events_from_reset}

@@ -1,7 +1,7 @@
 use Rattle.std.proofs.Common.{List, [], ◌∷◌, ◌++◌, ◌∙◌, ap₂, sym, arith}
 use Rattle.std.proofs.lemmas.List.FromFn.{map-range_with_len_more}
-use Rattle.outcome.specs.declared.end_state.Situation.{Situation}
-use Rattle.outcome.specs.EndStates.{situation_of}
+use Rattle.model.specs.declared.end_state.Situation.{Situation}
+use Rattle.model.specs.EndStates.{situation_of}
 use Rattle.kernel.proofs.end_state.situations.Goals as goal
 
 pub loop-number-preserved : goal.loop-number-preserved

@@ -2,7 +2,7 @@ use Rattle.std.proofs.Common.{◌≡◌, map}
 use Rattle.std.specs.List.{range_with_len}
 use Rattle.arrayvec.specs.ArrayVec.{array_vec_len}
 use Rattle.model.specs.State.{State}
-use Rattle.outcome.specs.EndStates.{situation_of}
+use Rattle.model.specs.EndStates.{situation_of}
 use Rattle.kernel.specs.EndStates.{StandsOpened}
 use Rattle.kernel.proofs.end_state.situations.Given as goal
 

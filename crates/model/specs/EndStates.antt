@@ -1,9 +1,9 @@
 -- The end state of a run, as it is reported: what each task is doing, and who holds which mutex.
 use Rattle.std.specs.Prelude.{ℕ, ◌+◌, Bool, List, [], ◌∷◌, Option, Some, map, length, option_map, if◌then◌else◌}
 use Rattle.std.specs.List.{cons_option, range_with_len}
-use Rattle.outcome.specs.declared.end_state.Situation.{Situation}
-use Rattle.outcome.specs.declared.end_state.Situation.TheVariants as situation
-use Rattle.outcome.specs.declared.end_state.HeldMutex.{HeldMutex}
+use Rattle.model.specs.declared.end_state.Situation.{Situation}
+use Rattle.model.specs.declared.end_state.Situation.TheVariants as situation
+use Rattle.model.specs.declared.end_state.HeldMutex.{HeldMutex}
 use Rattle.model.specs.State.{State, Object, Status, Ready, Awake, Waiting, WaitingForBits, Asleep, Suspended, Ended, progress_at}
 use Rattle.model.specs.State.{status_at, printed}
 use Rattle.model.specs.Switching.{is_same}

@@ -3,7 +3,7 @@ use Rattle.model.specs.Application.{Application, Definition}
 use Rattle.model.specs.State.{Progress, no_task, progress_at}
 use Rattle.model.specs.Step.{nobody_ready, ready_at_reset, reset, task_at_reset, with_ops}
 use Rattle.machine.proofs.Waking.{progress-all_ready}
-use Rattle.checks.proofs.of_machine.at_reset.Goals as goal
+use Rattle.part_checks.proofs.of_machine.at_reset.Goals as goal
 
 none_open : (start i : ℕ) (ds : List Definition) → (get_or (map (task_at_reset start) ds) i no_task).progress.loops ≡ []
 none_open start i [] = refl

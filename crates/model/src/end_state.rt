@@ -1,6 +1,6 @@
 //! The end state of a run: what each task is doing, and who holds which mutex.
+use crate::ids::{ObjectId, TaskId};
 use arrayvec::ArrayVec;
-use model::{ObjectId, TaskId};
 use std::marker::Model;
 
 /// What a task is doing, and at which op: the index of the one that it is in, or that it does next.
@@ -55,7 +55,7 @@ pub struct EndState {
 
 // Clauses see the two lists.
 impl Model for EndState {
-    ghost use Rattle.outcome.specs.EndStates as definition;
+    ghost use Rattle.model.specs.EndStates as definition;
 
     ghost Value = { definition.EndState };
 

@@ -1,7 +1,7 @@
 use Rattle.std.proofs.Common.{rules, length}
 use Rattle.rows.specs.Report.{whole}
 use Rattle.rows.proofs.Pieces.{each_piece}
-use Rattle.rows.proofs.writing.write_report_in.Goals as goal
+use Rattle.rows.proofs.writing.write_report.Goals as goal
 
 pub write_rows_by-requires-clause-spelling : goal.write_rows_by-requires-clause-spelling
 write_rows_by-requires-clause-spelling g c κs within =
@@ -10,5 +10,5 @@ write_rows_by-requires-clause-spelling g c κs within =
       app = search rules;
       rows = search rules;
       sound = search rules;
-      pieces = each_piece rows 0 (length (whole rows)) c.in-Ok-pieces_of.pieces.items c.in-Ok-pieces_of.ensures;
+      pieces = each_piece rows 0 (length (whole rows)) c.in-Some.pieces.items c.in-Some.ensures.pieces;
     }

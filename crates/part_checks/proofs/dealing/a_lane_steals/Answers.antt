@@ -1,4 +1,4 @@
-use Rattle.checks.proofs.dealing.a_lane_steals.Goals as goal
+use Rattle.part_checks.proofs.dealing.a_lane_steals.Goals as goal
 
 pub loop-number-preserved : goal.loop-number-preserved
 loop-number-preserved g c = c.is_answered.ensures c.in_ok-deal.deal c.loop-number.invariant

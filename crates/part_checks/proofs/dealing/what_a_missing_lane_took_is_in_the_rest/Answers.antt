@@ -1,5 +1,5 @@
 use Rattle.deal.specs.Sharing.{Game}
-use Rattle.checks.proofs.dealing.what_a_missing_lane_took_is_in_the_rest.Goals as goal
+use Rattle.part_checks.proofs.dealing.what_a_missing_lane_took_is_in_the_rest.Goals as goal
 
 pub close-closed-requires : goal.close-closed-requires
 close-closed-requires g c =
