@@ -88,6 +88,8 @@ def read_edit(crate, file):
                 raise BadEdit("a 'new:' line has no 'old:' line, or no file below src/, before it")
             pairs.append((path, old, re.sub(r"\A ", "", line[len("new:") :])))
             old = None
+        elif path and line.strip():
+            raise BadEdit(f"a text has one line, and this is one more: {line.strip()}")
     if not pairs or old is not None:
         raise BadEdit("it has no pair of an 'old:' and a 'new:' line, or half of one")
     return Edit(crate, os.path.basename(file)[: -len(".edit")], tuple(pairs))
