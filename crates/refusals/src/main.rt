@@ -53,7 +53,7 @@ fn campaigns<T: Threads + Wait + Sync>(
     base: &Run,
 ) -> Result<(), Fault> {
     let report = report_again(threads, rt.alloc(), app, base)?;
-    show_report(rt, app, &report)?;
+    show_report(rt, threads, app, &report)?;
     serve_again(rt, threads)
 }
 

@@ -6,7 +6,7 @@ use crate::fault::{Fault, of_expanding, of_loading, of_serving};
 use byte_io::{FromReader, ToWriter};
 use campaign::{NoGate, Options, Report, campaign, expand, serve, write_report};
 use deal::{Division, Tally};
-use kernel::{Kernel, StepLog, Trail};
+use kernel::{Kernel, RowBeginning, StepLog, Trail};
 use model::{App, Event, HandlerId, Meter, Plan, Point, Run};
 use report::{Shard, Title, View, write_run};
 use script::FromDocument;
@@ -116,7 +116,7 @@ pub(crate) fn row_of(alloc: Global, app: &App, shelf: &Shelf, step: u32) -> Resu
     let (mut walk, mut kernel) = (Walk::new(app), Kernel::boot(app));
     let (mut meter, mut log) = (Meter::new(), StepLog::new());
     let mut trail = Trail::new(alloc);
-    let Ok(begun) = shelf.begin_row_after(
+    let Ok(RowBeginning { before, end }) = shelf.begin_row_after(
         app,
         &point,
         u32::MAX,
@@ -128,11 +128,11 @@ pub(crate) fn row_of(alloc: Global, app: &App, shelf: &Shelf, step: u32) -> Resu
     ) else {
         return Err(Fault::Memory);
     };
-    let Some(end) = begun.end else {
+    let Some(end) = end else {
         return Err(Fault::Other);
     };
     let run = Run {
-        events: with_shared(alloc, shelf, begun.before, trail.events())?,
+        events: with_shared(alloc, shelf, before, trail.events())?,
         steps: kernel.steps(),
         ticks: kernel.ticks(),
         end,
@@ -180,9 +180,14 @@ pub(crate) fn show_run(rt: &HostRuntime, app: &App, title: Title, run: &Run) -> 
 }
 
 /// Writes the report of a campaign.
-pub(crate) fn show_report(rt: &HostRuntime, app: &App, report: &Report) -> Result<(), Fault> {
+pub(crate) fn show_report<T: Threads + Wait + Sync>(
+    rt: &HostRuntime,
+    threads: &T,
+    app: &App,
+    report: &Report,
+) -> Result<(), Fault> {
     let mut writer = ToWriter::new(rt.stdout());
-    match write_report(rt, rt.alloc(), app, report, 1, &mut writer) {
+    match write_report(threads, rt.alloc(), app, report, 1, &mut writer) {
         Ok(()) => Ok(()),
         Err(_) => Err(Fault::Other),
     }
