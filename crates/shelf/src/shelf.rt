@@ -1,4 +1,4 @@
-//! Rows from the nearest stop before their point.
+//! A base run with its stops, and rows that begin from it.
 ghost use Rattle.std.specs.Prelude.{◌≡◌, nat_lt, ◌<◌, ◌≤◌, ◌+◌, ◌-◌, ◌%◌, ◌^◌, [], min, length, None, IfOk, IfSome, OnErr, OnOk};
 ghost use Rattle.model.specs.Points.{first_step, last_step};
 ghost use Rattle.model.specs.Application.{Application};
