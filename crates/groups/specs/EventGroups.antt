@@ -1,5 +1,6 @@
 -- What callers see of the event groups: their bits, who waits for bits of them, and for which.
-use Rattle.std.specs.Prelude.{◌≡◌, ℕ, Bool, false, not, List, map, fold, filter, length, bit_or, slice_index_or, slice_set}
+use Rattle.std.specs.Prelude.{◌≡◌, ℕ, Bool, false, not, List, []}
+use Rattle.std.specs.Prelude.{map, replicate, fold, filter, length, bit_or, slice_index_or, slice_set}
 use Rattle.model.specs.declared.call.Condition.{Condition}
 use Rattle.model.specs.Groups.{bits_left, is_met}
 use Rattle.lists.specs.Lists.{IsSound, entries_of}
@@ -24,6 +25,10 @@ waiting_in v group = entries_of v.waiting group
 -- what is kept where there is no task
 abbrev pub no_condition : Condition
 no_condition = record { mask = 0; all = false; clear = false }
+
+-- groups with which nothing was ever done
+abbrev pub unused : EventGroups
+unused = record { bits = replicate 16 0; waiting = replicate 16 []; wants = replicate 32 no_condition }
 
 -- for which bits a task waits, or waited last
 abbrev pub wanted_by : List Condition → ℕ → Condition

@@ -34,17 +34,21 @@ pub struct Groups {
     bits: [u32; 16],
     lists: TaskLists<16, 48>,
     wants: [Condition; 32],
+    /// Whether anything was done with a group. Where nothing was, nothing is copied or compared.
+    used: bool,
 }
 
 // Clauses see the bits of each group, who waits at it, and for which bits.
 impl Model for Groups {
-    ghost use Rattle.groups.specs.EventGroups.{EventGroups, AreGroups};
+    ghost use Rattle.std.specs.Prelude.{◌≡◌, false};
+    ghost use Rattle.groups.specs.EventGroups.{EventGroups, AreGroups, unused};
 
     ghost Value = { EventGroups };
 
     ghost view = { λ g. record { bits = g.bits; waiting = g.lists; wants = g.wants } };
 
-    ghost invariant = { λ g. AreGroups (record { bits = g.bits; waiting = g.lists; wants = g.wants }) };
+    ghost invariant = { λ g. AreGroups (record { bits = g.bits; waiting = g.lists; wants = g.wants })
+        × (g.used ≡ false → record { bits = g.bits; waiting = g.lists; wants = g.wants } ≡ unused) };
 }
 
 /// The list of those who wait for bits of a group.
@@ -70,6 +74,7 @@ impl Groups {
             bits: [0; 16],
             lists: TaskLists::new(),
             wants: [NO_CONDITION; 32],
+            used: false,
         }
     }
 
@@ -81,6 +86,7 @@ impl Groups {
             bits: self.bits,
             lists: self.lists.copy(),
             wants: self.wants,
+            used: self.used,
         }
     }
 
@@ -88,9 +94,13 @@ impl Groups {
     pub fn set_from(&mut self, other: &Self)
         ensures { self.new ≡ other.now }
     {
+        if !self.used && !other.used {
+            return;
+        }
         self.bits = other.bits;
         self.lists.set_from(&other.lists);
         self.wants = other.wants;
+        self.used = other.used;
     }
 
     /// Whether the other groups have the same bits, and the same tasks wait for bits of them, in the same order and for the
@@ -99,6 +109,9 @@ impl Groups {
         // Whatever state these groups represent, the other ones do too.
         ensures { result ≡ true → (s : State) → StandsFor self.now s → StandsFor other.now s }
     {
+        if !self.used && !other.used {
+            return true;
+        }
         if self.bits != other.bits || !self.lists.is_same(&other.lists) {
             return false;
         }
@@ -150,6 +163,7 @@ impl Groups {
     {
         let bits = self.bits(group);
         self.bits[group.number as usize] = bits_without(bits, mask);
+        self.used = true;
         bits
     }
 
@@ -173,6 +187,7 @@ impl Groups {
         let bits = self.bits(group);
         if is_met(bits, condition) {
             self.bits[group.number as usize] = bits_left(bits, condition);
+            self.used = true;
         }
         bits
     }
@@ -218,6 +233,7 @@ impl Groups {
     {
         self.wants[task.number as usize] = condition;
         self.lists.push_back(list_id(group), task, 0);
+        self.used = true;
     }
 
     /// Sets the mask's bits of a group (`xEventGroupSetBits`). The tasks that the bits then meet wait no more; once all
@@ -244,6 +260,7 @@ impl Groups {
         let bits = self.bits(group) | mask;
         take_met(&mut self.lists, list_id(group), &self.wants, bits, met);
         self.bits[group.number as usize] = met.left;
+        self.used = true;
     }
 
     /// Takes a task out of the list of those who wait for bits, if it is in one: it has timed out, or is suspended.

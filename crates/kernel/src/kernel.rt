@@ -64,6 +64,8 @@ impl Kernel {
     }
 
     /// Becomes a copy of the other, in place. It takes no memory.
+    // Inlined into a long function it looks up the place of each part on the stack.
+    #[inline(never)]
     pub fn set_from(&mut self, other: &Self)
         ensures { self.new ≡ other.now }
     {

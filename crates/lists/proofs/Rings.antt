@@ -6,12 +6,14 @@ use Rattle.std.proofs.lemmas.List.{get_or-map, get_or-take, get_or-drop, get_or-
 use Rattle.std.proofs.lemmas.List.{length-drop, length-take-le, take-set-le, drop-set-lt, drop-set-add, map-set}
 use Rattle.std.proofs.lemmas.Bool.{cases_eq, cases_lt, le-ltb, lt-ltb}
 use Rattle.std.proofs.lemmas.Option.{same_Some}
-use Rattle.lists.specs.Lists.{first_of, without, IsSound}
+use Rattle.lists.specs.Lists.{first_of, place_of, without, IsSound}
 use Rattle.lists.specs.Links.{node_at, links_of, ends_of, lists_of, at_link, put_link, put_end, IsIn, StaysIn, Spells, SpellsRings}
 use Rattle.lists.specs.Links.{IsRingTable}
 use Rattle.lists.proofs.Entries.{no_first, none-some}
-use Rattle.lists.proofs.Spelled.{around_placed, first_is, get_or-replicate, list_below, lists_of-Spells, place_placed, put_spells}
+use Rattle.lists.proofs.Spelled.{around_placed, first_is, get_or-replicate, list_below, lists_of-Spells, place_is, place_placed}
+use Rattle.lists.proofs.Spelled.{put_spells}
 use Rattle.lists.proofs.Spelled.{sound, spells_empty, take_placed, take_spells}
+use Rattle.lists.proofs.Same.{same_spells}
 
 -- the node at a link
 
@@ -268,6 +270,11 @@ module _ {L N M : ℕ} {next prev : List ℕ} {place : List (Option ℕ)} {value
       relinked n l (map (without n) ls) hn at_list (take_placed h.spells l n (node_at N (get_or prev n 0))
       (node_at N (get_or next n 0)) hn at_list (sym a.before_is) (sym a.after_is))
 
+  -- then it is in no list
+  pub taken_free : (n : ℕ) → n < N → get_or (set place n None) n None ≡ None
+  taken_free n hn =
+      get_or-set_same place n None None (subst (λ (k : ℕ). n < k) (sym h.spells.place_length) hn)
+
   -- the same, from between fs and bs
   pub ring_out : (l n v : ℕ) (fs bs : List (ℕ × ℕ)) → n < N → get_or place n None ≡ Some l → get_or ls l [] ≡ fs ++ (n, v) ∷ bs
       → SpellsRings L N M (set next (get_or prev n 0) (get_or next n 0))
@@ -351,6 +358,32 @@ module _ {L N M : ℕ} {next prev : List ℕ} {place : List (Option ℕ)} {value
             after n after_prev (λ i is_in past. absurd (omega (arith, past, hn)));
       }
 
+  -- a node that is in no list gets another link and value
+  pub ring_forgotten : (n x v : ℕ) → n < N → get_or place n None ≡ None
+      → SpellsRings L N M (set next n x) prev place (set values n v) ls
+  ring_forgotten n x v hn free =
+      let n_next : n < length next = let room = next_room in omega (arith, room, hn) in
+      let nowhere : (i y : ℕ) → IsIn N place i n → y ≡ N + i = λ i y is_in. elim is_in [
+        | inl node ↦ absurd (none-some i (sym free ∙ node.1))
+        | inr end ↦ absurd (omega (arith, end, hn))
+      ] in
+      record {
+        as_many = h.as_many;
+        next_length = length-set next n x ∙ h.next_length;
+        prev_length = h.prev_length;
+        spells = rw (write_node N n x next, keep_ends N n x next hn)
+            (same_spells (set (links_of N next) n (node_at N x)) (set values n v) h.spells
+            (length-set (links_of N next) n (node_at N x) ∙ h.spells.next_length)
+            (length-set values n v ∙ h.spells.values_length)
+            (λ m l hm at_list.
+            let other : m ≢ n = λ same. none-some l (sym free ∙ ap (λ (k : ℕ). get_or place k None) (sym same) ∙ at_list) in (
+              get_or-set_other (links_of N next) n m (node_at N x) None other,
+              get_or-set_other values n m v 0 other,
+            )));
+        forth = stays_written L N place next h.forth n x n_next (λ i is_in past. nowhere i x is_in);
+        back = h.back;
+      }
+
   -- the first node of a list
   pub ring_first : (l : ℕ) → l < L → node_at N (get_or next (N + l) 0) ≡ first_of (get_or ls l [])
   ring_first l hl =
@@ -391,6 +424,13 @@ module _ {L N M : ℕ} {next prev : List ℕ} {place : List (Option ℕ)} {value
   -- the lists under another name
   pub ring_seen : {seen : List (List (ℕ × ℕ))} → ls ≡ seen → SpellsRings L N M next prev place values seen
   ring_seen same = subst (SpellsRings L N M next prev place values) same h
+
+-- a node whose place is none is in no list
+pub is_free : {L N M : ℕ} {next prev : List ℕ} {place : List (Option ℕ)} {values : List ℕ} {ls : List (List (ℕ × ℕ))}
+    → SpellsRings L N M next prev place values ls → (n : ℕ) → get_or place n None ≡ None
+    → place_of (lists_of N (links_of N next) values (ends_of N next)) n ≡ None
+is_free {L} {N} {M} {next} {prev} {place} {values} {ls} h n free =
+    ap (λ (xs : List (List (ℕ × ℕ))). place_of xs n) (ring_lists h) ∙ sym (place_is h.spells n) ∙ free
 
 -- the arrays of a new table, in which each end leads to itself
 pub rings_empty : (L N M : ℕ) (links : List ℕ) → M ≡ N + L → length links ≡ M → ((at : ℕ) → at < M → get_or links at 0 ≡ at)

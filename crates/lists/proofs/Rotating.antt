@@ -2,12 +2,13 @@
 use Rattle.std.proofs.Common.{◌≡◌, ℕ, ◌+◌, ◌<◌, ◌≤◌, Option, Some, None, List, [], ◌∷◌, ◌++◌, drop, get_or, length, set, sym, ◌∙◌}
 use Rattle.std.proofs.Common.{ap, subst, arith, refl, append-nil}
 use Rattle.std.proofs.lemmas.List.{get_or-set_same, set-set, set-get_or}
-use Rattle.lists.specs.Lists.{Each, first_of, rotated, second_of}
-use Rattle.lists.specs.Links.{node_at, ends_of, at_link, Linked, IsStored, Spells, SpellsRings}
+use Rattle.lists.specs.Lists.{Each, first_of, place_of, rotated, second_of}
+use Rattle.lists.specs.Links.{node_at, links_of, lists_of, ends_of, at_link, Linked, IsStored, Spells, SpellsRings}
 use Rattle.lists.proofs.Entries.{first_split, no_first}
 use Rattle.lists.proofs.Links.{at_place}
 use Rattle.lists.proofs.Spelled.{first_is}
-use Rattle.lists.proofs.Rings.{around, end-none, next_room, node-below, node-none, read_end, read_node, ring_first, ring_out}
+use Rattle.lists.proofs.Rings.{around, end-none, is_free, taken_free, next_room}
+use Rattle.lists.proofs.Rings.{node-below, node-none, read_end, read_node, ring_first, ring_out}
 use Rattle.lists.proofs.Rings.{ring_put, splits, within}
 
 -- a list that stays as its first node goes last
@@ -106,6 +107,9 @@ module _ {L N M : ℕ} {next prev : List ℕ} {place : List (Option ℕ)} {value
     ring_popped =
         subst (SpellsRings L N M (set next (N + l) q) (set prev q (N + l)) (set place n None) values)
         (ap (λ (xs : List (ℕ × ℕ)). set ls l (drop 1 xs)) (sym parts.2)) out
+
+    pub popped_free : place_of (lists_of N (links_of N (set next (N + l) q)) values (ends_of N (set next (N + l) q))) n ≡ None
+    popped_free = is_free ring_popped n (taken_free h n below)
 
     rest_is : get_or (set ls l parts.1) l [] ≡ parts.1 ++ []
     rest_is =

@@ -6,7 +6,7 @@ ghost use Rattle.lists.specs.Lists.{entries_of, first_of, has_node, insert_sorte
 
 use crate::ids::{ListId, NodeId};
 use crate::link::{Link, are_none};
-use crate::words::are_same;
+use crate::words::{are_same, are_same_values};
 use std::marker::Model;
 
 /// `L` lists over `N` nodes, where `L` and `N` are 4096 at most. A node is in one list at most, and there once. In
@@ -138,31 +138,12 @@ impl<const L: usize, const N: usize, const M: usize> Table<L, N, M> {
         self.values = other.values;
     }
 
-    /// Whether the lists of the other table have the same entries in the same order. What a node that is in no list has
-    /// kept from an earlier one means nothing.
+    /// Whether the lists of the other table have the same entries in the same order. A node that is in no list keeps nothing of an
+    /// earlier one (`forget`), so the numbers are the same then.
     pub fn is_same(&self, other: &Self) -> bool
         ensures { result ≡ true → self.now ≡ other.now }
     {
-        let (links, other_links) = (&self.next[..], &other.next[..]);
-        if !are_same(&links[N..], &other_links[N..]) {
-            return false;
-        }
-        let mut node = 0;
-        while node < N {
-            if are_free(&self.place, node) {
-                node += 4;
-                continue;
-            }
-            if self.place[node].is_none() {
-                node += 1;
-                continue;
-            }
-            if self.next[node] != other.next[node] || self.values[node] != other.values[node] {
-                return false;
-            }
-            node += 1;
-        }
-        true
+        are_same(&self.next, &other.next) && are_same_values(&self.values, &other.values)
     }
 
     /// The first node of a list below `L`; `None` where the list is empty.
@@ -284,7 +265,20 @@ impl<const L: usize, const N: usize, const M: usize> Table<L, N, M> {
             self.next[before as usize] = after;
             self.prev[after as usize] = before;
             self.place[node.number as usize] = Link::none();
+            self.forget(node);
         }
+    }
+
+    /// A node that is in no list keeps nothing of the one in which it was: its link leads to itself, and it has no value.
+    #[inline(always)]
+    fn forget(&mut self, node: NodeId)
+        requires node { node.number < N }
+        requires free { place_of self.old node.number ≡ None }
+        ensures same { self.new ≡ self.old }
+        ensures sound { IsSound L N self.new }
+    {
+        self.next[node.number as usize] = node.number;
+        self.values[node.number as usize] = 0;
     }
 
     /// Takes the first node out of a list below `L`, and answers it; `None` where the list is empty. The other entries keep
@@ -306,7 +300,9 @@ impl<const L: usize, const N: usize, const M: usize> Table<L, N, M> {
             self.next[end] = second;
             self.prev[second as usize] = end as u16;
             self.place[first as usize] = Link::none();
-            return Some(NodeId { number: first });
+            let node = NodeId { number: first };
+            self.forget(node);
+            return Some(node);
         }
         None
     }

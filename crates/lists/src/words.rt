@@ -26,6 +26,22 @@ pub fn are_same(numbers: &[u16], others: &[u16]) -> bool
     same
 }
 
+/// As `are_same`, of numbers of four bytes.
+#[inline(always)]
+pub(crate) fn are_same_values(values: &[u32], others: &[u32]) -> bool
+    ensures { result ≡ true → values.now ≡ others.now }
+{
+    let count = values.len();
+    if count != others.len() {
+        return false;
+    }
+    let mut same = true;
+    for at in 0..count {
+        same &= values[at] == others[at];
+    }
+    same
+}
+
 /// Whether four numbers from a place on are 0. They are looked at as one number.
 #[inline(always)]
 fn are_zero(numbers: &[u16], at: usize) -> bool

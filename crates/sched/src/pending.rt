@@ -49,6 +49,9 @@ impl PendingReadyList {
     pub(crate) fn set_from(&mut self, other: &Self)
         ensures { self.new ≡ other.now }
     {
+        if self.is_empty() && other.is_empty() {
+            return;
+        }
         self.lists.set_from(&other.lists);
     }
 
@@ -56,6 +59,9 @@ impl PendingReadyList {
     pub(crate) fn is_same(&self, other: &Self) -> bool
         ensures { result ≡ true → self.now ≡ other.now }
     {
+        if self.is_empty() && other.is_empty() {
+            return true;
+        }
         self.lists.is_same(&other.lists)
     }
 

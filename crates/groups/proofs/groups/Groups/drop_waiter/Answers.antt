@@ -30,5 +30,5 @@ returns-clause-unmoved c = λ away.
     let free : place_of q.lists c.args.task ≡ None =
     ap (λ (w : EventGroups). place_of w.waiting c.args.task) c.self.view_is ∙ away in
     ap (λ (ls : List (List (ℕ × ℕ))). record { bits = q.bits; waiting = ls; wants = q.wants })
-    (c.remove.ensures.removed ∙ map-without-None c.self.invariant.sound c.args.task free)
+    (c.remove.ensures.removed ∙ map-without-None c.self.invariant.0.sound c.args.task free)
     ∙ c.self.view_is

@@ -1,4 +1,4 @@
-use Rattle.std.proofs.Common.{◌≡◌, ℕ, ◌<◌, length, set, true, arith, sym, ◌∙◌, subst, ap}
+use Rattle.std.proofs.Common.{◌≡◌, ℕ, ◌<◌, set, true, arith, sym, ◌∙◌, subst, ap}
 use Rattle.model.specs.State.{bits_at, with_bits}
 use Rattle.model.specs.Groups as definitions
 use Rattle.groups.specs.EventGroups.{EventGroups}

@@ -20,8 +20,8 @@ pub returns : goal.returns
 returns c = λ told task some.
     let wants = c.self.inside.wants in
     let others = c.other.inside.wants in
-    let many : length wants ≡ 32 = c.self.invariant.as_many in
-    let as_many : length others ≡ 32 = c.other.invariant.as_many in
+    let many : length wants ≡ 32 = c.self.invariant.0.as_many in
+    let as_many : length others ≡ 32 = c.other.invariant.0.as_many in
     let end : 32 ≤ c.loop-task.task = c.loop-task-test.false in
     let placed : is_some (place_of c.self.inside.lists task) ≡ true =
     ap (λ (v : EventGroups). is_some (place_of v.waiting task)) c.self.view_is ∙ some in

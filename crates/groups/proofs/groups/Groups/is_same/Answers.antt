@@ -20,7 +20,7 @@ returns-then-is_clear c = λ told s h.
     let bits : q.bits ≡ o.bits = same_numbers q.bits o.bits c.if-ne.ensures in
     let lists : q.lists ≡ o.lists = c.is_same.ensures c.if-not-is_same.false in
     subst (λ (x : EventGroups). StandsFor x s) c.other.view_is
-    (stands_alike v w s c.self.invariant.sound bits lists
+    (stands_alike v w s c.self.invariant.0.sound bits lists
     (λ task some. absurd (not_some (place_of q.lists task) (c.is_clear.ensures told task) some))
     (subst (λ (x : EventGroups). StandsFor x s) (sym c.self.view_is) h))
 
@@ -33,7 +33,7 @@ returns-else-is_clear c = λ told s h.
     let bits : q.bits ≡ o.bits = same_numbers q.bits o.bits c.if-ne.ensures in
     let lists : q.lists ≡ o.lists = c.is_same.ensures c.if-not-is_same.false in
     subst (λ (x : EventGroups). StandsFor x s) c.other.view_is
-    (stands_alike v w s c.self.invariant.sound bits lists
+    (stands_alike v w s c.self.invariant.0.sound bits lists
     (λ task some.
     ap (λ (x : EventGroups). wanted_by x.wants task) c.other.view_is
     ∙ c.has_same_wants.ensures told task

@@ -9,4 +9,4 @@ returns-clause-stands c = λ s h.
     let q = c.self.inside in
     let v : EventGroups = record { bits = q.bits; waiting = q.lists; wants = q.wants } in
     c.contains.ensures.contains
-    ∙ waiting_is v s (subst (λ (w : EventGroups). StandsFor w s) (sym c.self.view_is) h) c.args.task c.self.invariant.sound
+    ∙ waiting_is v s (subst (λ (w : EventGroups). StandsFor w s) (sym c.self.view_is) h) c.args.task c.self.invariant.0.sound

@@ -18,7 +18,8 @@ returns-clause-stands c = λ s h l.
     let free : place_of q.lists i ≡ None = ap (λ (w : EventGroups). place_of w.waiting i) c.self.view_is ∙ c.requires.free in
     let known : i < 32 = subst (λ (k : ℕ). k < 32) c.task.view_is c.task.invariant in
     let group_known : g < 16 = subst (λ (k : ℕ). k < 16) c.list_id.ensures.number c.list_id.ensures.known in
-    let one = stands_placed v s h' i g c.args.condition l c.self.invariant.sound free c.self.invariant.as_many known group_known in
+    let one =
+    stands_placed v s h' i g c.args.condition l c.self.invariant.0.sound free c.self.invariant.0.as_many known group_known in
     let put : c.push_back.new.self ≡ set q.lists g (entries_of q.lists g ++ (i, 0) ∷ []) =
     c.push_back.ensures.put ∙ ap (λ (k : ℕ). set q.lists k (entries_of q.lists k ++ (i, 0) ∷ [])) c.list_id.ensures.number in
     let t : State = wait_for_bits i g (want i c.args.condition s) in
@@ -37,4 +38,4 @@ returns-clause-begins c = λ s ticks h l.
     let free : place_of q.lists c.args.task ≡ None =
     ap (λ (w : EventGroups). place_of w.waiting c.args.task) c.self.view_is ∙ c.requires.free in
     stands_begun c.args.self.now s c.args.task c.args.group c.args.condition ticks _ h
-    (free_waits v s h' c.args.task c.self.invariant.sound free) l (returns-clause-stands c)
+    (free_waits v s h' c.args.task c.self.invariant.0.sound free) l (returns-clause-stands c)

@@ -1,4 +1,4 @@
-use Rattle.std.proofs.Common.{◌<◌, get_or, arith, refl, ◌≡◌, ℕ, List, set, length, sym, ◌∙◌, subst, ap, bit_or}
+use Rattle.std.proofs.Common.{◌<◌, arith, refl, ◌≡◌, ℕ, List, set, length, sym, ◌∙◌, subst, ap, bit_or}
 use Rattle.std.proofs.lemmas.List.{get_or-set_same}
 use Rattle.model.specs.declared.call.Condition.{Condition}
 use Rattle.model.specs.State.{bits_at}

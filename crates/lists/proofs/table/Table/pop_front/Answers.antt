@@ -1,6 +1,6 @@
-use Rattle.std.proofs.Common.{◌<◌, ◌≤◌, ◌+◌, get_or, refl}
-use Rattle.lists.proofs.Rings.{ring_lists, ring_seen, ring_sound, ring_table}
-use Rattle.lists.proofs.Rotating.{first_here, nobody_popped, ring_popped, second_within}
+use Rattle.std.proofs.Common.{rules, ◌<◌, ◌≤◌, ◌+◌, get_or, refl, ◌∙◌}
+use Rattle.lists.proofs.Rings.{ring_lists, ring_seen, ring_table}
+use Rattle.lists.proofs.Rotating.{first_here, nobody_popped, popped_free, ring_popped, second_within}
 use Rattle.lists.proofs.Spelled.{sound}
 use Rattle.lists.proofs.table.Table.pop_front.Goals as goal
 
@@ -9,6 +9,13 @@ bounds-self-inside-second g c =
     let h = ring_seen c.self.invariant.rings c.self.view_is in
     let first : get_or c.self.inside.next (g.row.N + c.args.list.number) 0 < g.row.N = rw c.end-end.ensures at c.if-first.true in
     rw c.end-end.ensures (second_within h c.args.list.number c.requires _ refl first)
+
+pub forget-requires : goal.forget-requires
+forget-requires g c =
+    let h = ring_seen c.self.invariant.rings c.self.view_is in
+    let first : get_or c.self.inside.next (g.row.N + c.args.list.number) 0 < g.row.N = rw c.end-end.ensures at c.if-first.true in
+    let free = popped_free h c.args.list.number c.requires _ refl first _ refl in
+    (search rules, (rw c.end-end.ensures first, rw c.end-end.ensures free))
 
 pub invariant_of-self : goal.invariant_of-self
 invariant_of-self g c =
@@ -28,13 +35,14 @@ pub returns-then-first-clause-rest : goal.returns-then-first-clause-rest
 returns-then-first-clause-rest g c =
     let h = ring_seen c.self.invariant.rings c.self.view_is in
     let first : get_or c.self.inside.next (g.row.N + c.args.list.number) 0 < g.row.N = rw c.end-end.ensures at c.if-first.true in
-    rw c.end-end.ensures (ring_lists (ring_popped h c.args.list.number c.requires _ refl first _ refl))
+    c.forget.ensures.same
+    ∙ rw c.end-end.ensures (ring_lists (ring_popped h c.args.list.number c.requires _ refl first _ refl))
 
 pub returns-then-first-clause-sound : goal.returns-then-first-clause-sound
 returns-then-first-clause-sound g c =
     let h = ring_seen c.self.invariant.rings c.self.view_is in
     let first : get_or c.self.inside.next (g.row.N + c.args.list.number) 0 < g.row.N = rw c.end-end.ensures at c.if-first.true in
-    rw c.end-end.ensures (ring_sound (ring_popped h c.args.list.number c.requires _ refl first _ refl))
+    c.forget.ensures.sound
 
 pub returns-clause-first : goal.returns-clause-first
 returns-clause-first g c =
