@@ -20,7 +20,8 @@ sum_even total block =
     let all = div-add-mod' total block in
     omega arith
 
-none_added : (kind : ℕ) → slice_index zeros kind ≡ 0
+-- a seat that has added nothing has added nothing of a kind
+pub none_added : (kind : ℕ) → slice_index zeros kind ≡ 0
 none_added zero = refl
 none_added (suc zero) = refl
 none_added (suc (suc zero)) = refl

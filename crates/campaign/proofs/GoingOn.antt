@@ -1,5 +1,5 @@
 -- How rows go on from a kernel that they have come to.
-use Rattle.std.proofs.Common.{◌≡◌, ◌≤◌, ◌<◌, ℕ, true, false, Some, List, [], ◌∷◌, ◌++◌, drop, length, length-append, refl, sym, ap}
+use Rattle.std.proofs.Common.{◌≡◌, ◌≤◌, ◌<◌, ℕ, false, Some, List, [], ◌∷◌, ◌++◌, drop, length, length-append, refl, sym, ap}
 use Rattle.std.proofs.Common.{subst, suc, zero, get_or, ◌∙◌, append-nil, arith}
 use Rattle.std.specs.List.{AllByRecursion}
 use Rattle.std.proofs.lemmas.List.{drop-append-le}

@@ -2,11 +2,11 @@
 use Rattle.std.specs.Prelude.{nat_lt, slice_get, Some, if◌then◌else◌}
 use Rattle.std.proofs.lemmas.Option.{slice_get_within}
 use Rattle.std.proofs.lemmas.Bool.Decides.{nat_tests}
-use Rattle.std.proofs.Common.{◌≡◌, ℕ, ◌≤◌, ◌<◌, ◌+◌, ◌-◌, Bool, true, false, List, [], ◌∷◌, ◌++◌, length, length-append}
+use Rattle.std.proofs.Common.{◌≡◌, ℕ, ◌≤◌, ◌<◌, ◌+◌, Bool, true, false, List, [], ◌∷◌, ◌++◌, length, length-append}
 use Rattle.std.proofs.Common.{slice_index, slice_index_or, take, drop, refl, sym, ap, ap₂, subst, ◌∙◌, append-nil, append_assoc}
 use Rattle.std.proofs.Common.{arith}
 use Rattle.std.specs.List.{AllByRecursion}
-use Rattle.std.proofs.lemmas.List.{length-map, map-append, take-append-le, drop-append-le, length-drop, take_all, take_more}
+use Rattle.std.proofs.lemmas.List.{length-map, map-append, take_more}
 use Rattle.std.proofs.lemmas.List.{drop_at}
 use Rattle.std.proofs.Math.Seq.{take-append_seam, take-length}
 use Rattle.model.specs.declared.event.Event.{Event}
@@ -21,7 +21,8 @@ use Rattle.shelf.specs.Begun.{HasBegun}
 use Rattle.model.specs.Campaign.{Row}
 use Rattle.report.specs.Views.{shows_events}
 use Rattle.report.specs.declared.view.View.{View}
-use Rattle.deal.specs.Tallies.{Tallied}
+use Rattle.deal.specs.Parts.{zeros}
+use Rattle.deal.specs.Tallies.{Sheet, Tallied}
 use Rattle.rows.specs.declared.rows.KeptRow.{KeptRow}
 use Rattle.campaign.specs.declared.ahead.Ahead.{Ahead}
 use Rattle.rows.specs.declared.link.Leg.{Leg}
@@ -31,7 +32,8 @@ use Rattle.campaign.specs.Kinds.{kind_in}
 use Rattle.rows.specs.Links.{Store, told_at, AreLegs, Grows, Tells}
 use Rattle.rows.specs.Report.{row_of, rows_of, IsKept}
 use Rattle.campaign.specs.Seen.{AreSeen, IsSeen, row_with}
-use Rattle.campaign.specs.Working.{AreKnown, IsAmong, IsKeptRow, IsRestOf, GainsRow, Gained, GainsRows, KeepsRow}
+use Rattle.campaign.specs.Working.{counted, AreKnown, IsAmong, IsKeptRow, IsRestOf, GainsRow, Gained, GainsRows, KeepsRow}
+use Rattle.campaign.proofs.Counters.{none_added}
 use Rattle.campaign.proofs.Ends.{kind_in-append, kind_in-few}
 use Rattle.rows.proofs.Linked.{closed_grows, closed_legs, closed_tells, grows_here, grows_then, same_legs, same_told}
 use Rattle.rows.proofs.Linked.{still_link, told_no_more}
@@ -334,6 +336,28 @@ module _ (app : Application) (limits : Limits) (view : View) (base : Run) where
               omega arith);
         };
       }
+
+  -- rows that are counted first, and then added to a seat at once
+  pub gains_at_once : (points : List (List Injection)) (kept kept' : List KeptRow) (store store' : Store) (tally : Sheet)
+      (kinds : List ℕ) (seat seat' : Tallied)
+      → GainsRows app limits view base points kept kept' store store' (counted tally zeros) (counted tally kinds)
+      → Gained (slice_index kinds) seat seat' → GainsRows app limits view base points kept kept' store store' seat seat'
+  gains_at_once points kept kept' store store' tally kinds seat seat' g added = record {
+    more = g.more;
+    rows_are = g.rows_are;
+    grows = g.grows;
+    legs = g.legs;
+    sound = g.sound;
+    made = g.made;
+    gained = record {
+      same = added.same;
+      rises = λ kind l.
+          let counts = g.gained.rises kind l in
+          let none = none_added kind in
+          let all = added.rises kind l in
+          omega arith;
+    };
+  }
 
   -- how much the seat added at most
   pub gained_few : (points : List (List Injection)) (a b : List KeptRow) (t u : Store)

@@ -1,5 +1,5 @@
 -- Marks: kernels that rows have come to, and how each row goes on that comes to them.
-use Rattle.std.specs.Prelude.{◌≡◌, ℕ, ◌≤◌, List, [], ◌∷◌, ◌++◌, length, drop}
+use Rattle.std.specs.Prelude.{ℕ, ◌≤◌, List, length, drop}
 use Rattle.std.specs.List.{AllByRecursion}
 use Rattle.machine.specs.declared.machine.Machine.{Machine}
 use Rattle.kernel.specs.Leads.{LeadsTo}

@@ -1,6 +1,6 @@
 -- What workers make: the rows of blocks.
 use Rattle.std.specs.Prelude.{◌≡◌, ℕ, ◌+◌, ◌<◌, ◌≤◌, ◌^◌, false, List, [], ◌∷◌, ◌++◌, length, map, take, drop, sum, slice_get}
-use Rattle.std.specs.Prelude.{slice_index, true, Option, None, Some, IfSome}
+use Rattle.std.specs.Prelude.{slice_index, true, Some}
 use Rattle.std.specs.List.{AllByRecursion}
 use Rattle.machine.specs.Logged.{all_of}
 use Rattle.machine.specs.declared.machine.Machine.{Machine}
@@ -14,6 +14,7 @@ use Rattle.model.specs.Campaign.{Row}
 use Rattle.report.specs.Views.{shows_events}
 use Rattle.report.specs.declared.view.View.{View}
 use Rattle.deal.specs.Sharing.{Game, Sight, HasSeenAll}
+use Rattle.deal.specs.Parts.{zeros}
 use Rattle.deal.specs.Tallies.{Sheet, Tallied}
 use Rattle.deal.specs.Totals.{total}
 use Rattle.rows.specs.declared.rows.KeptRow.{KeptRow}
@@ -21,8 +22,6 @@ use Rattle.rows.specs.declared.rows.KeptBlock.{KeptBlock}
 use Rattle.rows.specs.declared.rows.Part.{Part}
 use Rattle.campaign.specs.declared.ahead.Ahead.{Ahead}
 use Rattle.rows.specs.declared.link.Link.{Link}
-use Rattle.rows.specs.declared.link.Link.TheVariants as link
-use Rattle.campaign.specs.declared.mark.Mark.{Mark}
 use Rattle.campaign.specs.declared.mark.Passed.{Passed}
 use Rattle.campaign.specs.declared.runner.Runner.{Runner}
 use Rattle.campaign.specs.declared.worker.Job.{Job}
@@ -126,6 +125,10 @@ pub record IsPassed (app : Application) (limits : Limits) (view : View)
 pub record Gained (counts : ℕ → ℕ) (old new : Tallied) : Type 0 where
   pub same : new.sheet ≡ old.sheet
   pub rises : (kind : ℕ) → kind < 7 → slice_index new.added kind ≡ slice_index old.added kind + counts kind
+
+-- a seat of this tally that has added so many, kind by kind
+abbrev pub counted : Sheet → List ℕ → Tallied
+counted tally kinds = record { sheet = tally; added = kinds; seen = zeros }
 
 -- the seat may still add this many to each kind
 abbrev pub HasRoom : ℕ → Tallied → Type 0

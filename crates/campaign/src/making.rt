@@ -1,10 +1,11 @@
 //! The rows of a campaign, which workers make.
-ghost use Rattle.std.specs.Prelude.{◌≡◌, ◌<◌, ◌≤◌, ◌+◌, List, length, sum, vec_len, All, IfOk};
+ghost use Rattle.std.specs.Prelude.{◌≡◌, ◌<◌, ◌≤◌, ◌+◌, ℕ, List, length, slice_index, sum, vec_len, All, IfOk};
 ghost use Rattle.model.specs.Scripts.{most_points};
 ghost use Rattle.model.specs.Campaign.{AreRows, totals_of};
+ghost use Rattle.model.specs.Run.{Run};
 ghost use Rattle.report.specs.Views.{plain};
 ghost use Rattle.deal.specs.Sharing.{Game, fresh_lanes};
-ghost use Rattle.deal.specs.Tallies.{Sheet, Tallied};
+ghost use Rattle.deal.specs.Tallies.{Sheet, Tallied, added_in};
 ghost use Rattle.campaign.specs.declared.worker.Job as declared;
 ghost use Rattle.shelf.specs.Shelves.{IsShelf};
 ghost use Rattle.campaign.specs.Setup.{work_of};
@@ -15,11 +16,12 @@ ghost use Rattle.campaign.specs.Made.{BringsWhole, ComeBack, IsBrought, IsMade, 
 
 use crate::gate::Gate;
 use crate::gathering::{Apart, is_refused, jobs_of, take_apart};
+use crate::tallying::AddedBefore;
 use crate::worker::{Done, Job, Setup, work};
 use deal::{Deal, Division, Lane, Tally, TallySeat};
 use model::{App, Limits, Memory, Point, Run, Totals};
 use report::View;
-use rows::{Part, Place, Report, Rows, count_all, places_of};
+use rows::{Part, Place, Report, Rows, places_of};
 use shelf::Shelf;
 use std::alloc::Global;
 use std::sync::Wait;
@@ -132,12 +134,21 @@ fn bring_all<R: Threads + Wait + Sync, G: Gate + Sync>(
     Ok(Brought { deal, apart })
 }
 
-// Gathers the rows by the numbers of their blocks. All lanes came back and were answered all blocks, so none is left over.
-fn gather_rows(alloc: Global, base: &Run, brought: Brought, blocks: usize) -> Result<Made, Memory>
+// Gathers the rows, so many, by the numbers of their blocks. All lanes came back and were answered all blocks, so none is left over. The
+// seats had added so much before.
+fn gather_rows(
+    alloc: Global,
+    brought: Brought,
+    blocks: usize,
+    before: &AddedBefore,
+    rows: u32,
+) -> Result<Made, Memory>
     requires blocks { blocks ≡ length brought.deal.lengths }
-    requires points { (work : Work) × IsWhole work base.now brought.deal
-        × BringsWhole work brought.deal brought.apart.lanes.items brought.apart.parts.items }
-    ensures { IfOk result (λ made. (work : Work) (tally : Sheet) (old : List Tallied) → IsWhole work base.now brought.deal
+    requires seats { length brought.apart.seats.items ≤ 64 }
+    requires points { (work : Work) × ((base : Run) × IsWhole work base brought.deal
+        × BringsWhole work brought.deal brought.apart.lanes.items brought.apart.parts.items) }
+    ensures { IfOk result (λ made. (work : Work) (base : Run) (tally : Sheet) (old : List Tallied) → IsWhole work base brought.deal
+        → length work.points ≡ rows → ((kind : ℕ) → kind < 7 → slice_index before.now.kinds kind ≡ added_in kind old)
         → IsBrought work brought.deal tally old brought.apart.lanes.items brought.apart.seats.items brought.apart.parts.items
         → IsMade work tally old made) }
 {
@@ -149,7 +160,7 @@ fn gather_rows(alloc: Global, base: &Run, brought: Brought, blocks: usize) -> Re
     } = apart;
     let _closed = deal.close(lanes);
     let places = places_of(alloc, &parts, blocks)?;
-    let totals = count_all(base, &parts, &places);
+    let totals = before.totals(&seats, rows);
     Ok(Made {
         parts,
         places,
@@ -199,6 +210,7 @@ pub(crate) fn campaign_from<R: Threads + Wait + Sync, G: Gate + Sync>(
         points,
         tally,
     };
+    let before = AddedBefore::of(&seats);
     gate.begun(points.len());
     let brought = bring_all(rt, alloc, &setup, gate, workers, division, seats);
     gate.ended();
@@ -207,7 +219,7 @@ pub(crate) fn campaign_from<R: Threads + Wait + Sync, G: Gate + Sync>(
         places,
         totals,
         seats,
-    } = gather_rows(alloc, shelf.base(), brought?, blocks)?;
+    } = gather_rows(alloc, brought?, blocks, &before, points.len() as u32)?;
     let rows = Rows {
         view,
         first,
@@ -225,7 +237,7 @@ pub(crate) fn campaign_from<R: Threads + Wait + Sync, G: Gate + Sync>(
 /// handlers are the application's.
 ///
 /// This many workers make the rows, 1 to 64, each in a thread of its own where one can be started; this thread is one of them. A
-/// worker takes blocks of the division until all are handed out, and adds each row to its seat when it is made. The gate learns
+/// worker takes blocks of the division until all are handed out, and adds the rows of each to its seat when they are made. The gate learns
 /// of each block before its first point. The stride says how many steps lie between two states of the base run that are kept.
 ///
 /// `Memory` is answered only where a growth was refused; then the seats are spent. It waits for the workers.

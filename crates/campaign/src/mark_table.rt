@@ -11,9 +11,6 @@ use std::alloc::Global;
 // So many marks are kept before any is replaced.
 const LEAST_ROOM: usize = 256;
 
-// So many marks are kept at most: of few tasks they take some 30 MB, of 32 some 55 MB.
-const MOST_MARKS: usize = 8192;
-
 // So many marks are looked at for one that may be replaced.
 const TRIES: usize = 4;
 
@@ -71,13 +68,13 @@ impl MarkTable {
     }
 
     /// Puts a mark, where there is memory for it, of a row whose last injection comes before this step. Where there are many, it takes the
-    /// place of one at which no row looks that was injected no later, if such a one is found soon. The snapshot of that one is then among
-    /// the spent ones.
-    pub(crate) fn put(&mut self, mark: Mark, step: u32, spent: &mut Vec<Box<Snapshot>>)
+    /// place of one at which no row looks that was injected no later, if such a one is found soon; where there are so many as `room`, that
+    /// of any. The snapshot of that one is then among the spent ones.
+    pub(crate) fn put(&mut self, mark: Mark, step: u32, room: usize, spent: &mut Vec<Box<Snapshot>>)
         ensures { IsPutAt self.old.marks.items self.new.marks.items mark }
     {
         let hint = mark.hint;
-        let Some(number) = self.spent(step) else {
+        let Some(number) = self.spent(step, room) else {
             let number = self.marks.len();
             if self.marks.push(mark).is_ok() {
                 self.guess(hint, number);
@@ -112,9 +109,9 @@ impl MarkTable {
         turn
     }
 
-    // The number of a mark in place of which another may be put. Where there are few marks there is none, and where there are too many it is
-    // any.
-    fn spent(&mut self, step: u32) -> Option<usize>
+    // The number of a mark in place of which another may be put. Where there are few marks there is none, and where there is room for no more
+    // it is any.
+    fn spent(&mut self, step: u32, room: usize) -> Option<usize>
         ensures marks { self.new.marks ≡ self.old.marks }
         ensures within { IfSome result (λ number. number < length self.old.marks.items) }
     {
@@ -127,7 +124,7 @@ impl MarkTable {
                 return Some(number);
             }
         }
-        if self.marks.len() < MOST_MARKS {
+        if self.marks.len() < room {
             return None;
         }
         Some(self.turn.min(self.marks.len() - 1))

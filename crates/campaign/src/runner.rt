@@ -377,7 +377,8 @@ impl Runner {
                 hint: passed.hint,
                 rest: Ahead { told, ..*rest },
             };
-            self.table.put(mark, last, &mut self.spent);
+            let room = self.spacing.room();
+            self.table.put(mark, last, room, &mut self.spent);
         }
     }
 

@@ -43,6 +43,15 @@ const MARK: u32 = 20;
 // Of a row no more counts than so many: few rows of a worker are run far, and it doesn't matter where these look first.
 const MOST: u32 = 512;
 
+// So many marks are kept at least: they stay in the cache that a processor has for itself.
+const LEAST_ROOM: u32 = 384;
+
+// So many at most: of few tasks they take some 30 MB, of 32 some 55 MB.
+const MOST_ROOM: u32 = 8192;
+
+// One more is kept for so much that `ROWS` rows cost.
+const COST_OF_ROOM: u32 = 16;
+
 /// How many steps are between two marks near an injection, and how far behind it a row looks for one first. Each way to look is tried with
 /// many rows. The one with which they cost least is kept for long, and then all are tried again.
 #[derive(Drop)]
@@ -58,6 +67,8 @@ pub(crate) struct Spacing {
     turns: u32,
     rows: u32,
     cost: u32,
+    // How many marks are kept at most.
+    room: u32,
 }
 
 impl Spacing {
@@ -74,6 +85,7 @@ impl Spacing {
             turns: 0,
             rows: 0,
             cost: 0,
+            room: LEAST_ROOM,
         }
     }
 
@@ -90,6 +102,12 @@ impl Spacing {
     /// How many steps a row now does behind its last injection before it looks.
     pub(crate) fn delay(&self) -> u32 {
         self.delay
+    }
+
+    /// How many marks are kept at most. Where rows cost little, they come to marks that were left a moment ago, and a mark that was left long
+    /// ago is only in the way of these in a processor's cache. Where rows are run far, each mark that is found saves many steps.
+    pub(crate) fn room(&self) -> usize {
+        self.room as usize
     }
 
     /// A row did so many steps behind its last injection, and left so many marks. After many rows it is judged what they cost.
@@ -133,6 +151,7 @@ impl Spacing {
         } else {
             self.follow(self.best);
             self.turns = TURNS;
+            self.room = (self.least / COST_OF_ROOM).clamp(LEAST_ROOM, MOST_ROOM);
         }
     }
 }

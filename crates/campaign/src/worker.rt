@@ -1,16 +1,16 @@
 //! A worker, which makes the rows of the blocks that its lane is answered.
-ghost use Rattle.std.specs.Prelude.{◌≡◌, ◌≤◌, ◌+◌, ◌++◌, ◌∷◌, [], None, length, sum, take, drop, IfOk, IfSome, OnOk};
+ghost use Rattle.std.specs.Prelude.{◌≡◌, ◌<◌, ◌≤◌, ◌+◌, ◌^◌, ◌++◌, ◌∷◌, ℕ, [], None, length, slice_index, sum, take, drop, IfOk, IfSome, OnOk};
 ghost use Rattle.model.specs.Application.{Limits};
 ghost use Rattle.shelf.specs.Shelves.{IsShelf};
 ghost use Rattle.shelf.specs.Walks.{IsWalk};
-ghost use Rattle.campaign.specs.Working.{store_in, GainsRows, HasRoom, IsAmong, IsDone, IsJob, KeepsRow};
+ghost use Rattle.campaign.specs.Working.{counted, store_in, GainsRows, HasRoom, IsAmong, IsDone, IsJob, KeepsRow};
 ghost use Rattle.campaign.specs.Marks.{AreMarked, Knows};
 ghost use Rattle.campaign.specs.Setup.{work_of};
 
 use crate::gate::Gate;
 use crate::recent::Recent;
 use crate::runner::Runner;
-use crate::tallying::count_row;
+use crate::tallying::RowCounts;
 use deal::{Lane, Next, Tally, TallySeat};
 use model::{App, End, Memory, Point};
 use report::View;
@@ -120,32 +120,32 @@ impl Worker {
         Ok(end)
     }
 
-    // Makes the row of a point, and then adds it to the seat. At `Err(Memory)` the worker is of no more use.
+    // Makes the row of a point, and then counts it. At `Err(Memory)` the worker is of no more use.
     fn add_row(
         &mut self,
         setup: &Setup<'_>,
-        seat: &mut TallySeat,
+        counts: &mut RowCounts,
         point: &Point,
     ) -> Result<(), Memory>
         requires shelf { IsShelf setup.now.app.now setup.now.shelf.now }
         requires walk { IsWalk setup.now.app.now setup.now.shelf.now.limits self.old.walk }
         requires known { Knows setup.now.app.now setup.now.shelf.now.limits setup.now.view.now setup.now.shelf.now.base self.old.kept (store_in self.old.runner) self.old.runner.table.marks.items }
-        requires seat { seat.old.sheet ≡ setup.now.tally.now }
-        requires room { HasRoom 1 seat.old }
+        requires room { (kind : ℕ) → kind < 7 → slice_index counts.old.kinds kind + 1 ≤ 2 ^ 40 }
         ensures walk { OnOk result (IsWalk setup.now.app.now setup.now.shelf.now.limits self.new.walk) }
         ensures known { OnOk result (Knows setup.now.app.now setup.now.shelf.now.limits setup.now.view.now setup.now.shelf.now.base self.new.kept (store_in self.new.runner) self.new.runner.table.marks.items) }
         ensures blocks { self.new.blocks ≡ self.old.blocks }
         ensures row { OnOk result (GainsRows setup.now.app.now setup.now.shelf.now.limits setup.now.view.now setup.now.shelf.now.base (point.now ∷ [])
-            self.old.kept self.new.kept (store_in self.old.runner) (store_in self.new.runner) seat.old seat.new) }
+            self.old.kept self.new.kept (store_in self.old.runner) (store_in self.new.runner)
+            (counted setup.now.tally.now counts.old.kinds) (counted setup.now.tally.now counts.new.kinds)) }
     {
         let shelf = setup.shelf;
         let is_reached = shelf.reaches(point);
         let end = self.keep_row(setup.app, shelf, *setup.view, point)?;
-        count_row(setup.tally, seat, is_reached, end);
+        counts.count(is_reached, end);
         Ok(())
     }
 
-    // Makes the rows of a block, which has these points, one by one.
+    // Makes the rows of a block, which has these points, one by one, and then adds them to the seat.
     fn add_block(
         &mut self,
         setup: &Setup<'_>,
@@ -174,9 +174,11 @@ impl Worker {
             first: self.kept.len(),
             count,
         };
+        let mut counts = RowCounts::new();
         for point in points {
-            self.add_row(setup, seat, point)?;
+            self.add_row(setup, &mut counts, point)?;
         }
+        counts.add_to(setup.tally, seat);
         if self.blocks.push(block).is_err() {
             return Err(Memory);
         }

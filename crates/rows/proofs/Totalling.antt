@@ -1,37 +1,13 @@
--- Rows counted one after the other.
+-- The rows of places, one after the other.
 use Rattle.std.specs.Prelude.{slice_get, Some, Option}
 use Rattle.std.specs.List.{AllByRecursion, flat_map}
-use Rattle.std.proofs.Common.{◌≡◌, ◌<◌, ◌≤◌, ◌+◌, ℕ, zero, suc, List, [], ◌∷◌, ◌++◌, length, take, drop, slice_index_or, refl, sym}
-use Rattle.std.proofs.Common.{subst, ap, ◌∙◌, append_assoc, append-nil, length-append, add-one, arith}
-use Rattle.std.proofs.lemmas.List.{length-take, length-drop, length-map, take_more, map-append}
+use Rattle.std.proofs.Common.{◌≡◌, ◌<◌, ◌+◌, ℕ, zero, suc, List, [], ◌∷◌, ◌++◌, length, take, drop, slice_index_or, sym}
+use Rattle.std.proofs.Common.{subst, ap, ◌∙◌, append_assoc, append-nil, add-one, arith}
+use Rattle.std.proofs.lemmas.List.{length-take, length-drop, length-map}
 use Rattle.model.specs.Run.{Run}
-use Rattle.model.specs.Campaign.{Row}
-use Rattle.rows.specs.declared.rows.KeptRow.{KeptRow}
 use Rattle.rows.specs.declared.rows.Part.{Part}
 use Rattle.rows.specs.declared.rows.Place.{Place}
-use Rattle.rows.specs.Links.{Store}
-use Rattle.rows.specs.Report.{row_of, rows_of, store_of, rows_in, rows_in_some, rows_at, AreKept, IsPlace}
-
--- ---- the rows of a part
-
-module _ (base : Run) (store : Store) (slice : List KeptRow) where
-  pub one_row_more : (rows : List Row) (index : ℕ) (row : KeptRow) → index < length slice → row ≡ slice_index_or slice index row
-      → (rows ++ rows_of base store (take index slice)) ++ row_of base store row ∷ []
-      ≡ rows ++ rows_of base store (take (index + 1) slice)
-  one_row_more rows index row l is =
-      let next : take (index + 1) slice ≡ take index slice ++ row ∷ [] =
-      take_more slice index row l ∙ ap (λ (r : KeptRow). take index slice ++ r ∷ []) (sym is) in
-      append_assoc rows (rows_of base store (take index slice)) (row_of base store row ∷ [])
-      ∙ ap (λ (rs : List Row). rows ++ rs)
-      (sym (map-append (row_of base store) (take index slice) (row ∷ [])) ∙ ap (rows_of base store) (sym next))
-
-  pub rows_few : (rows : List Row) (index count : ℕ) → index < length slice → length slice ≤ count
-      → length (rows ++ rows_of base store (take index slice)) ≤ length rows + count
-  rows_few rows index count l few =
-      let long = length-append rows (rows_of base store (take index slice)) in
-      let same = length-map (take index slice) (row_of base store) in
-      let within = length-take index slice in
-      omega arith
+use Rattle.rows.specs.Report.{row_of, store_of, rows_in, rows_in_some, rows_at, AreKept, IsPlace}
 
 -- ---- the rows of several places
 
@@ -70,25 +46,6 @@ pub parts_kept : (base : Run) (parts : List Part) (i : ℕ) (part : Part)
 parts_kept base [] i part e all = absurd (cc e)
 parts_kept base (p ∷ parts) zero part e all = subst (AreKept base) (same_part p part e) all.0
 parts_kept base (p ∷ parts) (suc i) part e all = parts_kept base parts i part e all.1
-
-pub flat_few : {X A : Type 0} (f : X → List A) (xs : List X) (index : ℕ) (x : X) → index < length xs
-    → x ≡ slice_index_or xs index x → length (flat_map f (take index xs)) + length (f x) ≤ length (flat_map f xs)
-flat_few f [] index x l is = absurd (omega arith)
-flat_few f (y ∷ xs) zero x l is =
-    let long = length-append (f y) (flat_map f xs) in
-    let same = ap (λ z. length (f z)) is in
-    omega arith
-flat_few f (y ∷ xs) (suc index) x l is =
-    let rest = flat_few f xs index x (omega arith) is in
-    let long = length-append (f y) (flat_map f xs) in
-    let part = length-append (f y) (flat_map f (take index xs)) in
-    omega arith
-
--- an element that is there is read alike, whatever the value for none
-pub any_default : {X : Type 0} (xs : List X) (i : ℕ) (d e : X) → i < length xs → slice_index_or xs i d ≡ slice_index_or xs i e
-any_default [] i d e l = absurd (omega arith)
-any_default (y ∷ xs) zero d e l = refl
-any_default (y ∷ xs) (suc i) d e l = any_default xs i d e (omega arith)
 
 pub length_at : (base : Run) (parts : List Part) (place : Place)
     → IsPlace parts place → length (rows_at base parts place) ≡ place.count

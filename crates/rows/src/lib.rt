@@ -19,6 +19,6 @@ mod writing;
 pub use campaign_report::{Report, Rows};
 pub use kept_rows::KeptRows;
 pub use link::{Leg, Link};
-pub use placing::{count_all, places_of};
+pub use placing::places_of;
 pub use rows::{KeptBlock, KeptRow, Part, Place};
 pub use writing::write_report;

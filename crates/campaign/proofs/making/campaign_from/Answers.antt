@@ -1,4 +1,5 @@
-use Rattle.std.proofs.Common.{ap, arith, sym}
+use Rattle.std.proofs.Common.{◌∙◌, ap, arith, refl, sym}
+use Rattle.deal.specs.Tallies.{added_in}
 use Rattle.campaign.specs.Made.{IsWhole}
 use Rattle.rows.specs.Report.{Shown}
 use Rattle.campaign.specs.Working.{Work}
@@ -17,14 +18,15 @@ new-report-requires g c =
       points = c.args.points.now;
       lengths = c.args.division;
     } in
-    let whole : IsWhole work c.base.result.now c.in_ok-brought.field-0.deal =
+    let whole : IsWhole work shelf.base c.in_ok-brought.field-0.deal =
     record {
-      same_base = sym c.base.ensures;
+      same_base = refl;
       same_lengths = sym c.in_ok-brought.ensures.deal;
       whole = c.requires.division;
       few = omega (arith, c.requires.few);
     } in
-    let made = c.in_ok-parts.ensures work c.args.tally.now c.args.seats.items whole c.in_ok-brought.ensures.brought in
+    let made = c.in_ok-parts.ensures work shelf.base c.args.tally.now c.args.seats.items whole refl
+    (λ kind l. c.of-before.ensures kind l ∙ ap (added_in kind) c.deref.ensures.value) c.in_ok-brought.ensures.brought in
     sound_made work c.args.tally.now c.args.seats.items c.in_ok-parts.field-0
     made c.into_base.result c.into_base.ensures c.args.first c.requires.few
 
@@ -40,14 +42,15 @@ returns-clause-rows g c =
       points = c.args.points.now;
       lengths = c.args.division;
     } in
-    let whole : IsWhole work c.base.result.now c.in_ok-brought.field-0.deal =
+    let whole : IsWhole work shelf.base c.in_ok-brought.field-0.deal =
     record {
-      same_base = sym c.base.ensures;
+      same_base = refl;
       same_lengths = sym c.in_ok-brought.ensures.deal;
       whole = c.requires.division;
       few = omega (arith, c.requires.few);
     } in
-    let made = c.in_ok-parts.ensures work c.args.tally.now c.args.seats.items whole c.in_ok-brought.ensures.brought in
+    let made = c.in_ok-parts.ensures work shelf.base c.args.tally.now c.args.seats.items whole refl
+    (λ kind l. c.of-before.ensures kind l ∙ ap (added_in kind) c.deref.ensures.value) c.in_ok-brought.ensures.brought in
     rows_made work c.args.tally.now c.args.seats.items c.in_ok-parts.field-0 made c.into_base.result c.into_base.ensures
     c.args.first c.requires.few c.new-report.result.rows (ap (λ (r : Shown). r.rows) c.new-report.ensures)
 
@@ -63,14 +66,15 @@ returns-clause-back g c =
       points = c.args.points.now;
       lengths = c.args.division;
     } in
-    let whole : IsWhole work c.base.result.now c.in_ok-brought.field-0.deal =
+    let whole : IsWhole work shelf.base c.in_ok-brought.field-0.deal =
     record {
-      same_base = sym c.base.ensures;
+      same_base = refl;
       same_lengths = sym c.in_ok-brought.ensures.deal;
       whole = c.requires.division;
       few = omega (arith, c.requires.few);
     } in
-    (c.in_ok-parts.ensures work c.args.tally.now c.args.seats.items whole c.in_ok-brought.ensures.brought).back
+    (c.in_ok-parts.ensures work shelf.base c.args.tally.now c.args.seats.items whole refl
+    (λ kind l. c.of-before.ensures kind l ∙ ap (added_in kind) c.deref.ensures.value) c.in_ok-brought.ensures.brought).back
 
 pub returns-clause-rise : goal.returns-clause-rise
 returns-clause-rise g c =
@@ -84,13 +88,14 @@ returns-clause-rise g c =
       points = c.args.points.now;
       lengths = c.args.division;
     } in
-    let whole : IsWhole work c.base.result.now c.in_ok-brought.field-0.deal =
+    let whole : IsWhole work shelf.base c.in_ok-brought.field-0.deal =
     record {
-      same_base = sym c.base.ensures;
+      same_base = refl;
       same_lengths = sym c.in_ok-brought.ensures.deal;
       whole = c.requires.division;
       few = omega (arith, c.requires.few);
     } in
-    let made = c.in_ok-parts.ensures work c.args.tally.now c.args.seats.items whole c.in_ok-brought.ensures.brought in
+    let made = c.in_ok-parts.ensures work shelf.base c.args.tally.now c.args.seats.items whole refl
+    (λ kind l. c.of-before.ensures kind l ∙ ap (added_in kind) c.deref.ensures.value) c.in_ok-brought.ensures.brought in
     rise_made work c.args.tally.now c.args.seats.items c.in_ok-parts.field-0 made c.into_base.result c.into_base.ensures
     c.args.first c.requires.few c.new-report.result.rows (ap (λ (r : Shown). r.rows) c.new-report.ensures)

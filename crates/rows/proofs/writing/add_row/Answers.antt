@@ -1,6 +1,6 @@
 use Rattle.std.specs.Prelude.{nat_lt}
 use Rattle.std.specs.List.{flat_map}
-use Rattle.std.proofs.Common.{◌≡◌, ◌++◌, List, sym, subst, take}
+use Rattle.std.proofs.Common.{◌++◌, List, sym, subst, take}
 use Rattle.byte_io.proofs.Sending.{Adds_stopped, Adds_two}
 use Rattle.model.specs.declared.event.Event.{Event}
 use Rattle.model.specs.Points.{first_step}

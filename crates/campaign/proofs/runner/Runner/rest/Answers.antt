@@ -1,5 +1,4 @@
 use Rattle.std.proofs.Common.{◌∙◌, [], ap, append-nil, sym}
-use Rattle.machine.specs.Logged.{all_of}
 use Rattle.kernel.specs.Leads.{IsLed}
 use Rattle.rows.specs.Links.{Grows}
 use Rattle.campaign.specs.Working.{store_in, IsRestIn}

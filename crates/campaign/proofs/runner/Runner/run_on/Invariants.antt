@@ -1,4 +1,4 @@
-use Rattle.std.proofs.Common.{◌≡◌, ◌≤◌, ◌+◌, ◌-◌, None}
+use Rattle.std.proofs.Common.{◌≡◌, ◌+◌, ◌-◌, None}
 use Rattle.machine.specs.Logged.{all_of}
 use Rattle.model.specs.Run.{end_of, state_after}
 use Rattle.kernel.specs.Leads.{IsLed, IsPast}

@@ -3,7 +3,7 @@ use Rattle.std.specs.Prelude.{nat_lt}
 use Rattle.model.specs.declared.plan.Injection.{Injection}
 use Rattle.model.specs.Points.{first_step}
 use Rattle.rows.specs.Report.{row_of}
-use Rattle.campaign.specs.Working.{store_in}
+use Rattle.campaign.specs.Working.{counted, store_in}
 use Rattle.campaign.proofs.Keeping.{gains_one}
 use Rattle.campaign.proofs.GoingOn.{knows_more}
 use Rattle.campaign.proofs.worker.Worker.add_row.Goals as goal
@@ -15,9 +15,10 @@ returns-clause-row c =
     let keeps = c.in_ok-end.ensures.row in
     let store = store_in c.keep_row.new.self.runner in
     gains_one setup.app.now shelf.limits setup.view.now shelf.base c.args.point.now c.args.self.now.kept c.keep_row.new.self.kept
-    (store_in c.args.self.now.runner) store c.args.seat.now c.count_row.new.seat keeps.row keeps.gains
+    (store_in c.args.self.now.runner) store
+    (counted setup.tally.now c.args.counts.now.kinds) (counted setup.tally.now c.count.new.self.kinds) keeps.row keeps.gains
     keeps.rows_are
-    (c.count_row.ensures (row_of shelf.base store keeps.row)
+    (c.count.ensures (row_of shelf.base store keeps.row) setup.tally.now
     (ap (λ (p : List Injection). nat_lt (first_step p) shelf.base.steps) keeps.gains.row.at_point
     ∙ sym c.reaches-is_reached.ensures)
     keeps.ends)
