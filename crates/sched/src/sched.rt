@@ -31,13 +31,11 @@ pub struct Sched {
     /// Of each task its priority now, and the one that the file gives it.
     priorities: [u8; 32],
     base_priorities: [u8; 32],
-    /// How often it is held.
+    /// How often it is held, and how many of these holds are those of a `suspend_all`.
     depth: u32,
-    /// Of each task whether it is suspended.
-    // Between two numbers that are written by themselves, so that a copy doesn't read these as one.
-    suspended: [bool; 32],
-    /// How many of the holds are those of a `suspend_all`.
     suspensions: u32,
+    /// Of each task whether it is suspended.
+    suspended: [bool; 32],
 }
 
 // Clauses see the Ready tasks in one list, each before those that it would run before.
