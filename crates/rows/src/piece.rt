@@ -7,10 +7,14 @@ use crate::campaign_report::Rows;
 use crate::cursor::Cursor;
 use crate::rows::Place;
 use model::Memory;
+use report::View;
 use std::alloc::Global;
 
 // At most this many rows are taken for as long as the first of them, where the text of a piece is guessed.
 const MOST_ALIKE: usize = 16;
+
+// So many where heads alone are written, which are all about as long.
+const MOST_HEADS: usize = 1024;
 
 /// This many rows of a report, from the cursor on.
 #[derive(Clone, Copy)]
@@ -29,17 +33,25 @@ fn guess(rows: &Rows, place: &Place) -> usize
     requires some { 0 < place.now.count }
     ensures { 0 < result }
 {
+    // No row is looked at here, also where some have no head: all rows take longer to read than their texts to divide among threads.
+    if rows.view.heads {
+        return HEAD;
+    }
     let row = rows.parts[place.part].kept.at(place.first);
     if !rows.view.shows(row.end) {
         return 1;
-    }
-    if rows.view.heads {
-        return HEAD;
     }
     let base = &rows.base;
     let steps = (base.steps as usize).max(1);
     let lines = base.events.len().saturating_mul(row.steps as usize) / steps;
     lines.saturating_add(1).saturating_mul(32)
+}
+
+// How many rows are taken for as long as the first of them.
+fn most_alike(view: View) -> usize
+    ensures { 0 < result }
+{
+    if view.heads { MOST_HEADS } else { MOST_ALIKE }
 }
 
 impl Piece {
@@ -76,7 +88,7 @@ impl Piece {
             let place = cursor.take(rows, most);
             let each = guess(rows, &place);
             left = left.saturating_sub(each.saturating_mul(place.count));
-            most = (left / each).clamp(1, MOST_ALIKE);
+            most = (left / each).clamp(1, most_alike(rows.view));
         }
         Piece {
             from,
