@@ -33,7 +33,7 @@ fn guess(rows: &Rows, place: &Place) -> usize
     requires some { 0 < place.now.count }
     ensures { 0 < result }
 {
-    // No row is looked at here, also where some have no head: all rows take longer to read than their texts to divide among threads.
+    // No row is looked at, also where the view shows only some: to read them all would cost more than pieces of other lengths.
     if rows.view.heads {
         return HEAD;
     }
