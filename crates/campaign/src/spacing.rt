@@ -44,13 +44,13 @@ const MARK: u32 = 20;
 const MOST: u32 = 512;
 
 // So many marks are kept at least: they stay in the cache that a processor has for itself.
-const LEAST_ROOM: u32 = 384;
+const FEWEST_MARKS: u32 = 384;
 
 // So many at most: of few tasks they take some 30 MB, of 32 some 55 MB.
-const MOST_ROOM: u32 = 8192;
+const MOST_MARKS: u32 = 8192;
 
 // One more is kept for so much that `ROWS` rows cost.
-const COST_OF_ROOM: u32 = 16;
+const COST_OF_A_MARK: u32 = 16;
 
 /// How many steps are between two marks near an injection, and how far behind it a row looks for one first. Each way to look is tried with
 /// many rows. The one with which they cost least is kept for long, and then all are tried again.
@@ -85,7 +85,7 @@ impl Spacing {
             turns: 0,
             rows: 0,
             cost: 0,
-            room: LEAST_ROOM,
+            room: FEWEST_MARKS,
         }
     }
 
@@ -151,7 +151,7 @@ impl Spacing {
         } else {
             self.follow(self.best);
             self.turns = TURNS;
-            self.room = (self.least / COST_OF_ROOM).clamp(LEAST_ROOM, MOST_ROOM);
+            self.room = (self.least / COST_OF_A_MARK).clamp(FEWEST_MARKS, MOST_MARKS);
         }
     }
 }
