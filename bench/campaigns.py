@@ -113,7 +113,7 @@ def measure(name, path, programs):
 
 
 def main():
-    os.environ["GLIBC_TUNABLES"] = "glibc.malloc.hugetlb=1:glibc.malloc.arena_max=8"
+    os.environ["GLIBC_TUNABLES"] = "glibc.malloc.hugetlb=1:glibc.malloc.arena_max=8:glibc.malloc.top_pad=4194304"
     ctypes.CDLL(None).prctl(PR_SET_CHILD_SUBREAPER, 1, 0, 0, 0)
     programs = sys.argv[1:3] or [PROGRAM]
     texts = {"dense": producer_and_consumer(5000, 2), "computing": producer_and_consumer(2000, 200),

@@ -74,7 +74,7 @@ def line_of(program, path, best, median, with_instructions):
 
 
 def main():
-    os.environ["GLIBC_TUNABLES"] = "glibc.malloc.hugetlb=1:glibc.malloc.arena_max=8"
+    os.environ["GLIBC_TUNABLES"] = "glibc.malloc.hugetlb=1:glibc.malloc.arena_max=8:glibc.malloc.top_pad=4194304"
     ctypes.CDLL(None).prctl(PR_SET_CHILD_SUBREAPER, 1, 0, 0, 0)
     words = sys.argv[1:]
     with_instructions = "--instructions" in words

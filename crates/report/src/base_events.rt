@@ -90,18 +90,52 @@ impl Spelled {
     }
 }
 
-// Spells the events of an application, one after another.
-fn spell(alloc: Global, app: &App, events: &[Event]) -> Result<Spelled, Memory>
-    ensures { IfOk result (λ s. IsSpelled app.now events.now s.text.items s.ends.items) }
+/// What spells the lines of an application's events: a page for one of them, and what lines have in common.
+///
+/// It takes no memory, and is some 107 kB large: make it once for many texts.
+#[derive(Drop)]
+pub struct Scribe<'a> {
+    page: Page,
+    lines: Lines<'a>,
+}
+
+// Clauses see the application.
+impl<'a> Model for Scribe<'a> {
+    ghost use Rattle.model.specs.Application.{Application};
+
+    ghost Value = { Application };
+
+    ghost view = { λ s. s.lines };
+}
+
+impl<'a> Scribe<'a> {
+    /// For events of this application.
+    pub fn new(app: &'a App) -> Scribe<'a>
+        ensures { result ≡ app.now }
+    {
+        Scribe {
+            page: Page::new(),
+            lines: Lines::new(app),
+        }
+    }
+}
+
+// Spells the events of an application, one after another, each by way of the page.
+fn spell(
+    alloc: Global,
+    lines: &mut Lines<'_>,
+    page: &mut Page,
+    events: &[Event],
+) -> Result<Spelled, Memory>
+    ensures app { lines.new ≡ lines.old }
+    ensures text { IfOk result (λ s. IsSpelled lines.old events.now s.text.items s.ends.items) }
 {
     let mut spelled = Spelled::new(alloc);
-    let mut lines = Lines::new(app);
-    let mut page = Page::new();
     for number in 0..events.len() {
         if spelled.text.len() > MOST_TEXT {
             break;
         }
-        spelled.add(&mut lines, &mut page, &events[number..number + 1])?;
+        spelled.add(lines, page, &events[number..number + 1])?;
     }
     Ok(spelled)
 }
@@ -119,15 +153,16 @@ impl<'a> BaseEvents<'a> {
         }
     }
 
-    /// The events of the base run of this application, spelled as far as there is memory for their text.
-    pub fn spelled(alloc: Global, app: &'a App, events: &'a [Event]) -> BaseEvents<'a>
-        ensures app { result.app ≡ app.now }
+    /// The events of the base run of the scribe's application, spelled as far as there is memory for their text.
+    pub fn spelled(alloc: Global, scribe: &mut Scribe<'a>, events: &'a [Event]) -> BaseEvents<'a>
+        ensures scribe { scribe.new ≡ scribe.old }
+        ensures app { result.app ≡ scribe.old }
         ensures events { result.events ≡ events.now }
     {
         BaseEvents {
-            app,
+            app: scribe.lines.app(),
             events,
-            spelled: spell(alloc, app, events).ok(),
+            spelled: spell(alloc, &mut scribe.lines, &mut scribe.page, events).ok(),
         }
     }
 

@@ -15,7 +15,7 @@ mod title;
 mod view;
 mod writer;
 
-pub use base_events::BaseEvents;
+pub use base_events::{BaseEvents, Scribe};
 pub use end_state::write_run_and_end_state;
 pub use laws::{
     heads_of_rows, lines_of_totals, plain_view, report_of_delay_one, report_of_each_form,

@@ -1,6 +1,6 @@
 -- Stretches of a trail that are spelled once.
 use Rattle.std.proofs.Common.{◌≡◌, ◌+◌, ◌-◌, ◌≤◌, ◌∙◌, ℕ, zero, suc, List, [], ◌∷◌, ◌++◌, take, drop}
-use Rattle.std.proofs.Common.{length, slice_range, ap, arith}
+use Rattle.std.proofs.Common.{length, slice_index_or, slice_range, ap, arith, ◌<◌}
 use Rattle.std.specs.Prelude.{IfSome, slice_get}
 use Rattle.std.proofs.lemmas.List.{drop-drop, drop-take, length-drop, length-take-le}
 use Rattle.model.specs.Application.{Application}
@@ -10,13 +10,13 @@ use Rattle.rows.specs.declared.stretches.Found.{Found}
 use Rattle.rows.specs.declared.stretches.Stretch.{Stretch}
 use Rattle.rows.specs.Stretches.{IsStretch, IsTail}
 
--- what holds of each of some, and of one behind them, holds of each
-pub each_more : {X : Type 0} (P : ℕ → X → Type 0) (xs : List X) (x : X) → ((n : ℕ) → IfSome (slice_get xs n) (P n))
-    → P (length xs) x → (n : ℕ) → IfSome (slice_get (xs ++ x ∷ []) n) (P n)
-each_more P [] x h is zero = is
-each_more P [] x h is (suc n) = tt
-each_more P (y ∷ ys) x h is zero = h zero
-each_more P (y ∷ ys) x h is (suc n) = each_more (λ n. P (suc n)) ys x (λ n. h (suc n)) is n
+-- what holds of the element at each place holds of each that is got
+pub each_got : {X : Type 0} (P : ℕ → X → Type 0) (xs : List X) → ((i : ℕ) (d : X) → i < length xs → P i (slice_index_or xs i d))
+    → (n : ℕ) → IfSome (slice_get xs n) (P n)
+each_got P [] h zero = tt
+each_got P [] h (suc n) = tt
+each_got P (x ∷ xs) h zero = h zero x (omega arith)
+each_got P (x ∷ xs) h (suc n) = each_got (λ n. P (suc n)) xs (λ i d l. h (suc i) d (omega (arith, l))) n
 
 -- a stretch from a place of it on
 behind_first : (trail : List Event) (first from to before : ℕ) → from ≤ to → first + before ≡ from

@@ -7,8 +7,17 @@ use crate::rows::{Part, Place};
 use model::{Run, Totals};
 use report::View;
 use std::marker::Model;
+use std::mem::forget;
 use std::thread;
 use std::thread::Threads;
+
+// Rows that take so many bytes at most stay in memory to the end of the program, which comes soon.
+const FEW: usize = 1 << 24;
+
+// How many bytes a row that is kept takes, and an event, or some more.
+const ROW: usize = 96;
+
+const EVENT: usize = 16;
 
 /// The rows of a campaign, as far as a view shows them: those of each block are in its place, one block after the other. All begin as
 /// the base run does. The first has this number.
@@ -46,6 +55,12 @@ impl Rows {
             events = events.saturating_add(part.trail.len());
         }
         events
+    }
+
+    // How many bytes the rows and their events take, or some more.
+    fn bytes(&self) -> usize {
+        let rows = self.totals.rows as usize * ROW;
+        self.own_events().saturating_mul(EVENT).saturating_add(rows)
     }
 
     /// Whether most rows go on as others do: a guess, by as many events for each row as the base run has.
@@ -92,10 +107,14 @@ impl Report {
         &self.rows
     }
 
-    /// Gives back the memory of the rows, that of each part in a thread of its own where one can be started: for so much, the
-    /// system takes its time.
+    /// Gives back the memory of many rows, that of each part in a thread of its own where one can be started: for so much, the
+    /// system takes its time. Few rows stay in memory to the end of the program: to start a thread takes longer than to give them back.
     pub fn free<R: Threads + Sync>(self, rt: &R) {
         let Report { rows } = self;
+        if rows.bytes() <= FEW {
+            forget(rows);
+            return;
+        }
         let Rows {
             view: _,
             first: _,

@@ -15,9 +15,10 @@ use crate::stretches::{Stretches, stretches_of};
 use crate::writing::add_row;
 use byte_io::{Buffer, Sink, WriteFault};
 use model::{App, Run};
-use report::{BaseEvents, ReportWriter};
+use report::{BaseEvents, ReportWriter, Scribe};
 use std::alloc::Global;
 use std::marker::Model;
+use std::thread::Threads;
 
 // How long the known texts of a part's rows are together at most, in bytes.
 const MOST_KNOWN: usize = 1 << 18;
@@ -120,13 +121,26 @@ fn text_of(
     Some(buffer)
 }
 
+// The events of the base run, spelled as far as there is memory for their text.
+fn spelled_base<'a>(alloc: Global, app: &'a App, base: &'a Run) -> BaseEvents<'a>
+    ensures app { result.app ≡ app.now }
+    ensures events { result.events ≡ base.now.events }
+{
+    BaseEvents::spelled(alloc, &mut Scribe::new(app), base.events.as_slice())
+}
+
 // The long stretches of each part's trail, where rows go on alike. Otherwise most are of one row, which is as well spelled when it is written.
-fn shared_stretches<'a>(alloc: Global, app: &'a App, rows: &'a Rows) -> Option<Vec<Stretches<'a>>>
+fn shared_stretches<'a, R: Threads + Sync>(
+    rt: &R,
+    alloc: Global,
+    app: &'a App,
+    rows: &'a Rows,
+) -> Option<Vec<Stretches<'a>>>
     requires { IsSound rows.now }
     ensures { IfSome result (λ s. AreOfParts app.now rows.now s.items) }
 {
     if rows.are_alike() {
-        stretches_of(alloc, app, rows).ok()
+        stretches_of(rt, alloc, app, rows).ok()
     } else {
         None
     }
@@ -147,7 +161,12 @@ impl<'a> RowTexts<'a> {
     }
 
     /// The texts are known as far as there is memory for them.
-    pub(crate) fn spelled(alloc: Global, app: &'a App, rows: &'a Rows) -> RowTexts<'a>
+    pub(crate) fn spelled<R: Threads + Sync>(
+        rt: &R,
+        alloc: Global,
+        app: &'a App,
+        rows: &'a Rows,
+    ) -> RowTexts<'a>
         requires { IsSound rows.now }
         ensures app { result.app ≡ app.now }
         ensures rows { result.rows ≡ rows.now }
@@ -158,8 +177,8 @@ impl<'a> RowTexts<'a> {
         };
         let mut texts = RowTexts {
             rows,
-            events: BaseEvents::spelled(alloc, app, rows.base.events.as_slice()),
-            stretches: shared_stretches(alloc, app, rows),
+            events: spelled_base(alloc, app, &rows.base),
+            stretches: shared_stretches(rt, alloc, app, rows),
             known: Some(known),
         };
         texts.add_parts(alloc, app);

@@ -1,14 +1,16 @@
 //! Stretches of a trail that many rows have, each spelled once.
-ghost use Rattle.std.specs.Prelude.{◌≡◌, ◌≤◌, length, slice_range, IfOk, IfSome};
+ghost use Rattle.std.specs.Prelude.{◌≡◌, ◌≤◌, ◌<◌, length, slice_range, IfOk, IfSome};
 ghost use Rattle.machine.specs.Logged.{all_of};
-ghost use Rattle.rows.specs.Stretches.{AreOfParts, IsTail};
+ghost use Rattle.rows.specs.Stretches.{AreOfPart, AreOfParts, IsTail};
 
 use crate::campaign_report::Rows;
 use crate::rows::Part;
 use model::{App, Event, Memory};
-use report::BaseEvents;
+use report::{BaseEvents, Scribe};
 use std::alloc::Global;
 use std::marker::Model;
+use std::thread;
+use std::thread::Threads;
 
 // A leg of fewer events than this many is spelled for each row that goes over it. Few others go over most of those.
 const LEAST_EVENTS: usize = 64;
@@ -71,7 +73,14 @@ impl<'a> Stretches<'a> {
     }
 
     /// The stretches of a part's long legs, as far as there is memory for them.
-    pub(crate) fn spelled(alloc: Global, app: &'a App, part: &'a Part) -> Stretches<'a>
+    pub(crate) fn spelled(
+        alloc: Global,
+        scribe: &mut Scribe<'a>,
+        app: &'a App,
+        part: &'a Part,
+    ) -> Stretches<'a>
+        requires { scribe.old ≡ app.now }
+        ensures scribe { scribe.new ≡ scribe.old }
         ensures app { result.app ≡ app.now }
         ensures trail { result.events ≡ all_of part.now.trail }
     {
@@ -84,18 +93,27 @@ impl<'a> Stretches<'a> {
             if is_long {
                 room -= count;
             }
-            stretches.add(alloc, first, leg.to, is_long);
+            stretches.add(alloc, scribe, first, leg.to, is_long);
             first = leg.to;
         }
         stretches
     }
 
     // Adds the stretch of the next leg, if it is long.
-    fn add(&mut self, alloc: Global, first: usize, to: usize, is_long: bool)
-        ensures { self.new ≡ self.old }
+    fn add(
+        &mut self,
+        alloc: Global,
+        scribe: &mut Scribe<'a>,
+        first: usize,
+        to: usize,
+        is_long: bool,
+    )
+        requires { scribe.old ≡ self.old.app }
+        ensures scribe { scribe.new ≡ scribe.old }
+        ensures same { self.new ≡ self.old }
     {
         let number = self.stretches.len();
-        let is_added = is_long && self.push(alloc, first, to);
+        let is_added = is_long && self.push(alloc, scribe, first, to);
         let number = if is_added {
             u32::try_from(number).unwrap_or(NO_STRETCH)
         } else {
@@ -105,8 +123,10 @@ impl<'a> Stretches<'a> {
     }
 
     // Spells the events of the trail between these places, where they are there. Answers whether there was memory for it.
-    fn push(&mut self, alloc: Global, first: usize, to: usize) -> bool
-        ensures { self.new ≡ self.old }
+    fn push(&mut self, alloc: Global, scribe: &mut Scribe<'a>, first: usize, to: usize) -> bool
+        requires { scribe.old ≡ self.old.app }
+        ensures scribe { scribe.new ≡ scribe.old }
+        ensures same { self.new ≡ self.old }
     {
         if to < first || self.trail.len() < to {
             return false;
@@ -114,7 +134,7 @@ impl<'a> Stretches<'a> {
         let stretch = Stretch {
             first,
             to,
-            events: BaseEvents::spelled(alloc, self.app, &self.trail[first..to]),
+            events: BaseEvents::spelled(alloc, scribe, &self.trail[first..to]),
         };
         self.stretches.push(stretch).is_ok()
     }
@@ -138,17 +158,35 @@ impl<'a> Stretches<'a> {
     }
 }
 
-/// The stretches of each part's long legs, part by part.
-pub(crate) fn stretches_of<'a>(
+// The stretches of the part of this number.
+fn stretches_of_part<'a>(
+    alloc: Global,
+    app: &'a App,
+    rows: &'a Rows,
+    number: usize,
+) -> Stretches<'a>
+    requires { number < length rows.now.parts.items }
+    ensures { AreOfPart app.now rows.now number result }
+{
+    let mut scribe = Scribe::new(app);
+    Stretches::spelled(alloc, &mut scribe, app, &rows.parts[number])
+}
+
+/// The stretches of each part's long legs, part by part. Those of each are spelled in a thread of its own where one can be started.
+pub(crate) fn stretches_of<'a, R: Threads + Sync>(
+    rt: &R,
     alloc: Global,
     app: &'a App,
     rows: &'a Rows,
 ) -> Result<Vec<Stretches<'a>>, Memory>
     ensures { IfOk result (λ s. AreOfParts app.now rows.now s.items) }
 {
-    let mut all = Vec::new(alloc);
-    for part in &rows.parts {
-        all.push(Stretches::spelled(alloc, app, part))?;
+    let each = |number: usize| -> Stretches<'_>
+        requires { number < length rows.now.parts.items }
+        ensures { AreOfPart app.entry.now rows.entry.now number result }
+    { stretches_of_part(alloc, app, rows, number) };
+    match thread::map_indices(rt, alloc, rows.parts.len(), &each) {
+        Ok(all) => Ok(all),
+        Err(_) => Err(Memory),
     }
-    Ok(all)
 }

@@ -472,7 +472,12 @@ fn length_of_pieces(rows: &Rows, spellers: usize) -> usize
 }
 
 // What is known of the texts of the rows; nothing, where only heads are written.
-fn texts_of<'a>(alloc: Global, app: &'a App, rows: &'a Rows) -> RowTexts<'a>
+fn texts_of<'a, R: Threads + Sync>(
+    rt: &R,
+    alloc: Global,
+    app: &'a App,
+    rows: &'a Rows,
+) -> RowTexts<'a>
     requires { IsSound rows.now }
     ensures app { result.app ≡ app.now }
     ensures rows { result.rows ≡ rows.now }
@@ -480,7 +485,7 @@ fn texts_of<'a>(alloc: Global, app: &'a App, rows: &'a Rows) -> RowTexts<'a>
     if rows.view.heads {
         RowTexts::new(app, rows)
     } else {
-        RowTexts::spelled(alloc, app, rows)
+        RowTexts::spelled(rt, alloc, app, rows)
     }
 }
 
@@ -521,7 +526,7 @@ pub fn write_report<R: Threads + Wait + Sync, W: Sink>(
     ensures failed { W.has_failed writer.new ≡ is_err result }
 {
     let rows = report.rows();
-    let texts = texts_of(alloc, app, rows);
+    let texts = texts_of(rt, alloc, app, rows);
     let Some((mut lanes, pieces)) = lanes_and_pieces(alloc, rows, threads) else {
         return write_rows(app, rows, &texts, writer);
     };

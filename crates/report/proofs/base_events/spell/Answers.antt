@@ -20,7 +20,7 @@ loop-number-preserved c =
       app = c.in_ok-add.ensures.app ∙ c.loop-number.invariant.app;
       as_many = more;
       is =
-          next_spelled c.args.app.now events c.loop-number.spelled.text.items ends c.loop-number.invariant.is
+          next_spelled c.args.lines.now events c.loop-number.spelled.text.items ends c.loop-number.invariant.is
           c.add.new.self.text.items c.add.new.self.ends.items (take (number + 1 - number) (drop number events)) low next text
           c.in_ok-add.ensures.ends;
     }

@@ -1,3 +1,4 @@
+use Rattle.std.proofs.Common.{◌≡◌}
 use Rattle.machine.specs.Logged.{all_of}
 use Rattle.rows.specs.Stretches.{AreOf}
 use Rattle.rows.proofs.stretches.Stretches.spelled.Given as goal
@@ -5,4 +6,5 @@ use Rattle.rows.proofs.stretches.Stretches.spelled.Given as goal
 abbrev pub invariant-loop-leg : goal.invariant-loop-leg
 invariant-loop-leg l = record {
   are : AreOf l.app (all_of l.part.trail) l.stretches;
+  scribe : l.scribe ≡ l.app;
 }
