@@ -6,12 +6,14 @@ from typing import Dict, List, Set
 
 import believed
 from cases import case, equal
-from contracts import functions_without_contract, named_by_contract, public_functions
+from contracts import functions_of, functions_without_contract, named_by_contract, public_functions
 from definitions import KIT, Name, is_of_kit, named_by_definition, owner_of, reached_from, text_of
 
 README = "README.md"
 PROOFS = "docs/PROOFS.md"
 MODEL = "crates/model/specs"
+# The errors that may say that no memory is left.
+MEMORY = ("Memory", "AllocError", "ReadFault", "LoadError", "ServeFault", "ExpandFault", "NestingFault", "Error")
 # How far a number that a document says may be from what is counted.
 NEAR = 0.05
 DAMPED = """pub data Sign : Type 0 where
@@ -41,10 +43,40 @@ mutual
     none : Trees
     more : Tree → Trees → Trees
 """
+CODE = """// fn commented() -> u8 {}
+fn free(n: u8) -> u8
+    ensures { result ≡ n }
+{
+    n
+}
+
+impl<const L: usize> Spring<L> {
+    pub fn new() -> Self {
+        Spring { links: [0; L] }
+    }
+}
+
+impl Source for &[u8] {
+    fn pull(&mut self) -> Result<u8, Failed> {
+        Err(Failed)
+    }
+}
+
+pub trait Damper {
+    fn damp(&mut self) -> u8
+        requires { held self.old ≡ 0 }
+        ensures value { result ≡ record { a = 1; b = 2 }.a };
+}
+
+/// It does nothing.
+pub fn law()
+    ensures { (n : ℕ) → n ≡ n }
+{}
+"""
 
 
 def section(title: str) -> str:
-    """The text below a heading of PROOFS, up to the next one of its kind."""
+    """The text below a heading of PROOFS, up to the next one of its kind or of a higher one."""
     level = title.partition(" ")[0]
     _, _, rest = text_of(PROOFS).partition(f"\n{title}\n")
     return re.split(rf"(?m)^#{{1,{len(level)}}} ", rest)[0]
@@ -149,6 +181,29 @@ def proofs_names_each_function_that_has_no_contract():
     words = {it for text in named for it in re.findall(r"\w+", text)}
     without = [it for it in functions_without_contract() if it.name not in words and it.owner not in words]
     equal(sorted({f"{it.file}: {it.owner}::{it.name}" for it in without}), [])
+
+
+def may_lack_memory(types: str) -> bool:
+    """Whether a function of these types may answer that no memory is left."""
+    result = re.search(r"-> Result<.*, (\w+)>\s*(?:\{\s*)?;?$", " ".join(types.split()))
+    return bool(result) and result.group(1) in MEMORY
+
+
+@case
+def proofs_names_each_public_function_that_may_lack_memory():
+    words = {it for text in re.findall(r"`([^`]+)`", section("### Memory")) for it in re.findall(r"\w+", text)}
+    found = [it for it in public_functions() if may_lack_memory(it.types)]
+    assert len(found) > 30, found
+    equal(sorted(f"{it.file}: {it.owner}::{it.name}" for it in found if not words >= {it.name, it.owner} - {""}), [])
+
+
+@case
+def contracts_are_read_with_their_types_and_clauses():
+    with open("damped.rt", "w", encoding="utf-8") as it:
+        it.write(CODE)
+    found = [(it.owner, it.name, it.is_of_trait, it.is_public, "ensures" in it.clauses) for it in functions_of(os.path.abspath("damped.rt"))]
+    equal(found, [("", "free", False, False, True), ("Spring", "new", False, True, False), ("u8", "pull", True, False, False),
+                  ("Damper", "damp", False, False, True), ("", "law", False, True, True)])
 
 
 @case
