@@ -35,7 +35,7 @@ def ends_signature(line: str, indent: str) -> bool:
 
 def signature_at(lines: List[str], index: int, indent: str) -> str:
     after = index
-    while not ends_signature(lines[after], indent):
+    while after + 1 < len(lines) and not ends_signature(lines[after], indent):
         after += 1
     return "\n".join(lines[index : after + 1])
 
