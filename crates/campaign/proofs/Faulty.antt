@@ -23,10 +23,11 @@ use Rattle.report.specs.declared.view.View.{View}
 use Rattle.requests.specs.declared.at.At.{At}
 use Rattle.campaign.specs.declared.file.ServeFault.{ServeFault}
 use Rattle.campaign.specs.declared.file.ServeFault.TheVariants.{Read, NotToml, Load, UnknownHandler, TooManyPoints, Memory, Write}
-use Rattle.campaign.specs.Serving.{Answers, Serves, Known, IsDocument, IsFileOf, HasFileFault, of_loading, of_reading}
+use Rattle.campaign.specs.Serving.{Answers, Serves, Known, IsDocument, IsFileOf, HasFileFault}
+use Rattle.campaign.specs.Faults.{IsCampaignFault, IsRunFault, of_loading, of_reading}
 use Rattle.campaign.specs.Serving.{is_read_fault, is_write_fault}
-use Rattle.campaign.specs.OneRun.{IsRunFault, HasFault, ServesRun}
-use Rattle.campaign.specs.Campaigns.{IsCampaignFault, HasCampaignFault, ServesCampaign}
+use Rattle.campaign.specs.OneRun.{HasFault, ServesRun}
+use Rattle.campaign.specs.Campaigns.{HasCampaignFault, ServesCampaign}
 
 -- there are bytes, the known ones where they are known
 pub some_text : (input : Option (List ℕ)) → (bytes : List ℕ) × Known input bytes

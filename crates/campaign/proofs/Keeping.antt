@@ -16,7 +16,7 @@ use Rattle.model.specs.Application.{Application, Limits}
 use Rattle.model.specs.Run.{Run, IsRun, events_after}
 use Rattle.model.proofs.Injected.{begins_with, no_fewer}
 use Rattle.machine.specs.declared.machine.Machine.{Machine}
-use Rattle.kernel.specs.declared.rows.RowBeginning.{RowBeginning}
+use Rattle.shelf.specs.declared.row.RowBeginning.{RowBeginning}
 use Rattle.shelf.specs.Begun.{HasBegun}
 use Rattle.model.specs.Campaign.{Row}
 use Rattle.report.specs.Views.{shows_events}

@@ -9,7 +9,8 @@ use Rattle.campaign.specs.declared.points.ExpandFault.{ExpandFault}
 use Rattle.campaign.specs.declared.points.ExpandFault.TheVariants.{TooManyPoints, Memory}
 use Rattle.report.specs.Shards.{Shard, first_of, part_of}
 use Rattle.report.specs.declared.view.View.{View}
-use Rattle.campaign.specs.Campaigns.{IsCampaignFault, IsShownOf, of_expanding}
+use Rattle.campaign.specs.Faults.{IsCampaignFault, of_expanding}
+use Rattle.campaign.specs.Shown.{IsShownOf}
 use Rattle.rows.specs.Report.{Shown}
 use Rattle.campaign.specs.Seen.{AreSeen}
 use Rattle.campaign.proofs.Seeing.{rows_of_seen}

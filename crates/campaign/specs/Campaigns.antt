@@ -1,6 +1,6 @@
 -- What the campaign of a file comes to: the report of one row for each of its points, or of a part of these, as a view shows it; or
 -- the fault that prevents it.
-use Rattle.std.specs.Prelude.{◌≡◌, ◌<◌, ◌≤◌, ℕ, Bool, List, [], length, map, Option, Result}
+use Rattle.std.specs.Prelude.{◌≡◌, ◌<◌, ◌≤◌, ℕ, Bool, List, [], length, Option, Result}
 use Rattle.model.specs.Application.{Application}
 use Rattle.model.specs.Scripts.{most_points}
 use Rattle.model.specs.Run.{Run, IsRun}
@@ -10,11 +10,7 @@ use Rattle.report.specs.Shards.{Shard, first_of, part_of}
 use Rattle.report.specs.Views.{report_text}
 use Rattle.report.specs.declared.view.View.{View}
 use Rattle.campaign.specs.declared.file.ServeFault.{ServeFault}
-use Rattle.campaign.specs.declared.file.ServeFault.TheVariants.{TooManyPoints, Memory}
-use Rattle.campaign.specs.declared.points.ExpandFault.{ExpandFault}
-use Rattle.campaign.specs.declared.points.ExpandFault.TheVariants as expanding
-use Rattle.rows.specs.Report.{Shown}
-use Rattle.campaign.specs.Seen.{seen}
+use Rattle.campaign.specs.declared.file.ServeFault.TheVariants.{TooManyPoints}
 use Rattle.campaign.specs.Serving.{IsFileOf, HasFileFault, Serves}
 
 -- The rows are those of a part of the application's own points, which are few enough, under its own limits; `all` means every
@@ -28,12 +24,6 @@ pub record AreRowsOf (app : Application) (shard : Shard) (rows : List Row) : Typ
 -- the number of the first of them among those of all points
 abbrev pub first_number : {app : Application} → {shard : Shard} → {rows : List Row} → AreRowsOf app shard rows → ℕ
 first_number {app} {shard} are = first_of shard (length (points_in app are.base.steps))
-
--- The report has these rows, as far as the view shows them.
-pub record IsShownOf (app : Application) (view : View) (shard : Shard) (report : Shown) : Type 0 where
-  pub rows : List Row
-  pub runs : AreRowsOf app shard rows
-  pub shown : report ≡ record { view = view; first = first_number runs; rows = map (seen view) rows }
 
 -- The application's points are more than there may be (profile).
 pub record HasTooManyPoints (app : Application) : Type 0 where
@@ -55,16 +45,6 @@ pub record IsCampaignOf (view : View) (shard : Shard) (bytes report : List ℕ) 
 abbrev pub HasCampaignFault : List ℕ → ServeFault → Type 0
 HasCampaignFault bytes TooManyPoints = (app : Application) × IsFileOf bytes app × HasTooManyPoints app
 HasCampaignFault bytes fault = HasFileFault bytes fault
-
--- why the rows of an application are not made: there are too many points, or no memory is left
-abbrev pub IsCampaignFault : Application → ServeFault → Type 0
-IsCampaignFault app TooManyPoints = HasTooManyPoints app
-IsCampaignFault app Memory = Unit {0}
-IsCampaignFault app fault = ⊥
-
-abbrev pub of_expanding : ExpandFault → ServeFault
-of_expanding expanding.TooManyPoints = TooManyPoints
-of_expanding expanding.Memory = Memory
 
 -- a call that serves a part of the campaign of a file, as the view shows it, and answers that part's totals
 abbrev pub ServesCampaign : View → Shard → Option (List ℕ)

@@ -1,4 +1,5 @@
 pub mod Campaigns
+pub mod Faults
 pub mod Kinds
 pub mod Made
 pub mod Marks
@@ -7,4 +8,5 @@ pub mod Points
 pub mod Seen
 pub mod Serving
 pub mod Setup
+pub mod Shown
 pub mod Working

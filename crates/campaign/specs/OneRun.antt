@@ -11,7 +11,7 @@ use Rattle.report.specs.declared.title.Title.{Title}
 use Rattle.report.specs.declared.title.Title.TheVariants.{Base, Row}
 use Rattle.requests.specs.declared.at.At.{At}
 use Rattle.campaign.specs.declared.file.ServeFault.{ServeFault}
-use Rattle.campaign.specs.declared.file.ServeFault.TheVariants.{UnknownHandler, Memory}
+use Rattle.campaign.specs.declared.file.ServeFault.TheVariants.{UnknownHandler}
 use Rattle.campaign.specs.Serving.{IsFileOf, HasFileFault, Serves}
 
 -- the point of one injection: the handler of the application that has the name
@@ -45,12 +45,6 @@ pub record IsReportOf (at : Option At) (bytes report : List ℕ) (end : End) : T
   pub runs : IsAsked at app title run
   pub ends : run.end ≡ end
   pub text : report ≡ run_text app title run
-
--- why an application is not run to its end: no handler has the name, or no memory is left
-abbrev pub IsRunFault : Option At → Application → ServeFault → Type 0
-IsRunFault at app UnknownHandler = NamesNoHandler at app
-IsRunFault at app Memory = Unit {0}
-IsRunFault at app fault = ⊥
 
 -- a call that serves the run that is asked for, and answers how it ends
 abbrev pub ServesRun : Option At → Option (List ℕ) → (read_failed : Bool) → (old new : Option (List ℕ)) → (write_failed : Bool)

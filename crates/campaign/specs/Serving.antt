@@ -6,11 +6,7 @@ use Rattle.toml.specs.Data.{Members}
 use Rattle.toml.specs.Parse.{parse_document}
 use Rattle.model.specs.Application.{Application}
 use Rattle.byte_io.specs.Bytes.{SentFront}
-use Rattle.byte_io.specs.declared.read.ReadFault.{ReadFault}
-use Rattle.byte_io.specs.declared.read.ReadFault.TheVariants as read
 use Rattle.script.specs.Load.{load_fault, app_named}
-use Rattle.script.specs.declared.fault.LoadError.{LoadError}
-use Rattle.script.specs.declared.fault.LoadError.TheVariants as loading
 use Rattle.campaign.specs.declared.file.ServeFault.{ServeFault}
 use Rattle.campaign.specs.declared.file.ServeFault.TheVariants.{Read, NotToml, Load, UnknownHandler, TooManyPoints, Memory, Write}
 
@@ -39,14 +35,6 @@ HasFileFault bytes TooManyPoints = ⊥
 HasFileFault bytes fault = Unit {0}
 
 -- ---- serving
-
-abbrev pub of_reading : ReadFault → ServeFault
-of_reading read.Failed = Read
-of_reading read.Memory = Memory
-
-abbrev pub of_loading : LoadError → ServeFault
-of_loading loading.Memory = Memory
-of_loading (loading.Fault fault) = Load fault
 
 abbrev pub is_read_fault : {A : Type 0} → Result A ServeFault → Bool
 is_read_fault (Err Read) = true

@@ -30,7 +30,7 @@ pub enum ServeFault {
 }
 
 impl From<ReadFault> for ServeFault {
-    ghost use Rattle.campaign.specs.Serving.{of_reading};
+    ghost use Rattle.campaign.specs.Faults.{of_reading};
 
     ghost from_gives = { λ fault given. given ≡ of_reading fault };
 
@@ -59,7 +59,7 @@ impl From<WriteFault> for ServeFault {
 }
 
 impl From<LoadError> for ServeFault {
-    ghost use Rattle.campaign.specs.Serving.{of_loading};
+    ghost use Rattle.campaign.specs.Faults.{of_loading};
 
     ghost from_gives = { λ error given. given ≡ of_loading error };
 

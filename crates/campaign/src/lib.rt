@@ -26,5 +26,5 @@ pub use making::{Finished, campaign};
 pub use one_run::{serve_run, serve_run_of};
 pub use points::{ExpandFault, expand};
 pub use requests::{At, BadOption, Options};
-pub use rows::{Report, write_report};
+pub use rows::{Report, write_report, write_report_in_threads};
 pub use serving::{serve, serve_of};

@@ -1,7 +1,8 @@
 //! From the bytes of a file to the text of one run.
 ghost use Rattle.std.specs.Prelude.{◌≡◌, ℕ, List, [], Option, Some, false, IfOk, MatchResult};
 ghost use Rattle.model.specs.Run.{IsRun, IsRow};
-ghost use Rattle.campaign.specs.OneRun.{IsAsked, IsRunFault, ServesRun};
+ghost use Rattle.campaign.specs.Faults.{IsRunFault};
+ghost use Rattle.campaign.specs.OneRun.{IsAsked, ServesRun};
 ghost use Rattle.campaign.specs.Serving.{IsFileOf, Known};
 
 use crate::file::{ServeFault, app_in, app_of};

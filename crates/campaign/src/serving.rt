@@ -1,7 +1,9 @@
 //! From the bytes of a file to the report of its campaign, or of a part of it.
 ghost use Rattle.std.specs.Prelude.{◌≡◌, ◌<◌, ◌≤◌, ◌+◌, ℕ, List, Option, Some, false, length, IfOk, MatchResult};
 ghost use Rattle.model.specs.Scripts.{most_points};
-ghost use Rattle.campaign.specs.Campaigns.{IsCampaignFault, IsShownOf, ServesCampaign};
+ghost use Rattle.campaign.specs.Campaigns.{ServesCampaign};
+ghost use Rattle.campaign.specs.Faults.{IsCampaignFault};
+ghost use Rattle.campaign.specs.Shown.{IsShownOf};
 ghost use Rattle.campaign.specs.Seen.{AreSeen};
 ghost use Rattle.campaign.specs.Serving.{IsFileOf, Known};
 ghost use Rattle.shelf.specs.Shelves.{IsShelf};
@@ -15,14 +17,14 @@ use deal::{Division, Tally};
 use model::{App, Memory, Point, Totals};
 use report::{Shard, View};
 use requests::Options;
-use rows::{Report, write_report};
+use rows::{Report, write_report_in_threads};
 use shelf::Shelf;
 use std::alloc::Global;
 use std::sync::Wait;
 use std::thread::Threads;
 
 impl From<ExpandFault> for ServeFault {
-    ghost use Rattle.campaign.specs.Campaigns.{of_expanding};
+    ghost use Rattle.campaign.specs.Faults.{of_expanding};
 
     ghost from_gives = { λ fault given. given ≡ of_expanding fault };
 
@@ -131,7 +133,7 @@ fn serve_app<T: Threads + Wait + Sync, W: Sink, G: Gate + Sync>(
 {
     let threads = options.workers.clamp(1, Options::MOST_WORKERS) as usize;
     let report = report_of(rt, alloc, app, view, shard, options, gate)?;
-    write_report(rt, alloc, app, &report, threads, writer)?;
+    write_report_in_threads(rt, alloc, app, &report, threads, writer)?;
     let totals = report.totals();
     report.free(rt);
     Ok(totals)

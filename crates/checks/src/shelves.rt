@@ -1,10 +1,10 @@
-//! Rows that begin from the nearest stop before their point, or from the row before.
+//! Rows that begin from the nearest stop before their point, or from a walk along the base run.
 ghost use Rattle.std.specs.Prelude.{◌<◌, ◌≤◌};
 
 use crate::loading::loaded;
 use kernel::{Kernel, StepLog, Trail};
-use model::{App, End, Event, HandlerId, Injection, Meter, Point};
-use shelf::{Shelf, Walk};
+use model::{App, HandlerId, Injection, Meter, Point};
+use shelf::{Row, Shelf, Walk};
 use std::alloc::Global;
 use std::process::Abort;
 
@@ -15,115 +15,92 @@ handler = [{ name = 'h', ops = ['send q 7', 'receive q'] }]
 task = [{ name = 'a', priority = 1, script = ['receive q 1'] }]
 ";
 
-/// The row of a point, with all its events.
-#[derive(Drop)]
-struct Row {
+/// What the row of a point costs, with a stop before every step that is a multiple of `stride`.
+#[derive(Clone, Copy)]
+struct Cost {
+    stride: u32,
+    step: u32,
     is_reached: bool,
+    /// How many steps the row has.
     steps: u32,
-    end: End,
-    events: Vec<Event>,
-    /// How many steps were run from the first injection on.
+    /// How many of them are run.
     run: u64,
 }
 
-/// The row of the first handler before this step: whether the base run gets so far, and how many steps the row has.
-#[derive(Clone, Copy)]
-struct Known {
-    step: u32,
-    is_reached: bool,
-    steps: u32,
-}
-
-const KNOWN: [Known; 5] = [
-    Known {
-        step: 0,
-        is_reached: true,
-        steps: 7,
-    },
-    Known {
-        step: 2,
-        is_reached: true,
-        steps: 12,
-    },
-    Known {
+const COSTS: [Cost; 8] = [
+    Cost {
+        stride: 1,
         step: 5,
         is_reached: true,
         steps: 12,
+        run: 7,
     },
-    Known {
+    Cost {
+        stride: 4,
+        step: 0,
+        is_reached: true,
+        steps: 7,
+        run: 7,
+    },
+    Cost {
+        stride: 4,
+        step: 2,
+        is_reached: true,
+        steps: 12,
+        run: 12,
+    },
+    Cost {
+        stride: 4,
+        step: 5,
+        is_reached: true,
+        steps: 12,
+        run: 8,
+    },
+    Cost {
+        stride: 4,
         step: 6,
         is_reached: true,
         steps: 7,
+        run: 3,
     },
-    Known {
+    Cost {
+        stride: 4,
         step: 7,
         is_reached: false,
         steps: 7,
+        run: 0,
+    },
+    Cost {
+        stride: 1000,
+        step: 5,
+        is_reached: true,
+        steps: 12,
+        run: 12,
+    },
+    Cost {
+        stride: 65_536,
+        step: 7,
+        is_reached: false,
+        steps: 7,
+        run: 0,
     },
 ];
 
-/// The base run as the row of a point that it doesn't reach.
-fn base_row(rt: &impl Abort, alloc: Global, shelf: &Shelf) -> Row {
-    let base = shelf.base();
-    let mut events = Vec::new(alloc);
-    events
-        .extend_from_slice(base.events.as_slice())
-        .expect(rt, "memory");
-    Row {
-        is_reached: false,
-        steps: base.steps,
-        end: base.end,
-        events,
-        run: 0,
-    }
-}
-
-/// The row of a point, where a stop comes before every step that is a multiple of `stride`.
-fn row_of(rt: &impl Abort, alloc: Global, app: &App, stride: u32, point: Point) -> Row
+/// The row of a point, and how many steps were run for it.
+fn row_of(rt: &impl Abort, alloc: Global, app: &App, stride: u32, point: Point) -> (Row, u64)
     requires some { 0 < stride }
     requires few { stride ≤ 65536 }
 {
     let shelf = Shelf::make(alloc, app, app.limits(), stride).expect(rt, "memory");
-    let limits = shelf.limits();
-    limits.well_formed();
-    if !shelf.reaches(&point) {
-        return base_row(rt, alloc, &shelf);
-    }
-    let mut walk = Walk::new(app);
-    let mut kernel = Kernel::boot(app);
     let mut meter = Meter::new();
-    let mut log = StepLog::new();
-    let mut trail = Trail::new(alloc);
-    let begun = shelf
-        .begin_row_after(
-            app,
-            &point,
-            u32::MAX,
-            &mut walk,
-            &mut kernel,
-            &mut meter,
-            &mut log,
-            &mut trail,
-        )
+    let row = shelf
+        .run_point(alloc, app, point, &mut meter)
         .expect(rt, "memory");
-    let mut events = Vec::new(alloc);
-    for event in shelf.base().events.iter().take(begun.before) {
-        events.push(*event).expect(rt, "memory");
-    }
-    events
-        .extend_from_slice(trail.events())
-        .expect(rt, "memory");
-    Row {
-        is_reached: true,
-        steps: kernel.steps(),
-        end: begun.end.expect(rt, "an end"),
-        events,
-        run: meter.steps(),
-    }
+    (row, meter.steps())
 }
 
-/// The row of the first handler before this step.
-fn row_from(rt: &impl Abort, alloc: Global, app: &App, stride: u32, step: u32) -> Row
+/// The row of the first handler before this step, and how many steps were run for it.
+fn row_from(rt: &impl Abort, alloc: Global, app: &App, stride: u32, step: u32) -> (Row, u64)
     requires some { 0 < stride }
     requires few { stride ≤ 65536 }
 {
@@ -131,8 +108,8 @@ fn row_from(rt: &impl Abort, alloc: Global, app: &App, stride: u32, step: u32) -
     row_of(rt, alloc, app, stride, point)
 }
 
-/// The row of the first handler before both of these steps.
-fn row_of_two(rt: &impl Abort, alloc: Global, app: &App, stride: u32, steps: [u32; 2]) -> Row
+/// The same of the first handler before both of these steps.
+fn row_of_two(rt: &impl Abort, alloc: Global, app: &App, stride: u32, steps: [u32; 2]) -> (Row, u64)
     requires some { 0 < stride }
     requires few { stride ≤ 65536 }
 {
@@ -180,19 +157,69 @@ fn known_at_six(rt: &impl Abort, alloc: Global, app: &App, step: u32) -> Option<
     shelf.known(&kernel, kernel.hint(app))
 }
 
-#[test]
-fn a_row_takes_the_steps_from_its_injection_on(rt: HostRuntime) {
-    let app = loaded(&rt, rt.alloc(), RECEIVE);
-    for known in KNOWN.iter() {
-        for stride in [1, 4, 1000, 65_536] {
-            let row = row_from(&rt, rt.alloc(), &app, stride, known.step);
-            assert!(rt; row.is_reached == known.is_reached, "stride {stride}");
-            assert!(rt; row.steps == known.steps, "stride {stride}");
-            assert!(rt;
-                row.run == u64::from(known.steps - known.step),
-                "stride {stride}"
-            );
+/// What the rows of the first handler before these steps cost, of which the base run reaches both, one after the other on one walk.
+fn costs_of_rows(
+    rt: &impl Abort,
+    alloc: Global,
+    app: &App,
+    stride: u32,
+    steps: [u32; 2],
+) -> [u64; 2]
+    requires some { 0 < stride }
+    requires few { stride ≤ 65536 }
+{
+    let shelf = Shelf::make(alloc, app, app.limits(), stride).expect(rt, "memory");
+    let limits = shelf.limits();
+    limits.well_formed();
+    let mut walk = Walk::new(app);
+    let mut kernel = Kernel::boot(app);
+    let mut log = StepLog::new();
+    let mut costs = [0; 2];
+    for (cost, step) in costs.iter_mut().zip(steps) {
+        let point = Point::one(step, HandlerId { number: 0 });
+        if !shelf.reaches(&point) {
+            continue;
         }
+        let mut meter = Meter::new();
+        let mut trail = Trail::new(alloc);
+        shelf
+            .begin_row_after(
+                app,
+                &point,
+                u32::MAX,
+                &mut walk,
+                &mut kernel,
+                &mut meter,
+                &mut log,
+                &mut trail,
+            )
+            .expect(rt, "memory");
+        *cost = meter.steps();
+    }
+    costs
+}
+
+#[test]
+fn a_row_costs_the_steps_from_the_stop_before_its_point(rt: HostRuntime) {
+    let app = loaded(&rt, rt.alloc(), RECEIVE);
+    for cost in COSTS.iter() {
+        let stride = cost.stride.clamp(1, 65_536);
+        let (row, run) = row_from(&rt, rt.alloc(), &app, stride, cost.step);
+        assert!(rt; run == cost.run, "stride {stride}");
+        assert!(rt; row.reached == cost.is_reached, "stride {stride}");
+        assert!(rt; row.run.steps == cost.steps, "stride {stride}");
+    }
+}
+
+// From the walk, which is at step 3 after the first row: three steps to step 6 at a stride of 1000. At a stride of 4 the stop before step 4
+// is nearer.
+#[test]
+fn a_walk_costs_the_steps_from_where_it_is_or_from_a_nearer_stop(rt: HostRuntime) {
+    let app = loaded(&rt, rt.alloc(), RECEIVE);
+    for (stride, way) in [(1000, 3), (4, 2), (6, 0)] {
+        let steps = [3, 6];
+        let costs = costs_of_rows(&rt, rt.alloc(), &app, stride, steps);
+        assert!(rt; costs[1] == way + 1, "stride {stride}");
     }
 }
 
@@ -200,31 +227,32 @@ fn a_row_takes_the_steps_from_its_injection_on(rt: HostRuntime) {
 fn a_row_is_the_same_from_each_stride(rt: HostRuntime) {
     let app = loaded(&rt, rt.alloc(), RECEIVE);
     for step in 0..8_u32 {
-        let wanted = row_from(&rt, rt.alloc(), &app, 1000, step);
+        let (wanted, _) = row_from(&rt, rt.alloc(), &app, 1000, step);
         for stride in 1..9_u32 {
-            let row = row_from(&rt, rt.alloc(), &app, stride, step);
-            assert!(rt; row.events.as_slice() == wanted.events.as_slice());
-            assert!(rt; row.end == wanted.end);
+            let (row, _) = row_from(&rt, rt.alloc(), &app, stride, step);
+            assert!(rt; row.run.events.as_slice() == wanted.run.events.as_slice());
+            assert!(rt; row.run.end == wanted.run.end);
         }
     }
 }
 
-// The second comes past the end of the base run, which has seven steps, and before the row's own.
+// The second comes past the end of the base run, which has seven steps, and before the row's own. What a row costs goes by the first.
 #[test]
 fn a_row_of_two_injections(rt: HostRuntime) {
     let app = loaded(&rt, rt.alloc(), RECEIVE);
     for stride in 1..9_u32 {
-        let row = row_of_two(&rt, rt.alloc(), &app, stride, [3, 10]);
-        assert!(rt; row.is_reached && row.steps == 17, "stride {stride}");
-        assert!(rt; row.run == 14, "stride {stride}");
+        let (row, run) = row_of_two(&rt, rt.alloc(), &app, stride, [3, 10]);
+        let stop = 3 / stride * stride;
+        assert!(rt; row.reached && row.run.steps == 17, "stride {stride}");
+        assert!(rt; run == u64::from(17 - stop), "stride {stride}");
     }
 }
 
 #[test]
 fn a_row_whose_first_injection_is_at_the_end_is_the_base_run(rt: HostRuntime) {
     let app = loaded(&rt, rt.alloc(), RECEIVE);
-    let row = row_of_two(&rt, rt.alloc(), &app, 4, [7, 8]);
-    assert!(rt; !row.is_reached && row.steps == 7 && row.run == 0);
+    let (row, run) = row_of_two(&rt, rt.alloc(), &app, 4, [7, 8]);
+    assert!(rt; !row.reached && row.run.steps == 7 && run == 0);
 }
 
 // Before the task waits, nothing is left of what the handler does: it takes back what it has sent. Then it wakes the task.

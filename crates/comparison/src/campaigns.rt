@@ -6,7 +6,7 @@ use crate::file::{file_of, points_text};
 use crate::random::loaded;
 use crate::working::{Manner, campaign_in, divided, points_at};
 use byte_io::ToWriter;
-use campaign::{NoGate, write_report};
+use campaign::{NoGate, write_report, write_report_in_threads};
 use deal::Division;
 use dice::Dice;
 use model::{App, End, HandlerId, Injection, Memory, Meter, Plan, Point, Run};
@@ -201,9 +201,14 @@ fn report_of<R: Abort + Threads + Wait + Sync>(
     let finished = campaign_in(rt, alloc, app, points, manner, division, &NoGate);
     let mut text = Vec::new(alloc);
     let mut writer = ToWriter::new(&mut text);
-    write_report(rt, alloc, app, &finished.report, 1, &mut writer)
+    write_report_in_threads(rt, alloc, app, &finished.report, 1, &mut writer)
         .ok()
         .expect(rt, "memory");
+    let mut plain = Vec::new(alloc);
+    write_report(app, &finished.report, &mut ToWriter::new(&mut plain))
+        .ok()
+        .expect(rt, "memory");
+    assert!(rt; plain.as_slice() == text.as_slice());
     text
 }
 

@@ -6,7 +6,8 @@ use Rattle.model.specs.Application.{Application}
 use Rattle.requests.specs.declared.at.At.{At}
 use Rattle.campaign.specs.declared.file.ServeFault.{ServeFault}
 use Rattle.campaign.specs.declared.file.ServeFault.TheVariants.{Read, NotToml, Load, UnknownHandler, TooManyPoints, Memory, Write}
-use Rattle.campaign.specs.OneRun.{IsRunFault, ServesRun}
+use Rattle.campaign.specs.Faults.{IsRunFault}
+use Rattle.campaign.specs.OneRun.{ServesRun}
 use Rattle.campaign.specs.Serving.{HasFileFault, IsFileOf, Known, is_read_fault, is_write_fault}
 use Rattle.campaign.proofs.Faulty.{serves_file_fault, serves_run_fault}
 use Rattle.jobs.specs.EndStates.{ServesEndState}

@@ -7,7 +7,8 @@ use Rattle.report.specs.declared.view.View.{View}
 use Rattle.requests.specs.declared.at.At.{At}
 use Rattle.campaign.specs.declared.file.ServeFault.{ServeFault}
 use Rattle.campaign.specs.declared.file.ServeFault.TheVariants.{Read, NotToml, Load, UnknownHandler, TooManyPoints, Memory, Write}
-use Rattle.campaign.specs.Serving.{Known, of_reading, is_read_fault}
+use Rattle.campaign.specs.Faults.{of_reading}
+use Rattle.campaign.specs.Serving.{Known, is_read_fault}
 use Rattle.campaign.proofs.Faulty.{campaign_serves_file_fault, reading_failed, serves_as_known, serves_file_fault}
 use Rattle.byte_io.specs.declared.read.ReadFault.{ReadFault}
 use Rattle.byte_io.specs.declared.read.ReadFault.TheVariants as read

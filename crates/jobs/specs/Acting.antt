@@ -17,6 +17,7 @@ use Rattle.campaign.specs.Serving.{Known}
 use Rattle.campaign.specs.OneRun.{ServesRun}
 use Rattle.campaign.specs.Campaigns.{ServesCampaign}
 use Rattle.jobs.specs.EndStates.{EndStateServed}
+use Rattle.jobs.specs.Passing.{IsServed}
 use Rattle.report.specs.Shards.{Shard}
 use Rattle.report.specs.declared.view.View.{View}
 use Rattle.requests.specs.declared.job.Job.{Job}
@@ -35,18 +36,14 @@ all_pass totals = totals.pass == totals.rows
 abbrev pub RunServed : Option At → (input : Option (List ℕ))
     → (read_failed : Bool) → (old new : Option (List ℕ)) → (write_failed : Bool)
     → Result Bool ServeFault → Type 0
-RunServed at input read_failed old new write_failed (Ok passes) =
-    (end : End) × (passes ≡ is_pass end) × ServesRun at input read_failed old new write_failed (Ok end)
-RunServed at input read_failed old new write_failed (Err fault) = ServesRun at input read_failed old new write_failed (Err fault)
+RunServed at input read_failed old new write_failed = IsServed is_pass (ServesRun at input read_failed old new write_failed)
 
 -- A part of a campaign is served as the view shows it, and all its rows pass or not.
 abbrev pub CampaignServed : View → Shard → (input : Option (List ℕ))
     → (read_failed : Bool) → (old new : Option (List ℕ)) → (write_failed : Bool)
     → Result Bool ServeFault → Type 0
-CampaignServed view shard input read_failed old new write_failed (Ok passes) =
-    (totals : Totals) × (passes ≡ all_pass totals) × ServesCampaign view shard input read_failed old new write_failed (Ok totals)
-CampaignServed view shard input read_failed old new write_failed (Err fault) =
-    ServesCampaign view shard input read_failed old new write_failed (Err fault)
+CampaignServed view shard input read_failed old new write_failed =
+    IsServed all_pass (ServesCampaign view shard input read_failed old new write_failed)
 
 -- What a job asks for is served, and passes or not.
 abbrev pub Served : Job → (input : Option (List ℕ)) → (read_failed : Bool) → (old new : Option (List ℕ)) → (write_failed : Bool)

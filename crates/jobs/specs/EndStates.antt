@@ -1,5 +1,5 @@
 -- What a run of a file comes to where its end state is asked for too.
-use Rattle.std.specs.Prelude.{◌≡◌, ℕ, Bool, List, [], ◌++◌, Option, Result, Ok, Err, if◌then◌else◌}
+use Rattle.std.specs.Prelude.{◌≡◌, ℕ, Bool, List, [], ◌++◌, Option, Result, if◌then◌else◌}
 use Rattle.model.specs.declared.event.End.{End}
 use Rattle.model.specs.declared.plan.Injection.{Injection}
 use Rattle.model.specs.Application.{Application}
@@ -14,6 +14,7 @@ use Rattle.requests.specs.declared.at.At.{At}
 use Rattle.campaign.specs.declared.file.ServeFault.{ServeFault}
 use Rattle.campaign.specs.OneRun.{HasFault, IsAsked}
 use Rattle.campaign.specs.Serving.{IsFileOf, Serves}
+use Rattle.jobs.specs.Passing.{IsServed}
 
 -- the injections of the run whose report has this title: none of the base run, which is also the row of a point that isn't reached
 abbrev pub plan_titled : Title → List Injection
@@ -44,7 +45,5 @@ ServesEndState at input read_failed old new write_failed outcome =
 abbrev pub EndStateServed : Option At → (input : Option (List ℕ))
     → (read_failed : Bool) → (old new : Option (List ℕ)) → (write_failed : Bool)
     → Result Bool ServeFault → Type 0
-EndStateServed at input read_failed old new write_failed (Ok passes) =
-    (end : End) × (passes ≡ is_pass end) × ServesEndState at input read_failed old new write_failed (Ok end)
-EndStateServed at input read_failed old new write_failed (Err fault) =
-    ServesEndState at input read_failed old new write_failed (Err fault)
+EndStateServed at input read_failed old new write_failed =
+    IsServed is_pass (ServesEndState at input read_failed old new write_failed)

@@ -1,3 +1,4 @@
 pub mod Acting
-pub mod Obeying
 pub mod EndStates
+pub mod Obeying
+pub mod Passing

@@ -2,7 +2,8 @@
 ghost use Rattle.std.specs.Prelude.{◌≡◌, ℕ, List, [], Some, false, IfOk, MatchResult, if◌then◌else◌};
 ghost use Rattle.model.specs.Run.{IsRow, IsRun, state_after};
 ghost use Rattle.model.specs.EndStates.{end_state_of};
-ghost use Rattle.campaign.specs.OneRun.{IsAsked, IsRunFault};
+ghost use Rattle.campaign.specs.Faults.{IsRunFault};
+ghost use Rattle.campaign.specs.OneRun.{IsAsked};
 ghost use Rattle.campaign.specs.Serving.{IsFileOf};
 ghost use Rattle.jobs.specs.EndStates.{EndStateServed, ServesEndState, end_state_of_run};
 

@@ -1,5 +1,7 @@
 -- A row, from the base run on.
-use Rattle.std.proofs.Common.{◌≡◌, ◌≢◌, ◌<◌, ◌≤◌, ℕ, true, eqb, List, [], ◌++◌, Option, Some, None, ap, subst, sym, ◌∙◌, arith}
+use Rattle.std.proofs.Common.{◌≡◌, ◌≢◌, ◌<◌, ◌≤◌, ℕ, true, eqb, List, [], ◌++◌, Option, Some, None, Result, Ok, Err, ap, subst, sym}
+use Rattle.std.proofs.Common.{◌∙◌, arith}
+use Rattle.std.specs.Prelude.{IfOk, OnErr, OnOk}
 use Rattle.std.proofs.lemmas.List.{append_assoc}
 use Rattle.model.specs.declared.event.Event.{Event}
 use Rattle.model.specs.declared.event.End.{End}
@@ -16,6 +18,11 @@ use Rattle.machine.specs.StandsFor.{Stands}
 use Rattle.machine.specs.Can.{IsUnderWay}
 use Rattle.kernel.specs.Rests.{IsRest}
 use Rattle.kernel.specs.Rows.{events_from}
+
+-- What follows holds too if memory was refused.
+pub refused_by : {X E P Q : Type 0} → (P → Q) → (r : Result X E) → OnErr r P → OnErr r Q
+refused_by f (Ok x) p = tt
+refused_by f (Err e) p = f p
 
 module _ (app : Application) (limits : Limits) (point : List Injection) (formed : IsPoint point) where
   state_there : (n : ℕ) → n ≤ first_step point → state_after app limits point n ≡ state_after app limits [] n
@@ -54,6 +61,14 @@ module _ (app : Application) (limits : Limits) (point : List Injection) (formed 
       let apart : n ≢ first_step point =
       (λ e. let u : eqb n (first_step point) ≡ true = rw e (eqb-refl (first_step point)) in absurd (cc)) in
       omega arith)
+
+  -- So it is of a result that says so.
+  pub past_if_ok : {E : Type 0} → end_of app limits (state_after app limits [] (first_step point)) ≡ None
+      → (n : ℕ) → first_step point ≤ n → (until : ℕ) → first_step point < until → (r : Result (Option End) E)
+      → IfOk r (λ end. end ≡ end_of app limits (state_after app limits point n)) → IfOk r (λ end. end ≡ None → n ≡ until)
+      → OnOk r (first_step point < n)
+  past_if_ok on n l until beyond (Ok end) is there = past_it on n l end is until there beyond
+  past_if_ok on n l until beyond (Err e) is there = tt
 
   -- where the row came to its end
   pub row_that_ended : (k : Machine) → IsUnderWay app point limits k → first_step point < k.steps

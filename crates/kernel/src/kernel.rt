@@ -63,6 +63,16 @@ impl Kernel {
         }
     }
 
+    /// A copy. It takes no memory.
+    pub fn copy(&self) -> Self
+        ensures { result ≡ self.now }
+    {
+        Kernel {
+            machine: self.machine.copy(),
+            tasks: self.tasks,
+        }
+    }
+
     /// Becomes a copy of the other, in place. It takes no memory.
     // Inlined into a long function it looks up the place of each part on the stack.
     #[inline(never)]

@@ -22,5 +22,5 @@ pub use end_state::run_to_end_state;
 pub use kernel::Kernel;
 pub use machine::{Snapshot, StepLog, Trail};
 pub use rests::{RestEnding, go_far};
-pub use rows::{RowBeginning, begin_row};
+pub use rows::begin_row;
 pub use steps::run;

@@ -42,6 +42,23 @@ fn phase_resumed(phase: Phase) -> Phase
 }
 
 impl Machine {
+    /// A copy. It takes no memory.
+    pub fn copy(&self) -> Self
+        ensures { result ≡ self.now }
+    {
+        Machine {
+            progress: self.progress,
+            sched: self.sched.copy(),
+            clock: self.clock.copy(),
+            objects: self.objects.copy(),
+            groups: self.groups.copy(),
+            wait_list: self.wait_list,
+            next_interrupt: self.next_interrupt,
+            steps: self.steps,
+            stopped: self.stopped,
+        }
+    }
+
     /// Becomes a copy of the other, in place, where nobody behind so many tasks has done anything, in either. It takes no memory.
     pub fn set_from_first(&mut self, other: &Self, tasks: usize)
         ensures { AreBlankFrom tasks self.old.progress → AreBlankFrom tasks other.now.progress → self.new ≡ other.now }

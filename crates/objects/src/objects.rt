@@ -107,6 +107,15 @@ impl Objects {
         }
     }
 
+    /// A copy. It takes no memory.
+    pub fn copy(&self) -> Self
+        ensures { result ≡ self.now }
+    {
+        let mut copy = Objects::new(&[]);
+        copy.set_from(self);
+        copy
+    }
+
     /// Becomes a copy of the other, in place. It takes no memory. Of the pool only the regions of the queues are copied.
     pub fn set_from(&mut self, other: &Self)
         ensures { self.new ≡ other.now }

@@ -4,11 +4,11 @@ ghost use Rattle.shelf.specs.Shelves.{IsShelf};
 
 use crate::dealing::{counted, dealt, divided};
 use crate::fault::Fault;
-use crate::runs::{Row, base_run, loaded, report_of, row_of, served, shelf_of};
+use crate::runs::{base_run, loaded, report_of, row_of, served, shelf_of};
 use campaign::Report;
 use deal::{Counts, Next};
 use model::{App, Run};
-use shelf::Shelf;
+use shelf::{Row, Shelf};
 use std::alloc::Global;
 use std::sync::Wait;
 use std::thread::Threads;

@@ -4,13 +4,12 @@ ghost use Rattle.shelf.specs.Shelves.{IsShelf};
 
 use crate::fault::{Fault, of_expanding, of_loading, of_serving};
 use byte_io::{FromReader, ToWriter};
-use campaign::{NoGate, Options, Report, campaign, expand, serve, write_report};
+use campaign::{NoGate, Options, Report, campaign, expand, serve, write_report_in_threads};
 use deal::{Division, Tally};
-use kernel::{Kernel, RowBeginning, StepLog, Trail};
-use model::{App, Event, HandlerId, Meter, Plan, Point, Run};
+use model::{App, HandlerId, Meter, Plan, Point, Run};
 use report::{Shard, Title, View, write_run};
 use script::FromDocument;
-use shelf::{Shelf, Walk};
+use shelf::{Row, Shelf};
 use std::alloc::Global;
 use std::sync::Wait;
 use std::thread::Threads;
@@ -60,88 +59,15 @@ pub(crate) fn shelf_of(alloc: Global, app: &App) -> Result<Shelf, Fault>
     }
 }
 
-/// A row with all its events.
-#[derive(Drop)]
-pub(crate) struct Row {
-    pub(crate) point: Point,
-    pub(crate) reached: bool,
-    pub(crate) run: Run,
-}
-
-// The first so many events of the base run, and behind them these.
-fn with_shared(
-    alloc: Global,
-    shelf: &Shelf,
-    count: usize,
-    own: &[Event],
-) -> Result<Vec<Event>, Fault> {
-    let mut events = Vec::new(alloc);
-    for event in shelf.base().events.iter().take(count) {
-        if events.push(*event).is_err() {
-            return Err(Fault::Memory);
-        }
-    }
-    match events.extend_from_slice(own) {
-        Ok(()) => Ok(events),
-        Err(_) => Err(Fault::Memory),
-    }
-}
-
-// The row of a point that the base run doesn't reach.
-fn missed_row(alloc: Global, shelf: &Shelf, point: Point) -> Result<Row, Fault> {
-    let base = shelf.base();
-    let run = Run {
-        events: with_shared(alloc, shelf, usize::MAX, &[])?,
-        steps: base.steps,
-        ticks: base.ticks,
-        end: base.end,
-    };
-    Ok(Row {
-        point,
-        reached: false,
-        run,
-    })
-}
-
 /// The row of the handler before this step, from the shelf.
 pub(crate) fn row_of(alloc: Global, app: &App, shelf: &Shelf, step: u32) -> Result<Row, Fault>
     requires { IsShelf app.now shelf.now }
 {
     let point = Point::one(step, HandlerId { number: 0 });
-    if !shelf.reaches(&point) {
-        return missed_row(alloc, shelf, point);
+    match shelf.run_point(alloc, app, point, &mut Meter::new()) {
+        Ok(row) => Ok(row),
+        Err(_) => Err(Fault::Memory),
     }
-    let limits = shelf.limits();
-    limits.well_formed();
-    let (mut walk, mut kernel) = (Walk::new(app), Kernel::boot(app));
-    let (mut meter, mut log) = (Meter::new(), StepLog::new());
-    let mut trail = Trail::new(alloc);
-    let Ok(RowBeginning { before, end }) = shelf.begin_row_after(
-        app,
-        &point,
-        u32::MAX,
-        &mut walk,
-        &mut kernel,
-        &mut meter,
-        &mut log,
-        &mut trail,
-    ) else {
-        return Err(Fault::Memory);
-    };
-    let Some(end) = end else {
-        return Err(Fault::Other);
-    };
-    let run = Run {
-        events: with_shared(alloc, shelf, before, trail.events())?,
-        steps: kernel.steps(),
-        ticks: kernel.ticks(),
-        end,
-    };
-    Ok(Row {
-        point,
-        reached: true,
-        run,
-    })
 }
 
 /// The report of the application's campaign, by `expand` and `campaign`, with two workers.
@@ -187,7 +113,7 @@ pub(crate) fn show_report<T: Threads + Wait + Sync>(
     report: &Report,
 ) -> Result<(), Fault> {
     let mut writer = ToWriter::new(rt.stdout());
-    match write_report(threads, rt.alloc(), app, report, 1, &mut writer) {
+    match write_report_in_threads(threads, rt.alloc(), app, report, 1, &mut writer) {
         Ok(()) => Ok(()),
         Err(_) => Err(Fault::Other),
     }

@@ -21,4 +21,4 @@ pub use kept_rows::KeptRows;
 pub use link::{Leg, Link};
 pub use placing::places_of;
 pub use rows::{KeptBlock, KeptRow, Part, Place};
-pub use writing::write_report;
+pub use writing::{write_report, write_report_in_threads};

@@ -505,13 +505,24 @@ fn lanes_and_pieces(alloc: Global, rows: &Rows, threads: usize) -> Option<(Lanes
     Some((lanes, pieces))
 }
 
-/// Writes the report of a campaign: its rows as its view shows them, and the line of their totals. The report is of this application.
-/// At `Err` the writer failed or took none of some bytes, and it has taken a beginning of the text.
+/// Writes the report of a campaign: its rows as its view shows them, and the line of their totals. The report is of this application. It
+/// takes no memory, and the calling thread spells all of it.
 ///
-/// It takes memory for the text of the base run's events, with which rows begin, and for that of rows that come again. Where there are
-/// several threads, this many of them spell rows. What it gets no memory for is spelled for each row, and on this thread. The threads are
-/// at most 64.
-pub fn write_report<R: Threads + Wait + Sync, W: Sink>(
+/// `Err` is returned only if the writer failed or took none of some bytes; it has then taken a beginning of the text.
+pub fn write_report<W: Sink>(app: &App, report: &Report, writer: &mut W) -> Result<(), WriteFault>
+    requires working { W.has_failed writer.old ≡ false }
+    ensures text { Writes (W.held writer.old) (W.held writer.new) result
+        (report_text app.now report.now.view report.now.first report.now.rows) }
+    ensures failed { W.has_failed writer.new ≡ is_err result }
+{
+    let rows = report.rows();
+    write_rows(app, rows, &RowTexts::new(app, rows), writer)
+}
+
+/// Writes what `write_report` writes, sooner. It takes memory for the text of the base run's events, with which rows begin, and for that
+/// of rows that come again. This many threads spell rows, at most 64, of which the calling thread is one. What it gets no memory for is
+/// spelled for each row, on this thread.
+pub fn write_report_in_threads<R: Threads + Wait + Sync, W: Sink>(
     rt: &R,
     alloc: Global,
     app: &App,

@@ -1,10 +1,11 @@
 -- Stops along a base run, and the one before a row.
-use Rattle.std.proofs.Common.{◌≡◌, ◌+◌, ◌*◌, ◌/◌, ◌%◌, ◌<◌, ◌≤◌, ℕ, suc, List, [], ◌∷◌, ◌++◌, get_or, length}
-use Rattle.std.proofs.Common.{length-append, ap, sym, subst, ◌∙◌, arith}
-use Rattle.std.specs.Prelude.{IfSome}
+use Rattle.std.proofs.Common.{◌≡◌, ◌+◌, ◌-◌, ◌*◌, ◌/◌, ◌%◌, ◌<◌, ◌≤◌, ℕ, suc, Bool, true, false, List, [], ◌∷◌, ◌++◌, get_or}
+use Rattle.std.proofs.Common.{length, length-append, take, ap, refl, sym, subst, ◌∙◌, arith}
+use Rattle.std.specs.Prelude.{IfSome, if◌then◌else◌, min, nat_le, nat_lt}
+use Rattle.std.proofs.lemmas.Bool.{lt-ltb}
 use Rattle.std.proofs.lemmas.List.{length-take}
 use Rattle.std.proofs.lemmas.Option.{slice_get-get_or}
-use Rattle.std.proofs.Math.Nat.{mod-add-div', div-lt_iff_lt-mul, suc-mul}
+use Rattle.std.proofs.Math.Nat.{mod-add-div', mod-le, div-lt_iff_lt-mul, min-eq_right, min-le_right, suc-mul}
 use Rattle.model.specs.declared.plan.Injection.{Injection}
 use Rattle.model.specs.Points.{first_step}
 use Rattle.model.specs.Application.{Application, Limits}
@@ -12,7 +13,7 @@ use Rattle.model.specs.Run.{events_after}
 use Rattle.model.proofs.Injected.{begins_with}
 use Rattle.shelf.specs.declared.stops.Stop.{Stop}
 use Rattle.shelf.proofs.Joining.{each_more}
-use Rattle.shelf.specs.Shelves.{IsStop, AreStops, Shelved, IsShelf}
+use Rattle.shelf.specs.Shelves.{IsStop, AreStops, Shelved, IsShelf, cost_of, way_to}
 
 -- ---- putting stops
 
@@ -28,6 +29,40 @@ pub put_more : (stops more : List Stop) (stop : Stop) (stride next : ℕ) → mo
 put_more stops more stop stride next is e =
     let one : length more ≡ suc (length stops) = omega (arith, ap length is, length-append stops (stop ∷ [])) in
     rw one (ap (λ (n : ℕ). n + stride) e ∙ sym (suc-mul (length stops) stride))
+
+-- ---- the way to a step
+
+either_way : (t : Bool) (a b : ℕ) → b ≤ a → (if t then min a b else b) ≡ b
+either_way true a b l = min-eq_right l
+either_way false a b l = refl
+
+few_either_way : (t : Bool) (a b n : ℕ) → b ≤ n → (if t then min a b else b) ≤ n
+few_either_way true a b n l = omega (arith, min-le_right a b, l)
+few_either_way false a b n l = l
+
+-- It is no longer than from reset.
+pub short_way : (stride walked step : ℕ) → way_to stride walked step ≤ step
+short_way stride walked step = few_either_way (nat_le walked step) (step - walked) (step % stride) step (mod-le step stride)
+
+-- From reset it begins at the stop before.
+pub way_from_reset : (stride step : ℕ) → way_to stride 0 step ≡ step % stride
+way_from_reset stride step = either_way (nat_le 0 step) (step - 0) (step % stride) (omega (arith, mod-le step stride))
+
+chosen : (t : Bool) (a b : ℕ) → t ≡ true → (if t then a else b) ≡ a
+chosen true a b is = refl
+chosen false a b is = absurd (cc)
+
+-- what the row of a point that is reached costs from there
+pub cost_is : (shelf : Shelved) (point : List Injection) → first_step point < shelf.base.steps
+    → (walked steps from to : ℕ) → walked ≡ 0 → first_step point < steps
+    → to + first_step point ≡ from + way_to shelf.stride walked (first_step point) + steps → to ≡ from + cost_of shelf point steps
+cost_is shelf point reached walked steps from to none past risen =
+    let first = first_step point in
+    let way : way_to shelf.stride walked first ≡ first % shelf.stride =
+    ap (λ (w : ℕ). way_to shelf.stride w first) none ∙ way_from_reset shelf.stride first in
+    let cost : cost_of shelf point steps ≡ first % shelf.stride + (steps - first) =
+    chosen (nat_lt first shelf.base.steps) (first % shelf.stride + (steps - first)) 0 (lt-ltb first shelf.base.steps reached) in
+    omega (arith, way, cost, past, risen)
 
 -- ---- the stop before a step
 
@@ -53,6 +88,11 @@ module _ (app : Application) (shelf : Shelved) (h : IsShelf app shelf) (step : �
       let cut = length-take (length (events_after app shelf.limits [] step)) (events_after app shelf.limits [] shelf.base.steps) in
       let all = ap length h.is_base.trace in
       omega (arith, front, cut, all)
+
+  -- which it begins with
+  pub shared_is : (count : ℕ) → count ≡ length (events_after app shelf.limits [] step)
+      → take count shelf.base.events ≡ events_after app shelf.limits [] step
+  shared_is count is = rw (is, h.is_base.trace) (begins_with app shelf.limits [] step shelf.base.steps (omega (arith, l)))
 
 -- ---- the row of a point that is reached
 

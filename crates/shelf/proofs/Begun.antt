@@ -8,7 +8,7 @@ use Rattle.model.specs.Run.{end_of, state_after, events_after}
 use Rattle.model.proofs.Injected.{same_events, goes_on_with, none_before}
 use Rattle.machine.specs.declared.machine.Machine.{Machine}
 use Rattle.machine.specs.Can.{IsUnderWay}
-use Rattle.kernel.specs.declared.rows.RowBeginning.{RowBeginning}
+use Rattle.shelf.specs.declared.row.RowBeginning.{RowBeginning}
 use Rattle.kernel.specs.Rows.{events_from}
 use Rattle.shelf.specs.Begun.{HasBegun}
 

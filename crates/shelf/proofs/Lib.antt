@@ -2,3 +2,4 @@ pub mod Along
 mod Begun
 pub mod Joining
 mod Walking
+mod Whole

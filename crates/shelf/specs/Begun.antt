@@ -7,7 +7,7 @@ use Rattle.model.specs.Application.{Application, Limits}
 use Rattle.model.specs.Run.{end_of, state_after, events_after}
 use Rattle.machine.specs.declared.machine.Machine.{Machine}
 use Rattle.machine.specs.Can.{IsUnderWay}
-use Rattle.kernel.specs.declared.rows.RowBeginning.{RowBeginning}
+use Rattle.shelf.specs.declared.row.RowBeginning.{RowBeginning}
 
 -- The kernel has come along the row of this point beyond its first injection, and where the row goes on, beyond its last one. The
 -- row's events from the first one on came behind the others that were kept; those before it are the base run's.

@@ -1,5 +1,8 @@
--- A base run with the kernel as it was along it.
-use Rattle.std.specs.Prelude.{◌≡◌, ℕ, ◌*◌, ◌<◌, ◌≤◌, List, [], IfSome, length, slice_get}
+-- A base run with the kernel as it was along it, and what rows cost from there.
+use Rattle.std.specs.Prelude.{◌≡◌, ℕ, ◌+◌, ◌-◌, ◌*◌, ◌%◌, ◌<◌, ◌≤◌, List, [], IfSome, length, min, nat_le, nat_lt, slice_get}
+use Rattle.std.specs.Prelude.{if◌then◌else◌}
+use Rattle.model.specs.declared.plan.Injection.{Injection}
+use Rattle.model.specs.Points.{first_step}
 use Rattle.model.specs.Application.{Application, Limits}
 use Rattle.model.specs.Run.{Run, IsRun, events_after}
 use Rattle.machine.specs.Can.{IsUnderWay}
@@ -30,3 +33,14 @@ pub record IsShelf (app : Application) (shelf : Shelved) : Type 0 where
   pub are_stops : AreStops app shelf.limits shelf.stride shelf.stops
   pub rests : AreRests app shelf.limits shelf.base shelf.stops
   pub enough : shelf.base.steps ≤ length shelf.stops * shelf.stride
+
+-- How many steps of the base run lead to this one: from where a walk is, or from the stop before, whichever is nearer; from the
+-- stop if the walk is past it.
+abbrev pub way_to : (stride walked step : ℕ) → ℕ
+way_to stride walked step = if nat_le walked step then min (step - walked) (step % stride) else step % stride
+
+-- How many steps are done for the row of a point by itself, which ends after this many: those from the stop before its first
+-- injection on; none if the base run doesn't reach that.
+abbrev pub cost_of : Shelved → List Injection → ℕ → ℕ
+cost_of shelf point steps =
+    if nat_lt (first_step point) shelf.base.steps then first_step point % shelf.stride + (steps - first_step point) else 0

@@ -1,9 +1,11 @@
 //! The base run of an application with snapshots of the kernel along it, and rows that begin from it.
 #![tactic(auto)]
 
+mod row;
 mod shelf;
 mod stops;
 mod walk;
 
+pub use row::{Row, RowBeginning};
 pub use shelf::Shelf;
 pub use walk::Walk;

@@ -1,21 +1,23 @@
 //! A base run with its stops, and rows that begin from it.
-ghost use Rattle.std.specs.Prelude.{◌≡◌, nat_lt, ◌<◌, ◌≤◌, ◌+◌, ◌-◌, ◌%◌, ◌^◌, [], min, length, None, IfOk, IfSome, OnErr, OnOk};
+ghost use Rattle.std.specs.Prelude.{◌≡◌, nat_lt, ◌<◌, ◌≤◌, ◌+◌, ◌-◌, ◌%◌, ◌^◌, ◌++◌, Bool, false, true, [], min, length, take, None, IfOk};
+ghost use Rattle.std.specs.Prelude.{IfSome, OnErr, OnOk};
 ghost use Rattle.model.specs.Points.{first_step, last_step};
 ghost use Rattle.model.specs.Application.{Application};
 ghost use Rattle.model.specs.Run as definition;
-ghost use Rattle.model.specs.Run.{IsRun, events_after};
+ghost use Rattle.model.specs.Run.{IsRow, IsRun, events_after};
 ghost use Rattle.machine.specs.Logged.{all_of};
 ghost use Rattle.machine.specs.Can.{IsUnderWay};
 ghost use Rattle.kernel.specs.Rows.{Extends};
 ghost use Rattle.shelf.specs.Begun.{HasBegun};
 ghost use Rattle.shelf.specs.Rests.{JoinsBase};
-ghost use Rattle.shelf.specs.Shelves.{IsShelf};
+ghost use Rattle.shelf.specs.Shelves.{IsShelf, cost_of, way_to};
 ghost use Rattle.shelf.specs.Walks.{IsWalk};
 
+use crate::row::{Row, RowBeginning};
 use crate::stops::{Stop, put_stops};
 use crate::walk::Walk;
-use kernel::{Kernel, RowBeginning, StepLog, Trail, begin_row};
-use model::{App, Limits, Memory, Meter, Point, Run};
+use kernel::{Kernel, StepLog, Trail, begin_row};
+use model::{App, Event, Limits, Memory, Meter, Point, Run};
 use std::alloc::Global;
 use std::marker::Model;
 
@@ -133,38 +135,45 @@ impl Shelf {
         stop.before
     }
 
-    // Sees to it that a walk is less than a stride before the first injection of a point that the base run reaches, or less far.
+    // Brings a walk to the stop before the first injection of a point that the base run reaches, if that is nearer than the walk, or the
+    // walk is past the injection.
     fn come_near(&self, app: &App, point: &Point, walk: &mut Walk)
         requires shelf { IsShelf app.now self.now }
         requires reached { first_step point.now < self.now.base.steps }
         requires walk { IsWalk app.now self.now.limits walk.old }
         ensures walk { IsWalk app.now self.now.limits walk.new }
-        ensures before { walk.new.kernel.steps ≤ first_step point.now }
-        ensures near { first_step point.now < walk.new.kernel.steps + self.now.stride }
+        ensures near { walk.new.kernel.steps + way_to self.now.stride walk.old.kernel.steps (first_step point.now)
+            ≡ first_step point.now }
     {
         let first = point.first_step();
         let steps = walk.kernel.steps();
-        if first < steps || self.stride <= first - steps {
+        if first < steps || first % self.stride < first - steps {
             walk.told = self.go_to_stop(app, point, &mut walk.kernel);
         }
     }
 
     // Goes along the base run to the first injection of a point that it reaches. What the base run reports on the way leaves the trail.
-    // `Memory` is answered only where the base run reports something before that.
+    // The meter rises by the steps on the way. `Memory` is returned only if the base run reports something before that.
     fn walk_to(
         &self,
         app: &App,
         point: &Point,
         walk: &mut Walk,
+        meter: &mut Meter,
         log: &mut StepLog,
         trail: &mut Trail,
     ) -> Result<(), Memory>
         requires shelf { IsShelf app.now self.now }
         requires reached { first_step point.now < self.now.base.steps }
         requires walk { IsWalk app.now self.now.limits walk.old }
+        requires meter { meter.old < 2 ^ 62 }
         ensures walk { OnOk result (IsWalk app.now self.now.limits walk.new) }
         ensures there { OnOk result (walk.new.kernel.steps ≡ first_step point.now) }
         ensures trail { OnOk result (all_of trail.new ≡ all_of trail.old) }
+        ensures meter { OnOk result
+            (meter.new ≡ meter.old + way_to self.now.stride walk.old.kernel.steps (first_step point.now)) }
+        ensures rises { meter.old ≤ meter.new }
+        ensures at_most { meter.new ≤ meter.old + way_to self.now.stride walk.old.kernel.steps (first_step point.now) }
         ensures kept { OnErr result (Extends (all_of trail.old) (all_of trail.new)) }
         ensures memory { OnErr result (0 < length (events_after app.now self.now.limits [] (first_step point.now))) }
     {
@@ -172,23 +181,23 @@ impl Shelf {
         // The base run has no more events than fit, so the sum below does.
         let _ = self.count_events();
         let before = trail.len();
-        walk.go_to(app, point.first_step(), &self.limits, log, trail)?;
+        walk.go_to(app, point.first_step(), &self.limits, meter, log, trail)?;
         walk.told += trail.len() - before;
         trail.truncate(before);
         Ok(())
     }
 
-    /// Begins the row of a point that the base run reaches, and goes along it up to the step `until`, which is behind the last injection or
+    /// Begins the row of a point that the base run reaches, and goes along it up to the step `until`, which is after the last injection or
     /// no less than the limit of steps, or to its end before that. The trail gains the row's events from the first injection on; those
-    /// before it are the base run's, and the answer says how many they are. What the kernel and the log have doesn't matter.
+    /// before it are the base run's, and the result says how many they are. What the kernel and the log have doesn't matter.
     ///
-    /// The walk goes along the base run to the first injection: from where it is, or from the nearest stop before that, if that is less
-    /// far. So most points that come in order take no more steps than their rows have of their own. The meter, which is below 2^62, rises
-    /// by these alone.
+    /// The walk goes along the base run to the first injection: from where it is, or from the nearest stop before that, whichever is
+    /// nearer. So most points that come in order take few steps that aren't their rows' own. The meter, which is below 2^62, rises by the
+    /// steps on that way and those of the row from the injection on.
     ///
-    /// At `Err(Memory)`, answered only where a growth was refused, so never where the row reports nothing, the meter has risen by no more
-    /// than the row's steps from that injection on. The trail then has those events that it had, and some more behind them, and the walk
-    /// is of no more use.
+    /// `Err(Memory)` is returned only if a growth was refused, so never if the row reports nothing. The meter has then risen by no more
+    /// than the way and the row's steps from that injection on. The trail then has those events that it had, and some more after them, and
+    /// the walk is of no more use.
     pub fn begin_row_after(
         &self,
         app: &App,
@@ -209,19 +218,132 @@ impl Shelf {
         ensures there { IfOk result (λ beginning. beginning.end ≡ None → kernel.new.steps ≡ until) }
         ensures begun { IfOk result (HasBegun app.now point.now self.now.limits kernel.new (all_of trail.old) (all_of trail.new)) }
         ensures before { IfOk result (λ beginning. beginning.before ≡ length (events_after app.now self.now.limits [] (first_step point.now))) }
-        ensures meter { OnOk result (meter.new + first_step point.now ≡ meter.old + kernel.new.steps) }
+        ensures meter { OnOk result (meter.new + first_step point.now
+            ≡ meter.old + way_to self.now.stride walk.old.kernel.steps (first_step point.now) + kernel.new.steps) }
         ensures rises { meter.old ≤ meter.new }
         ensures kept { OnErr result (Extends (all_of trail.old) (all_of trail.new)) }
         ensures refused { OnErr result ((run : definition.Run) → IsRun app.now point.now self.now.limits run
-            → (meter.new ≤ meter.old + (run.steps - first_step point.now)) × (0 < length run.events)) }
+            → (meter.new ≤ meter.old + way_to self.now.stride walk.old.kernel.steps (first_step point.now)
+            + (run.steps - first_step point.now)) × (0 < length run.events)) }
     {
         point.well_formed();
-        self.walk_to(app, point, walk, log, trail)?;
+        self.walk_to(app, point, walk, meter, log, trail)?;
         kernel.set_from(&walk.kernel);
-        let row = begin_row(kernel, app, point, until, &self.limits, meter, log, trail)?;
+        let end = begin_row(kernel, app, point, until, &self.limits, meter, log, trail)?;
         Ok(RowBeginning {
             before: walk.told,
-            ..row
+            end,
         })
+    }
+
+    // The first `count` events of the base run, and after them these.
+    fn with_shared(&self, alloc: Global, count: usize, own: &[Event]) -> Result<Vec<Event>, Memory>
+        requires { count ≤ length self.now.base.events }
+        ensures events { IfOk result (λ events. events.items ≡ take count self.now.base.events ++ own.now) }
+        ensures memory { OnErr result (0 < count + length own.now) }
+    {
+        let shared = &self.base.events[..count];
+        let mut events = Vec::new(alloc);
+        events.reserve_exact(shared.len() + own.len())?;
+        events.extend_from_slice(shared)?;
+        events.extend_from_slice(own)?;
+        Ok(events)
+    }
+
+    // The row of a point that the base run doesn't reach.
+    fn missed_row(&self, alloc: Global, point: Point) -> Result<Row, Memory>
+        ensures row { IfOk result (λ row. row ≡ record { point = point; reached = false; run = self.now.base }) }
+        ensures memory { OnErr result (0 < length self.now.base.events) }
+    {
+        let events = self.with_shared(alloc, self.count_events(), &[])?;
+        Ok(Row {
+            point,
+            reached: false,
+            run: Run {
+                events,
+                steps: self.base.steps,
+                ticks: self.base.ticks,
+                end: self.base.end,
+            },
+        })
+    }
+
+    // The row of a point that the base run reaches.
+    fn reached_row(
+        &self,
+        alloc: Global,
+        app: &App,
+        point: &Point,
+        meter: &mut Meter,
+    ) -> Result<Row, Memory>
+        requires shelf { IsShelf app.now self.now }
+        requires reached { first_step point.now < self.now.base.steps }
+        requires meter { meter.old < 2 ^ 62 }
+        ensures row { IfOk result (λ row. (row.point ≡ point.now) × (row.reached ≡ true)
+            × IsRun app.now point.now self.now.limits row.run) }
+        ensures meter { IfOk result (λ row. meter.new ≡ meter.old + cost_of self.now point.now row.run.steps) }
+        ensures rises { meter.old ≤ meter.new }
+        ensures refused { OnErr result ((run : definition.Run) → IsRun app.now point.now self.now.limits run
+            → (meter.new ≤ meter.old + cost_of self.now point.now run.steps) × (0 < length run.events)) }
+    {
+        self.limits.well_formed();
+        let mut walk = Walk::new(app);
+        let mut kernel = Kernel::boot(app);
+        let mut log = StepLog::new();
+        let mut trail = Trail::new(alloc);
+        let RowBeginning { before, end } = self.begin_row_after(
+            app,
+            point,
+            u32::MAX,
+            &mut walk,
+            &mut kernel,
+            meter,
+            &mut log,
+            &mut trail,
+        )?;
+        let Some(end) = end else {
+            // No run gets so far (profile).
+            unreachable!();
+        };
+        let events = self.with_shared(alloc, before, trail.events())?;
+        Ok(Row {
+            point: *point,
+            reached: true,
+            run: Run {
+                events,
+                steps: kernel.steps(),
+                ticks: kernel.ticks(),
+                end,
+            },
+        })
+    }
+
+    /// The row of a point: the run with all its injections if the base run gets beyond the step of the first, otherwise the base run.
+    ///
+    /// The meter, which is below 2^62, rises by the steps from the nearest stop before the first injection to the row's end; by none if
+    /// the point isn't reached. `Err(Memory)` is returned only if a growth was refused, so never if the row reports nothing. The meter has
+    /// then risen by no more than that.
+    pub fn run_point(
+        &self,
+        alloc: Global,
+        app: &App,
+        point: Point,
+        meter: &mut Meter,
+    ) -> Result<Row, Memory>
+        requires shelf { IsShelf app.now self.now }
+        requires meter { meter.old < 2 ^ 62 }
+        ensures point { IfOk result (λ row. row.point ≡ point) }
+        ensures row { IfOk result (λ row. IsRow app.now self.now.limits point row.reached row.run) }
+        ensures meter { IfOk result (λ row. meter.new ≡ meter.old + cost_of self.now point row.run.steps) }
+        ensures rises { meter.old ≤ meter.new }
+        ensures refused { OnErr result ((reached : Bool) (run : definition.Run)
+            → IsRow app.now self.now.limits point reached run
+            → (meter.new ≤ meter.old + cost_of self.now point run.steps) × (0 < length run.events)) }
+    {
+        if self.reaches(&point) {
+            self.reached_row(alloc, app, &point, meter)
+        } else {
+            self.missed_row(alloc, point)
+        }
     }
 }

@@ -1,5 +1,5 @@
 //! A kernel that goes along the base run.
-ghost use Rattle.std.specs.Prelude.{◌≡◌, ◌<◌, ◌≤◌, ℕ, [], None, OnErr, OnOk, length};
+ghost use Rattle.std.specs.Prelude.{◌≡◌, ◌<◌, ◌≤◌, ◌+◌, ◌^◌, ℕ, [], None, OnErr, OnOk, length};
 ghost use Rattle.model.specs.Application.{Limits};
 ghost use Rattle.model.specs.Run.{end_of, events_after, state_after};
 ghost use Rattle.machine.specs.Can.{IsUnderWay};
@@ -22,7 +22,8 @@ pub struct Walk {
 impl Walk {
     /// It is before the first step.
     pub fn new(app: &App) -> Walk
-        ensures { (limits : Limits) → IsWalk app.now limits result }
+        ensures walk { (limits : Limits) → IsWalk app.now limits result }
+        ensures steps { result.kernel.steps ≡ 0 }
     {
         Walk {
             kernel: Kernel::boot(app),
@@ -30,36 +31,32 @@ impl Walk {
         }
     }
 
-    /// Goes along the base run up to this step, which that reaches. The trail gains what it reports on the way.
+    /// Goes along the base run up to this step, which that reaches. The trail gains what it reports on the way. The meter, which is below
+    /// 2^62 and the steps that the walk has done, rises by the steps that are done here.
     pub(crate) fn go_to(
         &mut self,
         app: &App,
         step: u32,
         limits: &Limits,
+        meter: &mut Meter,
         log: &mut StepLog,
         trail: &mut Trail,
     ) -> Result<(), Memory>
         requires way { IsUnderWay app.now [] limits.now self.old.kernel }
         requires ahead { self.old.kernel.steps ≤ step }
         requires reached { (n : ℕ) → n ≤ step → end_of app.now limits.now (state_after app.now limits.now [] n) ≡ None }
+        requires meter { meter.old < 2 ^ 62 + self.old.kernel.steps }
         ensures told { self.new.told ≡ self.old.told }
         ensures way { OnOk result (IsUnderWay app.now [] limits.now self.new.kernel) }
         ensures there { OnOk result (self.new.kernel.steps ≡ step) }
         ensures led { OnOk result (IsLed app.now limits.now self.old.kernel self.new.kernel (all_of trail.old) (all_of trail.new)) }
+        ensures meter { OnOk result (meter.new + self.old.kernel.steps ≡ meter.old + step) }
+        ensures rises { meter.old ≤ meter.new }
+        ensures at_most { meter.new + self.old.kernel.steps ≤ meter.old + step }
         ensures kept { OnErr result (Extends (all_of trail.old) (all_of trail.new)) }
         ensures memory { OnErr result (0 < length (events_after app.now limits.now [] step)) }
     {
-        let mut meter = Meter::new();
-        let ending = go_far(
-            &mut self.kernel,
-            app,
-            &[],
-            step,
-            limits,
-            &mut meter,
-            log,
-            trail,
-        )?;
+        let ending = go_far(&mut self.kernel, app, &[], step, limits, meter, log, trail)?;
         match ending {
             None => Ok(()),
             Some(ending) => {

@@ -1,7 +1,8 @@
 use Rattle.std.proofs.Common.{◌≡◌, rules, Err}
 use Rattle.toml.specs.Errors.{IsMemory}
 use Rattle.toml.specs.View.{table_view}
-use Rattle.campaign.specs.Serving.{IsDocument, of_loading}
+use Rattle.campaign.specs.Faults.{of_loading}
+use Rattle.campaign.specs.Serving.{IsDocument}
 use Rattle.campaign.proofs.Faulty.{blank_or_some, loading_failed}
 use Rattle.campaign.proofs.file.app_in.Goals as goal
 

@@ -18,8 +18,8 @@ returns-in_err-report g c input bytes known file =
     (g.W.Sink.has_failed c.args.writer.now) (g.W.Sink.held c.args.writer.now) c.in_err-report.field-0.0
     c.args.app.now (bytes, known, file) c.in_err-report.ensures refl c.requires)
 
-pub returns-in_err-write_report : goal.returns-in_err-write_report
-returns-in_err-write_report g c input bytes known file =
+pub returns-in_err-write_report_in_threads : goal.returns-in_err-write_report_in_threads
+returns-in_err-write_report_in_threads g c input bytes known file =
     let app = c.args.app.now in
     let view = c.args.view in
     let shown = c.in_ok-report.ensures in
@@ -30,11 +30,11 @@ returns-in_err-write_report g c input bytes known file =
     let is : IsCampaignOf view c.args.shard bytes (report_text app view first shown.rows) (totals_of shown.rows) =
     record { app = app; file = file; rows = shown.rows; runs = shown.runs; adds_up = refl; text = refl } in
     let sent =
-    subst (SentFront (g.W.Sink.held c.args.writer.now) (g.W.Sink.held c.write_report.new.writer))
-    whole c.in_err-write_report.ensures.text in
-    let told : c.from_residual-in_err-write_report.result ≡ Err Write = search rules in
+    subst (SentFront (g.W.Sink.held c.args.writer.now) (g.W.Sink.held c.write_report_in_threads.new.writer))
+    whole c.in_err-write_report_in_threads.ensures.text in
+    let told : c.from_residual-in_err-write_report_in_threads.result ≡ Err Write = search rules in
     rw told
-    (serves_front _ _ _ _ _ _ _ bytes _ _ known is sent refl c.in_err-write_report.ensures.failed)
+    (serves_front _ _ _ _ _ _ _ bytes _ _ known is sent refl c.in_err-write_report_in_threads.ensures.failed)
 
 pub returns : goal.returns
 returns g c input bytes known file =
@@ -49,10 +49,10 @@ returns g c input bytes known file =
     let is : IsCampaignOf view c.args.shard bytes (report_text app view first shown.rows) c.totals-totals.result =
     record { app = app; file = file; rows = shown.rows; runs = shown.runs; adds_up = counted; text = refl } in
     let sent =
-    subst (Appends (g.W.Sink.held c.args.writer.now) (g.W.Sink.held c.write_report.new.writer))
-    whole c.in_ok-write_report.ensures.text in
+    subst (Appends (g.W.Sink.held c.args.writer.now) (g.W.Sink.held c.write_report_in_threads.new.writer))
+    whole c.in_ok-write_report_in_threads.ensures.text in
     record {
       answers = (bytes, known, report_text app view first shown.rows, is, sent);
       read = refl;
-      write = c.in_ok-write_report.ensures.failed;
+      write = c.in_ok-write_report_in_threads.ensures.failed;
     }

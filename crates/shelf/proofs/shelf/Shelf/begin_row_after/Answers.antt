@@ -2,7 +2,9 @@ use Rattle.std.proofs.Common.{◌≡◌, ◌<◌, ◌≤◌, ◌∙◌, ℕ, Non
 use Rattle.model.specs.Points.{first_step, last_step}
 use Rattle.kernel.proofs.Running.{steps_under}
 use Rattle.model.proofs.Injected.{first_to_last}
+use Rattle.machine.specs.declared.machine.Machine.{Machine}
 use Rattle.shelf.specs.Shelves.{Shelved}
+use Rattle.shelf.proofs.Along.{short_way}
 use Rattle.shelf.proofs.Begun.{has_begun}
 use Rattle.shelf.proofs.Walking.{on_err, row_tells}
 use Rattle.shelf.proofs.shelf.Shelf.begin_row_after.Goals as goal
@@ -15,10 +17,20 @@ begin_row-requires-clause-beyond c =
     let until = c.requires.beyond in
     omega arith
 
+pub begin_row-requires-clause-meter : goal.begin_row-requires-clause-meter
+begin_row-requires-clause-meter c =
+    let first = first_step c.args.point.now in
+    let risen = c.in_ok-walk_to.ensures.meter in
+    let short = short_way c.args.self.now.stride c.args.walk.now.kernel.steps first in
+    let there = c.in_ok-walk_to.ensures.there in
+    let copied = ap (λ (k : Machine). k.steps) c.set_from.ensures in
+    let low = c.requires.meter in
+    omega (arith, risen, short, there, copied, low)
+
 pub returns-clause-begun : goal.returns-clause-begun
 returns-clause-begun c =
-    let row = c.in_ok-row.ensures in
-    let beyond : c.in_ok-row.row.end ≡ None → last_step c.args.point.now < c.begin_row.new.kernel.steps = λ goes. (
+    let row = c.in_ok-end.ensures in
+    let beyond : c.in_ok-end.end ≡ None → last_step c.args.point.now < c.begin_row.new.kernel.steps = λ goes. (
     let there = row.there goes in
     let under =
     steps_under c.args.app.now c.args.point.now c.self.inside.limits c.begin_row.new.kernel.steps (sym row.end ∙ goes) in

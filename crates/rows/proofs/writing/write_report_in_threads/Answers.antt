@@ -1,7 +1,7 @@
 use Rattle.std.proofs.Common.{rules, length}
 use Rattle.rows.specs.Report.{whole}
 use Rattle.rows.proofs.Pieces.{each_piece}
-use Rattle.rows.proofs.writing.write_report.Goals as goal
+use Rattle.rows.proofs.writing.write_report_in_threads.Goals as goal
 
 pub write_rows_by-requires-clause-spelling : goal.write_rows_by-requires-clause-spelling
 write_rows_by-requires-clause-spelling g c κs within =
