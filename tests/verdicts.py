@@ -5,6 +5,9 @@ FUNCTION = re.compile(r"^(?:so far: )?fn (\S+): (.*)")
 ERROR = re.compile(r"^(?:\./)?proofs/(\S+)/\w+\.antt:\d+:\d+: error: (.*)")
 OPEN_GOALS = re.compile(r"`search` did not prove (.*)")
 NAME = re.compile(r"`([^`]*)`")
+# Goals of safety, which say nothing of a result: what a callee requires, that a number fits, an index is within its bounds, a divisor isn't 0,
+# and that a loop ends.
+SAFETY = re.compile(r"overflow_|(?:slice_|offset_)?bounds-|nonzero_|.*-requires(?:-|$)|.*-smaller(?:-|$)")
 # What rt says where a proof names what the body doesn't have, or lacks what the body has; and of what cites an answer that is refused.
 STALE = re.compile(r"has no (?:field )?`|is not in scope|write the cases?\b|was not admitted|w(?:as|ere) not checked")
 
@@ -36,13 +39,13 @@ class Verdicts:
             self.refused[path] = said
 
     def said_of(self, functions):
-        """What rt says of those of these functions that it refuses; of all that it refuses, where these are none."""
-        return [said for path, said in self.refused.items() if not functions or is_one(functions, [path])]
+        """What rt says of those of these functions that it refuses, and of their closures; of all that it refuses, where these are none."""
+        return [said for path, said in self.refused.items() if not functions or is_in_one(functions, path)]
 
     def errors_of(self, functions):
-        """The errors in the proofs of these functions; all in proofs, where these are none."""
+        """The errors in the proofs of these functions, and of their closures; all in proofs, where these are none."""
         found = [it for it in map(ERROR.match, self.messages) if it]
-        return [it[2] for it in found if not functions or is_one(functions, [it[1].replace("/", "::")])]
+        return [it[2] for it in found if not functions or is_in_one(functions, it[1].replace("/", "::"))]
 
     def goals(self, functions):
         """The goals that refuse these functions: those that are open, and those whose answers don't show them."""
@@ -59,3 +62,13 @@ class Verdicts:
 def is_one(functions, paths):
     """Whether one of these functions is one of those that rt calls by these paths."""
     return any(function.is_called(path) for function in functions for path in paths)
+
+
+def is_in_one(functions, path):
+    """Whether what rt calls by this path is one of these functions, or a closure in one."""
+    return any(function.is_called(path) or function.has_closure(path) for function in functions)
+
+
+def first_of(goals):
+    """The goal to name of those that refuse a function: the first that is of its result, where there is one."""
+    return next((it for it in goals if not SAFETY.match(it)), goals[0])
