@@ -3,6 +3,7 @@ import re
 
 FUNCTION = re.compile(r"^(?:so far: )?fn (\S+): (.*)")
 ERROR = re.compile(r"^(?:\./)?proofs/(\S+)/\w+\.antt:\d+:\d+: error: (.*)")
+UNKNOWN = re.compile(r"error: `\w+` has no function `([^`]+)`")
 OPEN_GOALS = re.compile(r"`search` did not prove (.*)")
 NAME = re.compile(r"`([^`]*)`")
 # Goals of safety, which say nothing of a result: what a callee requires, that a number fits, an index is within its bounds, a divisor isn't 0,
@@ -16,7 +17,7 @@ class Verdicts:
     """What rt said of a check, which is heard line by line."""
 
     def __init__(self):
-        self.proved, self.refused, self.unjudged = set(), {}, set()
+        self.proved, self.refused, self.unjudged, self.unknown = set(), {}, set(), set()
         self.lines, self.messages, self.has_verdict = [], [], False
 
     def hear(self, line):
@@ -24,6 +25,8 @@ class Verdicts:
         self.has_verdict = self.has_verdict or line.startswith(("logic=", "only="))
         if judged := FUNCTION.match(line):
             self.put(judged[1], judged[2])
+        if named := UNKNOWN.search(line):
+            self.unknown.add(named[1])
         if line.startswith(" ") and self.messages:
             self.messages[-1] += " " + line.strip()
         else:
