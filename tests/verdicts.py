@@ -1,10 +1,14 @@
 """What rt said of the functions of a check: which are proved, which are refused, and by what."""
 import re
 
+from edits import functions_in
+
 FUNCTION = re.compile(r"^(?:so far: )?fn (\S+): (.*)")
 ERROR = re.compile(r"^(?:\./)?proofs/(\S+)/\w+\.antt:\d+:\d+: error: (.*)")
 UNKNOWN = re.compile(r"error: `\w+` has no function `([^`]+)`")
 OPEN_GOALS = re.compile(r"`search` did not prove (.*)")
+# Of a function that has an answer which doesn't show its goal rt names the other open goals only so, by where they are in the code.
+OPEN_GOAL_AT = re.compile(r"^note: (src/\S+\.rt):(\d+):\d+: it is not proved that .*?\(`([^`]*)`\)")
 NAME = re.compile(r"`([^`]*)`")
 # Goals of safety, which say nothing of a result: what a callee requires, that a number fits, an index is within its bounds, a divisor isn't 0,
 # and that a loop ends.
@@ -14,9 +18,10 @@ STALE = re.compile(r"has no (?:field )?`|is not in scope|write the cases?\b|was 
 
 
 class Verdicts:
-    """What rt said of a check, which is heard line by line."""
+    """What rt said of a check of files with these texts, which is heard line by line."""
 
-    def __init__(self):
+    def __init__(self, texts=None):
+        self.functions = {path: functions_in(path, text) for path, text in (texts or {}).items()}
         self.proved, self.refused, self.unjudged, self.unknown = set(), {}, set(), set()
         self.lines, self.messages, self.has_verdict = [], [], False
 
@@ -50,10 +55,19 @@ class Verdicts:
         found = [it for it in map(ERROR.match, self.messages) if it]
         return [it[2] for it in found if not functions or is_in_one(functions, it[1].replace("/", "::"))]
 
+    def functions_at(self, path, line):
+        """The functions of a file that have this line."""
+        return {it for it, (first, last) in self.functions.get(path, {}).items() if first < line <= last + 1}
+
+    def open_in(self, functions):
+        """The open goals that rt has named by where they are in these functions; all, where these are none."""
+        found = [it for it in map(OPEN_GOAL_AT.match, self.messages) if it]
+        return [it[3] for it in found if not functions or self.functions_at(it[1], int(it[2])) & functions]
+
     def goals(self, functions):
         """The goals that refuse these functions: those that are open, and those whose answers don't show them."""
         lists = [it[1] for it in map(OPEN_GOALS.search, self.said_of(functions)) if it]
-        are_open = [name for it in lists for name in NAME.findall(it)]
+        are_open = [name for it in lists for name in NAME.findall(it)] + self.open_in(functions)
         errors = [NAME.match(it) for it in self.errors_of(functions) if not STALE.search(it)]
         return [*dict.fromkeys(are_open + [it[1] if it else "?" for it in errors])]
 
