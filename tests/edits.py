@@ -32,7 +32,7 @@ class Function:
         parts = said.split("::")
         return parts[-1] == self.name and (len(parts) < 2 or parts[-2] == self.owner)
 
-    def has_closure(self, said):
+    def has_closure(self, said: str) -> bool:
         """Whether rt calls a closure of this function by this path: those of a module's functions are in its part `fn`."""
         module, _, inside = said.partition("::fn::")
         parts = inside.split("::")
@@ -117,7 +117,7 @@ def owner_of(line):
     return found[1] if found else None
 
 
-def spelled(text, parameters):
+def spelled(text: str, parameters: list[str]) -> str:
     """A type as one word, as rt has it in a path: `RefSliceU8` of `&[u8]`, without lifetimes and the impl's own parameters."""
     parts, words = PART_OF_A_TYPE.findall(text), []
     for at, part in enumerate(parts):
@@ -132,7 +132,7 @@ def spelled(text, parameters):
     return "".join(words)
 
 
-def inside(parts):
+def inside(parts: list[str]) -> list[str]:
     """Of the parts of a type that begin with a bracket those directly in it, not in one within."""
     depth, found = 0, []
     for part in parts:

@@ -1,9 +1,9 @@
 """What rt said of the functions of a check: which are proved, which are refused, and by what."""
 import re
 
-from edits import functions_in
+from edits import Function, functions_in
 
-FUNCTION = re.compile(r"^(?:so far: )?fn (\S+): (.*)")
+SAID = re.compile(r"^(?:so far: )?fn (\S+): (.*)")
 ERROR = re.compile(r"^(?:\./)?proofs/(\S+)/\w+\.antt:\d+:\d+: error: (.*)")
 UNKNOWN = re.compile(r"error: `\w+` has no function `([^`]+)`")
 OPEN_GOALS = re.compile(r"`search` did not prove (.*)")
@@ -20,7 +20,7 @@ STALE = re.compile(r"has no (?:field )?`|is not in scope|write the cases?\b|was 
 class Verdicts:
     """What rt said of a check of files with these texts, which is heard line by line."""
 
-    def __init__(self, texts=None):
+    def __init__(self, texts: dict[str, str] | None = None):
         self.functions = {path: functions_in(path, text) for path, text in (texts or {}).items()}
         self.proved, self.refused, self.unjudged, self.unknown = set(), {}, set(), set()
         self.lines, self.messages, self.has_verdict = [], [], False
@@ -28,7 +28,7 @@ class Verdicts:
     def hear(self, line):
         self.lines.append(line)
         self.has_verdict = self.has_verdict or line.startswith(("logic=", "only="))
-        if judged := FUNCTION.match(line):
+        if judged := SAID.match(line):
             self.put(judged[1], judged[2])
         if named := UNKNOWN.search(line):
             self.unknown.add(named[1])
@@ -55,11 +55,11 @@ class Verdicts:
         found = [it for it in map(ERROR.match, self.messages) if it]
         return [it[2] for it in found if not functions or is_in_one(functions, it[1].replace("/", "::"))]
 
-    def functions_at(self, path, line):
+    def functions_at(self, path: str, line: int) -> set[Function]:
         """The functions of a file that have this line."""
         return {it for it, (first, last) in self.functions.get(path, {}).items() if first < line <= last + 1}
 
-    def open_in(self, functions):
+    def open_in(self, functions: set[Function]) -> list[str]:
         """The open goals that rt has named by where they are in these functions; all, where these are none."""
         found = [it for it in map(OPEN_GOAL_AT.match, self.messages) if it]
         return [it[3] for it in found if not functions or self.functions_at(it[1], int(it[2])) & functions]
@@ -81,11 +81,11 @@ def is_one(functions, paths):
     return any(function.is_called(path) for function in functions for path in paths)
 
 
-def is_in_one(functions, path):
+def is_in_one(functions: set[Function], path: str) -> bool:
     """Whether what rt calls by this path is one of these functions, or a closure in one."""
     return any(function.is_called(path) or function.has_closure(path) for function in functions)
 
 
-def first_of(goals):
+def first_of(goals: list[str]) -> str:
     """The goal to name of those that refuse a function: the first that is of its result, where there is one."""
     return next((it for it in goals if not SAFETY.match(it)), goals[0])
