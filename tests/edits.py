@@ -1,11 +1,16 @@
 """Edits of a crate's code, in the form that rt reads from must-fail/: a line 'file: PATH', and then pairs of lines
 'old: TEXT' and 'new: TEXT', each TEXT one line, which is found once in what the pairs before it made of that file."""
+import glob
 import os
 import re
+import shutil
 from dataclasses import dataclass
 
 FUNCTION = re.compile(r"^( *)(?:pub(?:\([^)]*\))? )?(?:const )?(?:unsafe )?(?:extern \S+ )?fn (\w+)")
-IMPL = re.compile(r"^(?:unsafe )?impl\b(?:<(?:[^<>]|<[^<>]*>)*>)? (?:(\w+)(?:<(.*?)>)? for )?(?:&(?:mut )?)?(?:\w+::)*(\w+)")
+# An impl's head: its parameters, the trait if it is of one, and the type.
+IMPL = re.compile(r"^(?:unsafe )?impl\b(<(?:->|[^<>]|<[^<>]*>)*>)? (?:(.+?) for )?(.+?)(?: where\b.*)?(?: \{\}?)?$")
+PARAMETER = re.compile(r"[<,] ?(?:const )?(\w+)")
+PART_OF_A_TYPE = re.compile(r"'\w+|\w+(?!\w|::)|[&\[\](),;]")
 TRAIT = re.compile(r"^(?:pub(?:\([^)]*\))? )?trait (\w+)")
 CALL = re.compile(r"\b(\w+)(?:::<[^()]*>)?\(")
 
@@ -26,6 +31,14 @@ class Function:
         """Whether this is the function that rt calls by this path."""
         parts = said.split("::")
         return parts[-1] == self.name and (len(parts) < 2 or parts[-2] == self.owner)
+
+    def has_closure(self, said: str) -> bool:
+        """Whether rt calls a closure of this function by this path: those of a module's functions are in its part `fn`."""
+        module, _, inside = said.partition("::fn::")
+        parts = inside.split("::")
+        if parts[:2] == [self.owner, self.name]:
+            return len(parts) > 2
+        return len(parts) > 1 and parts[0] == self.name and module.split("::")[-1] == self.owner
 
     def path_for_rt(self):
         return f"{self.owner}::{self.name}"
@@ -96,11 +109,39 @@ def read_edit(crate, file):
 
 
 def owner_of(line):
-    """The type, or the type, its trait and what the trait is of as one word, whose functions are below this line, if any are."""
+    """The word by which rt calls the owner of the functions below this line, if they have one: the type, or the type and its trait."""
     if found := IMPL.match(line):
-        return found[3] + (found[1] or "") + "".join(re.findall(r"(?<!')\b\w+", found[2] or ""))
+        parameters = PARAMETER.findall(found[1] or "")
+        return spelled(found[3], parameters) + spelled(found[2] or "", parameters)
     found = TRAIT.match(line)
     return found[1] if found else None
+
+
+def spelled(text: str, parameters: list[str]) -> str:
+    """A type as one word, as rt has it in a path: `RefSliceU8` of `&[u8]`, without lifetimes and the impl's own parameters."""
+    parts, words = PART_OF_A_TYPE.findall(text), []
+    for at, part in enumerate(parts):
+        if part == "[":
+            words.append("Array" if ";" in inside(parts[at:]) else "Slice")
+        elif part == "(":
+            words.append(f"Tuple{inside(parts[at:]).count(',') + 1}")
+        elif part == "&":
+            words.append("Ref")
+        elif part[0].isalnum() and part not in parameters:
+            words.append(part[0].upper() + part[1:])
+    return "".join(words)
+
+
+def inside(parts: list[str]) -> list[str]:
+    """Of the parts of a type that begin with a bracket those directly in it, not in one within."""
+    depth, found = 0, []
+    for part in parts:
+        depth += (part in "[(") - (part in "])")
+        if not depth:
+            break
+        if depth == 1:
+            found.append(part)
+    return found
 
 
 def functions_in(path, text):
@@ -129,7 +170,7 @@ def is_of_a_trait(function, text):
     if not lines[first].startswith(" "):
         return False
     head = next(it for it in reversed(lines[:first]) if IMPL.match(it) or TRAIT.match(it))
-    return bool(TRAIT.match(head) or IMPL.match(head)[1])
+    return bool(TRAIT.match(head) or IMPL.match(head)[2])
 
 
 def text_of(function, text):
@@ -150,22 +191,25 @@ def with_beside(text, function, wrong, name):
 
 
 def copy_proofs(folder, crate, function, name):
-    """Copies what is written of the function's proof for that of this name, and returns the folders that it makes."""
+    """Copies what is written of the function's proof, and of those of its closures, for that of this name, and returns the folders that
+    it makes."""
     made = []
     for at, folders, _ in os.walk(f"{folder}/proofs"):
-        owner = os.path.basename(at) if at != f"{folder}/proofs" else "lib"
+        # (the closures of a module's functions are in its part `fn`)
+        of = at[: -len("/fn")] if at.endswith("/fn") else at
+        owner = os.path.basename(of) if of != f"{folder}/proofs" else "lib"
         if function.name not in folders or owner != function.owner:
             continue
         above = os.path.relpath(at, folder).replace(os.sep, ".")
         to = f"{at}/{name}"
-        os.mkdir(to)
+        shutil.copytree(f"{at}/{function.name}", to)
         made.append(to)
-        for file in sorted(it for it in os.listdir(f"{at}/{function.name}") if it.endswith(".antt")):
-            with open(f"{at}/{function.name}/{file}", encoding="utf-8") as it:
+        for file in glob.glob(f"{to}/**/*.antt", recursive=True):
+            with open(file, encoding="utf-8") as it:
                 text = re.sub(rf"(\bRattle\.{crate}\.{re.escape(above)}\.){function.name}(?=[.\s])", rf"\g<1>{name}", it.read())
-            with open(f"{to}/{file}", "w", encoding="utf-8") as it:
+            with open(file, "w", encoding="utf-8") as it:
                 it.write(text)
-        folders.clear()
+        folders.remove(function.name)
     return made
 
 
