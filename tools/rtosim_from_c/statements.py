@@ -1,0 +1,266 @@
+"""Statements: declarations, branches, `switch`, jumps; and which of them need what follows to be moved into their branches."""
+from typing import List, Optional, Sequence, Tuple
+
+from . import trees
+from .answers import NOTHING, Answers, answers
+from .api import Api
+from .constants import Type
+from .directives import number
+from .expressions import not_set
+from .frames import Continuation
+from .integers import Integer
+from .paths import Path
+from .refusals import LostUse
+from .values import Known, Nothing, Value, constant
+
+AFTER_A_COMMENT = "/* rtosim: work 3 */ or /* rtosim: mark 3 */, after a statement"
+LOOPS = ("For", "While", "DoWhile")
+
+
+class Statements(Api):
+    """The statements of a function, one after another."""
+
+    def statements(self, nodes: Sequence[object], path: Path, rest: Continuation) -> None:
+        """These statements, and then the rest, on each of the ways that come there."""
+        for at, node in enumerate(nodes):
+            if path.is_over:
+                self.note(node, "never reached: left out")
+                return
+            self.count(node)
+            others = nodes[at + 1:]
+            if self.needs_rest(node):
+                self.statement(node, path, self.later(lambda it, left=others: self.statements(left, it, rest)))
+                return
+            self.statement(node, path, None)
+            parts = [] if path.is_over else self.parts_to_split(path)
+            if parts:
+                self.split(path, parts, self.later(lambda it, left=others: self.statements(left, it, rest)), node)
+                return
+        if not path.is_over:
+            rest(path)
+
+    def needs_rest(self, node: object) -> bool:
+        """Whether a jump in it passes over what follows, and no op of the script does so."""
+        jumps, found = self.frame.jumps, trees.escapes(node)
+        found -= {"break"} if jumps.break_is_op else set()
+        return bool(found - {"return"} if jumps.return_is_op else found)
+
+    def parts_to_split(self, path: Path) -> List[Answers]:
+        """The answers apart, by the constants that a local has which another answer is about to take."""
+        for key in self.splits:
+            value = path.state.locals.get(key)
+            if not isinstance(value, Value):
+                continue
+            value = value.among(path.state.answers)
+            if value.constant() is None and value.lost() is None:
+                parts = {}
+                for it in value.pieces:
+                    for low, high in [(it.low, it.high)] if it.kind == "number" else [(one, one) for one in range(it.low, it.high + 1)][:9]:
+                        parts.setdefault(it.at(low), []).append((low, high))
+                if len(parts) <= 8:
+                    return [answers(*ranges) for ranges in parts.values()]
+        return []
+
+    def statement(self, node: object, path: Path, rest: Optional[Continuation]) -> None:
+        """One statement; with a rest where `needs_rest` says so, which then follows on each way that doesn't jump."""
+        name = trees.kind(node)
+        method = getattr(self, f"do_{name}", None)
+        if method is not None:
+            return method(node, path, rest)
+        before = len(path.items)
+        self.evaluate(node, path)
+        if len(path.items) == before and name not in ("Assignment", "UnaryOp", "FuncCall"):
+            self.note(node, "this has no effect: left out")
+        if rest is not None and not path.is_over:
+            rest(path)
+        return None
+
+    def do_Compound(self, node: object, path: Path, rest: Optional[Continuation]) -> None:
+        after = None if rest is None else self.later(rest)
+        with self.using(self.frame.inner()):
+            self.statements(node.block_items or [], path, (lambda it: None) if after is None else after)
+
+    def do_EmptyStatement(self, node: object, path: Path, rest: Optional[Continuation]) -> None:
+        pass
+
+    def do_Pragma(self, node: object, path: Path, rest: Optional[Continuation]) -> None:
+        text = node.string or ""
+        words = text.split()
+        if words[:1] != ["rtosim"]:
+            return self.note(node, f"#pragma {text}: left out")
+        if words[1:2] in (["work"], ["mark"]) and len(words) == 3 and number(words[2]) is not None:
+            return self.op(" ".join(words[1:]), node, path)
+        self.unit.directives.take(text[len("rtosim"):], self.place(node))
+        return None
+
+    def do_DeclList(self, node: object, path: Path, rest: Optional[Continuation]) -> None:
+        for it in node.decls:
+            self.do_Decl(it, path, None)
+
+    def do_Decl(self, node: object, path: Path, rest: Optional[Continuation]) -> None:
+        type_ = self.unit.constants.type_of(node)
+        if node.name is None or type_ == "a function":
+            return
+        if "static" in node.storage and isinstance(type_, Integer):
+            self.static(node, type_, path)
+            return
+        value = self.initial(node, type_, path)
+        key = self.declare(node.name, type_, node)
+        if value is None:
+            path.state = path.state.with_local(key, not_set(type_))
+        else:
+            self.write_local(key, value, node, path)
+
+    def initial(self, node: object, type_: Type, path: Path) -> Optional[Known]:
+        if node.init is None:
+            return None
+        if type_ in ("an array", "a structure", "a union"):
+            raise self.refuse(node, f"{type_} has no op", "a local for each of its members")
+        found = self.measured_from(node, node.init, path)
+        return self.evaluate(node.init, path) if found is None else found
+
+    def static(self, node: object, type_: Integer, path: Path) -> None:
+        raise self.refuse(node, f"a static local, `{node.name}`, outlives its function", "a local of the task's function, outside of its loop")
+
+    # -- branches
+
+    def do_If(self, node: object, path: Path, rest: Optional[Continuation]) -> None:
+        ways = [[it] if it is not None else [] for it in (node.iftrue, node.iffalse)]
+        if rest is not None:
+            yes, no = (self.later(lambda it, one=way: self.statements(one, it, rest)) for way in ways)
+            return self.condition(node.cond, path, yes, no)
+        try:
+            with self.attempt(path):
+                self.meet(path, lambda end: self.condition(node.cond, path, *(
+                    self.later(lambda it, one=way: self.statements(one, it, end)) for way in ways)))
+        except LostUse:
+            if not self.does_nothing(node, ways, path):
+                raise
+        return None
+
+    def does_nothing(self, node: object, ways: List[List[object]], path: Path) -> bool:
+        """Whether it makes no difference which branch is taken: none of them has an op."""
+        if trees.calls_in(node.cond) or trees.escapes(node):
+            return False
+        forks = [path.fork(path.state.answers) for _ in ways]
+        for fork, way in zip(forks, ways):
+            self.statements(way, fork, lambda it: None)
+        if any(it.items or it.state.answers != path.state.answers or it.state.locals != path.state.locals for it in forks):
+            return False
+        self.note(node, "no op depends on this: left out")
+        return True
+
+    def do_Switch(self, node: object, path: Path, rest: Optional[Continuation]) -> None:
+        if rest is not None:
+            after = self.later(rest)
+            with self.using(self.frame.with_jumps(on_break=after, break_is_op=False)):
+                return self.cases(node, path, after)
+
+        def part(end: Continuation) -> None:
+            with self.using(self.frame.with_jumps(on_break=end, break_is_op=False)):
+                self.cases(node, path, end)
+        return self.meet(path, part)
+
+    def cases(self, node: object, path: Path, after: Continuation) -> None:
+        labels, bodies, default = cases_of(node)
+        key = f"switch@{self.place(node)}"
+        value = self.integer(self.evaluate(node.cond, path), node.cond)
+        path.state = path.state.with_local(key, value)
+
+        def choose(at: int, fork: Path) -> None:
+            if fork.is_over:
+                return
+            if at == len(labels):
+                fork.state = fork.state.without(key)
+                body = bodies[default] if default is not None else []
+                return self.run(body, fork, after)
+            wanted = self.truth_of_labels(labels[at], fork.state.locals[key], node, fork)
+            self.branch(fork, wanted, self.later(lambda it: self.run(bodies[at], it, after)), self.later(lambda it: choose(at + 1, it)),
+                        labels[at][0] if labels[at] else node)
+        with self.using(self.frame.inner()):
+            choose(0, path)
+
+    def run(self, body: Sequence[object], path: Path, after: Continuation) -> None:
+        """The statements of a case: what follows them in the `switch` follows here, up to a `break`."""
+        self.statements(body, path, after)
+
+    def truth_of_labels(self, labels: Sequence[object], value: Known, node: object, path: Path) -> Answers:
+        found = NOTHING
+        for it in labels:
+            label = self.unit.constants.value(it)
+            if label is None:
+                raise self.refuse(it, "a case is a constant")
+            same = self.arithmetic(Same(node), self.integer(value, node), constant(label.constant() or 0, label.type), path)
+            found = found | self.truth(same, node, path)
+        return found
+
+    # -- jumps
+
+    def do_Break(self, node: object, path: Path, rest: Optional[Continuation]) -> None:
+        self.jump = node
+        self.frame.jumps.on_break(path)
+
+    def do_Continue(self, node: object, path: Path, rest: Optional[Continuation]) -> None:
+        self.frame.jumps.on_continue(path)
+
+    def do_Return(self, node: object, path: Path, rest: Optional[Continuation]) -> None:
+        value = Nothing() if node.expr is None else self.evaluate(node.expr, path)
+        self.jump = node
+        if not path.is_over:
+            self.frame.jumps.on_return(path, value)
+
+    def do_FuncCall(self, node: object, path: Path, rest: Optional[Continuation]) -> None:
+        if trees.called(node) != "vTaskDelete":
+            self.evaluate(node, path)
+            return
+        argument = trees.arguments(node)[0]
+        value = self.evaluate(argument, path)
+        is_caller = getattr(value, "name", None) == getattr(self.owner, "name", "") or isinstance(value, Value) and value.constant() == 0
+        if self.is_handler or not is_caller or self.frame.outer is not None:
+            raise self.refuse(node, "no op deletes another task, or a task from a function that it calls",
+                              "vTaskDelete(NULL) in the task's own function")
+        self.jump = node
+        self.frame.jumps.on_return(path, Nothing())
+
+    def do_Goto(self, node: object, path: Path, rest: Optional[Continuation]) -> None:
+        raise self.refuse(node, "`goto` has no op", "a loop, a branch, or a function with `return`")
+
+    def do_Label(self, node: object, path: Path, rest: Optional[Continuation]) -> None:
+        raise self.refuse(node, "a label has no op", "a loop, a branch, or a function with `return`")
+
+
+class Same:
+    """`==` at the place of another node."""
+
+    op = "=="
+
+    def __init__(self, node: object):
+        self.coord = node.coord
+
+
+def cases_of(node: object) -> Tuple[List[List[object]], List[List[object]], Optional[int]]:
+    """The labels of each group of cases, the statements from each on, and which of them is the default, which has its labels last."""
+    items = (node.stmt.block_items or []) if trees.kind(node.stmt) == "Compound" else [node.stmt]
+    bodies: List[List[object]] = []
+    labels: List[List[object]] = []
+    default, is_open = None, False
+    for it in items:
+        name = trees.kind(it)
+        if name not in ("Case", "Default"):
+            for body in bodies:
+                body.append(it)
+            continue
+        if not is_open:
+            bodies.append([])
+            labels.append([])
+        if name == "Case":
+            labels[-1].append(it.expr)
+        else:
+            default = len(bodies) - 1
+        for body in bodies:
+            body.extend(it.stmts or [])
+        is_open = not it.stmts
+    if default is not None:
+        labels[default] = []
+    return labels, bodies, default
+
