@@ -5,7 +5,6 @@ from . import trees
 from .answers import NUMBERS, NONE, Answers, answers, failing, condition_for, only
 from .calls import (CALLS, CREATORS, MASKS_OF_HANDLERS, NO_OP, TASK_CREATORS, YIELDS_OF_HANDLERS, Answer, Argument, Call, Result, Who)
 from .expressions import Expressions
-from .families import Family
 from .integers import INT, UNSIGNED, Integer
 from .paths import Path
 from .refusals import Lost, LostUse
@@ -118,8 +117,7 @@ class Api(Expressions):
         """A number that is the same whatever was answered."""
         found = self.number(value, node, path)
         if found is None:
-            self.need(Family.VARIABLES, node, f"{argument.value}, which depends on an answer", "a constant")
-            raise self.refuse(node, f"{argument.value} is a constant in an op", "a constant")
+            raise LostUse(self.place(node), Lost(f"this is to be {argument.value}, and depends on an answer", instead="a constant"))
         if argument is Argument.MASK and not LEAST_MASK <= found <= GREATEST_MASK:
             raise self.refuse(node, f"bits of a group are 1 to {GREATEST_MASK}, and here {found}")
         return UNSIGNED.wrapped(found)
@@ -142,8 +140,7 @@ class Api(Expressions):
         return str(found)
 
     def item_of_answer(self, value: Value, node: object, path: Path) -> str:
-        self.need(Family.VARIABLES, node, "an item that depends on an answer", "an item that is a constant")
-        raise NotImplementedError
+        raise LostUse(self.place(node), Lost("not in this version: an item that depends on an answer", instead="an item that is a constant"))
 
     def item_type(self, queue: Handle) -> Integer:
         size = self.unit.object(queue.name).numbers.get("size", 4)
@@ -155,7 +152,8 @@ class Api(Expressions):
         """What is known after the op, and what the function returns."""
         if call.answer is Answer.UNCHANGED:
             return Nothing()
-        path.state = path.state.answered(self.answers_of(call, values, texts), f"{call.function} in line {self.place(node).line}")
+        path.state = path.state.answered(self.answers_of(call, values, texts), f"{call.function} in line {self.place(node).line}",
+                                         self.place(node))
         storage = values.get(Argument.STORAGE, values.get(Argument.VALUE_STORAGE))
         if isinstance(storage, Reference):
             self.store(storage.local, node, path)
@@ -222,7 +220,7 @@ class Api(Expressions):
 
     def measured(self, node: object, path: Path) -> Value:
         self.op("since", node, path)
-        path.state = path.state.answered(NUMBERS, f"the measuring in line {self.place(node).line}")
+        path.state = path.state.answered(NUMBERS, f"the measuring in line {self.place(node).line}", self.place(node))
         return the_answer(UNSIGNED)
 
     # -- checks

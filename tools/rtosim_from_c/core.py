@@ -14,7 +14,7 @@ from .source import place_of
 from .unit import Handler, Task, Unit
 from .values import Known, Value, constant, truth
 
-MOST_STATEMENTS = 60_000
+MOST_STATEMENTS = 20_000
 
 
 class Core:
@@ -25,7 +25,7 @@ class Core:
         self.is_handler = isinstance(owner, Handler)
         self.notes: Dict[Note, None] = {}
         self.types: Dict[str, Type] = {}
-        self.splits: Set[str] = set()
+        self.splits: Set[Tuple[str, Place]] = set()
         self.stamps: Dict[Place, int] = {}
         self.statements_done = 0
         self.frame: Optional[Frame] = None

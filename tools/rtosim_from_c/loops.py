@@ -12,6 +12,7 @@ from .values import Known
 
 MOST_TURNS = 1000
 MOST_ROUNDS = 40
+MOST_APART = 300
 RETURNED = "returned by a loop"
 
 
@@ -53,7 +54,9 @@ class Loops(Statements):
         self.after_loop(node, path, ways, rest)
 
     def first_form(self, node: object, state: State) -> Turn:
-        forms: List[Callable[[object, State], Turn]] = [self.asked_first, self.asked_last, self.counted]
+        forms: List[Callable[[object, State], Turn]] = [self.all_alike, self.asked_before, self.counted]
+        if trees.kind(node) == "DoWhile":
+            forms.remove(self.asked_before)
         first: Optional[LostUse] = None
         for it in forms:
             notes = dict(self.notes)
@@ -67,17 +70,17 @@ class Loops(Statements):
 
     # -- forms
 
-    def asked_first(self, node: object, state: State) -> Turn:
-        """`repeat forever`, whose turns begin with the condition."""
+    def all_alike(self, node: object, state: State) -> Turn:
+        """`repeat forever`, whose turns have the condition where C has it."""
         is_last = trees.kind(node) == "DoWhile"
-        return self.repeated(node, state, lambda it, turn, ways: self.turn(node, it, ways, not is_last, is_last))
+        return self.repeated(node, state, lambda it, ways: self.turn(node, it, ways, not is_last, is_last))
 
-    def asked_last(self, node: object, state: State) -> Turn:
-        """The condition once, and then `repeat forever`, whose turns end with the condition."""
+    def asked_before(self, node: object, state: State) -> Turn:
+        """The condition of a `while` once, and then `repeat forever`, whose turns end with the condition."""
         before, ways = Path(state), Ways()
 
         def enter(fork: Path) -> None:
-            items, inner = self.repeated(node, fork.state, lambda it, turn, found: self.turn(node, it, found, False, True))
+            items, inner = self.repeated(node, fork.state, lambda it, found: self.turn(node, it, found, False, True))
             fork.items += items
             ways.left += inner.left
             ways.returned += inner.returned
@@ -89,12 +92,12 @@ class Loops(Statements):
         self.condition_of(node, before, self.later(enter), self.later(skip))
         return before.items, ways
 
-    def repeated(self, node: object, state: State, turn: Callable[[Path, int, Ways], None]) -> Turn:
+    def repeated(self, node: object, state: State, turn: Callable[[Path, Ways], None]) -> Turn:
         """Turns that are the same for ever, from what is known before each of them."""
         head = state
-        for number in range(MOST_ROUNDS):
+        for _ in range(MOST_ROUNDS):
             path, ways = Path(head), Ways()
-            turn(path, number, ways)
+            turn(path, ways)
             if not ways.back:
                 return self.once(node, path.items), ways
             again = merged([head, *ways.back])
@@ -110,24 +113,30 @@ class Loops(Statements):
         return [Repeat("1", tuple(items), self.place(node))] if has_break(items) else items
 
     def counted(self, node: object, state: State) -> Turn:
-        """Each turn by itself, with the number that counts it. Turns that are the same become a `repeat` of so many."""
-        found, total = [], Ways()
-        is_first = True
+        """Each turn by itself, with the number that counts it. Turns that are the same become a `repeat` of so many, and the last one
+        a `repeat forever` if nothing else is known after it than before it."""
+        turns: List[List[Item]] = []
+        total = Ways()
         while True:
             path, ways = Path(state), Ways()
-            is_asked = not is_first or trees.kind(node) != "DoWhile"
-            self.turn(node, path, ways, is_asked, False)
-            is_first = False
-            found += path.items
+            self.turn(node, path, ways, bool(turns) or trees.kind(node) != "DoWhile", False)
+            turns.append(path.items)
             total.left += ways.left
             total.returned += ways.returned
             again = merged(ways.back)
             if again is None:
                 break
+            if is_same(again, state) and not self.is_handler:
+                turns[-1] = [Repeat("forever", tuple(path.items), self.place(node))]
+                break
             state = again
-            if len(found) > MOST_TURNS * 4:
-                raise LostUse(self.place(node), Lost("how many turns this loop has isn't known, or they are too many to write out"))
-        return self.turns(node, found), total
+            self.give_up_on_many(node, turns)
+        return self.turns(node, [it for turn in turns for it in turn]), total
+
+    def give_up_on_many(self, node: object, turns: List[List[Item]]) -> None:
+        is_alike = len(turns) > 1 and turns[-1] == turns[-2]
+        if len(turns) > MOST_TURNS or sum(map(len, turns)) > MOST_APART and not is_alike:
+            raise LostUse(self.place(node), Lost("how many turns this loop has isn't known, or they are too many to write out"))
 
     def turns(self, node: object, items: List[Item]) -> List[Item]:
         if items and isinstance(items[-1], Break):

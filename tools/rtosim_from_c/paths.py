@@ -4,7 +4,7 @@ from typing import Dict, Iterable, List, Optional
 
 from .answers import Answers, only, NONE, NOTHING
 from .items import Item
-from .refusals import Lost
+from .refusals import Lost, Place
 from .values import Known, after_an_answer, either
 
 
@@ -22,9 +22,9 @@ class State:
     def among(self, known: Answers) -> "State":
         return replace(self, answers=self.answers & known)
 
-    def answered(self, answers: Answers, by: str) -> "State":
-        """After a call that answers one of these."""
-        kept = {name: after_an_answer(it, self.answers, name, by) for name, it in self.locals.items()}
+    def answered(self, answers: Answers, by: str, at: Place) -> "State":
+        """After a call at this place that answers one of these."""
+        kept = {name: after_an_answer(it, self.answers, name, by, at) for name, it in self.locals.items()}
         return replace(self, answers=answers, locals=kept)
 
     def stamped(self, number: int) -> "State":

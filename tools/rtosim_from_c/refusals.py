@@ -29,11 +29,11 @@ class SeveralRefusals(Exception):
 
 @dataclass(frozen=True)
 class Lost:
-    """Why a value isn't known at a place: the local that had it, if there is one, and whether another call's answer came between."""
+    """Why a value isn't known at a place: the local that had it, if there is one, and where another call's answer took it."""
 
     why: str
     local: Optional[str] = None
-    is_overwritten: bool = False
+    taken_at: Optional[Place] = None
     instead: str = ""
 
 

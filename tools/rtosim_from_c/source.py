@@ -30,6 +30,7 @@ class Lines:
     def __init__(self) -> None:
         self.files: Dict[str, List[str]] = {}
         self.preprocessed: Dict[tuple, str] = {}
+        self.places: Dict[tuple, Place] = {}
 
     def line(self, file: str, number: int) -> str:
         if file not in self.files:
@@ -42,6 +43,12 @@ class Lines:
 
     def place(self, file: str, number: int, column: int) -> Place:
         """The place in the file of a place in what `cpp` wrote."""
+        key = (file, number, column)
+        if key not in self.places:
+            self.places[key] = self.find_place(file, number, column)
+        return self.places[key]
+
+    def find_place(self, file: str, number: int, column: int) -> Place:
         made, written = self.preprocessed.get((file, number), ""), self.line(file, number)
         tokens, there = list(TOKEN.finditer(made)), list(TOKEN.finditer(without_comments(written)))
         at = next((number for number, it in enumerate(tokens) if it.end() >= column), len(tokens))
@@ -162,4 +169,4 @@ def place_of(node: object, lines: Lines, calls: tuple = ()) -> Optional[Place]:
     if coord is None or not coord.line:
         return None
     found = lines.place(coord.file, coord.line, coord.column or 1)
-    return Place(found.file, found.line, found.column, calls)
+    return Place(found.file, found.line, found.column, calls) if calls else found

@@ -1,5 +1,5 @@
 """Statements: declarations, branches, `switch`, jumps; and which of them need what follows to be moved into their branches."""
-from typing import List, Optional, Sequence, Tuple
+from typing import Dict, List, Optional, Sequence, Tuple
 
 from . import trees
 from .answers import NOTHING, Answers, answers
@@ -10,11 +10,11 @@ from .expressions import not_set
 from .frames import Continuation
 from .integers import Integer
 from .paths import Path
-from .refusals import LostUse
+from .refusals import LostUse, Place
 from .values import Known, Nothing, Value, constant
 
 AFTER_A_COMMENT = "/* rtosim: work 3 */ or /* rtosim: mark 3 */, after a statement"
-LOOPS = ("For", "While", "DoWhile")
+MOST_APART = 8
 
 
 class Statements(Api):
@@ -27,39 +27,41 @@ class Statements(Api):
                 self.note(node, "never reached: left out")
                 return
             self.count(node)
+            parts = self.parts_to_split(node, path)
+            if parts:
+                self.split(path, parts, self.later(lambda it, left=nodes[at:]: self.statements(left, it, rest)), node)
+                return
             others = nodes[at + 1:]
             if self.needs_rest(node):
                 self.statement(node, path, self.later(lambda it, left=others: self.statements(left, it, rest)))
                 return
             self.statement(node, path, None)
-            parts = [] if path.is_over else self.parts_to_split(path)
-            if parts:
-                self.split(path, parts, self.later(lambda it, left=others: self.statements(left, it, rest)), node)
-                return
         if not path.is_over:
             rest(path)
 
     def needs_rest(self, node: object) -> bool:
         """Whether a jump in it passes over what follows, and no op of the script does so."""
-        jumps, found = self.frame.jumps, trees.escapes(node)
+        jumps, found = self.frame.jumps, self.unit.escapes(node)
         found -= {"break"} if jumps.break_is_op else set()
         return bool(found - {"return"} if jumps.return_is_op else found)
 
-    def parts_to_split(self, path: Path) -> List[Answers]:
-        """The answers apart, by the constants that a local has which another answer is about to take."""
-        for key in self.splits:
+    def parts_to_split(self, node: object, path: Path) -> List[Answers]:
+        """The answers apart by the constants of a local, where a call in this statement is about to take them."""
+        for key, place in self.splits:
             value = path.state.locals.get(key)
-            if not isinstance(value, Value):
-                continue
-            value = value.among(path.state.answers)
-            if value.constant() is None and value.lost() is None:
-                parts = {}
-                for it in value.pieces:
-                    for low, high in [(it.low, it.high)] if it.kind == "number" else [(one, one) for one in range(it.low, it.high + 1)][:9]:
-                        parts.setdefault(it.at(low), []).append((low, high))
-                if len(parts) <= 8:
-                    return [answers(*ranges) for ranges in parts.values()]
+            if isinstance(value, Value) and self.holds_call(node, place):
+                parts = constants_apart(value.among(path.state.answers))
+                if len(parts) > 1:
+                    return parts
         return []
+
+    def holds_call(self, node: object, place: Place) -> bool:
+        """Whether the call at this place is in the statement, or in a function that is called there."""
+        calls = self.frame.calls
+        if place.calls[:len(calls)] != calls:
+            return False
+        line = place.calls[len(calls)] if len(place.calls) > len(calls) else place.line
+        return line in self.unit.lines_of_calls(node)
 
     def statement(self, node: object, path: Path, rest: Optional[Continuation]) -> None:
         """One statement; with a rest where `needs_rest` says so, which then follows on each way that doesn't jump."""
@@ -78,7 +80,9 @@ class Statements(Api):
     def do_Compound(self, node: object, path: Path, rest: Optional[Continuation]) -> None:
         after = None if rest is None else self.later(rest)
         with self.using(self.frame.inner()):
-            self.statements(node.block_items or [], path, (lambda it: None) if after is None else after)
+            if after is not None:
+                return self.statements(node.block_items or [], path, after)
+            return self.meet(path, lambda end: self.statements(node.block_items or [], path, end))
 
     def do_EmptyStatement(self, node: object, path: Path, rest: Optional[Continuation]) -> None:
         pass
@@ -140,7 +144,7 @@ class Statements(Api):
 
     def does_nothing(self, node: object, ways: List[List[object]], path: Path) -> bool:
         """Whether it makes no difference which branch is taken: none of them has an op."""
-        if trees.calls_in(node.cond) or trees.escapes(node):
+        if trees.calls_in(node.cond) or self.unit.escapes(node):
             return False
         forks = [path.fork(path.state.answers) for _ in ways]
         for fork, way in zip(forks, ways):
@@ -227,6 +231,17 @@ class Statements(Api):
 
     def do_Label(self, node: object, path: Path, rest: Optional[Continuation]) -> None:
         raise self.refuse(node, "a label has no op", "a loop, a branch, or a function with `return`")
+
+
+def constants_apart(value: Value) -> List[Answers]:
+    """The answers for each number that the value may be; none if there are too many."""
+    if value.lost() is not None or any(it.kind == "answer" and it.high - it.low >= MOST_APART for it in value.pieces):
+        return []
+    parts: Dict[int, List[Tuple[int, int]]] = {}
+    for it in value.pieces:
+        for low, high in [(it.low, it.high)] if it.kind == "number" else [(one, one) for one in range(it.low, it.high + 1)]:
+            parts.setdefault(it.at(low), []).append((low, high))
+    return [answers(*ranges) for ranges in parts.values()] if len(parts) <= MOST_APART else []
 
 
 class Same:

@@ -53,9 +53,10 @@ class Translation(Loops):
             try:
                 return self.once_through()
             except LostUse as why:
-                if not why.lost.is_overwritten or why.lost.local is None or why.lost.local in self.splits:
+                taken = (why.lost.local, why.lost.taken_at)
+                if None in taken or taken in self.splits:
                     raise
-                self.splits.add(why.lost.local)
+                self.splits.add(taken)
         raise Refusal(self.owner.place, "this function keeps too many answers at once", "a test right after each call")
 
     def once_through(self) -> Script:

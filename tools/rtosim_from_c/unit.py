@@ -1,7 +1,7 @@
 """What a file declares: its functions, constants and globals; the objects and tasks that it creates; its handlers."""
 import os
 from dataclasses import dataclass, field
-from typing import Dict, Iterator, List, Optional, Sequence, Set, Tuple, Union
+from typing import Dict, FrozenSet, Iterator, List, Optional, Sequence, Set, Tuple, Union
 
 from . import trees
 from .answers import Answers, answers, only
@@ -63,6 +63,9 @@ class Unit:
         self.refusals: List[Refusal] = []
         self.of_headers = {f"{HEADERS}/{it}" for it in os.listdir(HEADERS)}
         self.named_by_callers: List[Tuple[str, Optional[str]]] = []
+        self.jumps: Dict[object, FrozenSet[str]] = {}
+        self.called_lines: Dict[object, FrozenSet[int]] = {}
+        self.bits: Optional[Answers] = None
         self.declare(tree)
         for find in (self.find_objects, self.find_handlers, self.find_tasks, self.find_gives):
             find()
@@ -149,8 +152,25 @@ class Unit:
             numbers[key] = (value.constant() or 0) if value is not None else 4
         self.objects.append(Object(kind, handle.name, place, numbers))
 
+    def escapes(self, node: object) -> FrozenSet[str]:
+        """How a statement may leave what is around it."""
+        if node not in self.jumps:
+            self.jumps[node] = frozenset(trees.escapes(node))
+        return self.jumps[node]
+
+    def lines_of_calls(self, node: object) -> FrozenSet[int]:
+        """The lines in which something is called."""
+        if node not in self.called_lines:
+            self.called_lines[node] = frozenset(self.place(it).line for it in trees.walk(node) if trees.kind(it) == "FuncCall")
+        return self.called_lines[node]
+
     def bits_of_groups(self) -> Answers:
         """The bits that a group may have: those of the masks that are set somewhere."""
+        if self.bits is None:
+            self.bits = self.bits_set()
+        return self.bits
+
+    def bits_set(self) -> Answers:
         masks = [trees.arguments(it)[1] for it in self.nodes() if trees.called(it) in SETS_OF_BITS]
         values = [self.constants.value(it) for it in masks]
         if any(it is None for it in values):

@@ -7,7 +7,7 @@ from typing import Callable, Iterable, Iterator, List, Optional, Tuple, Union
 
 from .answers import GREATEST, NONE, NUMBERS, Answers, answers
 from .integers import ARITHMETIC, BOOL, COMPARISONS, INT, SHIFTS, UNSIGNED, Integer, common, promoted
-from .refusals import Lost
+from .refusals import Lost, Place
 
 MOST_PIECES = 64
 NUMBER, ANSWER, LOST = "number", "answer", "lost"
@@ -36,6 +36,11 @@ class Value:
 
     def among(self, known: Answers) -> "Value":
         """What is left of it where the last answer is one of these."""
+        if len(self.pieces) == 1 and self.pieces[0].kind != ANSWER and known.ranges:
+            it = self.pieces[0]
+            return Value(self.type, tuple(
+                Piece(max(it.low, low), min(it.high, high), it.kind, it.number, it.lost)
+                for low, high in known.ranges if max(it.low, low) <= min(it.high, high)))
         return Value(self.type, joined(
             Piece(max(it.low, low), min(it.high, high), it.kind, it.number, it.lost)
             for it in self.pieces for low, high in known.ranges if max(it.low, low) <= min(it.high, high)
@@ -237,8 +242,8 @@ def truth(value: Value, known: Answers) -> Answers:
     return answers(*((it.low, it.high) for it in found.pieces if it.kind == NUMBER and it.number))
 
 
-def after_an_answer(known: Known, before: Answers, local: str, by: str) -> Known:
-    """What is left of a local when another call answers: constants."""
+def after_an_answer(known: Known, before: Answers, local: str, by: str, at: Place) -> Known:
+    """What is left of a local when another call answers, at this place: constants."""
     if not isinstance(known, Value):
         return known
     now = known.among(before)
@@ -248,7 +253,7 @@ def after_an_answer(known: Known, before: Answers, local: str, by: str) -> Known
     reason = now.lost()
     if reason is None or reason.local is None and any(it.kind != LOST for it in now.pieces):
         name = local.split("@")[0]
-        reason = Lost(f"`{name}` holds an answer from before {by}, and a script keeps its last answer only", local, True)
+        reason = Lost(f"`{name}` holds an answer from before {by}, and a script keeps its last answer only", local, at)
     return lost(known.type, reason)
 
 
