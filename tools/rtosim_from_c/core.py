@@ -12,7 +12,8 @@ from .paths import Path, State, merged
 from .refusals import LostUse, Note, Place, Refusal
 from .source import place_of
 from .unit import Handler, Task, Unit
-from .values import Known, Value, constant, truth
+from .integers import BOOL
+from .values import Known, Value, constant, converted, truth
 
 MOST_STATEMENTS = 20_000
 
@@ -90,7 +91,7 @@ class Core:
 
     def truth(self, value: Known, node: object, path: Path) -> Answers:
         """The last answers for which the value isn't 0."""
-        value = self.integer(value, node)
+        value = converted(self.integer(value, node).among(path.state.answers), BOOL)
         self.known(value, node, path)
         return truth(value, path.state.answers)
 

@@ -94,8 +94,18 @@ def chosen(among: Answers, wanted: Answers, yes: Sequence[Item], no: Sequence[It
     opposite = condition_for(among - wanted, among)
     if opposite is not None:
         return [If(opposite, tuple(no), (), place), *yes] if leaves(no) else [If(opposite, tuple(no), tuple(yes), place)]
-    parts = [(part, yes if is_wanted else no) for part, is_wanted in segments(wanted, among)]
-    return chain(parts, place)
+    return chain(parts_of(among, wanted, yes, no), place)
+
+
+def parts_of(among: Answers, wanted: Answers, yes: Sequence[Item], no: Sequence[Item]) -> List[Tuple[Answers, Sequence[Item]]]:
+    """The answers in parts, each of which a condition picks among those that are left; single answers first, where that is all."""
+    parts = segments(wanted, among)
+    for is_one, items, others in ((True, yes, no), (False, no, yes)):
+        singles = [part for part, is_wanted in parts if is_wanted == is_one]
+        if all(it.single() is not None for it in singles):
+            rest = among - wanted if is_one else among & wanted
+            return [*((it, items) for it in singles), (rest, others)]
+    return [(part, yes if is_wanted else no) for part, is_wanted in parts]
 
 
 def chain(parts: Sequence[Tuple[Answers, Sequence[Item]]], place: Place) -> List[Item]:

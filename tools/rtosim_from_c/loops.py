@@ -119,14 +119,15 @@ class Loops(Statements):
         total = Ways()
         while True:
             path, ways = Path(state), Ways()
-            self.turn(node, path, ways, bool(turns) or trees.kind(node) != "DoWhile", False)
+            is_asked = bool(turns) or trees.kind(node) != "DoWhile"
+            self.turn(node, path, ways, is_asked, False)
             turns.append(path.items)
             total.left += ways.left
             total.returned += ways.returned
             again = merged(ways.back)
             if again is None:
                 break
-            if is_same(again, state) and not self.is_handler:
+            if is_asked and is_same(again, state) and not self.is_handler:
                 turns[-1] = [Repeat("forever", tuple(path.items), self.place(node))]
                 break
             state = again

@@ -8,13 +8,14 @@ from .constants import Type
 from .directives import number
 from .expressions import not_set
 from .frames import Continuation
-from .integers import Integer
+from .integers import COMPARISONS, Integer
 from .paths import Path
 from .refusals import LostUse, Place
 from .values import Known, Nothing, Value, constant
 
 AFTER_A_COMMENT = "/* rtosim: work 3 */ or /* rtosim: mark 3 */, after a statement"
 MOST_APART = 8
+MIRRORED = {"==": "==", "!=": "!=", "<": ">", "<=": ">=", ">": "<", ">=": "<="}
 
 
 class Statements(Api):
@@ -22,22 +23,37 @@ class Statements(Api):
 
     def statements(self, nodes: Sequence[object], path: Path, rest: Continuation) -> None:
         """These statements, and then the rest, on each of the ways that come there."""
-        for at, node in enumerate(nodes):
+        at = 0
+        while at < len(nodes):
+            node, left = nodes[at], nodes[at:]
             if path.is_over:
                 self.note(node, "never reached: left out")
                 return
             self.count(node)
-            parts = self.parts_to_split(node, path)
+            kept, parts = self.to_split(node, path)
+            after = self.uses(left, kept) if parts else 0
+            if parts and not after:
+                self.split(path, parts, self.later(lambda it: self.statements(left, it, rest)), node)
+                return
             if parts:
-                self.split(path, parts, self.later(lambda it, left=nodes[at:]: self.statements(left, it, rest)), node)
+                self.meet(path, lambda end: self.split(path, parts, self.later(lambda it: self.statements(left[:after], it, end)), node))
+            elif self.needs_rest(node):
+                self.statement(node, path, self.later(lambda it: self.statements(left[1:], it, rest)))
                 return
-            others = nodes[at + 1:]
-            if self.needs_rest(node):
-                self.statement(node, path, self.later(lambda it, left=others: self.statements(left, it, rest)))
-                return
-            self.statement(node, path, None)
+            else:
+                self.statement(node, path, None)
+            at += after or 1
         if not path.is_over:
             rest(path)
+
+    def uses(self, nodes: Sequence[object], local: str) -> int:
+        """How many of these statements it takes to the last one that names the local; 0 if the function names it later, or a jump
+        passes over what follows."""
+        name = local.split("@")[0]
+        last = max((at for at, it in enumerate(nodes) if self.unit.mentions(it, name)), default=0)
+        body = self.unit.functions[self.frame.function].body
+        is_all = sum(self.unit.mentions(it, name) for it in nodes) == self.unit.named_from(body, name, self.place(nodes[0]).line)
+        return last + 1 if is_all and not any(map(self.needs_rest, nodes[:last + 1])) else 0
 
     def needs_rest(self, node: object) -> bool:
         """Whether a jump in it passes over what follows, and no op of the script does so."""
@@ -45,15 +61,50 @@ class Statements(Api):
         found -= {"break"} if jumps.break_is_op else set()
         return bool(found - {"return"} if jumps.return_is_op else found)
 
-    def parts_to_split(self, node: object, path: Path) -> List[Answers]:
-        """The answers apart by the constants of a local, where a call in this statement is about to take them."""
+    def to_split(self, node: object, path: Path) -> Tuple[str, List[Answers]]:
+        """A local, and the answers apart by its constants, where a call in this statement is about to take them."""
         for key, place in self.splits:
             value = path.state.locals.get(key)
             if isinstance(value, Value) and self.holds_call(node, place):
-                parts = constants_apart(value.among(path.state.answers))
+                parts = self.apart(key, value.among(path.state.answers))
                 if len(parts) > 1:
-                    return parts
-        return []
+                    return key, parts
+        return "", []
+
+    def apart(self, local: str, value: Value) -> List[Answers]:
+        """The answers for each number that the value may be; if these are too many, for each outcome of the comparisons with it."""
+        if value.lost() is not None:
+            return []
+        tests = [] if sum(it.high - it.low for it in value.pieces if it.kind == "answer") < MOST_APART else self.tests_of(local)
+        parts: Dict[object, List[Tuple[int, int]]] = {}
+        for it in value.pieces:
+            cuts = {it.low, it.high + 1}
+            if it.kind == "answer":
+                marks = [number - it.number for _, number in tests] if tests else range(it.low, min(it.high, it.low + MOST_APART) + 1)
+                cuts |= {cut for mark in marks for cut in (mark, mark + 1) if it.low < cut <= it.high}
+            ends = sorted(cuts)
+            for low, end in zip(ends, ends[1:]):
+                outcome = tuple(COMPARISONS[operator](it.at(low), number) for operator, number in tests) if tests else it.at(low)
+                parts.setdefault(outcome, []).append((low, end - 1))
+        return [answers(*ranges) for ranges in parts.values()] if len(parts) <= MOST_APART else []
+
+    def tests_of(self, local: str) -> List[Tuple[str, int]]:
+        """The comparisons of a local with constants, in the function of now."""
+        name = local.split("@")[0]
+        is_it = lambda node: trees.kind(trees.plain(node)) == "ID" and trees.plain(node).name == name
+        found: Dict[Tuple[str, int], None] = {}
+        for node in trees.walk(self.unit.functions[self.frame.function].body):
+            if trees.kind(node) == "BinaryOp" and node.op in COMPARISONS:
+                for side, other, operator in ((node.left, node.right, node.op), (node.right, node.left, MIRRORED[node.op])):
+                    value = self.unit.constants.value(other) if is_it(side) else None
+                    if value is not None:
+                        found[operator, value.constant() or 0] = None
+            elif trees.kind(node) == "Switch" and is_it(node.cond):
+                for it in trees.walk(node.stmt):
+                    value = self.unit.constants.value(it.expr) if trees.kind(it) == "Case" else None
+                    if value is not None:
+                        found["==", value.constant() or 0] = None
+        return list(found)
 
     def holds_call(self, node: object, place: Place) -> bool:
         """Whether the call at this place is in the statement, or in a function that is called there."""
@@ -231,17 +282,6 @@ class Statements(Api):
 
     def do_Label(self, node: object, path: Path, rest: Optional[Continuation]) -> None:
         raise self.refuse(node, "a label has no op", "a loop, a branch, or a function with `return`")
-
-
-def constants_apart(value: Value) -> List[Answers]:
-    """The answers for each number that the value may be; none if there are too many."""
-    if value.lost() is not None or any(it.kind == "answer" and it.high - it.low >= MOST_APART for it in value.pieces):
-        return []
-    parts: Dict[int, List[Tuple[int, int]]] = {}
-    for it in value.pieces:
-        for low, high in [(it.low, it.high)] if it.kind == "number" else [(one, one) for one in range(it.low, it.high + 1)]:
-            parts.setdefault(it.at(low), []).append((low, high))
-    return [answers(*ranges) for ranges in parts.values()] if len(parts) <= MOST_APART else []
 
 
 class Same:

@@ -65,6 +65,7 @@ class Unit:
         self.named_by_callers: List[Tuple[str, Optional[str]]] = []
         self.jumps: Dict[object, FrozenSet[str]] = {}
         self.called_lines: Dict[object, FrozenSet[int]] = {}
+        self.name_lines: Dict[object, Dict[str, List[int]]] = {}
         self.bits: Optional[Answers] = None
         self.declare(tree)
         for find in (self.find_objects, self.find_handlers, self.find_tasks, self.find_gives):
@@ -157,6 +158,20 @@ class Unit:
         if node not in self.jumps:
             self.jumps[node] = frozenset(trees.escapes(node))
         return self.jumps[node]
+
+    def mentions(self, node: object, name: str) -> int:
+        """How often a name is in a statement."""
+        return self.named_from(node, name, 0)
+
+    def named_from(self, node: object, name: str, line: int) -> int:
+        """How often a name is in a statement, from this line on."""
+        if node not in self.name_lines:
+            found: Dict[str, List[int]] = {}
+            for it in trees.walk(node):
+                if trees.kind(it) == "ID":
+                    found.setdefault(it.name, []).append(self.place(it).line)
+            self.name_lines[node] = found
+        return sum(it >= line for it in self.name_lines[node].get(name, []))
 
     def lines_of_calls(self, node: object) -> FrozenSet[int]:
         """The lines in which something is called."""

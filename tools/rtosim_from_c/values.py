@@ -15,16 +15,25 @@ NUMBER, ANSWER, LOST = "number", "answer", "lost"
 
 @dataclass(frozen=True)
 class Piece:
-    """For the answers from `low` to `high`: a number, or the answer and a number, or lost."""
+    """For the answers from `low` to `high`: a number, or the answer and a number, or lost: then one of `among`, if that is known."""
 
     low: int
     high: int
     kind: str
     number: int = 0
     lost: Optional[Lost] = field(default=None, compare=False)
+    among: Optional[Answers] = None
 
     def at(self, answer: int) -> int:
         return self.number + (answer if self.kind == ANSWER else 0)
+
+    def between(self, low: int, high: int) -> "Piece":
+        """The same for these answers."""
+        return Piece(low, high, self.kind, self.number, self.lost, self.among)
+
+    def numbers(self) -> Optional[Answers]:
+        """The numbers that it may be, where that is known."""
+        return self.among if self.kind == LOST else answers((self.at(self.low), self.at(self.high)))
 
 
 @dataclass(frozen=True)
@@ -36,13 +45,8 @@ class Value:
 
     def among(self, known: Answers) -> "Value":
         """What is left of it where the last answer is one of these."""
-        if len(self.pieces) == 1 and self.pieces[0].kind != ANSWER and known.ranges:
-            it = self.pieces[0]
-            return Value(self.type, tuple(
-                Piece(max(it.low, low), min(it.high, high), it.kind, it.number, it.lost)
-                for low, high in known.ranges if max(it.low, low) <= min(it.high, high)))
         return Value(self.type, joined(
-            Piece(max(it.low, low), min(it.high, high), it.kind, it.number, it.lost)
+            it.between(max(it.low, low), min(it.high, high))
             for it in self.pieces for low, high in known.ranges if max(it.low, low) <= min(it.high, high)
         ))
 
@@ -98,8 +102,8 @@ def joined(pieces: Iterable[Piece]) -> Tuple[Piece, ...]:
     found: List[Piece] = []
     for it in sorted(pieces, key=lambda one: one.low):
         last = found[-1] if found else None
-        if last and last.high + 1 == it.low and (last.kind, last.number) == (it.kind, it.number):
-            found[-1] = Piece(last.low, it.high, last.kind, last.number, last.lost)
+        if last and last.high + 1 == it.low and (last.kind, last.number, last.among) == (it.kind, it.number, it.among):
+            found[-1] = last.between(last.low, it.high)
         else:
             found.append(it)
     return tuple(found)
@@ -146,7 +150,7 @@ def overlaid(left: Value, right: Value) -> Iterator[Tuple[Piece, Piece]]:
         for other in right.pieces:
             low, high = max(it.low, other.low), min(it.high, other.high)
             if low <= high:
-                yield (Piece(low, high, it.kind, it.number, it.lost), Piece(low, high, other.kind, other.number, other.lost))
+                yield it.between(low, high), other.between(low, high)
 
 
 def converted(value: Value, type_: Integer) -> Value:
@@ -156,7 +160,7 @@ def converted(value: Value, type_: Integer) -> Value:
 
 def converted_piece(piece: Piece, type_: Integer) -> List[Piece]:
     if piece.kind == LOST:
-        return [piece]
+        return [converted_lost(piece, type_)]
     if piece.kind == NUMBER:
         return [Piece(piece.low, piece.high, NUMBER, type_.wrapped(piece.number))]
     if type_ == BOOL:
@@ -171,6 +175,26 @@ def converted_piece(piece: Piece, type_: Integer) -> List[Piece]:
         Piece(low, end - 1, ANSWER, piece.number - (first + at) * size)
         for at, (low, end) in enumerate(zip(cuts, cuts[1:]))
     ]
+
+
+def converted_lost(piece: Piece, type_: Integer) -> Piece:
+    """What is known of a lost number stays known where its type can keep it."""
+    among = piece.among
+    if type_ == BOOL and among:
+        decided = decide("!=", among, answers((0, 0)))
+        return piece if decided is None else Piece(piece.low, piece.high, NUMBER, int(decided))
+    is_kept = among and type_.least <= among.least() and among.greatest() <= type_.greatest
+    return piece if is_kept else Piece(piece.low, piece.high, LOST, 0, piece.lost)
+
+
+def decide(operator: str, left: Answers, right: Answers) -> Optional[bool]:
+    """Whether a comparison holds of all numbers of these, or of none; None if it depends."""
+    if operator in ("==", "!="):
+        is_same = True if left.single() is not None and left == right else None if left & right else False
+        return None if is_same is None else is_same == (operator == "==")
+    holds = COMPARISONS[operator]
+    found = {holds(it, other) for it in (left.least(), left.greatest()) for other in (right.least(), right.greatest())}
+    return found.pop() if len(found) == 1 else None
 
 
 def compared_piece(piece: Piece, number: int, holds: Callable[[int, int], bool]) -> List[Piece]:
@@ -196,7 +220,12 @@ def binary(operator: str, left: Value, right: Value, known: Answers) -> Value:
 def binary_pieces(operator: str, left: Piece, right: Piece, type_: Integer) -> List[Piece]:
     low, high = left.low, left.high
     if LOST in (left.kind, right.kind):
-        return [left if left.kind == LOST else right]
+        numbers, others = left.numbers(), right.numbers()
+        decided = decide(operator, numbers, others) if operator in COMPARISONS and numbers and others else None
+        if decided is not None:
+            return [Piece(low, high, NUMBER, int(decided))]
+        why = left.lost if left.kind == LOST else right.lost
+        return [Piece(low, high, LOST, 0, why)]
     is_fixed = left.kind == NUMBER and right.kind == NUMBER
     if is_fixed or left.kind == right.kind and operator in COMPARISONS:
         return [Piece(low, high, *computed(operator, left.number, right.number, type_))]
@@ -254,7 +283,9 @@ def after_an_answer(known: Known, before: Answers, local: str, by: str, at: Plac
     if reason is None or reason.local is None and any(it.kind != LOST for it in now.pieces):
         name = local.split("@")[0]
         reason = Lost(f"`{name}` holds an answer from before {by}, and a script keeps its last answer only", local, at)
-    return lost(known.type, reason)
+    sets = [it.numbers() for it in now.pieces]
+    among = answers(*(one for it in sets for one in it.ranges)) if all(sets) else None
+    return Value(known.type, (Piece(NONE, GREATEST, LOST, 0, reason, among),))
 
 
 def numbers_of(value: Value) -> Answers:
