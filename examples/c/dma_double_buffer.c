@@ -4,8 +4,8 @@
        bin/rtosim-from-c --campaign examples/c/dma_double_buffer.c -D CURED
 
    The driver works on the half that is full. If the other one is full as well by then, both bits are set, the wait clears both, and
-   `else if` forgets the second half. The cure asks for each bit by itself. An interrupt before the two of the base run makes the driver
-   work when they come. */
+   `else if` forgets the second half. That happens if another interrupt wakes the logger while the driver works on a block: it runs above
+   the driver for two more halves. The cure asks for both bits. */
 #include "FreeRTOS.h"
 #include "event_groups.h"
 #include "queue.h"
@@ -19,6 +19,8 @@ static QueueHandle_t blocks;
 
 /* rtosim: interrupt 3 DMA1_Half */
 /* rtosim: interrupt 7 DMA1_Full */
+/* rtosim: interrupt 11 DMA1_Half */
+/* rtosim: interrupt 15 DMA1_Full */
 /* rtosim: points all EXTI4 */
 void DMA1_Half_IRQHandler(void)
 {
@@ -49,13 +51,13 @@ static void logger(void *parameters)
     (void)parameters;
     for (;;) {
         vTaskSuspend(NULL);
-        rtosim_work(4);
+        rtosim_work(8);
     }
 }
 
 static void take_block(uint32_t half)
 {
-    rtosim_work(1);
+    rtosim_work(2);
     xQueueSend(blocks, &half, 0);
 }
 
@@ -87,15 +89,15 @@ static void driver(void *parameters)
 static void check(void *parameters)
 {
     (void)parameters;
-    rtosim_work(20);
-    configASSERT(uxQueueMessagesWaiting(blocks) == 2);
+    rtosim_work(16);
+    configASSERT(uxQueueMessagesWaiting(blocks) == 4);
     vTaskDelete(NULL);
 }
 
 int main(void)
 {
     full = xEventGroupCreate();
-    blocks = xQueueCreate(4, sizeof(uint32_t));
+    blocks = xQueueCreate(8, sizeof(uint32_t));
     xTaskCreate(logger, "logger", configMINIMAL_STACK_SIZE, NULL, 3, &logger_handle);
     xTaskCreate(driver, "driver", configMINIMAL_STACK_SIZE, NULL, 2, NULL);
     xTaskCreate(check, "check", configMINIMAL_STACK_SIZE, NULL, 1, NULL);

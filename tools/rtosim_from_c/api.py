@@ -32,7 +32,8 @@ class Api(Expressions):
         if name in CALLS:
             return self.call(CALLS[name], node, path)
         if name in self.unit.functions:
-            return self.followed(node, path)
+            key = self.result_key(node)
+            return self.taken(key, path) if key in path.state.locals else self.followed(node, path)
         return self.other_call(name, node, path)
 
     def other_call(self, name: str, node: object, path: Path) -> Known:
@@ -40,10 +41,12 @@ class Api(Expressions):
             self.assertion(trees.arguments(node)[0], path)
             return Nothing()
         if name in YIELDS_OF_HANDLERS and self.is_handler:
+            self.evaluate_calls(node, path)
             self.note(node, f"{name}: every handler ends so here")
             return Nothing()
         if name in MASKS_OF_HANDLERS and self.is_handler:
-            self.note(node, f"{name}: no handler comes amid another here")
+            self.evaluate_calls(node, path)
+            self.note(node, f"{name}: no handler comes during another here")
             return constant(0)
         if name in (*CREATORS, *TASK_CREATORS):
             return self.creation(name, node)
@@ -56,11 +59,15 @@ class Api(Expressions):
 
     def left_out(self, name: str, node: object, path: Path) -> Known:
         """A call that has no effect on tasks. What its arguments call is called all the same."""
+        self.evaluate_calls(node, path)
+        self.note(node, f"{name} is left out")
+        return lost(INT, Lost(f"what {name} returns isn't known"))
+
+    def evaluate_calls(self, node: object, path: Path) -> None:
+        """Calls among the arguments of a call that has no op."""
         for it in trees.arguments(node):
             if trees.calls_in(it):
                 self.evaluate(it, path)
-        self.note(node, f"{name} is left out")
-        return lost(INT, Lost(f"what {name} returns isn't known"))
 
     def creation(self, name: str, node: object) -> Known:
         self.note(node, f"{name}: what it creates is there from reset on", name in TASK_CREATORS)
@@ -136,10 +143,12 @@ class Api(Expressions):
         kept = converted(self.integer(self.read_local(value.local, node, path), node), self.item_type(queue))
         found = self.number(converted(kept, UNSIGNED), node, path)
         if found is None:
-            return self.item_of_answer(kept, node, path)
+            return self.item_of_answer(kept, queue, node, path)
+        if found > INT.greatest:
+            self.unit.with_large_items.add(queue.name)
         return str(found)
 
-    def item_of_answer(self, value: Value, node: object, path: Path) -> str:
+    def item_of_answer(self, value: Value, queue: Handle, node: object, path: Path) -> str:
         raise LostUse(self.place(node), Lost("not in this version: an item that depends on an answer", instead="an item that is a constant"))
 
     def item_type(self, queue: Handle) -> Integer:
@@ -177,7 +186,8 @@ class Api(Expressions):
         if call.answer is Answer.SUCCESS:
             return only(1) if never_fails or "unlock" == call.op.split()[0] else only(0, 1)
         if call.answer is Answer.ITEM:
-            items = answers((0, self.item_type(queue).greatest))
+            greatest = self.item_type(queue).greatest
+            items = answers((0, greatest if queue.name in self.unit.with_large_items else min(greatest, INT.greatest)))
             return items if never_fails else items | only(NONE)
         if call.answer is Answer.COUNT:
             return answers((0, max(1, self.unit.object(queue.name).numbers["length"])))

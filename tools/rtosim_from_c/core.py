@@ -7,7 +7,7 @@ from .answers import Answers
 from .constants import Type
 from .families import Family, Target
 from .frames import Continuation, Frame
-from .items import Item, Op, chain, chosen, lines_of
+from .items import Item, Op, chain, chosen
 from .paths import Path, State, merged
 from .refusals import LostUse, Note, Place, Refusal
 from .source import place_of
@@ -27,6 +27,7 @@ class Core:
         self.notes: Dict[Note, None] = {}
         self.types: Dict[str, Type] = {}
         self.splits: Set[Tuple[str, Place]] = set()
+        self.parted: Set[str] = set()
         self.stamps: Dict[Place, int] = {}
         self.statements_done = 0
         self.frame: Optional[Frame] = None
@@ -169,13 +170,25 @@ class Core:
         return self.branch(path, wanted, yes, no, node)
 
     def condition_of_call(self, node: object, path: Path, yes: Continuation, no: Continuation) -> None:
-        """A condition that is a call of a function of the file: each of its ways goes on by itself."""
-        if trees.called(node) not in self.unit.functions:
+        """A condition with one call, of a function of the file: each of the ways through that goes on by itself."""
+        call = self.only_call(node)
+        if call is None or self.result_key(call) in path.state.locals:
             self.truth(self.evaluate(node, path), node, path)
+        self.ways_of(call, path, lambda fork: self.condition(node, fork, yes, no))
 
-        def choose(fork: Path, value: Known) -> None:
-            self.branch(fork, self.truth(value, node, fork), yes, no, node)
-        self.follow(node, path, choose)
+    def only_call(self, node: object) -> Optional[object]:
+        """The one call of an expression or a statement, if it is of a function of the file."""
+        found = [it for it in trees.walk(node) if trees.kind(it) == "FuncCall"]
+        return found[0] if len(found) == 1 and trees.called(found[0]) in self.unit.functions else None
 
-    def script_of(self, path: Path) -> int:
-        return len(lines_of(path.items))
+    def result_key(self, call: object) -> str:
+        return f"result@{self.place(call)}"
+
+    def ways_of(self, call: object, path: Path, go: Continuation) -> None:
+        """Follows a call, and goes on with each of its ways; where the call is evaluated then, it is what that way returned."""
+        key = self.result_key(call)
+
+        def on_return(fork: Path, value: Known) -> None:
+            fork.state = fork.state.with_local(key, value)
+            go(fork)
+        self.follow(call, path, on_return)

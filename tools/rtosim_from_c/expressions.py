@@ -223,6 +223,8 @@ class Expressions(Core):
     def of_Assignment(self, node: object, path: Path) -> Known:
         if node.op not in WRITTEN:
             raise self.refuse(node, f"`{node.op}` isn't read")
+        if self.is_ignored(node.lvalue):
+            return self.leave_out_write(node.lvalue, node.rvalue, path)
         operator = WRITTEN[node.op]
         if operator is None:
             value = self.measured_from(node.lvalue, node.rvalue, path)
@@ -250,6 +252,8 @@ class Expressions(Core):
 
     def step(self, node: object, path: Path) -> Known:
         """`++` and `--`."""
+        if self.is_ignored(node.expr):
+            return self.leave_out_write(node.expr, None, path)
         before = self.integer(self.evaluate(node.expr, path), node)
         after = self.arithmetic(Written(node.op.strip("p")[0], node), before, constant(1), path)
         written = self.write(node.expr, after, node, path)
@@ -259,6 +263,8 @@ class Expressions(Core):
 
     def read_global(self, node: object, path: Path) -> Known:
         type_ = self.unit.constants.type_of(self.unit.globals[node.name])
+        if self.is_ignored(node):
+            return lost(INT, Lost(f"`{node.name}` is left out, so its value isn't known"))
         if not isinstance(type_, Integer):
             raise self.never_created(node, type_)
         self.need(Family.VARIABLES, node, f"a variable that tasks and handlers share, `{node.name}`", self.instead_of_global(node.name))
@@ -275,10 +281,17 @@ class Expressions(Core):
         return f"--ignore {name}, or /* rtosim: ignore {name} */, if nothing depends on it"
 
     def write_global(self, target: object, value: Value, node: object, path: Path) -> Known:
-        if target.name in self.unit.directives.ignored:
-            self.note(node, f"`{target.name}` is left out")
-            return value
         return self.read_global(target, path)
+
+    def is_ignored(self, target: object) -> bool:
+        return trees.kind(target) == "ID" and self.frame.local(target.name) is None and target.name in self.unit.directives.ignored
+
+    def leave_out_write(self, target: object, value: Optional[object], path: Path) -> Known:
+        """A variable that has no effect is given no value; what is called for it is called."""
+        if value is not None and trees.calls_in(value):
+            self.evaluate(value, path)
+        self.note(target, f"`{target.name}` is left out")
+        return lost(INT, Lost(f"`{target.name}` is left out, so its value isn't known"))
 
     # -- calls of functions of the file
 

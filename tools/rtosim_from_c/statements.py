@@ -35,6 +35,10 @@ class Statements(Api):
             if parts and not after:
                 self.split(path, parts, self.later(lambda it: self.statements(left, it, rest)), node)
                 return
+            call = self.call_to_part(node, path)
+            if call is not None:
+                self.ways_of(call, path, self.later(lambda it: self.statements(left, it, rest)))
+                return
             if parts:
                 self.meet(path, lambda end: self.split(path, parts, self.later(lambda it: self.statements(left[:after], it, end)), node))
             elif self.needs_rest(node):
@@ -45,6 +49,14 @@ class Statements(Api):
             at += after or 1
         if not path.is_over:
             rest(path)
+
+    def call_to_part(self, node: object, path: Path) -> Optional[object]:
+        """The call of a statement whose ways are to go on apart, since they return what the last answer doesn't say."""
+        if not self.parted or trees.kind(node) not in ("Assignment", "Decl", "Return"):
+            return None
+        call = self.only_call(node)
+        is_parted = call is not None and f"return@{self.place(call)}" in self.parted
+        return call if is_parted and self.result_key(call) not in path.state.locals else None
 
     def uses(self, nodes: Sequence[object], local: str) -> int:
         """How many of these statements it takes to the last one that names the local; 0 if the function names it later, or a jump

@@ -1,18 +1,16 @@
 """From a file to an application: the script of each task, the ops of each handler, and what was left out."""
 from dataclasses import dataclass, field
-from typing import Dict, List, Optional, Sequence, Union
+from typing import Dict, List, Sequence, Tuple, Union
 
 from .families import PROGRAM, Target
 from .frames import Frame, Jumps
-from .integers import Integer
 from .items import If, Item, Line, Repeat, lines_of
 from .loops import Loops
 from .expressions import parameters_of
 from .paths import Path, State
-from .refusals import LostUse, Note, Place, Refusal, SeveralRefusals
+from .refusals import Lost, LostUse, Note, Refusal, SeveralRefusals
 from .source import Lines, parsed, preprocessed
 from .unit import Handler, Object, Task, Unit
-from .values import Nothing
 
 MOST_OPS = {True: 16, False: 256}
 MOST_LOOPS, MOST_BLOCKS = 4, 8
@@ -53,11 +51,19 @@ class Translation(Loops):
             try:
                 return self.once_through()
             except LostUse as why:
-                taken = (why.lost.local, why.lost.taken_at)
-                if None in taken or taken in self.splits:
+                if not self.learns(why.lost):
                     raise
-                self.splits.add(taken)
         raise Refusal(self.owner.place, "this function keeps too many answers at once", "a test right after each call")
+
+    def learns(self, lost: Lost) -> bool:
+        """Notes where ways are to go on apart, so that this isn't lost the next time; false if that was noted before."""
+        local = lost.local or ""
+        size = len(self.splits) + len(self.parted)
+        if lost.taken_at is not None:
+            self.splits.add((local, lost.taken_at))
+        elif local.startswith("return@"):
+            self.parted.add(local)
+        return len(self.splits) + len(self.parted) > size
 
     def once_through(self) -> Script:
         self.notes, self.statements_done = {}, 0
@@ -96,9 +102,23 @@ class Translation(Loops):
 
 def translated(unit: Unit, target: Target = PROGRAM) -> Application:
     """The application; all refusals at once, where there are some."""
-    found = Application(unit, notes=list(unit.notes))
-    refusals = list(unit.refusals)
-    notes: Dict[Note, None] = dict.fromkeys(found.notes)
+    while True:
+        known = set(unit.with_large_items)
+        found, refusals = translated_once(unit, target)
+        if unit.with_large_items == known:
+            break
+    if not unit.tasks:
+        refusals.append(Refusal(None, "no task is created in this file", "xTaskCreate(..) in `main`, for each task"))
+    if refusals:
+        raise SeveralRefusals(without_doubles(refusals))
+    found.notes += warnings_of(found)
+    return found
+
+
+def translated_once(unit: Unit, target: Target) -> Tuple[Application, List[Refusal]]:
+    """The application, from what is known by now of the items of its queues, and the refusals."""
+    found, refusals = Application(unit), list(unit.refusals)
+    notes: Dict[Note, None] = dict.fromkeys(unit.notes)
     for owner in [*unit.handlers, *unit.tasks]:
         translation = Translation(unit, target, owner)
         try:
@@ -109,12 +129,8 @@ def translated(unit: Unit, target: Target = PROGRAM) -> Application:
         (found.handlers if translation.is_handler else found.tasks).append(script)
         found.uses_daemon |= translation.uses_daemon
         notes.update(translation.notes)
-    if not unit.tasks:
-        refusals.append(Refusal(None, "no task is created in this file", "xTaskCreate(..) in `main`, for each task"))
-    if refusals:
-        raise SeveralRefusals(without_doubles(refusals))
-    found.notes = [*notes, *warnings_of(found)]
-    return found
+    found.notes = list(notes)
+    return found, refusals
 
 
 def warnings_of(found: Application) -> List[Note]:
