@@ -114,7 +114,7 @@ class Programs:
         return self.one_of(
             f"({left} + {right})", f"({left} - {right})", f"({left} * {self.number()})", f"({left} / {self.one_of('2', '3', '7')})",
             f"({left} % {self.one_of('2', '3', '5')})", f"({left} & {right})", f"({left} | {right})", f"({left} ^ {right})",
-            f"({left} << {self.one_of('1', '3')})", f"((unsigned){left} >> {self.one_of('1', '2')})", f"-{left}", f"~{left}",
+            f"({left} << {self.one_of('1', '3')})", f"((unsigned){left} >> {self.one_of('1', '2')})", f"- {left}", f"~{left}",
             f"({left} {self.one_of(*COMPARISONS)} {right})", f"!{left}", f"(uint8_t){left}", f"({left} ? {right} : {self.number()})",
         )
 

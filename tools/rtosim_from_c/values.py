@@ -45,6 +45,9 @@ class Value:
 
     def among(self, known: Answers) -> "Value":
         """What is left of it where the last answer is one of these."""
+        if len(self.pieces) == 1 and len(known.ranges) == 1:
+            low, high = max(self.pieces[0].low, known.ranges[0][0]), min(self.pieces[0].high, known.ranges[0][1])
+            return Value(self.type, (self.pieces[0].between(low, high),) if low <= high else ())
         return Value(self.type, joined(
             it.between(max(it.low, low), min(it.high, high))
             for it in self.pieces for low, high in known.ranges if max(it.low, low) <= min(it.high, high)
