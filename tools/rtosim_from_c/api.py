@@ -33,7 +33,7 @@ class Api(Expressions):
             return self.call(CALLS[name], node, path)
         if name in self.unit.functions:
             key = self.result_key(node)
-            return self.taken(key, path) if key in path.state.locals else self.followed(node, path)
+            return self.taken(key, path, node) if key in path.state.locals else self.followed(node, path)
         return self.other_call(name, node, path)
 
     def other_call(self, name: str, node: object, path: Path) -> Known:
@@ -140,7 +140,7 @@ class Api(Expressions):
         """The item at an address, cut to the size of the queue's items."""
         if not isinstance(value, Reference):
             raise self.refuse(node, "an item is read at the address of a local", "a local that has it, and `&` with its name")
-        kept = converted(self.integer(self.read_local(value.local, node, path), node), self.item_type(queue))
+        kept = self.fitted(self.integer(self.read_local(value.local, node, path), node), self.item_type(queue), node, path)
         found = self.number(converted(kept, UNSIGNED), node, path)
         if found is None:
             return self.item_of_answer(kept, queue, node, path)
@@ -165,7 +165,7 @@ class Api(Expressions):
                                          self.place(node))
         storage = values.get(Argument.STORAGE, values.get(Argument.VALUE_STORAGE))
         if isinstance(storage, Reference):
-            self.store(storage.local, node, path)
+            self.keep_received(storage.local, node, path)
         elif storage is not None and not isinstance(storage, Value):
             raise self.refuse(node, "what is received is put into a local", "the address of a local")
         woken = values.get(Argument.WOKEN)
@@ -196,7 +196,7 @@ class Api(Expressions):
         fixed = {Answer.ONE: only(1), Answer.ZERO: only(0), Answer.NUMBER: NUMBERS, Answer.NUMBER_OR_NONE: NUMBERS | only(NONE)}
         return fixed[call.answer]
 
-    def store(self, local: str, node: object, path: Path) -> None:
+    def keep_received(self, local: str, node: object, path: Path) -> None:
         """What was received is in the local, unless nothing was: then it keeps what it had."""
         type_ = self.types[local]
         if not isinstance(type_, Integer):

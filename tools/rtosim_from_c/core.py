@@ -9,11 +9,11 @@ from .families import Family, Target
 from .frames import Continuation, Frame
 from .items import Item, Op, chain, chosen
 from .paths import Path, State, merged
-from .refusals import LostUse, Note, Place, Refusal
+from .refusals import Lost, LostUse, Note, Place, Refusal
 from .source import place_of
 from .unit import Handler, Task, Unit
 from .integers import BOOL
-from .values import Known, Value, constant, converted, truth
+from .values import Known, Nothing, Stored, Value, constant, converted, truth
 
 MOST_STATEMENTS = 20_000
 
@@ -28,6 +28,7 @@ class Core:
         self.types: Dict[str, Type] = {}
         self.splits: Set[Tuple[str, Place]] = set()
         self.parted: Set[str] = set()
+        self.in_memory: Set[str] = set()
         self.stamps: Dict[Place, int] = {}
         self.statements_done = 0
         self.frame: Optional[Frame] = None
@@ -85,6 +86,18 @@ class Core:
             path.state, self.notes = state, notes
             raise
 
+    # -- what is kept by a name
+
+    def put(self, key: str, value: Known, node: object, path: Path) -> None:
+        """Keeps a value under this key."""
+        path.state = path.state.with_local(key, value)
+
+    def taken(self, key: str, path: Path, node: Optional[object] = None) -> Known:
+        """The value under a key, which isn't needed any more; with a node it is what an expression may be."""
+        value = path.state.locals.get(key, Nothing())
+        path.state = path.state.without(key)
+        return value
+
     # -- ops and branches
 
     def op(self, text: str, node: object, path: Path) -> None:
@@ -105,7 +118,7 @@ class Core:
 
     def integer(self, value: Known, node: object) -> Value:
         """A value as a number; a handle is no NULL."""
-        if isinstance(value, Value):
+        if isinstance(value, (Value, Stored)):
             return value
         if type(value).__name__ == "Handle":
             return constant(1)
@@ -113,6 +126,8 @@ class Core:
 
     def number(self, value: Known, node: object, path: Path) -> Optional[int]:
         """The number that the value is on this path, whatever the last answer; None if it depends on that."""
+        if isinstance(value, Stored):
+            raise LostUse(self.place(node), Lost("this is to be a constant, and is a variable"))
         return self.known(self.integer(value, node), node, path).constant()
 
     def branch(self, path: Path, wanted: Answers, yes: Continuation, no: Continuation, node: object) -> None:
@@ -189,6 +204,6 @@ class Core:
         key = self.result_key(call)
 
         def on_return(fork: Path, value: Known) -> None:
-            fork.state = fork.state.with_local(key, value)
+            self.put(key, value, call, fork)
             go(fork)
         self.follow(call, path, on_return)

@@ -68,7 +68,7 @@ class Expressions(Core):
             return converted(value, POINTER)
         if isinstance(type_, str):
             raise self.refuse(node, f"a cast to {type_} has no op", "integers")
-        return converted(value, type_)
+        return self.fitted(value, type_, node, path)
 
     def of_ExprList(self, node: object, path: Path) -> Known:
         value: Known = Nothing()
@@ -113,29 +113,32 @@ class Expressions(Core):
 
         def take(which: object) -> Callable[[Path], None]:
             def go(fork: Path) -> None:
-                value = self.evaluate(which, fork)
-                fork.state = fork.state.with_local(key, value)
+                self.put(key, self.evaluate(which, fork), which, fork)
             return go
 
         def part(end: Callable[[Path], None]) -> None:
             yes, no = (self.later(lambda fork, one=it: (take(one)(fork), end(fork))) for it in ways)
             self.condition(node.cond, path, yes, no)
         self.meet(path, part)
-        return self.taken(key, path)
-
-    def taken(self, key: str, path: Path) -> Known:
-        """The value of a local without a name, which isn't needed any more."""
-        value = path.state.locals.get(key, Nothing())
-        path.state = path.state.without(key)
-        return value
+        return self.taken(key, path, node)
 
     def evaluate_all(self, nodes: Sequence[object], path: Path) -> List[Known]:
         """The values of several expressions; a later one may take the answer of which an earlier one is made."""
+        return [self.taken(key, path) for key in self.keep_all(nodes, path)]
+
+    def keep_all(self, nodes: Sequence[object], path: Path) -> List[str]:
+        """Evaluates several expressions, and returns the keys under which they are kept."""
         keys = [f"operand {at}@{self.place(it)}" for at, it in enumerate(nodes)]
         for key, it in zip(keys, nodes):
-            value = self.evaluate(it, path)
-            path.state = path.state.with_local(key, value)
-        return [self.taken(key, path) for key in keys]
+            self.put(key, self.operand(it, path), it, path)
+        return keys
+
+    def operand(self, node: object, path: Path) -> Known:
+        return self.evaluate(node, path)
+
+    def fitted(self, value: Value, type_: Integer, node: object, path: Path) -> Value:
+        """The value as its type keeps it."""
+        return converted(value, type_)
 
     # -- operators
 
@@ -169,17 +172,17 @@ class Expressions(Core):
         wanted = self.truth(self.evaluate(node.left, path), node.left, path)
 
         def fixed(fork: Path) -> None:
-            fork.state = fork.state.with_local(key, constant(int(not is_and)))
+            self.put(key, constant(int(not is_and)), node, fork)
 
         def right(fork: Path) -> None:
             value = self.integer(self.evaluate(node.right, fork), node.right)
-            fork.state = fork.state.with_local(key, replace(converted(value, BOOL), type=INT))
+            self.put(key, replace(converted(value, BOOL), type=INT), node, fork)
 
         def part(end: Callable[[Path], None]) -> None:
             ways = [self.later(lambda fork, one=it: (one(fork), end(fork))) for it in (right, fixed)]
             self.branch(path, wanted, *(ways if is_and else reversed(ways)), node)
         self.meet(path, part)
-        return self.integer(self.taken(key, path), node)
+        return self.integer(self.taken(key, path, node), node)
 
     def since(self, node: object, path: Path) -> Optional[Value]:
         """`xTaskGetTickCount() - x`, where `x` is the time of the last stamp."""
@@ -212,12 +215,16 @@ class Expressions(Core):
         type_ = self.types[key]
         if isinstance(value, Value):
             if isinstance(type_, Integer):
-                value = converted(value, type_)
+                value = self.fitted(value, type_, node, path)
             elif type_ != "a pointer" and not type_.startswith("handle"):
                 raise self.refuse(node, f"{type_} has no op", "integers")
         elif isinstance(type_, Integer) and not isinstance(value, Stamp):
             raise self.refuse(node, "this is no integer", "integers in integers")
-        path.state = path.state.with_local(key, value)
+        self.put(key, value, node, path)
+        return self.written(key, value, path)
+
+    def written(self, key: str, value: Known, path: Path) -> Known:
+        """What an assignment is, after it."""
         return value
 
     def of_Assignment(self, node: object, path: Path) -> Known:
@@ -254,10 +261,15 @@ class Expressions(Core):
         """`++` and `--`."""
         if self.is_ignored(node.expr):
             return self.leave_out_write(node.expr, None, path)
+        key = f"before@{self.place(node)}"
         before = self.integer(self.evaluate(node.expr, path), node)
+        self.put(key, before, node, path)
         after = self.arithmetic(Written(node.op.strip("p")[0], node), before, constant(1), path)
         written = self.write(node.expr, after, node, path)
-        return before if node.op.startswith("p") else written
+        if not node.op.startswith("p") or node in self.unit.statement_nodes:
+            self.taken(key, path)
+            return written
+        return self.taken(key, path, node)
 
     # -- what needs variables
 
@@ -301,28 +313,28 @@ class Expressions(Core):
         if name in outer.functions():
             raise self.refuse(node, f"`{name}` calls itself, and a script has no recursion", "a loop")
         definition = self.unit.functions[name]
-        values = self.evaluate_all(trees.arguments(node), path)
+        keys = self.keep_all(trees.arguments(node), path)
 
         def leave(fork: Path, value: Known) -> None:
             type_ = self.unit.constants.type_of(definition.decl.type.type)
             if isinstance(type_, Integer) and isinstance(value, Value):
-                value = converted(value, type_)
+                value = self.fitted(value, type_, node, fork)
             with self.using(outer):
                 on_return(fork, value)
         inner = Frame(name, Jumps(leave), ({},), (*outer.calls, self.place(node).line), outer)
         with self.using(inner):
-            self.bind(definition, values, node, path)
+            self.bind(definition, keys, node, path)
             body = definition.body.block_items or []
             self.statements(body, path, lambda fork: leave(fork, Nothing()))
 
-    def bind(self, definition: object, values: List[Known], node: object, path: Path) -> None:
-        """Gives the parameters their values."""
+    def bind(self, definition: object, keys: List[str], node: object, path: Path) -> None:
+        """Gives the parameters the values that are kept under these keys."""
         parameters = parameters_of(definition)
-        if len(parameters) != len(values):
-            raise self.refuse(node, f"{len(values)} arguments for {len(parameters)} parameters")
-        for parameter, value in zip(parameters, values):
+        if len(parameters) != len(keys):
+            raise self.refuse(node, f"{len(keys)} arguments for {len(parameters)} parameters")
+        for parameter, kept in zip(parameters, keys):
             key = self.declare(parameter.name, self.unit.constants.type_of(parameter), parameter)
-            self.write_local(key, value, node, path)
+            self.write_local(key, self.taken(kept, path, node), node, path)
 
     def followed(self, node: object, path: Path) -> Known:
         """What a call of a function of the file returns."""
@@ -330,11 +342,11 @@ class Expressions(Core):
 
         def part(end: Callable[[Path], None]) -> None:
             def on_return(fork: Path, value: Known) -> None:
-                fork.state = fork.state.with_local(key, value)
+                self.put(key, value, node, fork)
                 end(fork)
             self.follow(node, path, on_return)
         self.meet(path, part)
-        return self.taken(key, path)
+        return self.taken(key, path, node)
 
 
 class Written:

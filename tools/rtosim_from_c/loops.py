@@ -165,7 +165,8 @@ class Loops(Statements):
             fork.end()
 
         def leave_by_return(fork: Path, value: Known) -> None:
-            ways.returned.append(fork.state.with_local(RETURNED, value))
+            self.put(RETURNED, value, node, fork)
+            ways.returned.append(fork.state)
             fork.items.append(Break(self.place(self.jump or node)))
             fork.end()
 
@@ -196,6 +197,7 @@ class Loops(Statements):
             return
         path.state = state
         if trees.kind(node) == "For" and node.next is not None:
+            self.unit.statement_nodes.add(node.next)
             self.evaluate(node.next, path)
 
         def back(fork: Path) -> None:
@@ -211,6 +213,16 @@ class Loops(Statements):
             yes(path)
         else:
             self.condition(node.cond, path, yes, no)
+
+    def learns(self, why: Lost) -> bool:
+        """Notes where ways are to go on apart, so that this isn't lost the next time; false if that was noted before."""
+        local = why.local or ""
+        size = len(self.splits) + len(self.parted)
+        if why.taken_at is not None:
+            self.splits.add((local, why.taken_at))
+        elif local.startswith("return@"):
+            self.parted.add(local)
+        return len(self.splits) + len(self.parted) > size
 
     # -- behind a loop
 
@@ -229,9 +241,7 @@ class Loops(Statements):
             self.part(node, path, left, returned, rest)
 
     def return_on(self, path: Path) -> None:
-        value = path.state.locals[RETURNED]
-        path.state = path.state.without(RETURNED)
-        self.frame.jumps.on_return(path, value)
+        self.frame.jumps.on_return(path, self.taken(RETURNED, path, self.jump))
 
     def part(self, node: object, path: Path, left: State, returned: State, rest: Optional[Continuation]) -> None:
         """Both ways lead behind the loop: the last answer says which it was."""

@@ -14,10 +14,10 @@ class Names:
         self.taken: Set[str] = set()
         self.of: Dict[Tuple[str, str], str] = {}
 
-    def name(self, kind: str, text: str) -> str:
+    def name(self, kind: str, text: str, shown: str = "") -> str:
         """The name of this thing of C: the same each time, and another than those of all other things."""
         if (kind, text) not in self.of:
-            self.of[kind, text] = self.free(fitting(text))
+            self.of[kind, text] = self.free(fitting(shown or text))
             self.taken.add(self.of[kind, text])
         return self.of[kind, text]
 

@@ -133,6 +133,7 @@ class Statements(Api):
         if method is not None:
             return method(node, path, rest)
         before = len(path.items)
+        self.unit.statement_nodes.add(node)
         self.evaluate(node, path)
         if len(path.items) == before and name not in ("Assignment", "UnaryOp", "FuncCall"):
             self.note(node, "this has no effect: left out")
@@ -174,7 +175,7 @@ class Statements(Api):
         value = self.initial(node, type_, path)
         key = self.declare(node.name, type_, node)
         if value is None:
-            path.state = path.state.with_local(key, not_set(type_))
+            self.put(key, not_set(type_), node, path)
         else:
             self.write_local(key, value, node, path)
 
@@ -232,7 +233,7 @@ class Statements(Api):
         labels, bodies, default = cases_of(node)
         key = f"switch@{self.place(node)}"
         value = self.integer(self.evaluate(node.cond, path), node.cond)
-        path.state = path.state.with_local(key, value)
+        self.put(key, value, node, path)
 
         def choose(at: int, fork: Path) -> None:
             if fork.is_over:

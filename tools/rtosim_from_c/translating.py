@@ -5,7 +5,7 @@ from typing import Dict, List, Sequence, Tuple, Union
 from .families import PROGRAM, Target
 from .frames import Frame, Jumps
 from .items import If, Item, Line, Repeat, lines_of
-from .loops import Loops
+from .memory import Memory
 from .expressions import parameters_of
 from .paths import Path, State
 from .refusals import Lost, LostUse, Note, Refusal, SeveralRefusals
@@ -39,8 +39,13 @@ class Application:
     def objects(self, *kinds: str) -> List[Object]:
         return [it for it in self.unit.objects if it.kind in kinds]
 
+    def variables(self) -> List[Tuple[str, int]]:
+        """The variables that an op names, with what each is at reset."""
+        named = {word for script in (*self.handlers, *self.tasks) for it in script.lines for word in it.text.split()[1:]}
+        return [(name, initial) for name, initial in self.unit.variables.items() if name in named]
 
-class Translation(Loops):
+
+class Translation(Memory):
     """A task's function or a handler, from its first statement to its last."""
 
     uses_daemon = False
@@ -55,16 +60,6 @@ class Translation(Loops):
                     raise
         raise Refusal(self.owner.place, "this function keeps too many answers at once", "a test right after each call")
 
-    def learns(self, lost: Lost) -> bool:
-        """Notes where ways are to go on apart, so that this isn't lost the next time; false if that was noted before."""
-        local = lost.local or ""
-        size = len(self.splits) + len(self.parted)
-        if lost.taken_at is not None:
-            self.splits.add((local, lost.taken_at))
-        elif local.startswith("return@"):
-            self.parted.add(local)
-        return len(self.splits) + len(self.parted) > size
-
     def once_through(self) -> Script:
         self.notes, self.statements_done = {}, 0
         definition = self.unit.functions[self.owner.function]
@@ -75,7 +70,10 @@ class Translation(Loops):
             ends.append(fork.state)
             fork.end()
         self.frame = Frame(self.owner.function, Jumps(end), ({},))
-        self.bind(definition, [self.owner.parameter] if not self.is_handler and parameters_of(definition) else [], definition, path)
+        keys = ["parameter"] if parameters_of(definition) else []
+        if keys and not self.is_handler:
+            path.state = path.state.with_local("parameter", self.owner.parameter)
+        self.bind(definition, keys, definition, path)
         with self.using(self.frame.inner()):
             self.statements(definition.body.block_items or [], path, end)
         lines = lines_of(path.items)

@@ -64,6 +64,9 @@ class Unit:
         self.of_headers = {f"{HEADERS}/{it}" for it in os.listdir(HEADERS)}
         # queues into which a number is sent that is negative as an int
         self.with_large_items: Set[str] = set()
+        self.variables: Dict[str, int] = {}
+        # expressions whose value nothing takes
+        self.statement_nodes: Set[object] = set()
         self.named_by_callers: List[Tuple[str, Optional[str]]] = []
         self.jumps: Dict[object, FrozenSet[str]] = {}
         self.called_lines: Dict[object, FrozenSet[int]] = {}

@@ -88,6 +88,14 @@ class Stamp:
 
 
 @dataclass(frozen=True)
+class Stored:
+    """What is in a variable of the application, by its name."""
+
+    name: str
+    type: Integer
+
+
+@dataclass(frozen=True)
 class Text:
     """A text, which only a log can take."""
 
@@ -97,7 +105,7 @@ class Nothing:
     """What a `void` function returns."""
 
 
-Known = Union[Value, Handle, Reference, Stamp, Text, Nothing]
+Known = Union[Value, Handle, Reference, Stamp, Stored, Text, Nothing]
 
 
 def joined(pieces: Iterable[Piece]) -> Tuple[Piece, ...]:

@@ -28,6 +28,8 @@ def application_text(found: Application, name: str) -> str:
         for it in found.objects(kind):
             lines += ["", f"[[{kind}]]", named(it.name, it.place, found.unit.lines)]
             lines += [f"{key} = {it.numbers.get(key, 0)}" for key in keys]
+    for name, initial in found.variables():
+        lines += ["", "[[variable]]", f'name = "{name}"', *([f"initial = {initial}"] if initial else [])]
     for it in found.handlers:
         lines += ["", "[[handler]]", named(it.owner.name, it.owner.place, found.unit.lines)]
         lines += array("ops", it.lines, found.unit.lines)
