@@ -204,7 +204,7 @@ class Api(Expressions):
         before = path.state.locals[local]
         kept = [Piece(NONE, NONE, it.kind, it.number, it.lost) for it in before.pieces[:1]] if isinstance(before, Value) else []
         if not kept or before.constant() is None:
-            kept = [Piece(NONE, NONE, "lost", 0, Lost(f"`{local.split('@')[0]}` isn't known where nothing was received"))]
+            kept = [Piece(NONE, NONE, "lost", 0, Lost(f"`{local.split('@')[0]}` isn't known where nothing was received", local))]
         now = the_answer(type_, path.state.answers)
         path.state = path.state.with_local(local, Value(type_, (*kept, *now.pieces)))
 

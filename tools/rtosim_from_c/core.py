@@ -3,7 +3,7 @@ import contextlib
 from typing import Callable, Dict, Iterator, List, Optional, Set, Tuple, Union
 
 from . import trees
-from .answers import Answers
+from .answers import Answers, answers
 from .constants import Type
 from .families import Family, Target
 from .frames import Continuation, Frame
@@ -29,6 +29,7 @@ class Core:
         self.splits: Set[Tuple[str, Place]] = set()
         self.parted: Set[str] = set()
         self.in_memory: Set[str] = set()
+        self.is_flat = False
         self.stamps: Dict[Place, int] = {}
         self.statements_done = 0
         self.frame: Optional[Frame] = None
@@ -110,7 +111,10 @@ class Core:
         return truth(value, path.state.answers)
 
     def known(self, value: Value, node: object, path: Path) -> Value:
+        """The value for the answers that are possible here: it is known for each of them."""
         found = value.among(path.state.answers)
+        if answers(*((it.low, it.high) for it in found.pieces)) != path.state.answers:
+            raise self.refuse(node, "this can't be followed", "a local for each part of it")
         why = found.lost()
         if why is not None:
             raise LostUse(self.place(node), why)

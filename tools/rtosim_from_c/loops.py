@@ -1,6 +1,6 @@
 """Loops: as one that repeats for ever and is left, or, where a local counts its turns, as so many turns that are the same."""
 from dataclasses import dataclass, field
-from typing import Callable, List, Optional, Tuple
+from typing import Callable, List, Optional, Set, Tuple
 
 from . import trees
 from .frames import Continuation
@@ -13,6 +13,7 @@ from .values import Known
 MOST_TURNS = 1000
 MOST_ROUNDS = 40
 MOST_APART = 300
+FEW_TURNS = 8
 RETURNED = "returned by a loop"
 
 
@@ -130,13 +131,15 @@ class Loops(Statements):
             if is_asked and is_same(again, state) and not self.is_handler:
                 turns[-1] = [Repeat("forever", tuple(path.items), self.place(node))]
                 break
+            self.give_up_on_many(node, turns, {key.split("@")[0] for key, it in again.locals.items() if state.locals.get(key) != it})
             state = again
-            self.give_up_on_many(node, turns)
         return self.turns(node, [it for turn in turns for it in turn]), total
 
-    def give_up_on_many(self, node: object, turns: List[List[Item]]) -> None:
+    def give_up_on_many(self, node: object, turns: List[List[Item]], changed: Set[str]) -> None:
+        """Gives up where the turns are too many; where nothing that is tested in the loop has changed, a few are."""
         is_alike = len(turns) > 1 and turns[-1] == turns[-2]
-        if len(turns) > MOST_TURNS or sum(map(len, turns)) > MOST_APART and not is_alike:
+        is_counted = len(turns) < FEW_TURNS or changed & self.unit.tested(node)
+        if len(turns) > MOST_TURNS or not is_counted or sum(map(len, turns)) > MOST_APART and not is_alike:
             raise LostUse(self.place(node), Lost("how many turns this loop has isn't known, or they are too many to write out"))
 
     def turns(self, node: object, items: List[Item]) -> List[Item]:

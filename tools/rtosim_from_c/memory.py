@@ -154,6 +154,7 @@ class Memory(Loops):
     def arithmetic(self, node: object, left: Known, right: Known, path: Path) -> Value:
         if not self.has_variables:
             return super().arithmetic(node, left, right, path)
+        left, right = steady(left), steady(right)
         left = self.loaded_if_alone(left, right, node, path)
         right = self.loaded_if_alone(right, left, node, path)
         if isinstance(left, Value) and isinstance(right, Value):
@@ -313,6 +314,12 @@ class Memory(Loops):
         is_new = why.local not in self.in_memory
         self.in_memory.add(why.local)
         return is_new
+
+
+def steady(value: Known) -> Known:
+    """A constant, whatever is answered later; any other value as it is."""
+    number = value.constant() if isinstance(value, Value) else None
+    return value if number is None else constant(number, value.type)
 
 
 def numbers_in_memory(type_: Integer) -> Answers:

@@ -9,12 +9,14 @@ from .directives import number
 from .expressions import not_set
 from .frames import Continuation
 from .integers import COMPARISONS, Integer
+from .items import Break, Repeat, chosen, has_break
 from .paths import Path
 from .refusals import LostUse, Place
 from .values import Known, Nothing, Value, constant
 
 AFTER_A_COMMENT = "/* rtosim: work 3 */ or /* rtosim: mark 3 */, after a statement"
 MOST_APART = 8
+Cases = Tuple[List[List[object]], List[List[object]], Optional[int]]
 MIRRORED = {"==": "==", "!=": "!=", "<": ">", "<=": ">=", ">": "<", ">=": "<="}
 
 
@@ -246,7 +248,29 @@ class Statements(Api):
             self.branch(fork, wanted, self.later(lambda it: self.run(bodies[at], it, after)), self.later(lambda it: choose(at + 1, it)),
                         labels[at][0] if labels[at] else node)
         with self.using(self.frame.inner()):
-            choose(0, path)
+            if not self.is_flat or not self.flat_cases(node, path, (labels, bodies, default), key, after):
+                choose(0, path)
+
+    def flat_cases(self, node: object, path: Path, cases: Cases, key: str, after: Continuation) -> bool:
+        """The cases one after another in a `repeat 1` that each of them leaves: not as deep as one in another. False if a case leaves
+        a loop itself, or goes on by a jump."""
+        labels, bodies, default = cases
+        if self.is_handler or self.unit.escapes(node):
+            return False
+        left, items = path.state.answers, []
+        for at, body in [*enumerate(bodies), (len(bodies), bodies[default] if default is not None else [])]:
+            wanted = self.truth_of_labels(labels[at], path.state.locals[key], node, path) & left if at < len(bodies) else left
+            if not wanted:
+                continue
+            fork = path.fork(wanted)
+            self.run(body, fork, after)
+            if has_break(fork.items):
+                return False
+            items += chosen(left, wanted, [*fork.items, Break(self.place(node))], [], self.place(node)) if wanted != left else fork.items
+            left = left - wanted
+        path.items.append(Repeat("1", tuple(items), self.place(node)))
+        path.end()
+        return True
 
     def run(self, body: Sequence[object], path: Path, after: Continuation) -> None:
         """The statements of a case: what follows them in the `switch` follows here, up to a `break`."""
@@ -306,7 +330,7 @@ class Same:
         self.coord = node.coord
 
 
-def cases_of(node: object) -> Tuple[List[List[object]], List[List[object]], Optional[int]]:
+def cases_of(node: object) -> Cases:
     """The labels of each group of cases, the statements from each on, and which of them is the default, which has its labels last."""
     items = (node.stmt.block_items or []) if trees.kind(node.stmt) == "Compound" else [node.stmt]
     bodies: List[List[object]] = []

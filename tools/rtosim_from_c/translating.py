@@ -45,6 +45,10 @@ class Application:
         return [(name, initial) for name, initial in self.unit.variables.items() if name in named]
 
 
+class TooDeep(Refusal):
+    """Blocks that are deeper than a script may have them."""
+
+
 class Translation(Memory):
     """A task's function or a handler, from its first statement to its last."""
 
@@ -55,6 +59,10 @@ class Translation(Memory):
         for _ in range(MOST_RETRIES):
             try:
                 return self.once_through()
+            except TooDeep:
+                if self.is_flat:
+                    raise
+                self.is_flat = True
             except LostUse as why:
                 if not self.learns(why.lost):
                     raise
@@ -92,7 +100,7 @@ class Translation(Memory):
             if isinstance(it, (If, Repeat)):
                 inner = loops + isinstance(it, Repeat)
                 if inner > MOST_LOOPS or blocks + 1 > MOST_BLOCKS:
-                    raise Refusal(it.place, f"loops and branches are too deep here: at most {MOST_LOOPS} loops and {MOST_BLOCKS} blocks",
+                    raise TooDeep(it.place, f"loops and branches are too deep here: at most {MOST_LOOPS} loops and {MOST_BLOCKS} blocks",
                                   "a test right after its call, so that later calls needn't be in its branches")
                 for body in ([it.body] if isinstance(it, Repeat) else [it.yes, it.no]):
                     self.check_depth(body, inner, blocks + 1)

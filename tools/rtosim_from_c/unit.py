@@ -70,6 +70,7 @@ class Unit:
         self.named_by_callers: List[Tuple[str, Optional[str]]] = []
         self.jumps: Dict[object, FrozenSet[str]] = {}
         self.called_lines: Dict[object, FrozenSet[int]] = {}
+        self.tests: Dict[object, FrozenSet[str]] = {}
         self.name_lines: Dict[object, Dict[str, List[int]]] = {}
         self.bits: Optional[Answers] = None
         self.declare(tree)
@@ -177,6 +178,13 @@ class Unit:
                     found.setdefault(it.name, []).append(self.place(it).line)
             self.name_lines[node] = found
         return sum(it >= line for it in self.name_lines[node].get(name, []))
+
+    def tested(self, loop: object) -> FrozenSet[str]:
+        """The names in the conditions of a loop, and of what is in it."""
+        if loop not in self.tests:
+            conditions = [it.cond for it in trees.walk(loop) if getattr(it, "cond", None) is not None]
+            self.tests[loop] = frozenset(it.name for one in conditions for it in trees.walk(one) if trees.kind(it) == "ID")
+        return self.tests[loop]
 
     def lines_of_calls(self, node: object) -> FrozenSet[int]:
         """The lines in which something is called."""
