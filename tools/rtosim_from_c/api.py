@@ -107,6 +107,8 @@ class Api(Expressions):
             return self.handle(value, argument, node).name
         if argument is Argument.ITEM:
             return self.item(value, self.handle(values[Argument.QUEUE], Argument.QUEUE, node), node, path)
+        if argument is Argument.MARK:
+            return self.mark_number(value, node, path)
         if argument in (Argument.NUMBER, Argument.TICKS, Argument.MASK, Argument.BITS, Argument.BITS_AFTER):
             return str(self.fixed(value, argument, node, path))
         if argument is Argument.WAIT:
@@ -119,6 +121,9 @@ class Api(Expressions):
             action = self.fixed(value, argument, node, path)
             return ACTIONS[action % len(ACTIONS)].format(self.fixed(values[Argument.BITS], argument, node, path))
         return ""
+
+    def mark_number(self, value: Known, node: object, path: Path) -> str:
+        return str(self.fixed(value, Argument.MARK, node, path))
 
     def fixed(self, value: Known, argument: Argument, node: object, path: Path) -> int:
         """A number that is the same whatever was answered."""

@@ -15,6 +15,7 @@ class Argument(enum.Enum):
     TASK = "a task, or NULL for the caller"
     ITEM = "the address of an item"
     NUMBER = "a number"
+    MARK = "the number of a mark"
     TICKS = "a number of ticks"
     WAIT = "a number of ticks, or portMAX_DELAY"
     MASK = "bits"
@@ -50,6 +51,7 @@ class Answer(enum.Enum):
     COUNT = "how many items"
     SET_BITS = "bits of the group"
     NUMBER = "a number"
+    MARK = "the number of a mark"
     NUMBER_OR_NONE = "a number, or none"
 
 
@@ -148,7 +150,7 @@ OF_TASKS = (
     Call("vTaskSuspendAll", "suspend_all", (), Answer.ZERO, Result.VOID),
     Call("xTaskResumeAll", "resume_all", (), Answer.ZERO, Result.OTHER),
     Call("rtosim_work", "work {number}", (A.NUMBER,), Answer.UNCHANGED, Result.VOID),
-    Call("rtosim_mark", "mark {number}", (A.NUMBER,), Answer.UNCHANGED, Result.VOID, Who.BOTH),
+    Call("rtosim_mark", "mark {mark}", (A.MARK,), Answer.UNCHANGED, Result.VOID, Who.BOTH),
 )
 
 OF_CRITICAL_SECTIONS = (

@@ -41,6 +41,12 @@ class Core:
         calls = self.frame.calls if self.frame else ()
         return place_of(node, self.unit.lines, calls) or Place("", 0, 0)
 
+    def spot(self, node: object) -> str:
+        """Where a node is in what `cpp` wrote: another one for each token, also of one macro."""
+        coord = getattr(node, "coord", None)
+        where = f"{coord.file}:{coord.line}:{coord.column}" if coord is not None else "?"
+        return f"{where} {self.frame.calls if self.frame else ()}"
+
     def note(self, node: object, text: str, is_warning: bool = False) -> None:
         self.notes[Note(self.place(node), text, is_warning)] = None
 
@@ -201,7 +207,7 @@ class Core:
         return found[0] if len(found) == 1 and trees.called(found[0]) in self.unit.functions else None
 
     def result_key(self, call: object) -> str:
-        return f"result@{self.place(call)}"
+        return f"result@{self.spot(call)}"
 
     def ways_of(self, call: object, path: Path, go: Continuation) -> None:
         """Follows a call, and goes on with each of its ways; where the call is evaluated then, it is what that way returned."""

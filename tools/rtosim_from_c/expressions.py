@@ -108,7 +108,7 @@ class Expressions(Core):
         raise self.refuse(node, "an address has no op", "a local of its own, whose address a call may take")
 
     def of_TernaryOp(self, node: object, path: Path) -> Known:
-        key = f"?@{self.place(node)}"
+        key = f"?@{self.spot(node)}"
         ways = (node.iftrue, node.iffalse)
 
         def take(which: object) -> Callable[[Path], None]:
@@ -128,7 +128,7 @@ class Expressions(Core):
 
     def keep_all(self, nodes: Sequence[object], path: Path) -> List[str]:
         """Evaluates several expressions, and returns the keys under which they are kept."""
-        keys = [f"operand {at}@{self.place(it)}" for at, it in enumerate(nodes)]
+        keys = [f"operand {at}@{self.spot(it)}" for at, it in enumerate(nodes)]
         for key, it in zip(keys, nodes):
             self.put(key, self.operand(it, path), it, path)
         return keys
@@ -168,7 +168,7 @@ class Expressions(Core):
 
     def logical(self, node: object, path: Path) -> Value:
         """`&&` and `||` as a number: the right one is asked only where the left one doesn't say it all."""
-        key, is_and = f"{node.op}@{self.place(node)}", node.op == "&&"
+        key, is_and = f"{node.op}@{self.spot(node)}", node.op == "&&"
         wanted = self.truth(self.evaluate(node.left, path), node.left, path)
 
         def fixed(fork: Path) -> None:
@@ -206,7 +206,7 @@ class Expressions(Core):
 
     def declare(self, name: str, type_: object, node: object) -> str:
         """A new local of the innermost block."""
-        key = f"{name}@{self.place(node)}"
+        key = f"{name}@{self.spot(node)}"
         self.frame.scopes[-1][name] = key
         self.types[key] = type_
         return key
@@ -261,7 +261,7 @@ class Expressions(Core):
         """`++` and `--`."""
         if self.is_ignored(node.expr):
             return self.leave_out_write(node.expr, None, path)
-        key = f"before@{self.place(node)}"
+        key = f"before@{self.spot(node)}"
         before = self.integer(self.evaluate(node.expr, path), node)
         self.put(key, before, node, path)
         after = self.arithmetic(Written(node.op.strip("p")[0], node), before, constant(1), path)
@@ -338,7 +338,7 @@ class Expressions(Core):
 
     def followed(self, node: object, path: Path) -> Known:
         """What a call of a function of the file returns."""
-        key = f"return@{self.place(node)}"
+        key = f"return@{self.spot(node)}"
 
         def part(end: Callable[[Path], None]) -> None:
             def on_return(fork: Path, value: Known) -> None:

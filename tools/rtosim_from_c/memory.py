@@ -185,8 +185,9 @@ class Memory(Loops):
             if number is None and not isinstance(right, Stored):
                 right = self.set_aside("right", right, node, path)
         self.bring(left, node, path)
-        self.op(f"{OPS[operator]} {right.name if isinstance(right, Stored) else UNSIGNED.wrapped(number or 0)}", node, path)
-        return self.is_answered(NUMBERS, type_, node, path)
+        by = None if number is None else UNSIGNED.wrapped(number)
+        self.op(f"{OPS[operator]} {right.name if isinstance(right, Stored) else by}", node, path)
+        return self.is_answered(results(operator, by), type_, node, path)
 
     def bring(self, value: Known, node: object, path: Path) -> None:
         """Makes a value the last answer."""
@@ -196,7 +197,7 @@ class Memory(Loops):
             self.to_answer(value, node, path)
 
     def set_aside(self, name: str, value: Known, node: object, path: Path) -> Stored:
-        stored = self.variable(f"{name}@{self.place(node)}", value.type)
+        stored = self.variable(f"{name}@{self.spot(node)}", value.type)
         self.store(stored, value, node, path)
         return stored
 
@@ -222,7 +223,7 @@ class Memory(Loops):
 
         def positive(fork: Path) -> None:
             self.op(f"{OPS[node.op]} {number}", node, fork)
-            self.is_answered(answers((0, SIGN - 1)), INT, node, fork)
+            self.is_answered(results(node.op, number) & answers((0, SIGN - 1)), INT, node, fork)
         wanted = answers((SIGN, GREATEST))
         self.meet(path, lambda end: self.branch(
             path, wanted, lambda fork: (negative(fork), end(fork)), lambda fork: (positive(fork), end(fork)), node))
@@ -287,7 +288,13 @@ class Memory(Loops):
             self.is_answered(numbers_in_memory(type_), UNSIGNED, node, path)
         return the_answer(type_, path.state.answers)
 
-    # -- items
+    # -- items and marks
+
+    def mark_number(self, value: Known, node: object, path: Path) -> str:
+        if not self.has_variables or isinstance(value, Value) and value.among(path.state.answers).constant() is not None:
+            return super().mark_number(value, node, path)
+        self.bring(self.integer(value, node), node, path)
+        return "answer"
 
     def item_of_answer(self, value: Value, queue: Handle, node: object, path: Path) -> str:
         if not self.has_variables:
@@ -314,6 +321,15 @@ class Memory(Loops):
         is_new = why.local not in self.in_memory
         self.in_memory.add(why.local)
         return is_new
+
+
+def results(operator: str, number: Optional[int]) -> Answers:
+    """What an op on 32 bits and this number may be."""
+    if number and operator == "%":
+        return answers((0, number - 1))
+    if number and operator == "/":
+        return answers((0, GREATEST // number))
+    return answers((0, number)) if number is not None and operator == "&" else NUMBERS
 
 
 def steady(value: Known) -> Known:

@@ -23,7 +23,9 @@ class State:
         return replace(self, answers=self.answers & known)
 
     def answered(self, answers: Answers, by: str, at: Place) -> "State":
-        """After a call at this place that answers one of these."""
+        """After a call at this place that answers one of these; what is never reached stays so."""
+        if not self.answers:
+            return self
         kept = {name: after_an_answer(it, self.answers, name, by, at) for name, it in self.locals.items()}
         return replace(self, answers=answers, locals=kept)
 

@@ -69,8 +69,11 @@ class Lines:
                 file, number = re.sub(r"\\(.)", r"\1", marker[2]), int(marker[1])
                 continue
             if not line.startswith("#"):
+                # behind a pragma `cpp` begins the rest of a line anew, at its column
+                rest = line.lstrip()
+                indent = len(line) - len(rest)
                 before = self.preprocessed.get((file, number), "")
-                self.preprocessed[(file, number)] = before + " " * (max(0, len(line) - len(line.lstrip()) - len(before))) + line
+                self.preprocessed[(file, number)] = f"{before[:indent]:{indent}}{rest}" if rest or not before else before
             number += 1
 
 

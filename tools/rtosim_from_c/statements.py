@@ -57,7 +57,7 @@ class Statements(Api):
         if not self.parted or trees.kind(node) not in ("Assignment", "Decl", "Return"):
             return None
         call = self.only_call(node)
-        is_parted = call is not None and f"return@{self.place(call)}" in self.parted
+        is_parted = call is not None and f"return@{self.spot(call)}" in self.parted
         return call if is_parted and self.result_key(call) not in path.state.locals else None
 
     def uses(self, nodes: Sequence[object], local: str) -> int:
@@ -233,7 +233,7 @@ class Statements(Api):
 
     def cases(self, node: object, path: Path, after: Continuation) -> None:
         labels, bodies, default = cases_of(node)
-        key = f"switch@{self.place(node)}"
+        key = f"switch@{self.spot(node)}"
         value = self.integer(self.evaluate(node.cond, path), node.cond)
         self.put(key, value, node, path)
 
