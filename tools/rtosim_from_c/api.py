@@ -189,7 +189,9 @@ class Api(Expressions):
         never_fails = texts.get("wait") == "forever"
         queue = values.get(Argument.QUEUE)
         if call.answer is Answer.SUCCESS:
-            return only(1) if never_fails or "unlock" == call.op.split()[0] else only(0, 1)
+            semaphore = values.get(Argument.SEMAPHORE)
+            is_unlock = isinstance(semaphore, Handle) and semaphore.kind == "mutex" and Argument.WAIT not in values
+            return only(1) if never_fails or is_unlock else only(0, 1)
         if call.answer is Answer.ITEM:
             greatest = self.item_type(queue).greatest
             items = answers((0, greatest if queue.name in self.unit.with_large_items else min(greatest, INT.greatest)))

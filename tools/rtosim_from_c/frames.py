@@ -18,6 +18,8 @@ class Jumps:
     on_continue: Optional[Continuation] = None
     break_is_op: bool = False
     return_is_op: bool = False
+    # what comes from each label on that is ahead and in no other loop
+    labels: Dict[str, Continuation] = field(default_factory=dict)
 
 
 @dataclass(frozen=True)

@@ -177,7 +177,8 @@ class Loops(Statements):
             if not fork.is_over:
                 bodies.append(fork.state)
             fork.end()
-        inner = self.frame.with_jumps(on_break=leave, on_continue=end, on_return=leave_by_return, break_is_op=True, return_is_op=True)
+        inner = self.frame.with_jumps(on_break=leave, on_continue=end, on_return=leave_by_return, break_is_op=True, return_is_op=True,
+                                      labels={})
 
         def body(fork: Path) -> None:
             with self.using(inner):

@@ -7,7 +7,7 @@ from .api import Api
 from .constants import Type
 from .directives import number
 from .expressions import not_set
-from .frames import Continuation
+from .frames import Continuation, Frame
 from .integers import COMPARISONS, Integer
 from .items import Break, Repeat, chosen, has_break
 from .paths import Path
@@ -25,6 +25,27 @@ class Statements(Api):
 
     def statements(self, nodes: Sequence[object], path: Path, rest: Continuation) -> None:
         """These statements, and then the rest, on each of the ways that come there."""
+        places = [at for at, it in enumerate(nodes) if trees.kind(it) == "Label"]
+        if places:
+            return self.with_labels(nodes, places, path, rest)
+        return self.in_order(nodes, path, rest)
+
+    def with_labels(self, nodes: Sequence[object], places: List[int], path: Path, rest: Continuation) -> None:
+        """Statements with labels: a `goto` to one that is ahead goes on with what comes from there."""
+        labels, go = dict(self.frame.jumps.labels), rest
+        cuts = [*places, len(nodes)]
+        for at, end in reversed(list(zip(cuts, cuts[1:]))):
+            part, after = [nodes[at].stmt, *nodes[at + 1:end]], go
+            frame = self.frame.with_jumps(labels=dict(labels))
+
+            def go(it: Path, part: Sequence[object] = part, after: Continuation = after, frame: Frame = frame) -> None:
+                with self.using(frame):
+                    self.in_order(part, it, after)
+            labels[nodes[at].name] = go
+        with self.using(self.frame.with_jumps(labels=labels)):
+            self.in_order(nodes[:places[0]], path, go)
+
+    def in_order(self, nodes: Sequence[object], path: Path, rest: Continuation) -> None:
         at = 0
         while at < len(nodes):
             node, left = nodes[at], nodes[at:]
@@ -315,10 +336,9 @@ class Statements(Api):
         self.frame.jumps.on_return(path, Nothing())
 
     def do_Goto(self, node: object, path: Path, rest: Optional[Continuation]) -> None:
-        raise self.refuse(node, "`goto` has no op", "a loop, a branch, or a function with `return`")
-
-    def do_Label(self, node: object, path: Path, rest: Optional[Continuation]) -> None:
-        raise self.refuse(node, "a label has no op", "a loop, a branch, or a function with `return`")
+        if node.name not in self.frame.jumps.labels:
+            raise self.refuse(node, "`goto` goes to a label that is ahead, and out of no loop", "a loop, a branch, or a function with `return`")
+        self.frame.jumps.labels[node.name](path)
 
 
 class Same:

@@ -4,6 +4,7 @@ from typing import Dict, List, Sequence, Tuple, Union
 
 from .families import PROGRAM, Target
 from .frames import Frame, Jumps
+from .integers import INT
 from .items import If, Item, Line, Repeat, lines_of
 from .memory import Memory
 from .expressions import parameters_of
@@ -11,10 +12,12 @@ from .paths import Path, State
 from .refusals import Lost, LostUse, Note, Refusal, SeveralRefusals
 from .source import Lines, parsed, preprocessed
 from .unit import Handler, Object, Task, Unit
+from .values import lost
 
 MOST_OPS = {True: 16, False: 256}
 MOST_LOOPS, MOST_BLOCKS = 4, 8
 MOST_RETRIES = 40
+OF_HANDLER = lost(INT, Lost("what a handler is given isn't known", instead="a constant in its place, by `#ifdef RTOSIM`"))
 
 
 @dataclass
@@ -79,8 +82,8 @@ class Translation(Memory):
             fork.end()
         self.frame = Frame(self.owner.function, Jumps(end), ({},))
         keys = ["parameter"] if parameters_of(definition) else []
-        if keys and not self.is_handler:
-            path.state = path.state.with_local("parameter", self.owner.parameter)
+        if keys:
+            path.state = path.state.with_local("parameter", OF_HANDLER if self.is_handler else self.owner.parameter)
         self.bind(definition, keys, definition, path)
         with self.using(self.frame.inner()):
             self.statements(definition.body.block_items or [], path, end)

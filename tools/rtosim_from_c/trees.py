@@ -34,9 +34,9 @@ def calls_in(node: object) -> List[str]:
 
 
 def escapes(node: object) -> Set[str]:
-    """How this statement may leave what is around it: `break`, `continue`, `return`."""
+    """How this statement may leave what is around it: `break`, `continue`, `return`, `goto`."""
     name = kind(node)
-    if name in ("Break", "Continue", "Return"):
+    if name in ("Break", "Continue", "Return", "Goto"):
         return {name.lower()}
     if called(node) == "vTaskDelete":
         return {"return"}
@@ -44,7 +44,7 @@ def escapes(node: object) -> Set[str]:
     for it in children(node):
         found |= escapes(it)
     if name in ("For", "While", "DoWhile"):
-        return found & {"return"}
+        return found & {"return", "goto"}
     return found - {"break"} if name == "Switch" else found
 
 
