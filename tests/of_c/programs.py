@@ -183,7 +183,7 @@ class Programs:
 
     def while_loop(self, level: int, jumps: str, indent: str) -> str:
         condition = self.one_of(self.condition(), f"{self.flagging()} == pdTRUE", f"{self.flagging()} && {self.condition(1)}")
-        return f"{indent}while ({condition}) {{\n{self.block(level + 1, 'bc')}{indent}    {self.flagging()};\n{indent}}}\n"
+        return f"{indent}while ({condition}) {{\n{indent}    {self.flagging()};\n{self.block(level + 1, 'bc')}{indent}}}\n"
 
     def counted_loop(self, level: int, jumps: str, indent: str) -> str:
         turns, name = self.one_of("1", "2", "3", "limit"), f"i{level}"
@@ -201,4 +201,4 @@ class Programs:
 
     def do_loop(self, level: int, jumps: str, indent: str) -> str:
         condition = self.one_of(self.condition(), "--n > 0 && n < 9", "0", f"{self.flagging()} == pdTRUE")
-        return f"{indent}do {{\n{self.block(level + 1, 'bc')}{indent}    {self.flagging()};\n{indent}}} while ({condition});\n"
+        return f"{indent}do {{\n{indent}    {self.flagging()};\n{self.block(level + 1, 'bc')}{indent}}} while ({condition});\n"

@@ -27,6 +27,9 @@ class Expressions(Core):
 
     def evaluate(self, node: object, path: Path) -> Known:
         name = trees.kind(node)
+        member = self.unit.handle(self.frame.function, node) if name == "StructRef" else None
+        if member is not None:
+            return member
         if name in IN_PLACE:
             raise self.refuse(node, f"{IN_PLACE[name][0]} has no op", IN_PLACE[name][1])
         method = getattr(self, f"of_{name}", None)
@@ -247,14 +250,15 @@ class Expressions(Core):
             inner = self.evaluate(target.expr, path)
             if isinstance(inner, Reference):
                 return self.write_local(inner.local, value, node, path)
-        if trees.kind(target) != "ID":
-            raise self.refuse(target, "only variables that have a name are written", "a variable for each of them")
-        key = self.frame.local(target.name)
+        name = trees.dotted(target)
+        key = self.frame.local(name) if name is not None else None
         if key is not None:
             return self.write_local(key, value, node, path)
-        if isinstance(value, Handle):
-            self.note(node, f"`{target.name}` is `{value.name}` from reset on")
+        if isinstance(value, Handle) and name is not None:
+            self.note(node, f"`{name}` is `{value.name}` from reset on")
             return value
+        if trees.kind(target) != "ID":
+            raise self.refuse(target, "only variables that have a name are written", "a variable for each of them")
         return self.write_global(target, self.integer(value, node), node, path)
 
     def step(self, node: object, path: Path) -> Known:

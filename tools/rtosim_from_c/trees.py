@@ -55,6 +55,14 @@ def plain(node: object) -> object:
     return node
 
 
+def dotted(node: object) -> Optional[str]:
+    """The name of a variable, or of a member of one, as `uart.rx`; None if it is neither."""
+    if kind(node) == "StructRef" and node.type == ".":
+        inner = dotted(node.name)
+        return f"{inner}.{node.field.name}" if inner else None
+    return node.name if kind(node) == "ID" else None
+
+
 def assigned(node: object) -> Optional[str]:
     """The name that this node gives a new value; None if it gives none."""
     name = kind(node)

@@ -143,7 +143,7 @@ class Unit:
         if target is None:
             self.refusals.append(Refusal(place, "this object has no name", "assign what creates it to a variable"))
             return
-        scope = "" if target in self.globals else function
+        scope = self.scope_of(target, function)
         if (scope, target) in self.handles:
             self.refusals.append(Refusal(place, f"`{target}` is created twice", "a variable for each object"))
             return
@@ -211,6 +211,15 @@ class Unit:
             return answers((0, union))
         return only(*(sum(it for at, it in enumerate(places) if which >> at & 1) for which in range(1 << len(places))))
 
+    def scope_of(self, target: str, function: str) -> str:
+        """Where a name belongs: to the file, or to a function."""
+        return "" if target.split(".")[0] in self.globals else function
+
+    def handle(self, function: str, node: object) -> Optional[Handle]:
+        """The handle that a variable, or a member of one, has."""
+        name = trees.dotted(node)
+        return (self.handles.get((function, name)) or self.handles.get(("", name))) if name else None
+
     def object(self, name: str) -> Object:
         return next(it for it in self.objects if it.name == name)
 
@@ -262,21 +271,19 @@ class Unit:
         """The variable that has the task's handle."""
         if trees.called(call) == "xTaskCreate":
             last = trees.plain(words[5])
-            target = last.expr.name if trees.kind(last) == "UnaryOp" and trees.kind(last.expr) == "ID" else None
+            target = trees.dotted(last.expr) if trees.kind(last) == "UnaryOp" else None
             if target is None:
                 return
         else:
             whole = trees.find(self.functions[scope], lambda it: created(it)[1] is call)
             target = created(whole)[0] if whole is not None else None
         if target is not None:
-            self.handles["" if target in self.globals else scope, target] = Handle("task", task.name)
+            self.handles[self.scope_of(target, scope), target] = Handle("task", task.name)
 
     def parameter(self, scope: str, node: object) -> Known:
-        inner = trees.plain(node)
-        if trees.kind(inner) == "ID":
-            found = self.handles.get((scope, inner.name)) or self.handles.get(("", inner.name))
-            if found is not None:
-                return found
+        found = self.handle(scope, trees.plain(node))
+        if found is not None:
+            return found
         value: Union[Value, None] = self.constants.value(node)
         if value is None:
             raise Refusal(self.place(node), "this parameter of a task is no constant and no handle", "a number, NULL, or a handle")
@@ -285,7 +292,7 @@ class Unit:
     def name_caller(self, function: str, target: Optional[str]) -> None:
         """A global that a task gives its own handle."""
         owners = [it for it in self.tasks if it.function == function]
-        if target in self.globals and len(owners) == 1:
+        if target is not None and not self.scope_of(target, function) and len(owners) == 1:
             self.handles["", target] = Handle("task", owners[0].name)
 
     def refuse_creators(self, loop: object) -> None:
@@ -307,8 +314,7 @@ class Unit:
                                                  "the same at the beginning of a task"))
 
     def gives(self, function: str, call: object) -> bool:
-        target = trees.plain(trees.arguments(call)[0])
-        handle = trees.kind(target) == "ID" and (self.handles.get((function, target.name)) or self.handles.get(("", target.name)))
+        handle = self.handle(function, trees.plain(trees.arguments(call)[0]))
         found = self.object(handle.name) if handle else None
         if found is None or found.kind not in ("binary", "counting"):
             return False
@@ -366,7 +372,7 @@ def created(node: object) -> Tuple[Optional[str], Optional[object]]:
         return (node.name, call) if trees.called(call) else (None, None)
     if name == "Assignment" and node.op == "=":
         call = trees.plain(node.rvalue)
-        target = node.lvalue.name if trees.kind(node.lvalue) == "ID" else None
+        target = trees.dotted(node.lvalue)
         return (target, call) if trees.called(call) else (None, None)
     return None, None
 
