@@ -50,7 +50,7 @@ def a_page_has_all_points_and_the_first_rows_whole():
         equal(len(points_of(data)) + len(data["missed"]), len(runs))
         equal([it["rows"] for it in data["classes"]], [counts.get(it["index"], 0) + it["missed"] for it in data["classes"]])
         words = [f"{name}.report", "--application", f"{name}.toml", "--base", f"{name}.out"]
-        equal([it["name"] for it in data["classes"]], good_and_quick("classes", "--names", *words).splitlines())
+        equal([f"{it['rows']} row{'s' * (it['rows'] > 1)}: {it['name']}" for it in data["classes"]], good_and_quick("classes", "--names", *words).splitlines())
         equal(lines_of(data, data["base"]["lines"]), read(f"{name}.out").decode().partition("\n")[2])
         assert {it["row"] for it in data["firsts"]} == {min(row for row, it in points_of(data).items() if it[2] == there["index"])
                                                         for there in data["classes"] if counts.get(there["index"])} | {

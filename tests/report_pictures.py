@@ -64,7 +64,7 @@ def the_map_has_a_cell_for_each_point():
     root = tree.fromstring(good_and_quick("svg", "--campaign", LOST))
     titles = [it.find(f"{SVG}title").text for it in root.iter(f"{SVG}rect") if it.find(f"{SVG}title") is not None]
     equal(len(titles), 20)
-    equal(titles[0], "uart before step 0: class 1: stuck: driver after 1 suspend; uart 1 resume = 0")
+    equal(titles[0], "uart before step 0: class 1: stuck: driver after 1 suspend; uart 1 resume = 0 [uart]")
     holds(titles[2], "uart before step 2: class 2 (pass): driver runs, where idle runs in the base run")
     equal(overlaps(root.iter(f"{SVG}text")), [])
     end = "stuck in 40000 steps, 4 ticks"

@@ -55,8 +55,7 @@ def each_injection_has_its_own_lines():
 def rows_of_several_are_classed():
     table = good_and_quick("classes", PRESSES, "--base", PRESSES[:-6] + "out").splitlines()
     equal(table[0], "8 rows in 8 classes; the base run: pass in 24 steps, 8 ticks")
-    equal(table[4].strip(), "main: send = 0, where the base run has 1")
-    equal(table[5].strip(), 'points = ["0 key 1 key"]')
+    equal([it.strip() for it in table[4:7]], ["check main 2 [key]", "main: send = 0, where the base run has 1", 'points = ["0 key 1 key"]'])
     holds(table[3], "check main 2  0 key 1 key ")
     rows = {it.head.row: it.head.point.text() for it in runs_of(CHANGES)}
     equal((rows[3], rows[4]), ("12 none", "12 none 12 none"))

@@ -6,7 +6,7 @@ import enum
 import hashlib
 import re
 from dataclasses import dataclass, field
-from typing import Dict, List, Optional
+from typing import Dict, List, Optional, Tuple
 
 from . import differences
 from .base_run import is_base_exactly, tail_of_row
@@ -69,9 +69,14 @@ class OutcomeClass:
         if not self.fewest_ticks <= head.ticks <= self.most_ticks:
             self.fewest_ticks = min(self.fewest_ticks, head.ticks)
             self.most_ticks = max(self.most_ticks, head.ticks)
-        point = head.point
-        for handler in (point[0].handler,) if len(point) == 1 else dict.fromkeys(it.handler for it in point):
+        for handler in handlers_of(head):
             self.handlers[handler] = self.handlers.get(handler, 0) + 1
+
+
+def handlers_of(head: Head) -> Tuple[str, ...]:
+    """The handlers that a row's point injects, each once."""
+    point = head.point
+    return (point[0].handler,) if len(point) == 1 else tuple(dict.fromkeys(it.handler for it in point))
 
 
 class Classifier:
@@ -118,7 +123,7 @@ class Classifier:
         if is_as_base and not failed:
             return None
         if self.is_by_cause(run.head.verdict):
-            return BY_CAUSE, self.causes.key_of(run, failed)
+            return BY_CAUSE, self.causes.key_of(run, failed), () if run.head.verdict.passes else tuple(sorted(handlers_of(run.head)))
         if is_as_base:
             return AS_BASE, failed
         seen = [b" ".join(it[1:]) for it in tail] if exact else [what for _, _, what in tail]
@@ -136,6 +141,8 @@ class Classifier:
             name = run.head.verdict.text
         elif is_by_cause:
             name = self.causes.end_of(run) + failed_words
+            if not run.head.verdict.passes:
+                name += f" [{' '.join(sorted(handlers_of(run.head)))}]"
         elif key is None or key[0] == AS_BASE:
             name = self.name_as_base(run) + failed_words
         else:

@@ -7,10 +7,12 @@ import sys
 from .application import read_application
 from .base_run import find_base, given_base, tail_of_row
 from .classes import By, Classifier
+from .emptiness import emptiness_of
 from .end_state import state_of
 from .endings import Endings
 from .escaping import plain
 from .faults import STATUS_OUTPUT, Fault, WordsFault, counted
+from .known import Failure, failures_of
 from .output import ReaderLeft, direct_output, output_file, standard_output
 from .reading import lone_run_of
 from .source import base_source, campaign_source, file_source, standard_input, state_source
@@ -21,6 +23,11 @@ DESCRIPTION = "Reads a report of `rtosim run` or `rtosim campaign`: which points
 APPLICATION = ".toml"
 # So many rows' states are asked for.
 MOST_ASKED = 100
+BASE_RUN = "the base run"
+
+
+def say(text):
+    print(f"rtosim-report: {text}", file=sys.stderr)
 
 
 class Job:
@@ -31,15 +38,41 @@ class Job:
         self.application = words.application
         self.is_made_here = self.application is not None and words.report is None
         self.source = self.open_source()
-        self.texts = read_application(self.application) if self.application is not None and has_texts else None
+        self.texts = self.read_texts() if self.application is not None and has_texts else None
         self.base = None
-        self.lone_run, self.ending = None, []
+        # The head of the base run of a report without rows, what it says at its end, and the name of its failure.
+        self.lone_run, self.ending, self.lone_name = None, [], ""
         self.asked = 0 if self.is_made_here and words.asks_for_states else MOST_ASKED
         self.endings = Endings(self.texts, self.ask_for_state)
 
     @property
     def given(self):
         return Given(self.application, self.words.report, self.words.base)
+
+    def read_texts(self):
+        """The application. What the program ignores of it is named on standard error."""
+        found = read_application(self.application)
+        for it in found.ignored:
+            say(f"{plain(self.application)}: {plain(it)}")
+        return found
+
+    @property
+    def is_of_a_run(self):
+        """Whether the report is that of `rtosim run`, and of no campaign."""
+        return self.lone_run is not None and not self.is_made_here
+
+    def failures(self, classes):
+        """What fails: classes, and the base run of a report without rows."""
+        if self.lone_run is None or self.lone_run.verdict.passes:
+            return failures_of(classes)
+        return [Failure(self.lone_name), *failures_of(classes)]
+
+    def is_empty(self, classes):
+        """Whether nothing is tested, which is named on standard error, and may not be."""
+        found = None if self.words.allow_empty else emptiness_of(classes, self.is_of_a_run)
+        if found is not None:
+            say(found.line())
+        return found is not None
 
     def open_source(self):
         if self.is_made_here:
@@ -96,7 +129,8 @@ class Job:
         for run in self.runs():
             found = classifier.add(run)
             self.lone_run = run.head if run.head.row is None else None
-            self.ending = self.endings.lines_of(run) if self.lone_run else []
+            if self.lone_run:
+                self.ending, self.lone_name = self.endings.lines_of(run), f"{BASE_RUN}: {classifier.causes.end_of(run)}"
             rows += found is not None
             if see and found is not None:
                 see(run, found)
@@ -139,12 +173,15 @@ def do_classes(job, output):
     accepted = None if job.words.accept is None else known.read_names(job.words.accept)
     classes, rows = job.classify()
     if job.words.names:
-        for it in classes:
-            if not (job.words.failing and it.verdict.passes):
-                output.line(it.name)
+        for it in [*job.failures([]), *(it for it in classes if not (job.words.failing and it.verdict.passes))]:
+            output.line(it.line() if isinstance(it, Failure) else Failure(it.name, it.rows).line())
     else:
-        table.write_classes(output, classes, job.base, rows, job.given, job.words.failing, job.ending)
-    return 0 if accepted is None else known.judged([it.name for it in classes if not it.verdict.passes], accepted)
+        empty = emptiness_of(classes, job.is_of_a_run)
+        notes = [*job.ending, *([empty.words] if empty else [])]
+        table.write_classes(output, classes, job.base, rows, job.given, job.words.failing, notes)
+    if accepted is None:
+        return 0
+    return max(known.judged(job.failures(classes), accepted), job.is_empty(classes))
 
 
 def do_compare(words, output):
@@ -154,7 +191,7 @@ def do_compare(words, output):
     both = all(it.endswith(APPLICATION) for it in (words.old, words.new))
     jobs = [Job(argparse.Namespace(**{**vars(words), **named(it)}), both) for it in (words.old, words.new)]
     old, new = (it.classify()[0] for it in jobs)
-    return 1 if write_changes(output, old, new, jobs[1].given) else 0
+    return max(write_changes(output, old, new, jobs[1].given) > 0, jobs[1].is_empty(new))
 
 
 def named(name):
@@ -187,16 +224,16 @@ def do_json(job, output):
 def do_junit(job, output):
     from . import junit, known
 
-    accepted = frozenset() if job.words.accept is None else known.read_names(job.words.accept)
+    accepted = known.Known() if job.words.accept is None else known.read_names(job.words.accept)
     suite = junit.Suite(job.application or job.words.report or "standard input", job.given, accepted)
     classes, _ = job.classify()
     if job.words.rows and classes:
         junit.write_rows(output, suite, job.quiet_runs(), junit.counts_of(classes))
         return 0
-    is_a_run = job.lone_run is not None and not job.is_made_here
-    told = None if job.lone_run is None else junit.LoneRun(job.lone_run, job.ending)
-    failing = junit.write_classes(output, suite, classes, told, job.words.allow_empty or is_a_run)
-    return 0 if job.words.accept is None else known.judged(failing, accepted)
+    lone_run = None if job.lone_run is None else junit.LoneRun(job.lone_run, job.ending, job.lone_name)
+    empty = None if job.words.allow_empty else emptiness_of(classes, job.is_of_a_run)
+    junit.write_classes(output, suite, classes, lone_run, empty)
+    return 0 if job.words.accept is None else max(known.judged(job.failures(classes), accepted), job.is_empty(classes))
 
 
 def do_svg(job, output):
@@ -245,7 +282,8 @@ def add_options(parser):
     parser.add_argument("--workers", type=workers, metavar="N|auto", help="of how many workers the program makes use")
     parser.add_argument("--partial", action="store_true", help="take the whole rows of a report that is cut off")
     parser.add_argument("--output", "-o", metavar="FILE", help="write to this file, when all of it is there")
-    parser.set_defaults(by=By.DEFAULT, row=None, about_a_run=False, accept=None, asks_for_states=False)
+    parser.set_defaults(by=By.DEFAULT, row=None, about_a_run=False, accept=None, asks_for_states=False,
+                        allow_empty=False)
 
 
 def add_classes(commands):
@@ -257,20 +295,28 @@ def add_classes(commands):
     parser.add_argument("--by", type=By, choices=choices, metavar=metavar, help="what counts; else the cause of those that fail, \
 and the outcome of those that pass")
     parser.add_argument("--failing", action="store_true", help="those that fail alone")
-    parser.add_argument("--names", action="store_true", help="the names of the classes, a line each")
+    parser.add_argument("--names", action="store_true", help="the names of the classes with their numbers of rows, a line each")
     add_accept(parser)
+    add_allow_empty(parser)
     parser.set_defaults(do=do_classes, asks_for_states=True)
 
 
 def add_accept(parser):
-    parser.add_argument("--accept", metavar="FILE", help="names of failures that are known, a line each; status 1 for any other")
+    parser.add_argument("--accept", metavar="FILE", help="names of failures that are known, a line each; status 1 for any other, and for \
+more rows of one")
+
+
+def add_allow_empty(parser):
+    help_text = "a campaign without points, or of points none of which is reached, is no failure"
+    parser.add_argument("--allow-empty", action="store_true", help=help_text)
 
 
 def add_compare(commands):
     parser = commands.add_parser("compare", help="two versions: which classes are new, gone, larger, smaller")
     parser.add_argument("old", metavar="OLD", help="a report, or an application, FILE.toml, of which the program makes one")
-    parser.add_argument("new", metavar="NEW", help="the same of the new version; status 1 where a failure is new")
+    parser.add_argument("new", metavar="NEW", help="the same of the new version; status 1 where a failure is new, or has more rows")
     add_options(parser)
+    add_allow_empty(parser)
     parser.set_defaults(do=do_compare, by=By.CAUSE, application=None, report=None, base=None)
 
 
@@ -297,7 +343,7 @@ def add_formats(commands):
     parser = commands.add_parser("junit", help="test cases for a build server: a class each")
     add_common(parser)
     parser.add_argument("--rows", action="store_true", help="a test case for each row")
-    parser.add_argument("--allow-empty", action="store_true", help="a campaign without points is no failure")
+    add_allow_empty(parser)
     add_accept(parser)
     parser.set_defaults(do=do_junit, by=By.CAUSE, asks_for_states=True)
     parser = commands.add_parser("svg", help="a picture of a run, or of a campaign")

@@ -89,11 +89,11 @@ def base_words(base):
     return f"the base run: {base.head.end_text()}{origin}"
 
 
-def write_classes(output, classes, base, rows, given, failing=False, ending=()):
-    """The table, with the lines of each class below its own; of those that fail alone, where that is asked for; and what a lone run says
-    at its end."""
+def write_classes(output, classes, base, rows, given, failing=False, notes=()):
+    """The table, with the lines of each class below its own; of those that fail alone, where that is asked for; and notes on the whole, as
+    what a lone run says at its end."""
     output.line(f"{counted(rows, 'row')} in {counted(len(classes), 'class')}; {base_words(base)}")
-    for it in ending:
+    for it in notes:
         output.line(f"  {it}")
     passing = [it for it in classes if it.verdict.passes] if failing else []
     if passing:
