@@ -12,7 +12,7 @@ from unittest import mock
 
 from cases import case, equal, holds
 from report_classes import failed_beyond
-from reports import (LOST, PATIENCE, RACE, ROOT, RUN, Dice, good, good_and_quick, quick, read, report_of, run, source_of, stand_in,
+from reports import (LOST, PATIENCE, RACE, ROOT, RUN, STAND_IN, Dice, good, good_and_quick, quick, read, report_of, run, source_of, stand_in,
                      total_of)
 from rtosim_report import application, base_run, classes, command_line, progress
 
@@ -102,10 +102,10 @@ def a_lost_byte_does_not_count_as_the_base_run():
 @case
 def failing_classes_alone():
     table = good_and_quick("classes", "--failing", RACE).splitlines()
-    equal(table[1], "passing, and not shown: 9 rows in 3 classes")
-    equal([it.split()[:4] for it in table[4::4]], [["1", "3", "25.0%", "check"]])
+    equal(table[0].partition(";")[0], "12 rows: 9 pass, 3 fail in 1 class")
+    equal([it.split()[:4] for it in table[3::4]], [["1", "3", "25.0%", "check"]])
     text = report_of([(0, "h", True, "pass in 1 steps, 0 ticks", ["0 0 run -\n"])])
-    equal(good_and_quick("classes", "--failing", text=text).count("\n"), 2)
+    equal(good_and_quick("classes", "--failing", text=text).count("\n"), 1)
 
 
 @case
@@ -153,8 +153,7 @@ def by_name(companion):
     """A stand-in for the program that writes what is stored beside the file that it is called with."""
     program = f"{os.path.dirname(companion)}/rtosim"
     with open(program, "w") as it:
-        it.write('#!/bin/sh\necho "$*" >>"$0.calls"\ncase $1 in\nrun) cat "${2%.toml}.out" ;;\ncampaign) cat "${2%.toml}.report" ;;\n'
-                 "esac\nexit 1\n")
+        it.write(STAND_IN.format(tests=f"{ROOT}/tests", out='f"{file}.out"', report='f"{file}.report"', status=1))
     return companion
 
 
@@ -197,7 +196,7 @@ def failures_that_are_known():
         it.write(f"{known[0]}\nanother\n")
     told = f"rtosim-report: not accepted: {known[1]}\nrtosim-report: 1 accepted name of nothing that fails\n".encode()
     status, out, err = run("classes", *of_texts(OLD), "--accept", "known", "--failing")
-    equal((status, err, out.startswith(b"24 rows in 2 classes")), (1, told, True))
+    equal((status, err, out.startswith(b"24 rows: 0 pass, 24 fail in 2 classes;")), (1, told, True))
     status, out, err = run("junit", *of_texts(OLD), "--accept", "known")
     equal((status, err), (1, told))
     suite = tree.fromstring(out).find("testsuite")
@@ -341,10 +340,9 @@ def a_full_folder_for_temporary_files_is_named():
     ran = subprocess.run(words, input=read(LOST), env=env, capture_output=True, timeout=PATIENCE)
     told = f"rtosim-report: no room in the folder for temporary files, {os.getcwd()}: No space left on device; TMPDIR names another\n"
     equal((ran.returncode, ran.stdout, ran.stderr.decode()), (5, b"", told))
-    companion = stand_in(os.getcwd(), status=5)
-    status, out, err = run("classes", "--application", f"{OLD}.toml", companion=companion, env={**os.environ, "TMPDIR": os.getcwd()})
-    equal((status, out), (5, b""))
-    holds(err.decode(), f"no room in the folder for temporary files, {os.getcwd()}: the report can't be written there")
+    # what the program writes is never kept there
+    companion = stand_in(os.getcwd())
+    equal(run("classes", "--application", f"{OLD}.toml", companion=companion, env={**os.environ, "TMPDIR": "/none"})[::2], (0, b""))
     with mock.patch("tempfile.SpooledTemporaryFile", lambda _: full()), mock.patch("sys.stderr") as told_there:
         equal(command_line.main(["json", LOST]), 5)
     holds("".join(str(it) for it in told_there.write.call_args_list), f"{tempfile.gettempdir()}: No space left on device")

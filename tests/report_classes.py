@@ -80,7 +80,7 @@ def the_lost_wake_up_is_found():
     by_outcome = good_and_quick("classes", LOST, "--by", "outcome").splitlines()
     equal([it.split()[1] for it in by_outcome[3::3]], ["1", "1", "18"])
     equal(by_outcome[7].strip(), "as the base run, but for the handler's own lines; uart 1 resume = 0")
-    equal([it.split()[1] for it in good_and_quick("classes", "--by", "verdict", LOST).splitlines()[3::3]], ["2", "18"])
+    equal([it.split()[1] for it in good_and_quick("classes", "--by", "verdict", LOST).splitlines()[3::2]], ["2", "18"])
 
 
 @case

@@ -49,12 +49,13 @@ def a_page_has_all_points_and_the_first_rows_whole():
             counts[index] = counts.get(index, 0) + 1
         equal(len(points_of(data)) + len(data["missed"]), len(runs))
         equal([it["rows"] for it in data["classes"]], [counts.get(it["index"], 0) + it["missed"] for it in data["classes"]])
-        words = [f"{name}.report", "--application", f"{name}.toml", "--base", f"{name}.out"]
-        equal([f"{it['rows']} row{'s' * (it['rows'] > 1)}: {it['name']}" for it in data["classes"]], good_and_quick("classes", "--names", *words).splitlines())
+        words = ["--names", "--failing", f"{name}.report", "--application", f"{name}.toml", "--base", f"{name}.out"]
+        passing = sum(it.head.verdict.passes for it in runs)
+        equal([f"{it['rows']} row{'s' * (it['rows'] > 1)}: {it['name']}" for it in data["classes"]],
+              [*good_and_quick("classes", *words).splitlines(), *[f"{passing} row{'s' * (passing > 1)}: pass"] * (passing > 0)])
         equal(lines_of(data, data["base"]["lines"]), read(f"{name}.out").decode().partition("\n")[2])
-        assert {it["row"] for it in data["firsts"]} == {min(row for row, it in points_of(data).items() if it[2] == there["index"])
-                                                        for there in data["classes"] if counts.get(there["index"])} | {
-            it[0] for it in data["missed"]}
+        rows = [*((row, it[2]) for row, it in points_of(data).items()), *((row, index) for row, _, index in data["missed"])]
+        equal({it["row"] for it in data["firsts"]}, {min(row for row, index in rows if index == it["index"]) for it in data["classes"]})
 
 
 @case

@@ -1,7 +1,7 @@
 """What a campaign leaves untested: one without points, or of points none of which is reached, passes whatever the application does."""
-from typing import List, NamedTuple, Optional
+from typing import NamedTuple, Optional
 
-from .classes import OutcomeClass
+from .reading import Tally
 
 ALLOWED_BY = "--allow-empty takes it"
 
@@ -24,9 +24,8 @@ NO_POINTS = Emptiness("the campaign has no points", "nothing is injected, so not
 NOT_REACHED = Emptiness("no point of the campaign is reached", "the base run ends before each of them, so nothing is tested")
 
 
-def emptiness_of(classes: List[OutcomeClass], is_of_a_run: bool) -> Optional[Emptiness]:
-    """Why the rows of these classes test nothing; None where they test something, or the report is that of a run."""
-    if not classes:
+def emptiness_of(total: Tally, is_of_a_run: bool) -> Optional[Emptiness]:
+    """Why so many rows test nothing; None where they test something, or the report is that of a run."""
+    if not total.rows:
         return None if is_of_a_run else NO_POINTS
-    rows, missed = (sum(count) for count in zip(*((it.rows, it.not_reached) for it in classes)))
-    return NOT_REACHED if missed == rows else None
+    return NOT_REACHED if total.not_reached == total.rows else None

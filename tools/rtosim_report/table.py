@@ -42,6 +42,8 @@ def what_differs(it):
 def words_of(it):
     """The cause, where it says more than the verdict, what differs in the first row, and what that says at its end."""
     lines = [it.name] if it.is_by_cause and it.name != it.verdict.text else []
+    if it.is_by_head:
+        return [*lines, *it.ending]
     return [*lines, what_differs(it) if not lines else (it.what_differs or AS_BASE), *it.ending]
 
 
@@ -80,28 +82,29 @@ def aligned(table, right=frozenset(RIGHT)):
         yield "  ".join(parts).rstrip()
 
 
-def base_words(base):
+def base_words(base, rows=0):
     if base is None:
-        return "no row, and no base run"
+        return "the base run is not known" if rows else "no row, and no base run"
     if base.head is None:
         return f"the base run is known before step {base.known_until} alone ({base.origin.value})"
     origin = "" if base.origin.value == "given" else f" ({base.origin.value})"
     return f"the base run: {base.head.end_text()}{origin}"
 
 
-def write_classes(output, classes, base, rows, given, failing=False, notes=()):
+def write_classes(output, classes, base, total, given, failing=False, notes=()):
     """The table, with the lines of each class below its own; of those that fail alone, where that is asked for; and notes on the whole, as
     what a lone run says at its end."""
-    output.line(f"{counted(rows, 'row')} in {counted(len(classes), 'class')}; {base_words(base)}")
+    shown = [it for it in classes if not (failing and it.verdict.passes)]
+    passing = total.by_kind["pass"]
+    if failing and total.rows:
+        output.line(f"{counted(total.rows, 'row')}: {passing:,} pass, {total.rows - passing:,} fail in {counted(len(shown), 'class')}; {base_words(base, total.rows)}")
+    else:
+        output.line(f"{counted(total.rows, 'row')} in {counted(len(classes), 'class')}; {base_words(base, total.rows)}")
     for it in notes:
         output.line(f"  {it}")
-    passing = [it for it in classes if it.verdict.passes] if failing else []
-    if passing:
-        output.line(f"passing, and not shown: {counted(sum(it.rows for it in passing), 'row')} in {counted(len(passing), 'class')}")
-    shown = [it for it in classes if not (failing and it.verdict.passes)]
     if not shown:
         return
-    heading, *lines = aligned([HEADINGS, *(cells(it, rows) for it in shown)])
+    heading, *lines = aligned([HEADINGS, *(cells(it, total.rows) for it in shown)])
     output.line()
     output.line(heading)
     for it, line in zip(shown, lines):

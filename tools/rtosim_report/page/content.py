@@ -54,7 +54,8 @@ class Content:
     def __init__(self, job):
         self.job = job
         self.texts, self.points, self.firsts, self.indices = Texts(), Points(), [], {}
-        self.classes, self.rows = job.classify(self.see)
+        self.classes = job.classify(self.see)
+        self.rows = job.total.rows
         name = job.given.application or job.given.report
         self.title = f"{plain(name)}: {self.rows:,} rows" if name not in (None, "-") else f"{self.rows:,} rows"
 
@@ -62,12 +63,19 @@ class Content:
         """Takes a row with its class; the first one of a class whole."""
         index = self.indices.setdefault(id(found), len(self.indices))
         if index == len(self.firsts):
-            self.firsts.append(json_text(self.run_content(run)))
+            self.firsts.append(json_text(self.run_content(self.whole(run))))
         self.points.add(run.head, index)
 
+    def whole(self, run):
+        """A row of which perhaps the head alone is there, whole if the program can make it."""
+        is_head = not run.text and run.head.steps > 0
+        return self.job.made.row(run.head.row) if is_head and self.job.made else run
+
     def run_content(self, run):
-        lines = run.checked_lines()
         content = {"head": run.head.text(), "row": run.head.row}
+        if self.job.made is None and self.job.source.has_heads_alone():
+            return {**content, "tooLong": 0}
+        lines = run.checked_lines()
         if len(lines) > MOST_LINES:
             return {**content, "tooLong": len(lines)}
         marks = "".join(it.mark.value for it in all_pairs(run, self.job.base))

@@ -82,8 +82,9 @@ function scripts() {
 
 function runView(run, table) {
   const found = document.createDocumentFragment();
-  if (run.tooLong) {
-    found.append(element("p", {}, `${counted(run.tooLong, "line")}: too long for this page; rtosim-report svg --row draws it`));
+  if (run.tooLong !== undefined) {
+    const why = run.tooLong ? `${counted(run.tooLong, "line")}: too long for this page; rtosim-report svg --row draws it` : "the report has heads alone";
+    found.append(element("p", {}, why));
     return found;
   }
   const box = element("div", { class: "lanes", id: "lanes", tabindex: 0 });
