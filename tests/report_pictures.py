@@ -228,6 +228,24 @@ def hue(colour):
 
 
 @case
+def a_long_run_is_one_band_and_the_parts_that_matter():
+    steps = 50_000
+    lines = [f"{step} {step // 2} {what}\n" for step in range(100, steps, 100) for what in ("call a 0 time = 7",)]
+    fails = [*lines[:40], "4050 2025 isr h 0 send = 0\n", *lines[40:]]
+    text = report_of([(4050, "h", True, f"check a 2 in {steps} steps, 25000 ticks", fails)])
+    with open("base", "w") as it:
+        it.write(f"base: stuck in {steps} steps, 25000 ticks\n" + "".join(lines))
+    picture = good_and_quick("svg", "--row", "0", "--base", "base", text=text)
+    # all of it, around the injection, and the end
+    axis = {int(it.replace(",", "")) for it in re.findall(r">([0-9,]+)</text>", picture)}
+    assert {0, 20_000, 4_000, 4_050, 4_150, 49_850, 50_000} <= axis and 8_010 not in axis, sorted(axis)
+    equal(picture.count("h before step 4050</text>"), 2)
+    equal(picture.count(f"check a 2 in {steps} steps, 25000 ticks</title>"), 3)
+    holds(picture, "send = 0</text>")
+    assert len(picture) < 300_000, len(picture)
+
+
+@case
 def colours_differ_for_all_classes():
     class It:
         def __init__(self, number):

@@ -25,6 +25,13 @@ const stretchAt = pointsOf.map(stretches => {
   return found;
 });
 
+// The first row of a class, which is read when it is looked at.
+const readFirsts = new Map();
+function firstOf(index) {
+  if (!readFirsts.has(index)) readFirsts.set(index, JSON.parse(document.getElementById(`first-${index}`).textContent));
+  return readFirsts.get(index);
+}
+
 const state = { found: null, point: null, step: 0, failing: false, handler: "", words: "" };
 
 function counted(number, noun) {
