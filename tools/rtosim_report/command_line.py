@@ -6,7 +6,7 @@ import sys
 
 from .classes import By
 from .escaping import plain
-from .faults import STATUS_OUTPUT, Fault
+from .faults import STATUS_OUTPUT, STATUS_READER_LEFT, Fault
 from .job import Job
 from .known import Failure
 from .output import ReaderLeft, direct_output, output_file, standard_output
@@ -267,7 +267,7 @@ def main(words=None):
             status = found.do(found if found.do in OF_SEVERAL_REPORTS else Job(found), output)
         return status or 0
     except ReaderLeft:
-        return STATUS_OUTPUT
+        return STATUS_READER_LEFT
     except Fault as fault:
         if str(fault):
             print(f"rtosim-report: {plain(str(fault))}", file=sys.stderr)

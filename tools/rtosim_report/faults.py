@@ -4,6 +4,8 @@ from .escaping import plain
 STATUS_WORDS = 2
 STATUS_REPORT = 3
 STATUS_OUTPUT = 5
+# As a shell shows a program that SIGPIPE ended.
+STATUS_READER_LEFT = 141
 SHOWN_BYTES = 60
 
 
