@@ -37,7 +37,11 @@ def answer(name, words, out, report, status):
     """Does what the words ask for, as the program of this name. The words are noted."""
     with open(f"{name}.calls", "a") as calls:
         calls.write(" ".join(words) + "\n")
-    state = f"{name}.at.{words[3]}.{words[5]}" if len(words) == 7 and words[0] == "run" else None
+    if words == ["run", "--help"]:
+        sys.stdout.write("--point POINT\n" if os.path.exists(f"{name}.takes_points") else "")
+        return 0
+    asked = ".".join(it.replace(" ", "_") for it in words[3:-1:2])
+    state = f"{name}.at.{asked}" if "--state" in words else None
     if state and not os.path.exists(state):
         return 2
     with open(state or (out if words[0] == "run" else report)) as it:

@@ -55,6 +55,21 @@ def do_join(words, output):
     join(words.parts, words.of, output)
 
 
+def do_pairs(words, output):
+    """Writes the points of pairs. How many steps the base run has the program says."""
+    from .application import read_application
+    from .faults import WordsFault
+    from .made import MadeReport
+    from .pairs import write_pairs
+
+    known = read_application(words.application).handlers
+    unknown = next((it for it in words.handler if it not in known), None)
+    if unknown is not None:
+        raise WordsFault(f"no handler is called {unknown}; the handlers are {', '.join(known) or 'none'}")
+    last = MadeReport(words.application).base().head.steps if words.last is None else words.last + 1
+    write_pairs(output, list(dict.fromkeys(words.handler)), range(words.first, last), words.within)
+
+
 def do_show(job, output):
     from . import show
 
@@ -179,6 +194,25 @@ def add_join(commands):
     parser.set_defaults(do=do_join, report=None, application=None, base=None, workers=None, accept=None)
 
 
+def step(word):
+    """A number of a step, or of steps."""
+    found = int(word)
+    if not 0 <= found <= 1_000_000:
+        raise ValueError
+    return found
+
+
+def add_pairs(commands):
+    parser = commands.add_parser("pairs", help="the points of two interrupts each, as a section for the end of an application")
+    parser.add_argument("application", metavar="FILE", help="the application")
+    parser.add_argument("--handler", action="append", required=True, metavar="H", help="the handler that comes twice; or two, in both orders")
+    parser.add_argument("--within", type=step, default=10, metavar="N", help="the second comes at most N steps later (10)")
+    parser.add_argument("--from", dest="first", type=step, default=0, metavar="STEP", help="the first one's least step (0)")
+    parser.add_argument("--to", dest="last", type=step, metavar="STEP", help="its greatest one; else the last one of the base run")
+    parser.add_argument("--output", "-o", metavar="FILE", help="write to this file, when all of it is there")
+    parser.set_defaults(do=do_pairs, report=None, base=None, workers=None, accept=None, makes_points=True)
+
+
 def add_show(commands):
     parser = commands.add_parser("show", help="a row beside the base run")
     parser.add_argument("row", type=int, metavar="N", help="the row's number")
@@ -223,6 +257,7 @@ def parsed(words):
     add_show(commands)
     add_compare(commands)
     add_join(commands)
+    add_pairs(commands)
     add_formats(commands)
     found = parser.parse_args(words)
     if getattr(found, "campaign", False):
@@ -249,7 +284,7 @@ def check_together(parser, found):
 
 
 # These take the words themselves, and not a report.
-OF_SEVERAL_REPORTS = (do_compare, do_join)
+OF_SEVERAL_REPORTS = (do_compare, do_join, do_pairs)
 
 
 def output_of(found):

@@ -14,6 +14,7 @@ from .made import MadeReport, Plan
 from .reading import Tally, ViewReader, lone_run_of
 from .source import file_source, standard_input, state_source
 from .table import Given
+from .words import takes_points, words_of_point
 
 # So many rows' states are asked for.
 MOST_ASKED = 100
@@ -47,7 +48,12 @@ class Job:
 
     @property
     def given(self):
-        return Given(self.application, self.words.report, self.words.base)
+        return Given(self.application, self.words.report, self.words.base, self.takes_points)
+
+    @property
+    def takes_points(self):
+        """Whether there is a program that runs a point of several injections, which is asked if there are such rows."""
+        return self.made is not None and self.made.has_several and takes_points()
 
     def open_source(self):
         if self.words.report in (None, "-"):
@@ -123,10 +129,11 @@ class Job:
 
     def ask_for_state(self, head):
         """The state at the end of a row, as the program writes it. Where it writes none once, it isn't asked again."""
-        if self.asked >= MOST_ASKED or head.point is not None and not head.point.is_single:
+        words = None if self.asked >= MOST_ASKED else words_of_point(head.point, self.takes_points)
+        if words is None:
             return None
         self.asked += 1
-        source = state_source(self.application, head.point)
+        source = state_source(self.application, words)
         run = None if source is None else lone_run_of(source.reader())
         if run is None or run.head.end_text() != head.end_text() or not run.state:
             self.asked = MOST_ASKED

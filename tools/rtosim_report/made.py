@@ -58,6 +58,8 @@ class MadeReport:
         self.application, self.reads_all = application, reads_all
         self.more = [] if workers is None else ["--workers", workers]
         self.known_base: Optional[BaseRun] = None
+        # Whether a row of several injections was seen.
+        self.has_several = False
         self.surveyed: Optional[Survey] = None
 
     def campaign(self, *words):
@@ -74,6 +76,7 @@ class MadeReport:
         reader = self.campaign(*([] if with_passing else ["--only", "failing"]), "--heads")
         for run in reader:
             found.add(run.head)
+            self.has_several = self.has_several or not run.head.point.is_single
         found.total = reader.total
         self.surveyed = found
         return found
@@ -133,7 +136,9 @@ class MadeReport:
         total = (self.surveyed or self.survey(False)).total
         if not 0 <= number < total.rows:
             raise WordsFault(f"there is no row {number}: the report has {counted(total.rows, 'row')}")
-        return next(iter(list(self.campaign("--shard", f"{number + 1}/{total.rows}"))))
+        found = list(self.campaign("--shard", f"{number + 1}/{total.rows}"))[0]
+        self.has_several = self.has_several or not found.head.point.is_single
+        return found
 
 
 def filled_shards(sizes, shards, rows) -> Dict[int, float]:

@@ -166,10 +166,9 @@ def lone_reader(*words):
     return list(ProgramReader(words))
 
 
-def state_source(application, point):
-    """The run of a row of one injection, or the base run, with the state at its end; None where the program writes none. It has made
+def state_source(application, words):
+    """The run of the point that these words name, with the state at its end; None where the program writes none. It has made
     a report before, so what it says of words that it doesn't know is kept from standard error."""
-    words = [] if point is None else ["--at", str(point[0].step), "--handler", point[0].handler]
     try:
         streams = {"stdout": subprocess.PIPE, "stderr": subprocess.DEVNULL}
         ran = subprocess.run([PROGRAM, "run", application, *words, "--state"], check=False, **streams)

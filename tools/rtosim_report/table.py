@@ -3,6 +3,7 @@ from typing import NamedTuple, Optional
 
 from .escaping import shell_word
 from .faults import counted
+from .words import words_of_point
 
 AS_BASE = "as the base run, but for the handler's own lines"
 NOT_REACHED = "not reached: the base run itself"
@@ -14,14 +15,16 @@ class Given(NamedTuple):
     application: Optional[str] = None
     report: Optional[str] = None
     base: Optional[str] = None
+    takes_points: bool = False
 
 
 def command_of(head, given):
-    """The command that shows what happens at a row's point, or the words of it that are known; of several injections, of which no
-    command has words, the entry that makes a campaign of them."""
-    if not head.point.is_single:
+    """The command that shows what happens at a row's point, or the words of it that are known; of several injections, if the program
+    has no words for them, the entry that makes a campaign of them."""
+    found = words_of_point(head.point, given.takes_points)
+    if found is None:
         return f'points = ["{head.point.text()}"]'
-    words = f"--at {head.point[0].step} --handler {head.point[0].handler}"
+    words = " ".join(map(shell_word, found))
     if given.application is not None:
         return f"rtosim run {shell_word(given.application)} {words}"
     if given.report in (None, "-"):

@@ -143,7 +143,7 @@ class Content:
         """What the command of a row is made of."""
         given = self.job.given
         if given.application is not None:
-            return {"run": f"rtosim run {shell_word(given.application)}"}
+            return {"run": f"rtosim run {shell_word(given.application)}", "takesPoints": given.takes_points}
         if given.report in (None, "-"):
             return {}
         return {"show": shell_word(given.report), "base": f" --base {shell_word(given.base)}" if given.base else ""}
