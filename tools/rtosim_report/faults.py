@@ -28,10 +28,10 @@ class OutputFault(Fault):
 
 
 class ProgramFault(Fault):
-    """The program that should make the report failed, and has said why."""
+    """The program that should make the report failed, and has said why; of a file that it refuses there is more to say."""
 
-    def __init__(self, status):
-        super().__init__("")
+    def __init__(self, status, file):
+        super().__init__(f"rtosim-check {file} explains it" if status == STATUS_REPORT else "")
         self.status = status
 
 

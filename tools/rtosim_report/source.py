@@ -9,7 +9,7 @@ import sys
 import tempfile
 
 from . import temporary
-from .escaping import plain
+from .escaping import plain, shell_word
 from .faults import Fault, ProgramFault
 from .output import Progress
 from .reading import NEXT_ROW, Reader, ViewReader, parts_of_rows, tally_of
@@ -123,6 +123,7 @@ class ProgramStream:
     """What the program writes when it is called with these words, as it comes. Its end is that of a report, or a fault."""
 
     def __init__(self, words):
+        self.file = words[1]
         try:
             self.started = subprocess.Popen([PROGRAM, *words], stdin=subprocess.DEVNULL, stdout=subprocess.PIPE)
         except OSError as why:
@@ -133,7 +134,7 @@ class ProgramStream:
         if not block:
             status = self.started.wait()
             if status not in STATUSES_OF_REPORTS:
-                raise ProgramFault(status if status > 0 else 70)
+                raise ProgramFault(status if status > 0 else 70, shell_word(self.file))
         return block
 
     def close(self):
