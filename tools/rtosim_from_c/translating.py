@@ -96,7 +96,8 @@ class Translation(Memory):
         """A loop that only looks leaves no time for what it looks for."""
         for it in items:
             if isinstance(it, Repeat) and it.turns == "forever" and not takes_time(it.body):
-                self.notes[Note(it.place, "no time passes in this loop: a run may end in it; rtosim_work(1) makes a turn take a tick", True)] = None
+                text = "no time passes in this loop: a run may end in it; rtosim_work(1) makes a turn take a tick"
+                self.notes[Note(it.place, text, True)] = None
             for body in ([it.body] if isinstance(it, Repeat) else [it.yes, it.no] if isinstance(it, If) else []):
                 self.warn_of_polls(body)
 
