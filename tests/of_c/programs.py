@@ -189,7 +189,7 @@ class Programs:
         turns, name = self.one_of("1", "2", "3", "limit"), f"i{level}"
         head = self.one_of(
             f"for (int {name} = 0; {name} < {turns}; {name}++)", f"for (int {name} = {turns}; {name} > 0; --{name})",
-            f"for (int {name} = 0; {name} < {turns} && {self.condition(1)}; {name}++)",
+            f"for (int {name} = 0; {name} < {turns} && ({self.condition(1)}); {name}++)",
             f"for (unsigned {name} = 0; {name} != 4; {name} += 2)",
         )
         mark = f"{indent}    rtosim_mark((unsigned){name});\n" if self.dice.random() < 0.3 else ""

@@ -1,6 +1,6 @@
 """Types of declarations, and expressions that are constant wherever they are."""
 import re
-from typing import Dict, Optional, Union
+from typing import Dict, List, Optional, Union
 
 from . import trees
 from .answers import ALL
@@ -35,7 +35,7 @@ class Constants:
         return {"PtrDecl": "a pointer", "ArrayDecl": "an array", "Struct": "a structure", "Union": "a union",
                 "FuncDecl": "a function"}.get(name, name)
 
-    def named(self, names) -> Type:
+    def named(self, names: List[str]) -> Type:
         if names == ["void"]:
             return "void"
         if len(names) == 1 and names[0] in HANDLES:

@@ -1,6 +1,6 @@
 """The integer types of C on a machine with 32 bits, and how constants of these types are computed."""
 from dataclasses import dataclass
-from typing import Callable, Dict, Optional
+from typing import Callable, Dict, Optional, Sequence
 
 
 @dataclass(frozen=True)
@@ -39,7 +39,7 @@ NAMED: Dict[str, Integer] = {
 }
 
 
-def named(names) -> Optional[Integer]:
+def named(names: Sequence[str]) -> Optional[Integer]:
     """The type that these words of a declaration name; None if it is none of integers."""
     words = sorted(it for it in names if it != "int") or ["int"]
     return NAMED.get(" ".join(words))

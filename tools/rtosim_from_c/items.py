@@ -36,6 +36,9 @@ class Break:
     place: Place = field(compare=False)
 
 
+TAKE_TIME = ("work", "delay", "delay_until", "suspend", "yield")
+MAY_BLOCK = ("send", "send_front", "receive", "peek", "take", "lock", "wait", "notify_take", "notify_wait")
+
 Item = Union[Op, If, Repeat, Break]
 
 
@@ -70,6 +73,15 @@ def leaves(items: Sequence[Item]) -> bool:
     if isinstance(last, If):
         return bool(last.no) and leaves(last.yes) and leaves(last.no)
     return isinstance(last, Break)
+
+
+def takes_time(items: Sequence[Item]) -> bool:
+    """Whether time may pass in these items, or another task of the same priority may run."""
+    for it in lines_of(items):
+        word, *words = it.text.split()
+        if word in TAKE_TIME or word in MAY_BLOCK and words[-1] != "0":
+            return True
+    return False
 
 
 def has_break(items: Sequence[Item]) -> bool:

@@ -5,7 +5,7 @@ from typing import Dict, List, Sequence, Tuple, Union
 from .families import PROGRAM, Target
 from .frames import Frame, Jumps
 from .integers import INT
-from .items import If, Item, Line, Repeat, lines_of
+from .items import If, Item, Line, Repeat, lines_of, takes_time
 from .memory import Memory
 from .expressions import parameters_of
 from .paths import Path, State
@@ -89,7 +89,17 @@ class Translation(Memory):
             self.statements(definition.body.block_items or [], path, end)
         lines = lines_of(path.items)
         self.check_size(path.items, lines)
+        self.warn_of_polls(path.items)
         return Script(self.owner, lines, not ends)
+
+    def warn_of_polls(self, items: Sequence[Item]) -> None:
+        """A loop that only looks leaves no time for what it looks for."""
+        for it in items:
+            if isinstance(it, Repeat) and it.turns == "forever" and not takes_time(it.body):
+                text = "no time passes in this loop: a run may end in it; rtosim_work(1) makes a turn take a tick"
+                self.notes[Note(it.place, text, True)] = None
+            for body in ([it.body] if isinstance(it, Repeat) else [it.yes, it.no] if isinstance(it, If) else []):
+                self.warn_of_polls(body)
 
     def check_size(self, items: Sequence[Item], lines: List[Line]) -> None:
         most = MOST_OPS[self.is_handler]
