@@ -241,3 +241,17 @@ def a_campaign_of_100_000_steps_is_classed_soon():
     used = after.children_user + after.children_system - before.children_user - before.children_system
     print(f"   ({seconds:.1f} seconds, {used:.1f} of processors)")
     assert used < 30, used
+
+
+@case
+def rows_that_are_classed_by_their_heads_are_checked():
+    """Of a report that is named each line is looked at, also of rows that pass and aren't classed by it."""
+    base = ["0 0 run a\n", "3 1 run -\n"]
+    rows = [(1, "h", True, "pass in 4 steps, 1 ticks", [base[0], "1 0 isr h 0 send = 1\n", base[1]]), (9, "h", False, "pass in 4 steps, 1 ticks", base)]
+    write("base", "base: pass in 4 steps, 1 ticks\n" + "".join(base))
+    text = report_of(rows)
+    for words in (["classes", "--failing"], ["classes", "--by", "verdict"], ["html"]):
+        good_and_quick(*words, "--base", "base", text=text)
+        for old, new in (("0 0 run a\n1", "0 0 run b\n1"), ("3 1 run -\nrow", "3 1 run\nrow"), ("3 1 run -\ntotal", "3 2 run -\ntotal"), ("0 0 run a\n3", "0 0 run b\n3")):
+            assert old in text
+            equal((words, old, quick(*words, "--base", "base", text=text.replace(old, new))[0]), (words, old, 3))

@@ -145,6 +145,12 @@ class Classifier:
         failed = failed_in_text(run, base, start)
         return self.classes.get(self.key_by_cause(run, failed))
 
+    def check(self, run):
+        """Looks at the lines of a row that is classed by its head: they begin as the base run does, and are its own if it isn't reached."""
+        tail, position = tail_of_row(run, self.base)
+        if not run.head.is_reached:
+            self.check_unreached(run, tail, position)
+
     def check_unreached(self, run, tail, position):
         if self.base and not differences.equals_exactly(run, tail, position, self.base):
             raise BadReport(run.line_number, "the base run, since the point is not reached", run.head.text().encode())

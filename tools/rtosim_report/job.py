@@ -20,8 +20,7 @@ from .words import takes_points, words_of_point
 MOST_ASKED = 100
 BASE_RUN = "the base run"
 HEADS_ALONE = "the report has heads alone (--heads): this needs whole rows"
-# The words that a campaign is made with, which a report of another view lacks.
-NO_WORDS = Plan(False, False)
+HEADS_ONLY = Plan(False, False)
 
 
 def say(text):
@@ -175,7 +174,7 @@ class Job:
             if self.source.has_heads_alone():
                 found = classifier.add_head(run)
             elif heads_alone or run.head.verdict.passes and not self.wants_passing:
-                tail_of_row(run, self.base)
+                classifier.check(run)
                 found = classifier.add_head(run)
             else:
                 found = classifier.add(run)
@@ -191,7 +190,7 @@ class Job:
         self.total = survey.total
         if not survey.total.rows:
             return self.take_lone_run(self.base.run(), classifier)
-        plan = NO_WORDS if by_heads else self.made.plan(self.wants_passing, survey)
+        plan = HEADS_ONLY if by_heads else self.made.plan(self.wants_passing, survey)
         if not by_heads:
             for it in self.made.needs(plan, survey, self.wants_passing):
                 say(it)
