@@ -1,5 +1,6 @@
 -- What is among a list, what holds of all of it, and lists in which nothing is there twice.
-use Rattle.std.proofs.Common.{◌≡◌, ◌≢◌, ◌⊎◌, ◌<◌, ◌+◌, ℕ, zero, suc, List, [], ◌∷◌, ◌++◌, length, get_or, map, refl, ap, sym, ◌∙◌, subst, inl, inr, arith}
+use Rattle.std.proofs.Common.{◌≡◌, ◌≢◌, ◌⊎◌, ◌<◌, ◌+◌, ℕ, zero, suc, List, [], ◌∷◌, ◌++◌, length, get_or, map, refl, ap, sym, ◌∙◌}
+use Rattle.std.proofs.Common.{subst, inl, inr, arith}
 use Rattle.std.specs.Prelude.{Contains}
 use Rattle.std.specs.List.{AllByRecursion, flat_map}
 use Rattle.std.proofs.lemmas.List.Elements.{Contains-append_left, Contains-append_right}
@@ -63,7 +64,8 @@ module _ {X : Type 0} (P : X → Type 0) where
     all_map f [] h = tt
     all_map f (y ∷ ys) h = (h.0, all_map f ys h.1)
 
-    pub all_flat : (g : Y → List X) (ys : List Y) → AllByRecursion (λ y. AllByRecursion P (g y)) ys → AllByRecursion P (flat_map g ys)
+    pub all_flat : (g : Y → List X) (ys : List Y) → AllByRecursion (λ y. AllByRecursion P (g y)) ys → AllByRecursion P
+        (flat_map g ys)
     all_flat g [] h = tt
     all_flat g (y ∷ ys) h = all_append (g y) (flat_map g ys) h.0 (all_flat g ys h.1)
 

@@ -1,5 +1,6 @@
 -- What is had by recursion over the steps are all placements.
-use Rattle.std.proofs.Common.{◌≡◌, ◌≢◌, ◌<◌, ◌≤◌, ◌+◌, ◌-◌, ℕ, zero, suc, Bool, true, false, eqb, ltb, List, [], ◌∷◌, ◌++◌, length, map, Option, Some, None}
+use Rattle.std.proofs.Common.{◌≡◌, ◌≢◌, ◌<◌, ◌≤◌, ◌+◌, ◌-◌, ℕ, zero, suc, Bool, true, false, eqb, ltb, List, [], ◌∷◌, ◌++◌, length}
+use Rattle.std.proofs.Common.{map, Option, Some, None}
 use Rattle.std.proofs.Common.{refl, ap, sym, subst, ◌∙◌, arith, inl, inr}
 use Rattle.std.specs.Prelude.{Contains}
 use Rattle.std.specs.List.{AllByRecursion, filter, flat_map}
@@ -14,7 +15,8 @@ use Rattle.model.specs.Application.{Application, Limits}
 use Rattle.model.specs.State.{State}
 use Rattle.model.specs.Step.{step}
 use Rattle.model.specs.Run.{Run, IsRun, end_of, events_after, injected, state_after}
-use Rattle.model.specs.Placements.{AreAll, AreDistinct, IsPlacement, Placed, before_this, begun, choices, ended, extensions, placed_at, sequences, unless_ended}
+use Rattle.model.specs.Placements.{AreAll, AreDistinct, IsPlacement, Placed, before_this, begun, choices, ended, extensions}
+use Rattle.model.specs.Placements.{placed_at, sequences, unless_ended}
 use Rattle.model.proofs.Sorting.{by_test}
 use Rattle.model.proofs.Injected.{none_below}
 use Rattle.model.proofs.Among.{all_after, all_among, all_append, all_before, all_flat, all_if, all_map, all_of_both, all_weaker}
@@ -71,7 +73,8 @@ choices_have handlers now (suc most) h few = by_test (eqb (length now) (suc most
     (subst (λ (n : ℕ). Contains (sequences handlers n) now) (eqb-true (length now) (suc most) t) (sequences_have handlers now h)))
     (λ t.
     let apart : length now ≢ suc most = (λ e. let u = eq-eqb (length now) (suc most) e in absurd (cc)) in
-    Contains-append_left (choices handlers most) (sequences handlers (suc most)) now (choices_have handlers now most h (omega arith)))
+    Contains-append_left (choices handlers most) (sequences handlers (suc most)) now
+    (choices_have handlers now most h (omega arith)))
 
 -- none is there twice
 
@@ -90,12 +93,14 @@ sequences_differ : (handlers : List ℕ) → AreDistinct handlers → (count : �
 sequences_differ handlers differ zero = (tt, tt)
 sequences_differ handlers differ (suc count) =
     distinct_flat (λ (handler : ℕ). map (λ (others : List ℕ). handler ∷ others) (sequences handlers count)) first_of handlers
-    (always (λ handler. AllByRecursion (λ now. first_of now ≡ handler) (map (λ others. handler ∷ others) (sequences handlers count)))
+    (always (λ handler. AllByRecursion (λ now. first_of now ≡ handler)
+    (map (λ others. handler ∷ others) (sequences handlers count)))
     (λ handler. all_map (λ now. first_of now ≡ handler) (λ others. handler ∷ others) (sequences handlers count)
     (always (λ others. handler ≡ handler) (λ others. refl) (sequences handlers count))) handlers)
     (always (λ handler. AreDistinct (map (λ others. handler ∷ others) (sequences handlers count)))
     (λ handler. distinct_map (λ (others : List ℕ). handler ∷ others) rest_of (sequences handlers count)
-    (always (λ others. others ≡ others) (λ others. refl) (sequences handlers count)) (sequences_differ handlers differ count)) handlers)
+    (always (λ others. others ≡ others) (λ others. refl) (sequences handlers count))
+    (sequences_differ handlers differ count)) handlers)
     differ
 
 pub choices_differ : (handlers : List ℕ) → AreDistinct handlers → (most : ℕ) → AreDistinct (choices handlers most)
@@ -206,7 +211,8 @@ until_extended n plan now below =
     ∙ append-nil (until n plan) ∙ until_all n plan below
 
 -- one step more
-until_more : (n : ℕ) (plan : List Injection) → AreInOrder plan → until (suc n) plan ≡ until n plan ++ before_this n (injected plan n)
+until_more : (n : ℕ) (plan : List Injection) → AreInOrder plan → until (suc n) plan ≡ until n plan ++ before_this n
+    (injected plan n)
 until_more n [] order = refl
 until_more n (i ∷ plan) order = by_test (ltb i.step n)
     (λ t.
@@ -254,7 +260,8 @@ injected_until n m (i ∷ plan) l = by_test (ltb i.step n)
     let apart : eqb i.step m ≡ false = ne_eqb i.step m (λ e. absurd (omega (arith, e, from, l))) in
     rw (t, apart) (injected_until n m plan l))
 
-all_injected : (handlers : List ℕ) (n : ℕ) (plan : List Injection) → AllByRecursion (λ (i : Injection). Contains handlers i.handler) plan
+all_injected : (handlers : List ℕ) (n : ℕ) (plan : List Injection) → AllByRecursion
+    (λ (i : Injection). Contains handlers i.handler) plan
     → AllByRecursion (Contains handlers) (injected plan n)
 all_injected handlers n [] h = tt
 all_injected handlers n (i ∷ plan) h = by_test (eqb i.step n)
@@ -499,7 +506,8 @@ module _ (app : Application) (limits : Limits) (handlers : List ℕ) (most : ℕ
       (λ p h. ((let l = h.0 in omega arith), h.1)) (ended app limits handlers most n) (ends_of n))
       (all_flat (λ (p : Placed). (p.steps < suc n) × (end_at p.injections p.steps ≡ Some p.end)) (placed n)
       (begun app limits handlers most n)
-      (all_if (λ plan. AllByRecursion (λ (p : Placed). (p.steps < suc n) × (end_at p.injections p.steps ≡ Some p.end)) (placed n plan))
+      (all_if (λ plan. AllByRecursion (λ (p : Placed). (p.steps < suc n) × (end_at p.injections p.steps ≡ Some p.end))
+      (placed n plan))
       (begun app limits handlers most n) (λ plan is. one plan (end_at plan n) refl))) where
         one : (plan : List Injection) (o : Option End) → end_at plan n ≡ o
             → AllByRecursion (λ (p : Placed). (p.steps < suc n) × (end_at p.injections p.steps ≡ Some p.end))
@@ -512,7 +520,8 @@ module _ (app : Application) (limits : Limits) (handlers : List ℕ) (most : ℕ
   ended_differ differ (suc n) =
       let now = flat_map (placed n) (begun app limits handlers most n) in
       let split : plans_of (ended app limits handlers most (suc n))
-      ≡ plans_of (ended app limits handlers most n) ++ flat_map (λ plan. plans_of (placed n plan)) (begun app limits handlers most n) =
+      ≡ plans_of (ended app limits handlers most n) ++ flat_map (λ plan. plans_of (placed n plan))
+      (begun app limits handlers most n) =
       map-append (λ (p : Placed). p.injections) (ended app limits handlers most n) now
       ∙ ap (λ (plans : List (List Injection)). plans_of (ended app limits handlers most n) ++ plans)
       (map_flat (λ (p : Placed). p.injections) (placed n) (begun app limits handlers most n)) in
