@@ -25,6 +25,8 @@ class Mending:
 
     def __init__(self, root):
         self.document = plain(root)
+        # Sections that the file has, which may be lost with a fault.
+        self.sections = {key for key, member in root.members.items() if not (isinstance(member.value, Array) and not member.value.items)}
         # Kinds of which names may be lost; scripts whose blocks aren't known, each as a section and an index.
         self.lost, self.broken = set(), set()
         self.names = 0
@@ -39,7 +41,9 @@ class Mending:
             return bool(self.lost.intersection(self.kinds_at(place)))
         if verdict.kind == "NoDaemon":
             return DAEMON in self.lost
-        return verdict.kind == "BadNesting" and (place.section, place.index) in self.broken
+        if verdict.kind == "Missing" and place.index is None and place.key is None:
+            return place.section in self.sections
+        return verdict.kind in ("BadNesting", "TooMany") and (place.section, place.index) in self.broken
 
     def mend(self, verdict, place):
         """Puts what the program takes in the place of the fault."""
