@@ -12,7 +12,7 @@ from unittest import mock
 
 from cases import case, equal, holds
 from report_classes import failed_beyond
-from reports import (LOST, PATIENCE, RACE, ROOT, RUN, Dice, good, good_and_quick, quick, read, report_of, run, source_of, stand_in,
+from reports import (LOST, PATIENCE, RACE, ROOT, RUN, STAND_IN, Dice, good, good_and_quick, quick, read, report_of, run, source_of, stand_in,
                      total_of)
 from rtosim_report import application, base_run, classes, command_line, progress
 
@@ -26,12 +26,16 @@ def of_texts(name):
 
 
 def names(*words):
+    return [re.sub("^[0-9]+ rows?: ", "", it) for it in lines_of_names(*words)]
+
+
+def lines_of_names(*words):
     return good_and_quick("classes", "--names", *words).splitlines()
 
 
 def slow_cause(row, base, base_end):
     """What two rows must have in common to be of one cause; None where a row is as the base run and no call of a handler fails."""
-    step, _, _, end, lines = row
+    step, handler, _, end, lines = row
     failed = failed_beyond(*([it for it in there if int(it.split()[0]) >= step] for there in (lines, base)))
     verdict = end.split(" in ")[0]
     last = {}
@@ -39,7 +43,7 @@ def slow_cause(row, base, base_end):
         words = it.split()
         if words[2] == "call" and verdict == "stuck":
             last[words[3]] = words[4:6]
-    return verdict, sorted(last.items()), set(failed)
+    return verdict, sorted(last.items()), set(failed), verdict != "pass" and handler
 
 
 @case
@@ -65,20 +69,20 @@ def causes_are_those_of_the_slow_definition():
 @case
 def what_fails_is_classed_by_its_cause():
     table = good_and_quick("classes", *of_texts(OLD)).splitlines()
-    equal(table[4].strip(), "stuck: user suspended by itself after suspend user; uart: resume user = 0")
-    equal(names("--failing", *of_texts(OLD)), [
-        "stuck: user suspended by itself after suspend user; uart: resume user = 0",
-        "stuck: driver in receive rx forever, user suspended by itself after suspend user; uart: send rx 42 = 0; "
-        "uart: resume user = 0",
+    equal(table[4].strip(), "stuck: user suspended by itself after suspend user; uart: resume user = 0 [uart]")
+    equal(lines_of_names("--failing", *of_texts(OLD)), [
+        "23 rows: stuck: user suspended by itself after suspend user; uart: resume user = 0 [uart]",
+        "1 row: stuck: driver in receive rx forever, user suspended by itself after suspend user; uart: send rx 42 = 0; "
+        "uart: resume user = 0 [uart]",
     ])
-    equal(names(f"{OLD}.report", "--base", f"{OLD}.out")[0], "stuck: driver after 4 time, user after 3 suspend; uart 1 resume = 0")
-    equal(names(*of_texts(WORSE))[1:], ["check driver: expect 42; uart: resume user = 0"])
+    equal(names(f"{OLD}.report", "--base", f"{OLD}.out")[0], "stuck: driver after 4 time, user after 3 suspend; uart 1 resume = 0 [uart]")
+    equal(names(*of_texts(WORSE))[1:], ["check driver: expect 42; uart: resume user = 0 [uart]"])
     rows = [(step, "h", True, "misuse a 2 3 in 9 steps, 2 ticks", [f"{step} 0 isr h 0 send = {step % 2}\n"]) for step in range(6)]
     equal(names("--by", "cause", "--base", LOST[:-6] + "out", LOST)[-1], "pass")
     base = "base: pass in 9 steps, 2 ticks\n8 2 run -\n"
     with open("base", "w") as it:
         it.write(base)
-    equal(good_and_quick("classes", "--names", "--base", "base", text=report_of(rows)), "misuse a 2 3; h 0 send = 0\nmisuse a 2 3\n")
+    equal(good_and_quick("classes", "--names", "--base", "base", text=report_of(rows)), "3 rows: misuse a 2 3; h 0 send = 0 [h]\n3 rows: misuse a 2 3 [h]\n")
 
 
 @case
@@ -98,10 +102,10 @@ def a_lost_byte_does_not_count_as_the_base_run():
 @case
 def failing_classes_alone():
     table = good_and_quick("classes", "--failing", RACE).splitlines()
-    equal(table[1], "passing, and not shown: 9 rows in 3 classes")
-    equal([it.split()[:4] for it in table[4::3]], [["1", "3", "25.0%", "check"]])
+    equal(table[0].partition(";")[0], "12 rows: 9 pass, 3 fail in 1 class")
+    equal([it.split()[:4] for it in table[3::4]], [["1", "3", "25.0%", "check"]])
     text = report_of([(0, "h", True, "pass in 1 steps, 0 ticks", ["0 0 run -\n"])])
-    equal(good_and_quick("classes", "--failing", text=text).count("\n"), 2)
+    equal(good_and_quick("classes", "--failing", text=text).count("\n"), 1)
 
 
 @case
@@ -130,12 +134,15 @@ def two_versions_beside_each_other():
     lines = out.decode().splitlines()
     equal((status, err), (1, b""))
     equal(lines[0], "24 rows in 2 classes before, 11 rows in 2 classes now; 1 failure new")
-    holds(out.decode(), "new             -         1  fails  check driver 1; uart 1 resume = 0\n")
+    holds(out.decode(), "new             -         1  fails  check driver 1; uart 1 resume = 0 [uart]\n")
     holds(out.decode(), f"       rtosim-report show 10 {WORSE}.report\n")
     companion = stand_in(os.getcwd())
-    for old, new, wanted in ((OLD, NEW, 0), (NEW, OLD, 0), (OLD, WORSE, 1)):
+    for old, new, wanted, counts in (
+        (OLD, NEW, 1, b"; 0 failures new, 1 larger\n"), (NEW, OLD, 0, b"; 0 failures new\n"), (OLD, WORSE, 1, b"; 1 failure new\n"),
+    ):
         status, out, err = run("compare", f"{old}.toml", f"{new}.toml", companion=by_name(companion))
         equal((status, err), (wanted, b""))
+        assert out.partition(b"\n")[0].endswith(counts[:-1]), out
     holds(out.decode(), "check driver: expect 42")
     equal(run("compare", f"{OLD}.report", "--workers", "2", f"{NEW}.report")[0], 2)
     equal(run("compare", f"{OLD}.report", f"{OLD}.out")[0], 0)
@@ -146,8 +153,7 @@ def by_name(companion):
     """A stand-in for the program that writes what is stored beside the file that it is called with."""
     program = f"{os.path.dirname(companion)}/rtosim"
     with open(program, "w") as it:
-        it.write('#!/bin/sh\necho "$*" >>"$0.calls"\ncase $1 in\nrun) cat "${2%.toml}.out" ;;\ncampaign) cat "${2%.toml}.report" ;;\n'
-                 "esac\nexit 1\n")
+        it.write(STAND_IN.format(tests=f"{ROOT}/tests", out='f"{file}.out"', report='f"{file}.report"', status=1))
     return companion
 
 
@@ -182,7 +188,7 @@ def a_base_run_that_fails_now_is_a_new_failure():
 
 @case
 def failures_that_are_known():
-    known = names("--failing", *of_texts(OLD))
+    known = lines_of_names("--failing", *of_texts(OLD))
     with open("known", "w") as it:
         it.write("# what is to be mended\n\n" + "\n".join(known) + "\n")
     equal(run("classes", *of_texts(OLD), "--accept", "known")[::2], (0, b""))
@@ -190,7 +196,7 @@ def failures_that_are_known():
         it.write(f"{known[0]}\nanother\n")
     told = f"rtosim-report: not accepted: {known[1]}\nrtosim-report: 1 accepted name of nothing that fails\n".encode()
     status, out, err = run("classes", *of_texts(OLD), "--accept", "known", "--failing")
-    equal((status, err, out.startswith(b"24 rows in 2 classes")), (1, told, True))
+    equal((status, err, out.startswith(b"24 rows: 0 pass, 24 fail in 2 classes;")), (1, told, True))
     status, out, err = run("junit", *of_texts(OLD), "--accept", "known")
     equal((status, err), (1, told))
     suite = tree.fromstring(out).find("testsuite")
@@ -206,18 +212,120 @@ def failures_that_are_known():
 
 
 @case
+def an_accepted_name_is_of_so_many_rows_and_of_its_handlers():
+    end = "check a 2 in 9 steps, 4 ticks"
+    rows = [(step, handler, True, end if fails else "pass in 9 steps, 4 ticks", ["8 4 run -\n"])
+            for handler, fails in (("h", True), ("k", False)) for step in range(4)]
+    worse = [(*it[:3], end, it[4]) if it[1] == "k" and it[0] == 1 else it for it in rows[1:]]
+    with open("before", "w") as it:
+        it.write(report_of(rows))
+    with open("after", "w") as it:
+        it.write(report_of(worse))
+    known = lines_of_names("--failing", "before")
+    equal(known, ["4 rows: check a 2 [h]"])
+    write_known(known)
+    equal(quick("classes", "before", "--accept", "known")[::2], (0, ""))
+    told = "rtosim-report: not accepted: 1 row: check a 2 [k]\nrtosim-report: 1 accepted name of fewer rows than accepted\n"
+    for words in (["classes"], ["junit"]):
+        equal(quick(*words, "after", "--accept", "known")[::2], (1, told))
+    equal(run("compare", "before", "after")[0], 1)
+    for line, status, end_of_line in (("4 rows", 0, ""), ("3 rows", 1, "4 rows: check a 2 [h] (accepted are 3)"), ("1,000 rows", 0, "")):
+        write_known([known[0].replace("4 rows", line)])
+        found, _, err = quick("classes", "before", "--accept", "known")
+        equal(found, status)
+        holds(err, end_of_line)
+    write_known(["check a 2 [h]"])
+    equal(quick("classes", "before", "--accept", "known")[::2], (0, ""))
+
+
+def write_known(lines):
+    with open("known", "w") as it:
+        it.write("".join(f"{line}\n" for line in lines))
+
+
+@case
+def an_op_can_have_a_name_of_its_own():
+    """So that an op of the same text, which is put before it, renames nothing."""
+    text = read(f"{WORSE}.toml").decode()
+    words = ["--failing", f"{WORSE}.report", "--base", f"{WORSE}.out", "--application", "driver.toml"]
+    for old, new, name in (
+        ('"expect 42",', '"expect 42", # name:  the first   byte\n', "the first byte"),
+        ('"expect 42",', '"expect 42" ,\t#name:a\r\n', "a"), ('"expect 42",', '"expect 42", # the first byte\n', "expect 42"),
+        ('["receive rx 3", "expect 42", "work 2", "receive rx forever", "time"]',
+         '["receive rx 3", "expect 42", "work 2", "receive rx forever", "expect 42"]  # name: the last one', "expect 42"),
+        ('"expect 42",', '"expect 42", # name: ' + "x" * 70 + "\n", "x" * 60),
+    ):
+        assert old in text
+        with open("driver.toml", "w", newline="") as it:
+            it.write(text.replace(old, new))
+        equal(names(*words)[1:], [f"check driver: {name}; uart: resume user = 0 [uart]"])
+    script = application.Script("a", [application.Op(it.split(), name) for it, name in (
+        ("expect 0", ""), ("expect 0", "empty"), ("expect 0", ""), ("expect 1", "empty"))])
+    equal([script.lasting_name(at) for at in range(4)], ["expect 0", "empty", "expect 0 (2nd)", "empty (2nd)"])
+
+
+@case
 def a_campaign_without_points_fails_a_build():
     empty = total_of([])
     for words, failures in (([], 1), (["--allow-empty"], 0)):
         suite = tree.fromstring(good_and_quick("junit", *words, text=empty)).find("testsuite")
         equal((suite.get("tests"), suite.get("failures")), (str(failures), str(failures)))
     suite = tree.fromstring(good_and_quick("junit", text=RUN)).find("testsuite")
-    equal([it.get("name") for it in suite.findall("testcase")], ["the base run"])
+    equal([it.get("name") for it in suite.findall("testcase")], ["the base run: stuck: a after 0 send_front, c_3 after 255 suspend_all"])
     companion = stand_in(os.getcwd(), report=f"{os.getcwd()}/none")
     with open("none", "w") as it:
         it.write(empty)
     suite = tree.fromstring(good("junit", "--application", f"{OLD}.toml", companion=companion)).find("testsuite")
-    equal([it.get("name") for it in suite.findall("testcase")], ["the base run", "the campaign has points"])
+    equal([it.get("name") for it in suite.findall("testcase")], ["the base run", "the campaign has no points"])
+    write_known([])
+    for words in (["classes"], ["classes", "--failing"], ["junit"]):
+        line = [*words, "--application", f"{OLD}.toml", "--accept", "known"]
+        told = b"rtosim-report: the campaign has no points: nothing is injected, so nothing is tested; --allow-empty takes it\n"
+        equal(run(*line, companion=companion)[::2], (1, told))
+        equal(run(*line, "--allow-empty", companion=companion)[::2], (0, b""))
+    equal(run("compare", f"{LOST[:-7]}.toml", f"{OLD}.toml", companion=companion)[::2], (1, told))
+    holds(good_and_quick("classes", text=empty), "the campaign has no points: nothing is injected, so nothing is tested\n")
+
+
+@case
+def a_campaign_of_points_that_are_not_reached_fails_a_build():
+    base = ["0 0 run -\n"]
+    rows = [(step, "h", False, "pass in 1 steps, 0 ticks", base) for step in (7, 8)]
+    write_known([])
+    told = "rtosim-report: no point of the campaign is reached: the base run ends before each of them, so nothing is tested; --allow-empty takes it\n"
+    text = report_of(rows)
+    for words in (["classes"], ["junit"]):
+        equal(quick(*words, "--accept", "known", text=text)[::2], (1, told))
+        equal(quick(*words, "--accept", "known", "--allow-empty", text=text)[::2], (0, ""))
+    suite = tree.fromstring(good_and_quick("junit", text=text)).find("testsuite")
+    equal([it.get("name") for it in suite.findall("testcase")], ["as the base run", "no point of the campaign is reached"])
+    equal(quick("classes", "--accept", "known", text=report_of([*rows, (0, "h", True, *rows[0][3:])]))[::2], (0, ""))
+
+
+@case
+def a_base_run_that_fails_without_points_fails_a_build():
+    write_known([])
+    name = "the base run: stuck: a after 0 send_front, c_3 after 255 suspend_all"
+    for words in (["classes"], ["classes", "--failing"], ["junit"], ["classes", "--allow-empty"]):
+        equal(quick(*words, "--accept", "known", text=RUN)[::2], (1, f"rtosim-report: not accepted: {name}\n"))
+    equal(good_and_quick("classes", "--names", "--failing", text=RUN), f"{name}\n")
+    write_known([name])
+    for words in (["classes"], ["junit"]):
+        equal(quick(*words, "--accept", "known", text=RUN)[::2], (0, ""))
+
+
+@case
+def sections_and_keys_that_the_program_ignores_are_named():
+    companion = stand_in(os.getcwd())
+    text = read(f"{ROOT}/examples/lost_wake_up.toml").decode()
+    with open("driver.toml", "w") as it:
+        it.write(text.replace("[campaign]", "[campain]").replace("length = 1", "length = 1\nroom = 3"))
+    lines = text.splitlines()
+    places = [lines.index("length = 1") + 2, lines.index("[campaign]") + 2]
+    status, _, err = run("classes", "--application", "driver.toml", companion=companion)
+    equal((status, err.decode().splitlines()), (0, [
+        f'rtosim-report: driver.toml: line {places[0]}: queue "rx": "room" is ignored: it is no key of [[queue]]',
+        f"rtosim-report: driver.toml: line {places[1]}: [campain] is ignored: there is no such section; did you mean [campaign]?"]))
 
 
 @case
@@ -232,10 +340,9 @@ def a_full_folder_for_temporary_files_is_named():
     ran = subprocess.run(words, input=read(LOST), env=env, capture_output=True, timeout=PATIENCE)
     told = f"rtosim-report: no room in the folder for temporary files, {os.getcwd()}: No space left on device; TMPDIR names another\n"
     equal((ran.returncode, ran.stdout, ran.stderr.decode()), (5, b"", told))
-    companion = stand_in(os.getcwd(), status=5)
-    status, out, err = run("classes", "--application", f"{OLD}.toml", companion=companion, env={**os.environ, "TMPDIR": os.getcwd()})
-    equal((status, out), (5, b""))
-    holds(err.decode(), f"no room in the folder for temporary files, {os.getcwd()}: the report can't be written there")
+    # what the program writes is never kept there
+    companion = stand_in(os.getcwd())
+    equal(run("classes", "--application", f"{OLD}.toml", companion=companion, env={**os.environ, "TMPDIR": "/none"})[::2], (0, b""))
     with mock.patch("tempfile.SpooledTemporaryFile", lambda _: full()), mock.patch("sys.stderr") as told_there:
         equal(command_line.main(["json", LOST]), 5)
     holds("".join(str(it) for it in told_there.write.call_args_list), f"{tempfile.gettempdir()}: No space left on device")
@@ -300,9 +407,9 @@ def a_task_is_followed_through_its_script():
 def who_serves_for_ever_is_named_where_it_waits_for_a_mutex():
     file = f"{ROOT}/examples/opposite_locks"
     names_of_it = names("--failing", "--base", f"{file}.out", "--application", f"{file}.toml", f"{file}.report")
-    equal(names_of_it, ["stuck: menu in lock settings forever, saver in lock display forever"])
+    equal(names_of_it, ["stuck: menu in lock settings forever, saver in lock display forever [button]"])
     file = f"{ROOT}/tests/runs/endless/stuck_with_a_daemon_and_endless_tasks_alone"
-    equal(names("--base", f"{file}.out", "--application", f"{file}.toml", f"{file}.report"), ["stuck"])
+    equal(names("--base", f"{file}.out", "--application", f"{file}.toml", f"{file}.report"), ["stuck [h]"])
 
 
 @case

@@ -73,14 +73,14 @@ def the_lost_wake_up_is_found():
     table = good_and_quick("classes", LOST, "--base", LOST[:-6] + "out").splitlines()
     equal(table[0], "20 rows in 2 classes; the base run: stuck in 20 steps, 18 ticks")
     equal(table[3].split()[:4], ["1", "2", "10.0%", "stuck"])
-    equal(table[4].strip(), "stuck: driver after 1 suspend; uart 1 resume = 0")
+    equal(table[4].strip(), "stuck: driver after 1 suspend; uart 1 resume = 0 [uart]")
     equal(table[5].strip(), "driver: waiting = 1, where the base run has 0")
     equal(table[6].strip(), f"rtosim-report show 0 {LOST} --base {LOST[:-6]}out")
     equal(table[8].strip(), "driver runs, where idle runs in the base run; then driver: receive = 42")
     by_outcome = good_and_quick("classes", LOST, "--by", "outcome").splitlines()
     equal([it.split()[1] for it in by_outcome[3::3]], ["1", "1", "18"])
     equal(by_outcome[7].strip(), "as the base run, but for the handler's own lines; uart 1 resume = 0")
-    equal([it.split()[1] for it in good_and_quick("classes", "--by", "verdict", LOST).splitlines()[3::3]], ["2", "18"])
+    equal([it.split()[1] for it in good_and_quick("classes", "--by", "verdict", LOST).splitlines()[3::2]], ["2", "18"])
 
 
 @case

@@ -145,7 +145,7 @@ def a_command_without_room_is_a_failed_call():
     rows = [(step, "h", True, end, [f"{step} 0 isr h 0 {word} = {int(step != 4)}\n", "8 2 run -\n"])
             for step, word in enumerate(("set", "clear", "set", "clear", "set", "bits"))]
     found = good_and_quick("classes", "--names", "--base", "base", text=report_of(rows)).splitlines()
-    equal(found, ["as the base run; h 0 set = 0", "as the base run"])
+    equal(found, ["1 row: as the base run; h 0 set = 0", "5 rows: as the base run"])
 
 
 @case
@@ -160,7 +160,7 @@ def nobody_waits_for_the_daemon_at_the_end():
     with open("rows", "w") as it:
         it.write(text)
     found = good_and_quick("classes", "--names", "--failing", "rows", "--application", "stuck.toml")
-    equal(found, "stuck: a in wait g 3 all keep forever\n")
+    equal(found, "1 row: stuck: a in wait g 3 all keep forever [h]\n")
 
 
 @case

@@ -144,7 +144,7 @@ def rows_whose_check_names_a_handler_are_read_by_each_command():
                 for command in ("show", "svg", "perfetto", "vcd"):
                     good_and_quick(*([command] if command == "show" else [command, "--row"]), str(row), *words)
     table = good_and_quick("classes", "--failing", *words)
-    holds(table, 'check h: expect 0\n')
+    holds(table, 'check h: expect 0 [h]\n')
     holds(table, 'check h 1: "expect 0", the answer is 1\n')
     # the failure is drawn in the handler's lane, which is a lane of a handler
     file = f"{LOOKING}/of_the_checks_that_fail_in_a_step_the_first_is_told"

@@ -3,9 +3,10 @@ import json
 import os
 import re
 import shutil
+import subprocess
 
 from cases import case, equal, holds
-from reports import LOST, RACE, ROOT, RUN, good, good_and_quick, quick, read, report_of, source_of, total_of
+from reports import LOST, PATIENCE, RACE, ROOT, RUN, good, good_and_quick, quick, read, report_of, source_of, total_of
 
 OLD, NEW, SUSPENDS = (f"{ROOT}/tests/{it}" for it in ("of_versions/old", "of_versions/new", "of_suspends/suspends"))
 EXAMPLE = f"{ROOT}/tests/of_stuck/lost_wake_up"
@@ -16,8 +17,26 @@ def page(name, *words):
 
 
 def data_of(text):
+    """The data of a page, with the first rows of its classes."""
     found = re.search(r'<script type="application/json" id="data">(.*?)</script>', text, re.DOTALL)
-    return json.loads(found[1])
+    firsts = re.findall(r'<script type="application/json" id="first-([0-9]+)">(.*?)</script>', text, re.DOTALL)
+    equal([int(it) for it, _ in firsts], list(range(len(firsts))))
+    return {**json.loads(found[1]), "firsts": [json.loads(it) for _, it in firsts]}
+
+
+def lines_of_first(data, first):
+    """The lines of a first row: those that it shares with the base run, and its own."""
+    return lines_of(data, [*data["base"]["lines"][: 3 * first["shared"]], *first["lines"]])
+
+
+def base_lines_of(data, first):
+    """The lines of the base run beside a first row, as a browser puts them there."""
+    lines, others = lines_of_first(data, first).splitlines(), lines_of(data, first["others"]).splitlines()
+    found = []
+    for mark in first["marks"]:
+        row = None if mark == "<" else lines.pop(0)
+        found += [others.pop(0)] if mark in "~|<" else [row] if mark == " " else []
+    return "".join(f"{it}\n" for it in found)
 
 
 def lines_of(data, numbers):
@@ -43,18 +62,20 @@ def a_page_has_all_points_and_the_first_rows_whole():
         counts = {}
         for run in runs:
             first = firsts.get(run.head.row)
-            assert not first or (first["head"], lines_of(data, first["lines"])) == (run.head.text(), run.text.decode())
+            assert not first or base_lines_of(data, first) == read(f"{name}.out").decode().partition("\n")[2]
+            assert not first or (first["head"], lines_of_first(data, first)) == (run.head.text(), run.text.decode())
         for row, (step, handler, index) in points_of(data).items():
             equal((step, handler), tuple(runs[row].head.point[0]))
             counts[index] = counts.get(index, 0) + 1
         equal(len(points_of(data)) + len(data["missed"]), len(runs))
         equal([it["rows"] for it in data["classes"]], [counts.get(it["index"], 0) + it["missed"] for it in data["classes"]])
-        words = [f"{name}.report", "--application", f"{name}.toml", "--base", f"{name}.out"]
-        equal([it["name"] for it in data["classes"]], good_and_quick("classes", "--names", *words).splitlines())
+        words = ["--names", "--failing", f"{name}.report", "--application", f"{name}.toml", "--base", f"{name}.out"]
+        passing = sum(it.head.verdict.passes for it in runs)
+        equal([f"{it['rows']} row{'s' * (it['rows'] > 1)}: {it['name']}" for it in data["classes"]],
+              [*good_and_quick("classes", *words).splitlines(), *[f"{passing} row{'s' * (passing > 1)}: pass"] * (passing > 0)])
         equal(lines_of(data, data["base"]["lines"]), read(f"{name}.out").decode().partition("\n")[2])
-        assert {it["row"] for it in data["firsts"]} == {min(row for row, it in points_of(data).items() if it[2] == there["index"])
-                                                        for there in data["classes"] if counts.get(there["index"])} | {
-            it[0] for it in data["missed"]}
+        rows = [*((row, it[2]) for row, it in points_of(data).items()), *((row, index) for row, _, index in data["missed"])]
+        equal({it["row"] for it in data["firsts"]}, {min(row for row, index in rows if index == it["index"]) for it in data["classes"]})
 
 
 @case
@@ -63,7 +84,7 @@ def a_page_asks_for_nothing():
     urls = set(re.findall(r"[a-z]+://[^\s\"'`]+", text))
     equal(urls, {"http://www.w3.org/2000/svg"})
     assert not re.search(r"\b(src|href)=", text.split('id="data"')[0]) and "@import" not in text and "url(" not in text
-    equal(text.count("<script"), 2)
+    equal(text.count("<script"), 2 + len(data_of(text)["firsts"]))
     os.mkdir("<")
     shutil.copy(f"{EXAMPLE}.toml", "</script><!-- b.toml")
     odd = good_and_quick("html", f"{EXAMPLE}.report", "--application", "</script><!-- b.toml", "--base", f"{EXAMPLE}.out")
@@ -85,7 +106,7 @@ def ops_of_scripts_are_at_their_steps():
     for name in (EXAMPLE, OLD, SUSPENDS):
         data = data_of(page(name))
         for first in data["firsts"]:
-            lanes, told = first["lanes"], lines_of(data, first["lines"]).splitlines()
+            lanes, told = first["lanes"], lines_of_first(data, first).splitlines()
             ops = {lanes["names"][lane][0]: list(zip(*(numbers[at::3] for at in range(3)))) for lane, numbers in lanes["ops"]}
             calls = [it.split() for it in told if it.split()[2] == "call"]
             for step, _, _, task, op, *_ in calls:
@@ -111,6 +132,52 @@ def pages_of_odd_reports():
     equal(part["command"], {"show": RACE, "base": ""})
     long = [(0, "h", True, "stuck in 30001 steps, 4 ticks", [f"{step} 0 mark a 1\n" for step in range(30_000)])]
     equal(data_of(good_and_quick("html", text=report_of(long)))["firsts"][0]["tooLong"], 30_000)
+
+
+@case
+def a_short_row_of_a_long_run_is_beside_the_base_run():
+    """Also where the base run is too long for the page; and of a row that is too long there is the part around what differs."""
+    base = [f"{step} 0 mark a {step % 7}\n" for step in range(30_000)]
+    short = (5, "h", True, "check a 2 in 9 steps, 4 ticks", [*base[:5], "5 0 isr h 0 send = 1\n", "6 0 mark a 9\n"])
+    long = (70, "h", True, "check a 3 in 30000 steps, 4 ticks", [*base[:70], "70 0 isr h 0 send = 0\n", *base[70:20_000], "20000 0 mark b 1\n", *base[20_001:]])
+    with open("base", "w") as it:
+        it.write("base: stuck in 30000 steps, 4 ticks\n" + "".join(base))
+    data = data_of(good_and_quick("html", "--base", "base", text=report_of([short, long])))
+    equal((data["base"]["tooLong"], data["base"]["lines"]), (30_000, []))
+    first, second = data["firsts"]
+    equal((len(first["lanes"]["notes"]), second["tooLong"]), (7, 30_001))
+    for it, own in ((first, "6 0 mark a 9\n"), (second, "20000 0 mark b 1\n")):
+        beside = base_lines_of(data, it).splitlines(True)
+        assert set(beside) < set(base) and own not in beside and own in lines_of(data, it["lines"]), it["head"]
+        assert len(it["marks"]) + sum(count for _, count in it["folds"]) in (30_001, 30_002)
+        assert len(it["marks"]) < 1000 and it["marks"].count("+") == 1, it["marks"]
+
+
+def classes_in_a_browser(text):
+    """What a page shows of each class, as node runs its code; None where there is no node."""
+    if shutil.which("node") is None:
+        print("   (skipped: there is no node)")
+        return None
+    with open("page.html", "w") as it:
+        it.write(text)
+    ran = subprocess.run(["node", f"{ROOT}/tests/page_without_browser.js", "page.html"], capture_output=True, timeout=PATIENCE)
+    equal((ran.returncode, ran.stderr), (0, b""))
+    return [json.loads(it) for it in ran.stdout.splitlines()]
+
+
+@case
+def the_code_of_a_page_shows_the_lines_and_cuts_no_text():
+    for name in ("overrun", "lost_wake_up", "opposite_locks", "late_answer"):
+        file = f"{ROOT}/examples/{name}"
+        text = page(file)
+        data = data_of(text)
+        for it in classes_in_a_browser(text) or []:
+            first = data["firsts"][next(there["index"] for there in data["classes"] if there["name"] == it["name"])]
+            equal("".join(f"{line}\n" for line in it["row"] if line), lines_of_first(data, first))
+            equal("".join(f"{line}\n" for line in it["base"] if line), base_lines_of(data, first))
+            assert it["needed"] <= it["width"], (it["name"], it["needed"], it["width"])
+            last = [told for _, step, _, told in first["lanes"]["notes"] if step == first["lanes"]["steps"] - 1]
+            assert not last or any(data["texts"][last[-1]] in shown for shown in it["texts"]), (it["name"], it["texts"])
 
 
 @case

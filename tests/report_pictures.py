@@ -64,7 +64,7 @@ def the_map_has_a_cell_for_each_point():
     root = tree.fromstring(good_and_quick("svg", "--campaign", LOST))
     titles = [it.find(f"{SVG}title").text for it in root.iter(f"{SVG}rect") if it.find(f"{SVG}title") is not None]
     equal(len(titles), 20)
-    equal(titles[0], "uart before step 0: class 1: stuck: driver after 1 suspend; uart 1 resume = 0")
+    equal(titles[0], "uart before step 0: class 1: stuck: driver after 1 suspend; uart 1 resume = 0 [uart]")
     holds(titles[2], "uart before step 2: class 2 (pass): driver runs, where idle runs in the base run")
     equal(overlaps(root.iter(f"{SVG}text")), [])
     end = "stuck in 40000 steps, 4 ticks"
@@ -225,6 +225,24 @@ def labels_are_folded_and_not_dropped():
 def hue(colour):
     parts = [int(colour[at : at + 2], 16) / 255 for at in (1, 3, 5)]
     return colorsys.rgb_to_hls(*parts)[0]
+
+
+@case
+def a_long_run_is_one_band_and_the_parts_that_matter():
+    steps = 50_000
+    lines = [f"{step} {step // 2} {what}\n" for step in range(100, steps, 100) for what in ("call a 0 time = 7",)]
+    fails = [*lines[:40], "4050 2025 isr h 0 send = 0\n", *lines[40:]]
+    text = report_of([(4050, "h", True, f"check a 2 in {steps} steps, 25000 ticks", fails)])
+    with open("base", "w") as it:
+        it.write(f"base: stuck in {steps} steps, 25000 ticks\n" + "".join(lines))
+    picture = good_and_quick("svg", "--row", "0", "--base", "base", text=text)
+    # all of it, around the injection, and the end
+    axis = {int(it.replace(",", "")) for it in re.findall(r">([0-9,]+)</text>", picture)}
+    assert {0, 20_000, 4_000, 4_050, 4_150, 49_850, 50_000} <= axis and 8_010 not in axis, sorted(axis)
+    equal(picture.count("h before step 4050</text>"), 2)
+    equal(picture.count(f"check a 2 in {steps} steps, 25000 ticks</title>"), 3)
+    holds(picture, "send = 0</text>")
+    assert len(picture) < 300_000, len(picture)
 
 
 @case

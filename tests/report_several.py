@@ -1,12 +1,16 @@
 """Cases of tests/report: rows of several injections. The reports in tests/of_several are what the program writes of the files there."""
 import json
+import os
 import re
 import xml.etree.ElementTree as tree
 
 from cases import case, equal, holds
-from reports import ROOT, SVG, good, good_and_quick, is_refused, overlaps, read, source_of, total_of
+from reports import ROOT, SVG, good, good_and_quick, is_refused, overlaps, read, report_of, run, source_of, stand_in, total_of
 from rtosim_report import base_run
 from rtosim_report.injections import groups_of, own_stretches, position_of
+from rtosim_report.pairs import pairs_of
+from rtosim_report.pairs_picture import PairMap
+from rtosim_report.report import Injection, Point
 
 PRESSES, CHANGES = f"{ROOT}/tests/of_several/two_presses.report", f"{ROOT}/tests/of_several/changes.report"
 # How many lines the handlers of the two files write.
@@ -55,8 +59,7 @@ def each_injection_has_its_own_lines():
 def rows_of_several_are_classed():
     table = good_and_quick("classes", PRESSES, "--base", PRESSES[:-6] + "out").splitlines()
     equal(table[0], "8 rows in 8 classes; the base run: pass in 24 steps, 8 ticks")
-    equal(table[4].strip(), "main: send = 0, where the base run has 1")
-    equal(table[5].strip(), 'points = ["0 key 1 key"]')
+    equal([it.strip() for it in table[4:7]], ["check main 2 [key]", "main: send = 0, where the base run has 1", 'points = ["0 key 1 key"]'])
     holds(table[3], "check main 2  0 key 1 key ")
     rows = {it.head.row: it.head.point.text() for it in runs_of(CHANGES)}
     equal((rows[3], rows[4]), ("12 none", "12 none 12 none"))
@@ -120,5 +123,71 @@ def the_map_has_a_row_of_several_at_its_first_injection():
     picture = good_and_quick("svg", "--campaign", PRESSES, "--base", PRESSES[:-6] + "out")
     holds(picture, "6 rows of several injections, each at its first")
     titles = [it.text for it in tree.fromstring(picture).iter(f"{SVG}title")]
-    equal(sum(it.startswith("key before step ") for it in titles), 6)
+    equal(sum(it.startswith("key before step ") and "later" not in it for it in titles), 6)
+    equal(sum(it.startswith("key before step ") and ", key " in it for it in titles), 4)
     assert "several" not in good("svg", "--campaign", f"{ROOT}/tests/of_stuck/lost_wake_up.report")
+
+
+@case
+def a_program_that_runs_points_of_several_is_asked_by_them():
+    file = PRESSES[:-7]
+    companion = stand_in(os.getcwd(), report=PRESSES)
+    with open("bin/rtosim") as it:
+        text = it.read()
+    with open("bin/rtosim", "w") as it:
+        it.write(text.replace(f"{ROOT}/examples/lost_wake_up.out", f"{file}.out"))
+    words = ["classes", "--failing", "--application", f"{file}.toml"]
+    holds(good(*words, companion=companion), 'points = ["0 key 1 key"]')
+    with open("bin/rtosim.takes_points", "w"):
+        pass
+    holds(good(*words, companion=companion), f"rtosim run {file}.toml --point '0 key 1 key'\n")
+    page = good("html", "--application", f"{file}.toml", companion=companion)
+    holds(page, '"takesPoints":true')
+    # of a row that is stuck the state is asked for by its point
+    locks = f"{ROOT}/examples/opposite_locks"
+    companion = stand_in(os.getcwd(), "opposite_locks", report=f"{os.getcwd()}/report")
+    rows = read(f"{locks}.report").decode().replace(" button: ", " button 999 button: ")
+    with open("report", "w") as it:
+        it.write(rows)
+    with open("bin/rtosim.at.11_button_999_button", "w") as it:
+        it.write(read("bin/rtosim.at.11.button").decode().replace(" button: ", " button 999 button: "))
+    holds(good("classes", "--failing", "--application", f"{locks}.toml", companion=companion), "deadlock: menu waits for saver, which waits for menu")
+
+
+@case
+def points_of_pairs_are_written():
+    companion = stand_in(os.getcwd())
+    file = f"{ROOT}/examples/lost_wake_up.toml"
+    text = good("pairs", file, "--handler", "uart", "--within", "2", "--from", "3", "--to", "4", companion=companion)
+    equal(text, '[campaign]\npoints = [\n  "3 uart 3 uart", "3 uart 4 uart", "3 uart 5 uart",\n  "4 uart 4 uart", "4 uart 5 uart", "4 uart 6 uart",\n]\n')
+    whole = good("pairs", file, "--handler", "uart", companion=companion)
+    equal((whole.count('",'), whole.splitlines()[-2].split('",')[0]), (20 * 11, '  "19 uart 19 uart'))
+    equal(list(map(Point.text, pairs_of(["a", "b"], range(7, 8), 1))), ["7 a 7 b", "7 b 7 a", "7 a 8 b", "7 b 8 a"])
+    equal(list(map(Point.text, pairs_of(["a"], range(999_999, 1_000_001), 2)))[1:], ["999999 a 1000000 a", "1000000 a 1000000 a"])
+    for words, part in ((["--handler", "usart"], "no handler is called usart; the handlers are uart"),
+                        (["--handler", "uart", "--within", "999999"], "a campaign has at most 1,000,000 points")):
+        status, out, err = run("pairs", file, *words, companion=companion)
+        equal((status, out), (2, b""))
+        holds(err.decode(), part)
+
+
+@case
+def pairs_have_a_map_of_two_axes():
+    end = "check a 1 in 30 steps, 9 ticks"
+    rows = [(f"{first} h {first + more}", "k", True, end if more == 2 else "pass in 30 steps, 9 ticks", ["29 9 run -\n"])
+            for first in range(8) for more in range(4)]
+    picture = good_and_quick("svg", "--campaign", text=report_of(rows))
+    holds(picture, "h before a step, and then k so many steps later</text>")
+    equal(len(re.findall(r"<title>h before step [0-9]+, k 2 later: class 1 \(check a 1\): 1 row</title>", picture)), 8)
+    equal(len(re.findall(r"<title>h before step [0-9]+, k [013] later: class 2 \(pass\): 1 row</title>", picture)), 24)
+    wide = PairMap()
+    for first in range(0, 3000, 3):
+        wide.see((Injection(first, "h"), Injection(first + first // 30, "k")), It())
+    equal((wide.width, wide.height), (8, 4))
+    equal(sum(rows for cell in wide.panels["h", "k"].values() for _, rows in cell.values()), 1000)
+
+
+class It:
+    """A class, as far as a map needs one."""
+
+    number = 1

@@ -219,7 +219,7 @@ def a_joined_report_that_can_not_be_written_is_told():
     equal(run("join", *names, preexec_fn=lambda: os.close(1)), (5, b"", b"rtosim-report: cannot write: standard output is closed\n"))
     reader, writer = os.pipe()
     os.close(reader)
-    equal(run("join", *names, stdout=writer), (5, None, b""))
+    equal(run("join", *names, stdout=writer), (141, None, b""))
     os.close(writer)
 
 

@@ -174,14 +174,12 @@ def timeline_of(name, row=None, folder="examples"):
 
 
 # Words of a row with its state are answered as the example's session has them, and otherwise refused.
-STAND_IN = """#!/bin/sh
-echo "$*" >>"$0.calls"
-case "$1 $#" in
-"run 7") cat "$0.at.$4.$6" 2>/dev/null || exit 2 ;;
-"run "*) cat {out} ;;
-"campaign "*) cat {report} ;;
-esac
-exit {status}
+STAND_IN = """#!/usr/bin/env -S python3 -S -E -B
+import os, sys
+sys.path.insert(0, {tests!r})
+from views import answer
+file = os.path.splitext(sys.argv[2])[0]
+sys.exit(answer(sys.argv[0], sys.argv[1:], {out}, {report}, {status}))
 """
 
 
@@ -192,7 +190,7 @@ def stand_in(room, name="lost_wake_up", status=1, report=None):
     shutil.copy(COMPANION, f"{room}/bin/rtosim-report")
     file = f"{ROOT}/examples/{name}"
     with open(f"{room}/bin/rtosim", "w") as it:
-        it.write(STAND_IN.format(out=f"{file}.out", report=report or f"{file}.report", status=status))
+        it.write(STAND_IN.format(tests=f"{ROOT}/tests", out=repr(f"{file}.out"), report=repr(report or f"{file}.report"), status=status))
     os.chmod(f"{room}/bin/rtosim", 0o755)
     for words, lines, _ in session(f"examples/{name}.session") if os.path.exists(f"{file}.session") else ():
         if words[-1] == "--state":

@@ -2,17 +2,20 @@
 import itertools
 import os
 
-from . import explaining, ignored, points, reach, unused
+from . import base_ends, explaining, ignored, points, reach, unused
 from .application import Application
 from .findings import FAULT, Checked, Finding
 from .formats import MOST_POINTS
 from .lines import Lines
+from .mending import CannotMend, Mending
 from .nearness import did_you_mean
 from .nodes import NotToml
 from .toml_reader import read_document
-from .verdict import Verdict
+from .verdict import Place, Verdict
 
 MOST_BYTES = 64 << 20
+# So many faults of a file are looked for.
+MOST_FAULTS = 40
 ENCODINGS = ((b"\xff\xfe\0\0", "UTF-32"), (b"\0\0\xfe\xff", "UTF-32"), (b"\xff\xfe", "UTF-16"), (b"\xfe\xff", "UTF-16"))
 
 
@@ -23,9 +26,9 @@ def check(name, program):
             content = file.read(MOST_BYTES + 1)
     except (OSError, ValueError) as why:
         return cannot_read(name, program, why)
-    line, steps = program.run(content)
+    line, end = program.run(content)
     if line is None:
-        return taken(name, content, steps, program)
+        return taken(name, content, end, program)
     return refused(name, content, Verdict(line.replace("cannot read /dev/stdin", f"cannot read {name}")), program)
 
 
@@ -60,12 +63,34 @@ def refused(name, content, verdict, program):
     elif root is None or not verdict.place:
         checked.add(Finding(FAULT, verdict.kind or "Fault", None, "the program refuses this file"))
     else:
-        checked.add(explaining.explain(verdict, text, root, program.takes_several))
+        for it in faults(verdict, text, root, program):
+            checked.add(it)
+        spans = {it.span for it in checked.findings}
         for it in ignored.warnings(root, program.ignored):
-            if it.span != checked.findings[0].span:
+            if it.span not in spans:
                 checked.add(it)
     checked.findings[0].program = verdict.line
     return checked
+
+
+def faults(verdict, text, root, program):
+    """All faults of a document that don't follow from each other, the program's first one first."""
+    mending, asked = Mending(root), set()
+    while verdict.place and verdict.line not in asked and len(asked) < MOST_FAULTS:
+        place = Place(verdict.place)
+        if not asked or not mending.follows(verdict, place):
+            found = explaining.explain(verdict, text, root, program.takes_several)
+            found.program = verdict.line
+            yield found
+        asked.add(verdict.line)
+        try:
+            mending.mend(verdict, place)
+        except CannotMend:
+            return
+        line, _ = program.run(mending.text().encode())
+        if line is None:
+            return
+        verdict = Verdict(line)
 
 
 def with_line(fault, lines):
@@ -107,7 +132,7 @@ def other_encoding(content):
 # -- a file that the program takes
 
 
-def taken(name, content, steps, program):
+def taken(name, content, end, program):
     text, _ = text_of(content)
     checked = Checked(name, Lines(text))
     try:
@@ -116,12 +141,12 @@ def taken(name, content, steps, program):
         return checked
     application = Application(root)
     nodes = application.points() or []
-    if points.count(nodes, steps) > MOST_POINTS:
+    if points.count(nodes, end.steps) > MOST_POINTS:
         line = program.campaign(content)
         if line is not None and Verdict(line).kind == "TooManyPoints":
-            checked.add(points.too_many(nodes, steps, root, line))
-    looks = (ignored.warnings(root, program.ignored), unused.warnings(application), points.warnings(application, steps),
-             reach.warnings(application))
+            checked.add(points.too_many(nodes, end.steps, root, line))
+    looks = (ignored.warnings(root, program.ignored), unused.warnings(application), points.warnings(application, end.steps),
+             reach.warnings(application), base_ends.warnings(application, end))
     for it in itertools.chain(*looks):
         checked.add(it)
     checked.findings.sort(key=lambda it: (it.severity, it.span or (0, 0)))

@@ -4,7 +4,7 @@ import os
 import sys
 
 from rtosim_report.escaping import plain
-from rtosim_report.faults import STATUS_OUTPUT, Fault
+from rtosim_report.faults import STATUS_OUTPUT, STATUS_READER_LEFT, Fault
 from rtosim_report.output import ReaderLeft, standard_output
 from rtosim_report.source import PROGRAM
 
@@ -59,7 +59,7 @@ def main(words=None):
     try:
         return check_all(parsed(words))
     except ReaderLeft:
-        return STATUS_OUTPUT
+        return STATUS_READER_LEFT
     except Fault as fault:
         print(f"rtosim-check: {plain(str(fault))}", file=sys.stderr)
         return fault.status

@@ -3,8 +3,9 @@ import re
 
 from .explaining_points import listed
 from .explaining_conditions import problem_of_condition
-from .formats import (CALLED, COMMANDS, DAEMON, EXAMPLE_OF_A_DAEMON, KIN, LOOPS, MEANT_OPS, MEANT_TURNS, MEANT_WAITS, MEASURES, NUMBER,
-                      OPS, PLURALS, SECTIONS, Choice, Name, Turns, Wait, op_of, words_of)
+from .formats import (CALLED, COMMANDS, DAEMON, EXAMPLE_OF_A_DAEMON, KIN, LOOPS, MEANT_OPS, MEANT_TURNS, MEANT_WAITS, MEASURES,
+                      NOT_SIMULATED_OPS, NUMBER, OPS, PLURALS, SECTIONS, Choice, Name, Turns, Wait, not_simulated, not_simulated_rule, op_of,
+                      words_of)
 from .nearness import did_you_mean, near, quoted
 from .nodes import Integer, Text
 from .problem import Problem, told
@@ -52,13 +53,13 @@ def text_of(words):
 def problem_of_characters(text, section):
     """Another separator than a space, or a call as in C."""
     call = CALL.fullmatch(text)
-    if call:
+    if call and not not_simulated(call[1], NOT_SIMULATED_OPS):
         meant = near(without_isr(call[1]), OPS[section], MEANT_OPS)
         arguments = [it for it in re.split(r"[\s,]+", call[2]) if it and it[0] != "&" and it != "NULL"]
         end = did_you_mean(quoted(meant and " ".join([meant, *arguments])))
         return Problem(call.start(2) - 1, call.start(2), f"an op has no brackets{end}", ONLY_SPACES)
     found = SEPARATORS.search(text)
-    if not found:
+    if call or not found:
         return None
     meant = re.sub(" +", " ", SEPARATORS.sub(" ", text)).strip()
     what = CALLED_SEPARATORS.get(found.group(), "another kind of space")
@@ -71,10 +72,14 @@ def problem_of_characters(text, section):
 
 def problem_of_word(words, section):
     word, start, end = words[0]
+    word, end = word.partition("(")[0], start + len(word.partition("(")[0])
     if word in OPS[section]:
         return None
     if section == "handler" and word in OPS["task"]:
         return Problem(start, end, op_of_tasks(word), all_ops("handler"))
+    left_out_there = not_simulated(word, NOT_SIMULATED_OPS) if MEANT_OPS.get(word.lower()) is None else None
+    if left_out_there:
+        return Problem(start, end, f'no op is called "{word}": {left_out_there} aren\'t simulated', not_simulated_rule(left_out_there))
     meant = near(word, OPS[section], MEANT_OPS) or near(without_isr(word), OPS[section], MEANT_OPS)
     of_tasks = near(without_isr(word), OPS["task"], MEANT_OPS) if section == "handler" and not meant else None
     if of_tasks:

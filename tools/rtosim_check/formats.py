@@ -324,7 +324,29 @@ MEANT_OPS = {
     "write": "send", "post": "give", "release": "give", "signal": "give", "acquire": "take", "loop": "repeat", "for": "repeat",
     "assert": "expect", "configassert": "expect", "print": "mark", "log": "mark", "trace": "mark", "now": "time", "compute": "work",
     "run": "work", "elapsed": "since", "lap": "since", "timestamp": "stamp", "start_timer": "stamp", "deadline": "since",
-    "notify": "give", "set_bits": "set", "clear_bits": "clear", "get_bits": "bits", "wait_bits": "wait",
+    "set_bits": "set", "clear_bits": "clear", "get_bits": "bits", "wait_bits": "wait",
+}
+# What isn't simulated, by the beginnings of the words for it, in small letters and without `_`; and of sections the same.
+NOT_SIMULATED_OPS = {
+    "task notifications": ("notify", "xtasknotify", "vtasknotify", "ultasknotify", "tasknotify"),
+    "critical sections": ("entercritical", "exitcritical", "taskentercritical", "taskexitcritical", "critical", "disableinterrupts",
+                          "enableinterrupts", "taskdisableinterrupts", "taskenableinterrupts"),
+    "software timers": ("xtimer", "pvtimer", "timer", "starttimer", "stoptimer", "resettimer"),
+    "stream and message buffers": ("xstreambuffer", "streambuffer", "xmessagebuffer", "messagebuffer"),
+    "queue sets": ("xqueueaddtoset", "xqueueselectfromset", "xqueueremovefromset", "queueset"),
+    "recursive mutexes": ("xsemaphoretakerecursive", "xsemaphoregiverecursive", "lockrecursive", "unlockrecursive"),
+    "priorities that change": ("vtaskpriorityset", "setpriority", "priorityset"),
+    "tasks that are created or deleted at run time": ("xtaskcreate", "vtaskdelete", "createtask", "deletetask"),
+}
+NOT_SIMULATED_SECTIONS = {
+    "software timers": ("timer",), "task notifications": ("notif",), "critical sections": ("critical",),
+    "stream and message buffers": ("stream", "messagebuffer", "message_buffer"), "queue sets": ("queueset", "queue_set"),
+    "recursive mutexes": ("recursive",), "more than one core": ("core",),
+}
+IN_ITS_PLACE = {
+    "task notifications": "a binary or a counting semaphore of the task's own represents one",
+    "critical sections": "so a handler may come between any two ops, and a campaign may report moments that the firmware masks",
+    "software timers": "a [[handler]] at an [[interrupt]], or an endless task with delay_until, represents one",
 }
 # Ops that do the like to things of other kinds.
 KIN = (("receive", "take", "lock", "wait"), ("send", "give", "unlock", "set"), ("waiting", "bits"))
@@ -349,6 +371,16 @@ MOST_PAIRS = 3
 # How many of them the schema takes, which is for this version alone.
 PAIRS = 3
 MOST_POINTS = 1000000
+
+
+def not_simulated(word, table):
+    """What of FreeRTOS isn't simulated that a word or a section is about; None where it is about nothing of that kind."""
+    plain = word.lower().replace("_", "")
+    return next((what for what, starts in table.items() if plain.startswith(tuple(it.replace("_", "") for it in starts))), None)
+
+
+def not_simulated_rule(what):
+    return "; ".join(it for it in ("docs/KERNEL.md names what is left out", IN_ITS_PLACE.get(what)) if it)
 
 
 def op_of(section, text):

@@ -1,7 +1,8 @@
 """Warnings of what the program ignores: sections and keys that the format hasn't, and those in another place than theirs."""
 from .application import Entry
 from .findings import WARNING, Finding
-from .formats import MEANT_KEYS, MEANT_SECTIONS, SECTIONS, TOP_KEYS
+from .formats import (MEANT_KEYS, MEANT_SECTIONS, NOT_SIMULATED_SECTIONS, SECTIONS, TOP_KEYS, not_simulated,
+                      not_simulated_rule)
 from .nearness import did_you_mean, near
 from .nodes import Array, Table
 
@@ -38,6 +39,9 @@ def of_section(member):
     if owner and not isinstance(member.value, Table) and shown[0] != "[":
         message = f"{shown} is ignored: above the first table it is no key; it belongs under {owner}"
         return warning("UnknownSection", member, message)
+    left_out = not_simulated(name, NOT_SIMULATED_SECTIONS) if name.lower() not in MEANT_SECTIONS else None
+    if left_out and shown[0] == "[":
+        return warning("NotSimulated", member, f"{shown} is ignored: {left_out} aren't simulated", not_simulated_rule(left_out))
     meant = near(name, [*SECTIONS, *TOP_KEYS], MEANT_SECTIONS)
     end = did_you_mean(SECTIONS[meant].header if meant in SECTIONS else meant)
     kind = "section" if shown[0] == "[" or isinstance(member.value, (Table, Array)) else "key"

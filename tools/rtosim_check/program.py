@@ -1,4 +1,4 @@
-"""The program: what it says of a text, and how many steps its base run has."""
+"""The program: what it says of a text, and how its base run ends."""
 import json
 import re
 import subprocess
@@ -8,7 +8,9 @@ from rtosim_report.escaping import plain
 from rtosim_report.faults import Fault
 from rtosim_report.source import PROGRAM
 
-HEAD = re.compile(rb"base: .* in ([0-9]+) steps, [0-9]+ ticks\n")
+from .base_ends import BaseEnd
+
+HEAD = re.compile(rb"base: (.*) in ([0-9]+) steps, ([0-9]+) ticks\n")
 # A small application with an entry of each section, into which something is put to see whether the program knows it.
 PROBE = {
     "": "",
@@ -45,7 +47,7 @@ class Program:
             raise Fault(f"{plain(self.path)} ends with status {ran.returncode}")
 
     def run(self, text):
-        """The fault line of a text, or None, and the steps of its base run. Of what it writes the first line is taken."""
+        """The fault line of a text, or None, and the end of its base run. Of what it writes the first line is taken."""
         with kept(text) as given, tempfile.TemporaryFile() as said:
             streams = {"stdin": given, "stdout": subprocess.PIPE, "stderr": said}
             with subprocess.Popen([self.path, "run", "/dev/stdin"], **streams) as started:
@@ -55,7 +57,7 @@ class Program:
             said.seek(0)
             lines = said.read()
         if head:
-            return None, int(head[1])
+            return None, BaseEnd(head[1].decode(), int(head[2]), int(head[3]))
         return self.fault_line(status, lines), None
 
     def ended(self, started):

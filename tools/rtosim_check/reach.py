@@ -3,6 +3,7 @@ a handler's call that always fails.
 
 All are sure. What a task waits for is taken to come wherever an op that brings it may be reached at all, each condition may hold or
 not, and each handler is taken to come at any time. Where an op isn't known, nothing is said."""
+from . import misuses
 from .application import integer_of
 from .findings import WARNING, Finding
 from .formats import COMMANDS, ENDLESS, SECTIONS, op_of
@@ -25,6 +26,7 @@ def warnings(application):
         yield from of_tasks(application, scripts)
         yield from of_unreached(scripts)
         yield from of_handlers(application, [it for it in scripts if it.entry.section == "handler"])
+        yield from misuses.warnings([it for it in scripts if it.entry.section == "task"])
 
 
 class Script:

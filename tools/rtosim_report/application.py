@@ -1,6 +1,7 @@
-"""The application of a report: what its tasks' and handlers' ops are, by their texts. The program has taken the file; nothing is
-checked here but that it can be read."""
-from typing import Dict, List, NamedTuple, Optional
+"""The application of a report: what its tasks' and handlers' ops are, by their texts, or by the names that comments give them. The
+program has taken the file; nothing is checked here but that it can be read."""
+import re
+from typing import Dict, List, NamedTuple, Optional, Tuple
 
 from .escaping import plain
 from .faults import Fault
@@ -12,16 +13,25 @@ NAMELESS = SILENT_WORDS | {"delay", "delay_until", "yield", "time", "since", "su
 # The sections of the objects, which are numbered in this order.
 OBJECTS = ("queue", "binary", "counting", "mutex")
 ORDINALS = {2: "2nd", 3: "3rd"}
+# Behind an op, on its line: the comment that names it.
+NAMING_COMMENT = re.compile(r"[ \t,\]]*#[ \t]*name:([^\r\n]*)")
+LONGEST_NAME = 60
 
 
 class Op(NamedTuple):
-    """An op as it is written, in words."""
+    """An op as it is written, in words; and the name that a comment at the end of its line gives it, as `# name: inbox empty`."""
 
     words: List[str]
+    given_name: str = ""
 
     @property
     def text(self):
         return " ".join(self.words)
+
+    @property
+    def lasting(self):
+        """What it is called in the names of classes."""
+        return self.given_name or self.text
 
     @property
     def word(self):
@@ -49,18 +59,19 @@ class Script(NamedTuple):
         return self.ops[index] if 0 <= index < len(self.ops) else None
 
     def lasting_name(self, index):
-        """The op by its text, and from the second op of this text on which of them it is: so that ops added elsewhere change
-        nothing."""
+        """The op by the name that it is given, otherwise by its text; and from the second op of this name on which of them it is: so that
+        ops added elsewhere change nothing."""
         op = self.op(index)
         if op is None:
             return f"op {index}"
-        nth = sum(it.words == op.words for it in self.ops[: index + 1])
-        return op.text if nth == 1 else f"{op.text} ({ORDINALS.get(nth, f'{nth}th')})"
+        nth = sum(it.lasting == op.lasting for it in self.ops[: index + 1])
+        return op.lasting if nth == 1 else f"{op.lasting} ({ORDINALS.get(nth, f'{nth}th')})"
 
 
 class Application(NamedTuple):
     """The scripts by their names. The daemon is a task without one. `start` is the tick at reset; `interrupt_ticks` are the elapsed
-    ticks of the base interrupts, rising; `objects` are the names of queues, semaphores and mutexes in the order of their numbers."""
+    ticks of the base interrupts, rising; `objects` are the names of queues, semaphores and mutexes in the order of their numbers. Of each
+    section and key that the program ignores there is a line."""
 
     tasks: Dict[str, Script]
     handlers: Dict[str, Script]
@@ -69,6 +80,7 @@ class Application(NamedTuple):
     start: int = 0
     interrupt_ticks: List[int] = []
     objects: List[str] = []
+    ignored: List[str] = []
 
     def script(self, name) -> Optional[Script]:
         return self.tasks.get(name) or self.handlers.get(name)
@@ -84,34 +96,47 @@ class Application(NamedTuple):
         return None if script is None or index is None else script.op(index)
 
 
-def read_application(name):
-    """The application in the file of this name."""
+class Named(str):
+    """A text of the document, and the name that the comment behind it gives it."""
+
+    given_name = ""
+
+
+def read_document(name):
+    """The document in the file of this name, as dictionaries and lists, and a line for each section and key that the program ignores."""
     try:
         with open(name, "rb") as file:
-            document = document_of(file.read().decode("utf-8-sig"))
+            return document_of(file.read().decode("utf-8-sig"))
     except OSError as why:
         raise Fault(f"cannot read {plain(name)}: {why.strerror}") from None
     except ValueError as why:
         raise Fault(f"{plain(name)} is no application: {why}") from None
+
+
+def read_application(name):
+    """The application in the file of this name."""
+    document, ignored = read_document(name)
     tasks = [script_of(it, "script") for it in entries(document, "task")]
     handlers = [script_of(it, "ops") for it in entries(document, "handler")]
     daemon = document.get("daemon")
     return Application({it.name: it for it in tasks}, {it.name: it for it in handlers},
                        script_of(daemon, "") if isinstance(daemon, dict) else None, document.get("tickless") is True,
                        number_of(document, "start"), sorted({number_of(it, "tick") for it in entries(document, "interrupt")}),
-                       [str(it.get("name")) for section in OBJECTS for it in entries(document, section)])
+                       [str(it.get("name")) for section in OBJECTS for it in entries(document, section)], ignored)
 
 
-def document_of(text):
-    """The document as dictionaries and lists. What reads it names the fault as a ValueError."""
+def document_of(text) -> Tuple[dict, List[str]]:
+    """As read_document. What reads it names the fault as a ValueError."""
     try:
-        from rtosim_check import nodes, toml_reader
+        from rtosim_check import ignored, nodes, toml_reader
     except ImportError:
-        return document_of_library(text)
+        return document_of_library(text), []
     try:
-        return values_of(toml_reader.read_document(text))
+        root = toml_reader.read_document(text)
     except nodes.NotToml as why:
         raise ValueError(f"not TOML: {plain(str(why))}") from None
+    lines = [f"line {text.count(chr(10), 0, it.span[0]) + 1}: {it.message}" for _, it in ignored.of_document(root)]
+    return values_of(root, text), lines
 
 
 def document_of_library(text):
@@ -122,13 +147,18 @@ def document_of_library(text):
     return tomllib.loads(text)
 
 
-def values_of(node):
-    """The plain values of a document that is read with its places."""
+def values_of(node, text):
+    """The plain values of a document that is read with its places in this text; of a text the name too."""
     if hasattr(node, "members"):
-        return {key: values_of(it.value) for key, it in node.members.items()}
+        return {key: values_of(it.value, text) for key, it in node.members.items()}
     if hasattr(node, "items"):
-        return [values_of(it) for it in node.items]
-    return node.value
+        return [values_of(it, text) for it in node.items]
+    naming = NAMING_COMMENT.match(text, node.end) if isinstance(node.value, str) else None
+    if naming is None:
+        return node.value
+    found = Named(node.value)
+    found.given_name = plain(" ".join(naming[1].split()))[:LONGEST_NAME]
+    return found
 
 
 def entries(document, section):
@@ -139,7 +169,7 @@ def entries(document, section):
 def script_of(entry, key):
     ops = entry.get(key, [])
     texts = [it for it in ops if isinstance(it, str)] if isinstance(ops, list) else []
-    return Script(str(entry.get("name")), [Op(it.split()) for it in texts],
+    return Script(str(entry.get("name")), [Op(it.split(), getattr(it, "given_name", "")) for it in texts],
                   entry.get("endless") is True, number_of(entry, "priority"))
 
 

@@ -9,7 +9,7 @@ from dataclasses import dataclass, field
 from itertools import islice
 from typing import Dict, List, Optional, Tuple
 
-from .causes import failed_calls
+from .causes import failed_calls, has_failed
 from .faults import BadReport, Fault, WordsFault
 from .grammar import EVENT_LINES
 from .injections import own_stretches, own_words, without
@@ -44,10 +44,13 @@ class BaseRun:
     steps: List[int] = field(default_factory=list)
     offsets: List[int] = field(default_factory=list)
     places: Dict[int, Tuple[int, int]] = field(default_factory=dict)
-    has_failed_calls: bool = False
+    # The handlers' calls that failed, and the numbers of their lines.
+    failed: List[bytes] = field(default_factory=list)
+    failed_at: List[int] = field(default_factory=list)
 
     def __post_init__(self):
-        self.has_failed_calls = bool(failed_calls(self.lines))
+        self.failed_at = [at for at, (_, _, what) in enumerate(self.lines) if what.startswith(b"isr ") and has_failed(what)]
+        self.failed = [self.lines[at][2] for at in self.failed_at]
         self.steps = [int(it[0]) for it in self.lines]
         texts = texts_of(self.lines)
         self.text = b"".join(texts)
@@ -58,6 +61,10 @@ class BaseRun:
     def run(self):
         """Itself as a run of a report, whose place there isn't known."""
         return Run(self.head, self.text, 0, self.state)
+
+    def failed_from(self, position):
+        """The handlers' calls that failed from this line on."""
+        return self.failed[bisect.bisect_left(self.failed_at, position) :]
 
     def position(self, step):
         """How many lines come before this step."""
@@ -139,7 +146,8 @@ def seek_base(source):
     latest = checked_run(scan.latest)
     lines = [it for it in latest.checked_lines() if int(it[0]) < scan.last_step]
     known = BaseRun(None, lines, Origin.PART, scan.last_step)
-    return presumed_base(source, known, all(scan.seen)) or known
+    lacks_rows = source.numbering() != (0, False)
+    return known if lacks_rows else presumed_base(source, known, all(scan.seen)) or known
 
 
 def checked_run(part):

@@ -6,18 +6,18 @@ import enum
 import hashlib
 import re
 from dataclasses import dataclass, field
-from typing import Dict, List, Optional
+from typing import Dict, List, Optional, Tuple
 
 from . import differences
 from .base_run import is_base_exactly, tail_of_row
-from .causes import Causes, failed_beyond
+from .causes import Causes, failed_beyond, failed_in_text
 from .endings import Endings
 from .faults import BadReport
 from .report import Head
 
 # An outcome that takes more bytes is known by a digest.
 LONGEST_KEY = 200
-AS_BASE, BY_CAUSE = "as the base run", "by cause"
+AS_BASE, BY_CAUSE, BY_HEAD = "as the base run", "by cause", "by head"
 # What differs is shown with a number of a step where the base run isn't known to its end.
 STEP_OF_BASE = re.compile(r"before step [0-9]+")
 
@@ -43,6 +43,7 @@ class OutcomeClass:
     is_by_cause: bool = False
     failed: str = ""
     ending: List[str] = field(default_factory=list)
+    is_by_head: bool = False
     number: int = 0
     rows: int = 0
     not_reached: int = 0
@@ -69,9 +70,19 @@ class OutcomeClass:
         if not self.fewest_ticks <= head.ticks <= self.most_ticks:
             self.fewest_ticks = min(self.fewest_ticks, head.ticks)
             self.most_ticks = max(self.most_ticks, head.ticks)
-        point = head.point
-        for handler in (point[0].handler,) if len(point) == 1 else dict.fromkeys(it.handler for it in point):
+        for handler in handlers_of(head):
             self.handlers[handler] = self.handlers.get(handler, 0) + 1
+
+
+def handlers_of(head: Head) -> Tuple[str, ...]:
+    """The handlers that a row's point injects, each once."""
+    point = head.point
+    return (point[0].handler,) if len(point) == 1 else tuple(dict.fromkeys(it.handler for it in point))
+
+
+def handlers_words(head: Head) -> str:
+    """The end of the name of a class that fails."""
+    return f" [{' '.join(sorted(handlers_of(head)))}]"
 
 
 class Classifier:
@@ -79,14 +90,18 @@ class Classifier:
 
     def __init__(self, base, by=By.OUTCOME, application=None, endings=None):
         self.base, self.by = base, by
-        self.causes, self.endings = Causes(application), endings or Endings(application)
+        self.causes, self.endings = Causes(application, base), endings or Endings(application)
         self.classes: Dict[object, OutcomeClass] = {}
 
-    def add(self, run) -> Optional[OutcomeClass]:
-        """The class of the row, which may be new. A base run of a report isn't a row."""
+    def add(self, run, is_made=False) -> Optional[OutcomeClass]:
+        """The class of the row, which may be new. A base run of a report isn't a row. `is_made` says that the program has just made it."""
         if run.head.row is None:
             run.checked_lines()
             return None
+        known = self.quick_class(run) if is_made and self.by is not By.VERDICT else None
+        if known is not None:
+            known.add(run.head)
+            return known
         if None in self.classes and self.base.head is not None and is_base_exactly(run, self.base):
             found = self.classes[None]
             found.add(run.head)
@@ -101,6 +116,40 @@ class Classifier:
             found = self.classes[key] = self.new_class(run, tail, position, key, failed)
         found.add(run.head)
         return found
+
+    def add_head(self, run) -> OutcomeClass:
+        """The class of a row of which the head alone is known: those that pass are one, those that fail are of one end and of the same
+        handlers."""
+        head = run.head
+        if self.by is By.VERDICT:
+            key = BY_CAUSE, head.verdict.text
+        else:
+            key = (BY_HEAD, "pass") if head.verdict.passes else (BY_HEAD, head.verdict.text, tuple(sorted(handlers_of(head))))
+        found = self.classes.get(key)
+        if found is None:
+            is_named = self.by is By.VERDICT or head.verdict.passes
+            name = head.verdict.text if is_named else self.causes.end_of_head(head.verdict) + handlers_words(head)
+            found = self.classes[key] = OutcomeClass(head, False, "", name, True, is_by_head=True)
+        found.add(head)
+        return found
+
+    def quick_class(self, run) -> Optional[OutcomeClass]:
+        """The class of a row that the program has made, if it is one by cause that is there already: lines are looked at for calls that
+        failed alone. None where it isn't found so."""
+        head, base = run.head, self.base
+        if base.head is None or not head.is_reached or not self.is_by_cause(head.verdict) or head.verdict == base.head.verdict:
+            return None
+        start = base.place(head.point.first_step)[1]
+        if run.text[:start] != base.text[:start]:
+            return None
+        failed = failed_in_text(run, base, start)
+        return self.classes.get(self.key_by_cause(run, failed))
+
+    def check(self, run):
+        """Looks at the lines of a row that is classed by its head: they begin as the base run does, and are its own if it isn't reached."""
+        tail, position = tail_of_row(run, self.base)
+        if not run.head.is_reached:
+            self.check_unreached(run, tail, position)
 
     def check_unreached(self, run, tail, position):
         if self.base and not differences.equals_exactly(run, tail, position, self.base):
@@ -118,7 +167,7 @@ class Classifier:
         if is_as_base and not failed:
             return None
         if self.is_by_cause(run.head.verdict):
-            return BY_CAUSE, self.causes.key_of(run, failed)
+            return self.key_by_cause(run, failed)
         if is_as_base:
             return AS_BASE, failed
         seen = [b" ".join(it[1:]) for it in tail] if exact else [what for _, _, what in tail]
@@ -128,6 +177,9 @@ class Classifier:
             outcome = hashlib.blake2b(outcome, digest_size=16).digest()
         return end, outcome
 
+    def key_by_cause(self, run, failed):
+        return BY_CAUSE, self.causes.key_of(run, failed), () if run.head.verdict.passes else tuple(sorted(handlers_of(run.head)))
+
     def new_class(self, run, tail, position, key, failed):
         words = differences.difference(run, tail, position, self.base, self.by is By.EXACT).words
         is_by_cause = key is not None and key[0] == BY_CAUSE
@@ -136,6 +188,8 @@ class Classifier:
             name = run.head.verdict.text
         elif is_by_cause:
             name = self.causes.end_of(run) + failed_words
+            if not run.head.verdict.passes:
+                name += handlers_words(run.head)
         elif key is None or key[0] == AS_BASE:
             name = self.name_as_base(run) + failed_words
         else:

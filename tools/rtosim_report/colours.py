@@ -1,31 +1,31 @@
-"""Colours of classes: warm where a class fails, cold where it passes, grey where it is as the base run; no two alike."""
+"""Colours of classes: warm and full where a class fails, cold and pale where it passes, grey where it is as the base run; no two alike."""
 import colorsys
 
 FAILING = ["#b3261e", "#e8590c", "#c2255c", "#e6a700", "#7a3e12", "#f06595"]
-PASSING = ["#2f6fce", "#0f9d8a", "#3b4cc0", "#2e8b3d", "#22a6d6", "#4f7f8c"]
-AS_BASE = "#b8c0ca"
+PASSING = ["#b9d1f2", "#b0e0d9", "#c3c8ef", "#b5dcbb", "#b4e0f1", "#c2d4d9"]
+AS_BASE = "#dfe3e8"
 # Where hues begin, and how far they go, in parts of a turn.
 WARM, COLD = (-0.09, 0.22), (0.25, 0.45)
 GOLDEN = 0.618034
-LIGHTNESS = (0.40, 0.55, 0.30, 0.65, 0.47)
+DARK, PALE = (0.40, 0.55, 0.30, 0.65, 0.47), (0.84, 0.78, 0.88, 0.81, 0.75)
 
 
-def generated(index, hues):
+def generated(index, hues, lightness):
     """The colour of this index: hues are spread, and lightness changes from one to the next."""
     first, width = hues
     hue = (first + width * (index * GOLDEN % 1)) % 1
     saturation = 0.85 - 0.45 * (index * GOLDEN * GOLDEN % 1)
-    parts = colorsys.hls_to_rgb(hue, LIGHTNESS[index % len(LIGHTNESS)], saturation)
+    parts = colorsys.hls_to_rgb(hue, lightness[index % len(lightness)], saturation)
     return "#" + "".join(f"{round(255 * it):02x}" for it in parts)
 
 
-def colours(first, hues):
+def colours(first, hues, lightness):
     """The colours that are chosen, and then others, each once."""
     seen = {*FAILING, *PASSING, AS_BASE}
     yield from first
     index = 0
     while True:
-        found = generated(index, hues)
+        found = generated(index, hues, lightness)
         if found not in seen:
             seen.add(found)
             yield found
@@ -34,7 +34,7 @@ def colours(first, hues):
 
 def colours_of(classes):
     """A colour for each class, by its number."""
-    failing, passing = colours(FAILING, WARM), colours(PASSING, COLD)
+    failing, passing = colours(FAILING, WARM, DARK), colours(PASSING, COLD, PALE)
     return {it.number: AS_BASE if it.is_base else next(passing if it.verdict.passes else failing) for it in classes}
 
 

@@ -4,147 +4,33 @@ A command takes in its own modules when it is done, so that each of them starts 
 import argparse
 import sys
 
-from .application import read_application
-from .base_run import find_base, given_base, tail_of_row
-from .classes import By, Classifier
-from .end_state import state_of
-from .endings import Endings
+from .classes import By
 from .escaping import plain
-from .faults import STATUS_OUTPUT, Fault, WordsFault, counted
+from .faults import STATUS_OUTPUT, STATUS_READER_LEFT, Fault
+from .job import Job
+from .known import Failure
 from .output import ReaderLeft, direct_output, output_file, standard_output
-from .reading import lone_run_of
-from .source import base_source, campaign_source, file_source, standard_input, state_source
-from .table import Given
 
 DESCRIPTION = "Reads a report of `rtosim run` or `rtosim campaign`: which points matter, pictures, other tools' formats."
 # So the name of an application ends, where a report may be named too.
 APPLICATION = ".toml"
-# So many rows' states are asked for.
-MOST_ASKED = 100
-
-
-class Job:
-    """What was asked for, and the report that it is asked of."""
-
-    def __init__(self, words, has_texts=True):
-        self.words = words
-        self.application = words.application
-        self.is_made_here = self.application is not None and words.report is None
-        self.source = self.open_source()
-        self.texts = read_application(self.application) if self.application is not None and has_texts else None
-        self.base = None
-        self.lone_run, self.ending = None, []
-        self.asked = 0 if self.is_made_here and words.asks_for_states else MOST_ASKED
-        self.endings = Endings(self.texts, self.ask_for_state)
-
-    @property
-    def given(self):
-        return Given(self.application, self.words.report, self.words.base)
-
-    def open_source(self):
-        if self.is_made_here:
-            if self.words.about_a_run and self.words.row is None:
-                return base_source(self.application)
-            return campaign_source(self.application, self.words.workers)
-        if self.words.report in (None, "-"):
-            return standard_input(self.words.partial)
-        return file_source(self.words.report, self.words.partial)
-
-    def runs(self):
-        """The runs of the report, all of which are there when the last one was taken."""
-        reader = self.source.reader()
-        try:
-            yield from reader
-        finally:
-            reader.progress.end()
-        if reader.is_cut_off:
-            print(f"rtosim-report: the report is cut off: {counted(reader.tally.rows, 'whole row')}", file=sys.stderr)
-
-    def quiet_runs(self):
-        """The runs, before they are read for the result."""
-        reader = self.source.reader()
-        try:
-            yield from reader
-        finally:
-            reader.progress.end()
-
-    def ask_for_state(self, head):
-        """The state at the end of a row, as the program writes it. Where it writes none once, it isn't asked again."""
-        if self.asked >= MOST_ASKED or head.point is not None and not head.point.is_single:
-            return None
-        self.asked += 1
-        source = state_source(self.application, head.point)
-        run = None if source is None else lone_run_of(source.reader())
-        if run is None or run.head.end_text() != head.end_text() or not run.state:
-            self.asked = MOST_ASKED
-            return None
-        return state_of(run.state)
-
-    def find_base(self):
-        if self.words.base is not None:
-            self.base = given_base(file_source(self.words.base).reader())
-        elif self.is_made_here:
-            self.base = given_base(base_source(self.application).reader())
-        else:
-            self.base = find_base(self.source)
-        return self.base
-
-    def classify(self, see=None):
-        """All rows in classes. Each row and its class are shown to `see`."""
-        classifier = Classifier(self.find_base(), self.words.by, self.texts, self.endings)
-        rows = 0
-        for run in self.runs():
-            found = classifier.add(run)
-            self.lone_run = run.head if run.head.row is None else None
-            self.ending = self.endings.lines_of(run) if self.lone_run else []
-            rows += found is not None
-            if see and found is not None:
-                see(run, found)
-        return classifier.in_order(), rows
-
-    def wanted_run(self, row):
-        """The run of this row, or the base run; and the base run beside it. The whole report is checked."""
-        base = self.find_base()
-        wanted, rows = None, 0
-        for run in self.runs():
-            if run.head.row is None:
-                run.checked_lines()
-                continue
-            rows += 1
-            tail_of_row(run, base)
-            if run.head.row == row:
-                wanted = run
-        if row is not None and wanted is None:
-            raise WordsFault(f"there is no row {row}: the report has {counted(rows, 'row')}")
-        return wanted, base
-
-    def timeline(self):
-        from . import timeline
-
-        run, base = self.wanted_run(self.words.row)
-        if run is not None:
-            found = timeline.of_row(run, base, self.texts)
-            found.ending = self.endings.lines_of(run)
-            return found
-        if base is None or base.head is None:
-            raise WordsFault("the report does not have the base run: --row N, --base or --application")
-        found = timeline.of_base(base, self.texts)
-        found.ending = self.endings.lines_of(base.run())
-        return found
 
 
 def do_classes(job, output):
     from . import known, table
 
     accepted = None if job.words.accept is None else known.read_names(job.words.accept)
-    classes, rows = job.classify()
+    classes = job.classify()
     if job.words.names:
-        for it in classes:
-            if not (job.words.failing and it.verdict.passes):
-                output.line(it.name)
+        for it in [*job.failures([]), *(it for it in classes if not (job.words.failing and it.verdict.passes))]:
+            output.line(it.line() if isinstance(it, Failure) else Failure(it.name, it.rows).line())
     else:
-        table.write_classes(output, classes, job.base, rows, job.given, job.words.failing, job.ending)
-    return 0 if accepted is None else known.judged([it.name for it in classes if not it.verdict.passes], accepted)
+        empty = job.emptiness()
+        notes = [*job.ending, *([empty.words] if empty else []), *job.notes]
+        table.write_classes(output, classes, job.base, job.total, job.given, job.words.failing, notes)
+    if accepted is None:
+        return 0
+    return max(known.judged(job.failures(classes), accepted), job.is_empty())
 
 
 def do_compare(words, output):
@@ -153,8 +39,8 @@ def do_compare(words, output):
 
     both = all(it.endswith(APPLICATION) for it in (words.old, words.new))
     jobs = [Job(argparse.Namespace(**{**vars(words), **named(it)}), both) for it in (words.old, words.new)]
-    old, new = (it.classify()[0] for it in jobs)
-    return 1 if write_changes(output, old, new, jobs[1].given) else 0
+    old, new = (it.classify() for it in jobs)
+    return max(write_changes(output, old, new, jobs[1].given) > 0, jobs[1].is_empty())
 
 
 def named(name):
@@ -169,6 +55,21 @@ def do_join(words, output):
     join(words.parts, words.of, output)
 
 
+def do_pairs(words, output):
+    """Writes the points of pairs. How many steps the base run has the program says."""
+    from .application import read_application
+    from .faults import WordsFault
+    from .made import MadeReport
+    from .pairs import write_pairs
+
+    known = read_application(words.application).handlers
+    unknown = next((it for it in words.handler if it not in known), None)
+    if unknown is not None:
+        raise WordsFault(f"no handler is called {unknown}; the handlers are {', '.join(known) or 'none'}")
+    last = MadeReport(words.application).base().head.steps if words.last is None else words.last + 1
+    write_pairs(output, list(dict.fromkeys(words.handler)), range(words.first, last), words.within)
+
+
 def do_show(job, output):
     from . import show
 
@@ -180,23 +81,24 @@ def do_show(job, output):
 def do_json(job, output):
     from . import json_lines
 
-    for run in job.runs():
-        json_lines.write_run(output, run)
+    write = json_lines.write_run if job.made or not job.source.has_heads_alone() else json_lines.write_head
+    for run in job.whole_runs():
+        write(output, run)
 
 
 def do_junit(job, output):
     from . import junit, known
 
-    accepted = frozenset() if job.words.accept is None else known.read_names(job.words.accept)
+    accepted = known.Known() if job.words.accept is None else known.read_names(job.words.accept)
     suite = junit.Suite(job.application or job.words.report or "standard input", job.given, accepted)
-    classes, _ = job.classify()
+    classes = job.classify()
     if job.words.rows and classes:
-        junit.write_rows(output, suite, job.quiet_runs(), junit.counts_of(classes))
+        junit.write_rows(output, suite, job.heads(), junit.counts_of(classes))
         return 0
-    is_a_run = job.lone_run is not None and not job.is_made_here
-    told = None if job.lone_run is None else junit.LoneRun(job.lone_run, job.ending)
-    failing = junit.write_classes(output, suite, classes, told, job.words.allow_empty or is_a_run)
-    return 0 if job.words.accept is None else known.judged(failing, accepted)
+    lone_run = None if job.lone_run is None else junit.LoneRun(job.lone_run, job.ending, job.lone_name)
+    empty = None if job.words.allow_empty else job.emptiness()
+    junit.write_classes(output, suite, classes, lone_run, empty)
+    return 0 if job.words.accept is None else max(known.judged(job.failures(classes), accepted), job.is_empty())
 
 
 def do_svg(job, output):
@@ -206,8 +108,8 @@ def do_svg(job, output):
         timeline_picture.write(output, job.timeline())
         return
     picture = map_picture.Map()
-    classes, rows = job.classify(picture.see)
-    picture.write(output, classes, rows, job.base)
+    classes = job.classify(picture.see)
+    picture.write(output, classes, job.total.rows, job.base)
 
 
 def do_perfetto(job, output):
@@ -245,7 +147,9 @@ def add_options(parser):
     parser.add_argument("--workers", type=workers, metavar="N|auto", help="of how many workers the program makes use")
     parser.add_argument("--partial", action="store_true", help="take the whole rows of a report that is cut off")
     parser.add_argument("--output", "-o", metavar="FILE", help="write to this file, when all of it is there")
-    parser.set_defaults(by=By.DEFAULT, row=None, about_a_run=False, accept=None, asks_for_states=False)
+    parser.add_argument("--whole", action="store_true", help="read all rows whole, also where they are too many, and of a page those that pass")
+    parser.set_defaults(by=By.DEFAULT, row=None, about_a_run=False, accept=None, asks_for_states=False,
+                        allow_empty=False, folds=False)
 
 
 def add_classes(commands):
@@ -257,20 +161,28 @@ def add_classes(commands):
     parser.add_argument("--by", type=By, choices=choices, metavar=metavar, help="what counts; else the cause of those that fail, \
 and the outcome of those that pass")
     parser.add_argument("--failing", action="store_true", help="those that fail alone")
-    parser.add_argument("--names", action="store_true", help="the names of the classes, a line each")
+    parser.add_argument("--names", action="store_true", help="the names of the classes with their numbers of rows, a line each")
     add_accept(parser)
+    add_allow_empty(parser)
     parser.set_defaults(do=do_classes, asks_for_states=True)
 
 
 def add_accept(parser):
-    parser.add_argument("--accept", metavar="FILE", help="names of failures that are known, a line each; status 1 for any other")
+    parser.add_argument("--accept", metavar="FILE", help="names of failures that are known, a line each; status 1 for any other, and for \
+more rows of one")
+
+
+def add_allow_empty(parser):
+    help_text = "a campaign without points, or of points none of which is reached, is no failure"
+    parser.add_argument("--allow-empty", action="store_true", help=help_text)
 
 
 def add_compare(commands):
     parser = commands.add_parser("compare", help="two versions: which classes are new, gone, larger, smaller")
     parser.add_argument("old", metavar="OLD", help="a report, or an application, FILE.toml, of which the program makes one")
-    parser.add_argument("new", metavar="NEW", help="the same of the new version; status 1 where a failure is new")
+    parser.add_argument("new", metavar="NEW", help="the same of the new version; status 1 where a failure is new, or has more rows")
     add_options(parser)
+    add_allow_empty(parser)
     parser.set_defaults(do=do_compare, by=By.CAUSE, application=None, report=None, base=None)
 
 
@@ -280,6 +192,25 @@ def add_join(commands):
     parser.add_argument("--of", type=int, metavar="N", help="how many shards there are; else as many as parts are named")
     parser.add_argument("--output", "-o", metavar="FILE", help="write to this file, when all of it is there")
     parser.set_defaults(do=do_join, report=None, application=None, base=None, workers=None, accept=None)
+
+
+def step(word):
+    """A number of a step, or of steps."""
+    found = int(word)
+    if not 0 <= found <= 1_000_000:
+        raise ValueError
+    return found
+
+
+def add_pairs(commands):
+    parser = commands.add_parser("pairs", help="the points of two interrupts each, as a section for the end of an application")
+    parser.add_argument("application", metavar="FILE", help="the application")
+    parser.add_argument("--handler", action="append", required=True, metavar="H", help="the handler that comes twice; or two, in both orders")
+    parser.add_argument("--within", type=step, default=10, metavar="N", help="the second comes at most N steps later (10)")
+    parser.add_argument("--from", dest="first", type=step, default=0, metavar="STEP", help="the first one's least step (0)")
+    parser.add_argument("--to", dest="last", type=step, metavar="STEP", help="its greatest one; else the last one of the base run")
+    parser.add_argument("--output", "-o", metavar="FILE", help="write to this file, when all of it is there")
+    parser.set_defaults(do=do_pairs, report=None, base=None, workers=None, accept=None, makes_points=True)
 
 
 def add_show(commands):
@@ -297,7 +228,7 @@ def add_formats(commands):
     parser = commands.add_parser("junit", help="test cases for a build server: a class each")
     add_common(parser)
     parser.add_argument("--rows", action="store_true", help="a test case for each row")
-    parser.add_argument("--allow-empty", action="store_true", help="a campaign without points is no failure")
+    add_allow_empty(parser)
     add_accept(parser)
     parser.set_defaults(do=do_junit, by=By.CAUSE, asks_for_states=True)
     parser = commands.add_parser("svg", help="a picture of a run, or of a campaign")
@@ -308,7 +239,7 @@ def add_formats(commands):
     parser.set_defaults(do=do_svg, about_a_run=True, asks_for_states=True)
     parser = commands.add_parser("html", help="a page to look through a campaign: the map, the classes, rows beside the base run")
     add_common(parser)
-    parser.set_defaults(do=do_html, asks_for_states=True)
+    parser.set_defaults(do=do_html, asks_for_states=True, folds=True)
     for name, do, help_text in (
         ("perfetto", do_perfetto, "a run as a Chrome trace, for ui.perfetto.dev"),
         ("vcd", do_vcd, "a run as a value change dump, for GTKWave and PulseView"),
@@ -326,10 +257,13 @@ def parsed(words):
     add_show(commands)
     add_compare(commands)
     add_join(commands)
+    add_pairs(commands)
     add_formats(commands)
     found = parser.parse_args(words)
     if getattr(found, "campaign", False):
         found.about_a_run = False
+    if getattr(found, "rows", False):
+        found.by = By.VERDICT
     if getattr(found, "names", False) or getattr(found, "rows", False):
         found.asks_for_states = False
     check_together(parser, found)
@@ -350,7 +284,7 @@ def check_together(parser, found):
 
 
 # These take the words themselves, and not a report.
-OF_SEVERAL_REPORTS = (do_compare, do_join)
+OF_SEVERAL_REPORTS = (do_compare, do_join, do_pairs)
 
 
 def output_of(found):
@@ -368,7 +302,7 @@ def main(words=None):
             status = found.do(found if found.do in OF_SEVERAL_REPORTS else Job(found), output)
         return status or 0
     except ReaderLeft:
-        return STATUS_OUTPUT
+        return STATUS_READER_LEFT
     except Fault as fault:
         if str(fault):
             print(f"rtosim-report: {plain(str(fault))}", file=sys.stderr)

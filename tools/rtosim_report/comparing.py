@@ -27,6 +27,11 @@ class Change(NamedTuple):
         return self.new is not None and not self.new.verdict.passes and (self.old is None or self.old.verdict.passes)
 
     @property
+    def is_larger_failure(self):
+        """Whether more rows fail so than before: some of them may have another cause."""
+        return self.word == "larger" and self.fails
+
+    @property
     def fails(self):
         return not (self.new or self.old).verdict.passes
 
@@ -42,14 +47,15 @@ def changes_of(old, new) -> List[Change]:
     """Failures that are new first, then other classes that fail, then those that pass."""
     olds, news = {it.name: it for it in old}, {it.name: it for it in new}
     found = [Change(name, olds.get(name), news.get(name)) for name in {**news, **olds}]
-    return sorted(found, key=lambda it: (not it.is_new_failure, not it.fails))
+    return sorted(found, key=lambda it: (not it.is_new_failure, not it.is_larger_failure, not it.fails))
 
 
 def write_changes(output, old, new, given: Given):
-    """The table, with the command of each failure that is new below it. Returns how many there are."""
+    """The table, with the command of each failure that is new, or has more rows, below it. Returns how many there are."""
     changes = changes_of(old, new)
-    failures = sum(it.is_new_failure for it in changes)
-    output.line(f"{rows_of(old)} before, {rows_of(new)} now; {counted(failures, 'failure')} new")
+    failures, larger = sum(it.is_new_failure for it in changes), sum(it.is_larger_failure for it in changes)
+    more = f", {larger:,} larger" if larger else ""
+    output.line(f"{rows_of(old)} before, {rows_of(new)} now; {counted(failures, 'failure')} new{more}")
     told = [it for it in changes if it.word != "same"]
     same = len(changes) - len(told)
     if told:
@@ -58,11 +64,11 @@ def write_changes(output, old, new, given: Given):
         output.line(heading)
         for it, line in zip(told, lines):
             output.line(line)
-            if it.is_new_failure:
+            if it.is_new_failure or it.is_larger_failure:
                 output.line(f"       {command_of(it.new.first, given)}")
     if same:
         output.line(f"{counted(same, 'class')} of as many rows as before")
-    return failures
+    return failures + larger
 
 
 def rows_of(classes):

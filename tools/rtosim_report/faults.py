@@ -4,6 +4,8 @@ from .escaping import plain
 STATUS_WORDS = 2
 STATUS_REPORT = 3
 STATUS_OUTPUT = 5
+# As a shell shows a program that SIGPIPE ended.
+STATUS_READER_LEFT = 141
 SHOWN_BYTES = 60
 
 
@@ -26,10 +28,10 @@ class OutputFault(Fault):
 
 
 class ProgramFault(Fault):
-    """The program that should make the report failed, and has said why."""
+    """The program that should make the report failed, and has said why; of a file that it refuses there is more to say."""
 
-    def __init__(self, status):
-        super().__init__("")
+    def __init__(self, status, file):
+        super().__init__(f"rtosim-check {file} explains it" if status == STATUS_REPORT else "")
         self.status = status
 
 

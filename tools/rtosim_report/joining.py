@@ -11,7 +11,7 @@ from typing import NamedTuple, Optional
 from .escaping import plain
 from .faults import BadReport, CutOff, Fault, WordsFault, counted
 from .output import Progress
-from .reading import Reader, Run, Tally, tally_of
+from .reading import Run, Tally, ViewReader
 from .source import file_source
 
 BLOCK = 1 << 20
@@ -35,33 +35,6 @@ def named(name):
         raise BadPart(name, f"it is cut off at line {fault.line_number}") from None
     except BadReport as fault:
         raise BadPart(name, fault) from None
-
-
-class ShardReader(Reader):
-    """The rows of a shard, whose numbers are those of the whole campaign. Some of those that the total line counts may be left out."""
-
-    def __init__(self, stream, progress):
-        super().__init__(stream, progress=progress)
-        self.last_row = -1
-        self.total = None
-
-    def __iter__(self):
-        for run in super().__iter__():
-            if run.head.row is not None:
-                self.last_row = run.head.row
-            yield run
-
-    def is_next(self, row):
-        return row > self.last_row
-
-    def next_row(self):
-        return f"`row N at STEP HANDLER: VERDICT in N steps, E ticks` with a number above {self.last_row}"
-
-    def check_total(self, total):
-        line, feed, after = total.partition(b"\n")
-        self.total = tally_of(line) if feed and not after else None
-        if self.total is None:
-            super().check_total(total)
 
 
 def lines_before(run, step):
@@ -138,7 +111,7 @@ class Part:
         self.first = self.last = None
         self.bases = Bases()
         source = file_source(name)
-        reader = ShardReader(source.stream, Progress(source.size))
+        reader = ViewReader(source.stream, progress=Progress(source.size))
         source.stream.seek(0)
         with named(name):
             self.view = self.see_rows(reader)
@@ -166,19 +139,15 @@ class Part:
         self.total = reader.total
         if self.total is None:
             raise BadPart(self.name, "it is the report of a run, and not of a shard of a campaign")
+        why = reader.contradiction()
+        if why:
+            raise BadPart(self.name, why)
         return self.view_of(reader.tally, has_lines, has_heads_alone)
 
     def view_of(self, written, has_lines, has_heads_alone):
         """The view of these rows. Those of one end are all written, or none of them is."""
-        for kind, count in self.total.by_kind.items():
-            if written.by_kind[kind] not in (0, count):
-                found = counted(written.by_kind[kind], "row")
-                raise BadPart(self.name, f"it has {found} that end with `{kind}`, and its total line counts {count}")
         there = frozenset(kind for kind, count in written.by_kind.items() if count)
         lacking = frozenset(kind for kind, count in self.total.by_kind.items() if count and kind not in there)
-        if not lacking and written.not_reached != self.total.not_reached:
-            found = counted(written.not_reached, "row")
-            raise BadPart(self.name, f"it has {found} that are not reached, and its total line counts {self.total.not_reached}")
         return View(there, lacking, has_lines, has_heads_alone)
 
     def copy_rows(self, output):

@@ -5,6 +5,11 @@ import json
 from .report import Kind, event_of
 
 
+def write_head(output, run):
+    """The object of a run of which the head alone is known: it has no events."""
+    output.write_bytes(head_fields(run.head).encode() + b"}\n")
+
+
 def write_run(output, run):
     """The run's object. Events are put together from texts that are kept, as most of them come again and again."""
     fields = fields_of

@@ -2,15 +2,16 @@
 import os
 import time
 from dataclasses import dataclass
-from typing import FrozenSet, List
+from typing import List
 from xml.sax.saxutils import escape, quoteattr
 
 from .escaping import plain
 from .faults import counted
+from .known import Failure, Known
 from .report import Head, Verdict
 from .table import Given, command_of, words_of
 
-NO_POINTS = Verdict("no points", "empty")
+EMPTY = Verdict("nothing is tested", "empty")
 
 
 @dataclass(frozen=True)
@@ -19,7 +20,7 @@ class Suite:
 
     name: str
     given: Given
-    accepted: FrozenSet[str] = frozenset()
+    known: Known = Known()
 
 
 @dataclass(frozen=True)
@@ -31,10 +32,31 @@ class Counts:
 
 @dataclass(frozen=True)
 class LoneRun:
-    """The base run of a report without rows, and what it says at its end."""
+    """The base run of a report without rows, what it says at its end, and its name where it fails."""
 
     head: Head
     ending: List[str]
+    name: str
+
+    def case(self):
+        passes = self.head.verdict.passes
+        return Case(Failure("the base run" if passes else self.name), self.head.verdict, "\n".join([self.head.text(), *self.ending]))
+
+
+@dataclass(frozen=True)
+class Case:
+    """A test case: its name with the number of its rows, how it ends, and what there is to say of that."""
+
+    failure: Failure
+    verdict: Verdict
+    text: str
+
+    @property
+    def fails(self):
+        return not self.verdict.passes
+
+    def is_skipped(self, suite):
+        return self.fails and suite.known.accepts(self.failure)
 
 
 def attribute(text):
@@ -65,17 +87,18 @@ def write_end(output):
     output.line("</testsuites>")
 
 
-def write_case(output, suite, name, verdict, text):
+def write_case(output, suite, case):
+    name, verdict = case.failure.name, case.verdict
     start = f"<testcase classname={attribute('rtosim.' + class_name(suite.name))} name={attribute(name)} time=\"0\""
     if verdict.passes:
         output.line(start + "/>")
         return
     output.line(start + ">")
-    if name in suite.accepted:
+    if case.is_skipped(suite):
         output.line(f"<skipped message={attribute('a failure that is known: ' + name)}/>")
     else:
         message = f"message={attribute(name + ': ' + verdict.text)} type={attribute(verdict.kind)}"
-        output.line(f"<failure {message}>{escape(plain_lines(text))}</failure>")
+        output.line(f"<failure {message}>{escape(plain_lines(case.text))}</failure>")
     output.line("</testcase>")
 
 
@@ -88,21 +111,19 @@ def class_name(name):
     return os.path.splitext(os.path.basename(name))[0].replace(".", "_") or "report"
 
 
-def write_classes(output, suite, classes, lone_run=None, allows_empty=False):
-    """A case for each class; of a report without rows one for the base run that it has, and one for the points that are missing,
-    unless there may be none. Returns the names of those that fail."""
-    cases = [(it.name, it.verdict, class_text(it, suite)) for it in classes]
+def write_classes(output, suite, classes, lone_run=None, empty=None):
+    """A case for each class; of a report without rows one for the base run that it has; and one that says why nothing is tested, where
+    that is so."""
+    cases = [Case(Failure(it.name, it.rows), it.verdict, class_text(it, suite)) for it in classes]
     if not classes and lone_run is not None:
-        cases.append(("the base run", lone_run.head.verdict, "\n".join([lone_run.head.text(), *lone_run.ending])))
-    if not classes and not allows_empty:
-        cases.append(("the campaign has points", NO_POINTS, "no row shows what happens at a point"))
-    failing = [name for name, verdict, _ in cases if not verdict.passes]
-    skipped = sum(name in suite.accepted for name in failing)
-    write_start(output, suite, Counts(len(cases), len(failing) - skipped, skipped))
-    for name, verdict, text in cases:
-        write_case(output, suite, name, verdict, text)
+        cases.append(lone_run.case())
+    if empty is not None:
+        cases.append(Case(Failure(empty.name), EMPTY, empty.line()))
+    skipped = sum(it.is_skipped(suite) for it in cases)
+    write_start(output, suite, Counts(len(cases), sum(it.fails for it in cases) - skipped, skipped))
+    for it in cases:
+        write_case(output, suite, it)
     write_end(output)
-    return failing
 
 
 def class_text(it, suite):
@@ -123,5 +144,5 @@ def write_rows(output, suite, runs, counts):
         if head.row is not None:
             command = command_of(head, suite.given)
             name = f"row {head.row} at {head.point.text()}"
-            write_case(output, suite, name, head.verdict, f"{head.text()}\n{command}")
+            write_case(output, suite, Case(Failure(name), head.verdict, f"{head.text()}\n{command}"))
     write_end(output)

@@ -1,4 +1,5 @@
-"""A campaign as a picture: a column for each step of injection, a row for each handler, coloured by class.
+"""A campaign as a picture: a column for each step of injection, a row for each handler, coloured by class; and of points of two injections
+a map of two axes.
 
 Where there are more steps than columns, a column is for several steps, and shows the class that comes first in the
 table. What is kept is the classes of each column, never a row."""
@@ -9,6 +10,7 @@ from . import drawing
 from .classes import OutcomeClass
 from .colours import colours_of, has_light_text
 from .faults import counted
+from .pairs_picture import PairMap
 from .table import base_words, what_differs
 
 PLOT, TOP, CELL_HEIGHT, ROW_GAP, WIDEST, RIGHT = 1080, 44, 26, 8, 54, 24
@@ -31,6 +33,7 @@ class Map:
         self.cells: Dict[Tuple[str, int], Dict[int, Tuple[OutcomeClass, int]]] = {}
         self.not_reached = 0
         self.several = 0
+        self.pairs = PairMap()
 
     def see(self, run, found):
         """Takes a row with its class."""
@@ -39,6 +42,8 @@ class Map:
             self.not_reached += 1
             return
         self.several += not head.point.is_single
+        if len(head.point) == 2:
+            self.pairs.see(head.point, found)
         injection = head.point[0]
         self.last = max(self.last, injection.step)
         while self.last // self.width >= MOST_COLUMNS:
@@ -73,7 +78,8 @@ class Picture:
         self.cell = min(WIDEST, PLOT / columns)
         self.left = 22 + drawing.width_of("x" * max([6] + [len(it) for it in self.handlers]))
         self.axis_top = TOP + len(self.handlers) * (CELL_HEIGHT + ROW_GAP)
-        self.legend_top = self.axis_top + 44
+        self.pairs_top = self.axis_top + 34
+        self.legend_top = self.axis_top + 44 + self.map.pairs.size
         self.shown = min(len(classes), SHOWN_CLASSES)
 
     def write(self, output):
@@ -90,6 +96,7 @@ class Picture:
         for (handler, column), cell in sorted(self.map.cells.items()):
             self.write_cell(output, self.handlers.index(handler), handler, column, cell)
         self.write_axis(output)
+        self.map.pairs.write(output, self.left, self.pairs_top, self.colours)
         self.write_legend(output)
         drawing.end(output)
 

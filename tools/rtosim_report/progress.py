@@ -2,6 +2,7 @@
 
 Between two calls a task does ops that have no line: they are gone through here as the task goes through them, since loops count
 and conditions look at the last answer, which is reported."""
+import copy
 from typing import List, Optional, Tuple
 
 # So many ops without a line are gone through between two calls.
@@ -46,6 +47,12 @@ class Walker:
         self.at = 0
         self.loops: List[Tuple[int, int]] = []
         self.answer: Optional[int] = None
+
+    def copied(self):
+        """One that goes on by itself."""
+        found = copy.copy(self)
+        found.loops = list(self.loops)
+        return found
 
     @property
     def op(self):

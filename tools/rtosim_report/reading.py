@@ -4,7 +4,7 @@ import re
 from typing import List, NamedTuple, Optional
 
 from . import end_state, grammar
-from .faults import BadReport, CutOff, Fault
+from .faults import BadReport, CutOff, Fault, counted
 from .report import Head, Injection, Line, Point, Verdict
 
 BLOCK = 1 << 20
@@ -106,9 +106,11 @@ class Reader:
 
     Heads, their numbers and the total line are checked here; the event lines of a run when they are asked for."""
 
-    def __init__(self, stream, partial=False, progress=None):
-        self.stream, self.partial, self.progress = stream, partial, progress
+    def __init__(self, stream, partial=False, progress=None, first=0):
+        self.stream, self.partial, self.progress, self.first = stream, partial, progress, first
         self.tally = Tally()
+        # What the total line counts.
+        self.total: Optional[Tally] = None
         self.is_cut_off = False
         self.line_number = 1
         self.bytes_read = 0
@@ -149,11 +151,11 @@ class Reader:
 
     def is_next(self, row):
         """Whether a row of this number may follow."""
-        return row == self.tally.rows
+        return row == self.first + self.tally.rows
 
     def next_row(self):
         """The row that may follow, in words."""
-        return grammar.a_row(self.tally.rows)
+        return grammar.a_row(self.first + self.tally.rows)
 
     def row_of(self, text):
         """The row whose head, without its first word, and lines this is."""
@@ -227,6 +229,43 @@ class Reader:
                 raise CutOff(self.line_number, grammar.A_TOTAL, self.tally.rows)
         elif line.decode("ascii", "replace") != self.tally.text():
             raise BadReport(self.line_number, f"`{self.tally.text()}`, as the rows are", line)
+        else:
+            self.total = self.tally
+
+
+class ViewReader(Reader):
+    """The rows of a report of which some are left out (`--only`), or of a shard: their numbers rise, and the total line counts all."""
+
+    def __init__(self, stream, partial=False, progress=None):
+        super().__init__(stream, partial, progress)
+        self.last_row = -1
+
+    def row_of(self, text):
+        run = super().row_of(text)
+        self.last_row = run.head.row
+        return run
+
+    def is_next(self, row):
+        return row > self.last_row
+
+    def next_row(self):
+        return f"`row N at STEP HANDLER: VERDICT in N steps, E ticks` with a number above {self.last_row}"
+
+    def check_total(self, total):
+        line, feed, after = total.partition(b"\n")
+        self.total = tally_of(line) if feed and not after else None
+        if self.total is None:
+            super().check_total(total)
+
+    def contradiction(self):
+        """Why the rows aren't those of a view, of which those of one end are all written or none is; None where they may be."""
+        for kind, count in self.total.by_kind.items():
+            if self.tally.by_kind[kind] not in (0, count):
+                return f"it has {counted(self.tally.by_kind[kind], 'row')} that end with `{kind}`, and its total line counts {count}"
+        is_whole = self.tally.by_kind == self.total.by_kind
+        if is_whole and self.tally.not_reached != self.total.not_reached:
+            return f"it has {counted(self.tally.not_reached, 'row')} that are not reached, and its total line counts {self.total.not_reached}"
+        return None
 
 
 def lone_run_of(reader):

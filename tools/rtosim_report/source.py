@@ -3,21 +3,27 @@
 What can't be read twice, as a pipe, is copied to a file without a name in the folder for temporary files."""
 import io
 import os
+import re
 import subprocess
 import sys
 import tempfile
 
 from . import temporary
-from .escaping import plain
-from .faults import STATUS_OUTPUT, Fault, ProgramFault
+from .escaping import plain, shell_word
+from .faults import Fault, ProgramFault
 from .output import Progress
-from .reading import Reader, parts_of_rows
+from .reading import NEXT_ROW, Reader, ViewReader, parts_of_rows, tally_of
 
 ROOT = os.path.dirname(os.path.dirname(os.path.dirname(os.path.realpath(__file__))))
 PROGRAM = os.path.join(ROOT, "bin", "rtosim")
 # Of the program's statuses: all passes, or something doesn't; a report was written in both cases.
 STATUSES_OF_REPORTS = (0, 1)
 BLOCK = 1 << 17
+# A line of totals, and a head, have no more bytes.
+LONGEST_TOTAL = 200
+# The end of a run that has a line, since the processor changes in it.
+HAS_STEPS = re.compile(rb": (?:not reached, )?(?:pass|stuck) in [1-9]")
+FIRST_ROW = re.compile(rb"row ([0-9]{1,7}) at ")
 
 
 class Source:
@@ -26,10 +32,50 @@ class Source:
     def __init__(self, stream, partial=False):
         self.stream, self.partial = stream, partial
         self.size = stream.seek(0, os.SEEK_END)
+        self.known = None
+        self.is_of_heads = False
 
     def reader(self):
+        """A reader of all runs: of a report whose total line counts more rows than it has, one of a view of it."""
+        first, lacks_rows = self.numbering()
         self.stream.seek(0)
-        return Reader(self.stream, self.partial, Progress(self.size))
+        if lacks_rows:
+            return ViewReader(self.stream, self.partial, Progress(self.size))
+        return Reader(self.stream, self.partial, Progress(self.size), first)
+
+    def numbering(self):
+        """The number of the first row, and whether rows are left out; of what isn't a whole report these are 0 and False."""
+        if self.known is None:
+            self.known = 0, False
+            self.stream.seek(max(0, self.size - LONGEST_TOTAL))
+            total = tally_of(self.stream.read().rstrip(b"\n").rpartition(b"\n")[2])
+            first = FIRST_ROW.match(self.beginning(LONGEST_TOTAL))
+            if total is not None and (first or not total.rows):
+                rows = self.count_rows()
+                self.known = (int(first[1]) if first and rows == total.rows else 0), rows < total.rows
+            elif total is not None and total.rows and self.beginning(6) == b"total ":
+                self.known = 0, True
+        return self.known
+
+    def has_heads_alone(self):
+        """Whether no row has a line, though one has steps after which there is one."""
+        self.numbering()
+        return self.is_of_heads
+
+    def count_rows(self):
+        """How many lines begin as the head of a row does."""
+        self.stream.seek(0)
+        rows, lines, kept, has_steps = 0, 0, b"\n", False
+        while True:
+            block = self.stream.read(BLOCK)
+            if not block:
+                break
+            rows += (kept + block).count(NEXT_ROW)
+            lines += block.count(b"\n")
+            has_steps = has_steps or lines <= rows + 1 and HAS_STEPS.search(block) is not None
+            kept = block[-len(NEXT_ROW) + 1 :]
+        self.is_of_heads = has_steps and lines == rows + 1
+        return rows
 
     def parts(self):
         """The texts of the rows, unchecked."""
@@ -73,41 +119,60 @@ def seekable(stream):
             copy.flush()
 
 
-def program_source(*words):
-    """What the program writes when it is called with these words."""
-    with temporary.room():
-        report = tempfile.TemporaryFile()
-    try:
-        status = subprocess.run([PROGRAM, *words], stdout=report, check=False).returncode
-    except OSError as why:
-        raise Fault(f"cannot run {plain(PROGRAM)}: {why.strerror}") from None
-    if status == STATUS_OUTPUT:
-        raise temporary.fault("the report can't be written there")
-    if status not in STATUSES_OF_REPORTS:
-        raise ProgramFault(status if status > 0 else 70)
-    return Source(report)
+class ProgramStream:
+    """What the program writes when it is called with these words, as it comes. Its end is that of a report, or a fault."""
+
+    def __init__(self, words):
+        self.file = words[1]
+        try:
+            self.started = subprocess.Popen([PROGRAM, *words], stdin=subprocess.DEVNULL, stdout=subprocess.PIPE)
+        except OSError as why:
+            raise Fault(f"cannot run {plain(PROGRAM)}: {why.strerror}") from None
+
+    def read(self, size):
+        block = self.started.stdout.read(size)
+        if not block:
+            status = self.started.wait()
+            if status not in STATUSES_OF_REPORTS:
+                raise ProgramFault(status if status > 0 else 70, shell_word(self.file))
+        return block
+
+    def close(self):
+        """Ends the program, if it hasn't ended."""
+        if self.started.poll() is None:
+            self.started.kill()
+            self.started.wait()
+        self.started.stdout.close()
 
 
-def state_source(application, point):
-    """The run of a row of one injection, or the base run, with the state at its end; None where the program writes none. It has made
+class ProgramReader(ViewReader):
+    """The rows that the program writes. It is read once."""
+
+    def __init__(self, words):
+        super().__init__(ProgramStream(words))
+
+    def __iter__(self):
+        try:
+            yield from super().__iter__()
+        finally:
+            self.stream.close()
+
+
+def program_reader(*words):
+    return ProgramReader(words)
+
+
+def lone_reader(*words):
+    """The one run that the program writes; all of it is read."""
+    return list(ProgramReader(words))
+
+
+def state_source(application, words):
+    """The run of the point that these words name, with the state at its end; None where the program writes none. It has made
     a report before, so what it says of words that it doesn't know is kept from standard error."""
-    words = [] if point is None else ["--at", str(point[0].step), "--handler", point[0].handler]
     try:
         streams = {"stdout": subprocess.PIPE, "stderr": subprocess.DEVNULL}
         ran = subprocess.run([PROGRAM, "run", application, *words, "--state"], check=False, **streams)
     except OSError:
         return None
     return Source(io.BytesIO(ran.stdout)) if ran.returncode in STATUSES_OF_REPORTS and ran.stdout else None
-
-
-def base_source(application):
-    return program_source("run", application)
-
-
-def campaign_source(application, workers=None):
-    """The campaign's report, or where the file has no points that of its base run."""
-    more = [] if workers is None else ["--workers", workers]
-    source = program_source("campaign", application, *more)
-    source.stream.seek(0)
-    has_rows = source.stream.read(8) != b"total 0:"
-    return source if has_rows else base_source(application)

@@ -3,6 +3,7 @@ from typing import NamedTuple, Optional
 
 from .escaping import shell_word
 from .faults import counted
+from .words import words_of_point
 
 AS_BASE = "as the base run, but for the handler's own lines"
 NOT_REACHED = "not reached: the base run itself"
@@ -14,14 +15,16 @@ class Given(NamedTuple):
     application: Optional[str] = None
     report: Optional[str] = None
     base: Optional[str] = None
+    takes_points: bool = False
 
 
 def command_of(head, given):
-    """The command that shows what happens at a row's point, or the words of it that are known; of several injections, of which no
-    command has words, the entry that makes a campaign of them."""
-    if not head.point.is_single:
+    """The command that shows what happens at a row's point, or the words of it that are known; of several injections, if the program
+    has no words for them, the entry that makes a campaign of them."""
+    found = words_of_point(head.point, given.takes_points)
+    if found is None:
         return f'points = ["{head.point.text()}"]'
-    words = f"--at {head.point[0].step} --handler {head.point[0].handler}"
+    words = " ".join(map(shell_word, found))
     if given.application is not None:
         return f"rtosim run {shell_word(given.application)} {words}"
     if given.report in (None, "-"):
@@ -42,6 +45,8 @@ def what_differs(it):
 def words_of(it):
     """The cause, where it says more than the verdict, what differs in the first row, and what that says at its end."""
     lines = [it.name] if it.is_by_cause and it.name != it.verdict.text else []
+    if it.is_by_head:
+        return [*lines, *it.ending]
     return [*lines, what_differs(it) if not lines else (it.what_differs or AS_BASE), *it.ending]
 
 
@@ -80,28 +85,29 @@ def aligned(table, right=frozenset(RIGHT)):
         yield "  ".join(parts).rstrip()
 
 
-def base_words(base):
+def base_words(base, rows=0):
     if base is None:
-        return "no row, and no base run"
+        return "the base run is not known" if rows else "no row, and no base run"
     if base.head is None:
         return f"the base run is known before step {base.known_until} alone ({base.origin.value})"
     origin = "" if base.origin.value == "given" else f" ({base.origin.value})"
     return f"the base run: {base.head.end_text()}{origin}"
 
 
-def write_classes(output, classes, base, rows, given, failing=False, ending=()):
-    """The table, with the lines of each class below its own; of those that fail alone, where that is asked for; and what a lone run says
-    at its end."""
-    output.line(f"{counted(rows, 'row')} in {counted(len(classes), 'class')}; {base_words(base)}")
-    for it in ending:
-        output.line(f"  {it}")
-    passing = [it for it in classes if it.verdict.passes] if failing else []
-    if passing:
-        output.line(f"passing, and not shown: {counted(sum(it.rows for it in passing), 'row')} in {counted(len(passing), 'class')}")
+def write_classes(output, classes, base, total, given, failing=False, notes=()):
+    """The table, with the lines of each class below its own; of those that fail alone, where that is asked for; and notes on the whole, as
+    what a lone run says at its end."""
     shown = [it for it in classes if not (failing and it.verdict.passes)]
+    passing = total.by_kind["pass"]
+    if failing and total.rows:
+        output.line(f"{counted(total.rows, 'row')}: {passing:,} pass, {total.rows - passing:,} fail in {counted(len(shown), 'class')}; {base_words(base, total.rows)}")
+    else:
+        output.line(f"{counted(total.rows, 'row')} in {counted(len(classes), 'class')}; {base_words(base, total.rows)}")
+    for it in notes:
+        output.line(f"  {it}")
     if not shown:
         return
-    heading, *lines = aligned([HEADINGS, *(cells(it, rows) for it in shown)])
+    heading, *lines = aligned([HEADINGS, *(cells(it, total.rows) for it in shown)])
     output.line()
     output.line(heading)
     for it, line in zip(shown, lines):

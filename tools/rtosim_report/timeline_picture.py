@@ -1,16 +1,17 @@
-"""A run as a picture: a lane for each task, for idle and for each handler, in bands that are below each other."""
+"""A run as a picture: a lane for each task, for idle and for each handler, in bands that are below each other. Of a run that is too long for
+that one band has all of it, and others the steps around the injections and those at the end."""
 import math
 import textwrap
 from dataclasses import dataclass
 from itertools import groupby
-from typing import List
+from typing import List, Tuple
 
 from . import drawing
 from .injections import groups_of
 from .lanes import Doing, LaneKind, WindowKind
 
 PLOT, RIGHT, TOP = 1080, 24, 58
-WIDEST_STEP, NARROWEST_STEP, MOST_BANDS = 54, 6, 16
+WIDEST_STEP, NARROWEST_STEP, MOST_BANDS, MOST_DETAILS = 54, 6, 16, 3
 LABEL_ROW, BAR, LANE_GAP, AXIS, BAND_GAP = 14, 14, 12, 40, 18
 # A row of the axis, and one of what the run says at its end.
 AXIS_ROW, ENDING_ROW = 14, 16
@@ -45,26 +46,39 @@ class Layout:
 
     timeline: object
     left: float
-    step_width: float
-    band_steps: int
-    bands: int
+    # The first step of each band, and the one behind its last. They may have steps in common.
+    spans: List[Tuple[int, int]]
     lane_tops: List[float]
     band_height: float
     axis: float
     # What the run says at its end, cut into lines.
     ending: List[str]
 
-    def band_of(self, boundary):
-        return min(boundary // self.band_steps, self.bands - 1)
+    @property
+    def bands(self):
+        return len(self.spans)
+
+    def bands_of(self, boundary):
+        """The bands in which a boundary is: not at the end of one that another one follows on."""
+        return [band for band in range(self.bands) if self.overlaps(band, boundary, boundary)]
+
+    def overlaps(self, band, start, end):
+        """Whether a stretch has a part in a band."""
+        first, last = self.spans[band]
+        return first < max(end, start + 1) and (start < last or start == last == self.timeline.steps)
 
     def first_step(self, band):
-        return band * self.band_steps
+        return self.spans[band][0]
 
     def last_step(self, band):
-        return min(self.timeline.steps, (band + 1) * self.band_steps)
+        return min(self.timeline.steps, self.spans[band][1])
+
+    def step_width(self, band):
+        first, last = self.spans[band]
+        return min(WIDEST_STEP, PLOT / max(1, last - first))
 
     def across(self, band, boundary):
-        return self.left + (boundary - self.first_step(band)) * self.step_width
+        return self.left + (boundary - self.first_step(band)) * self.step_width(band)
 
     def band_top(self, band):
         return TOP + band * (self.band_height + BAND_GAP)
@@ -87,9 +101,6 @@ def rows_of(lane):
 
 
 def layout_of(timeline):
-    steps = max(1, timeline.steps)
-    bands = max(1, min(MOST_BANDS, math.ceil(steps * NARROWEST_STEP / PLOT)))
-    band_steps = math.ceil(steps / bands)
     tops, at = [], 24.0
     for lane in timeline.lanes:
         tops.append(at)
@@ -97,11 +108,26 @@ def layout_of(timeline):
     widest = max(map(len, axis_numbers(timeline, timeline.steps)))
     margin = max(6, 5 + 3 * timeline.outlasts_printed_ticks + widest // 2)
     left = 22 + drawing.width_of("x" * max([margin] + [len(it.name) for it in timeline.lanes]))
-    step_width = min(WIDEST_STEP, PLOT / band_steps)
     axis = AXIS + AXIS_ROW * timeline.outlasts_printed_ticks
     room = int((left + PLOT + RIGHT - 24) / drawing.CHARACTER)
     ending = [line for it in timeline.ending for line in textwrap.wrap(it, room, break_on_hyphens=False)]
-    return Layout(timeline, left, step_width, band_steps, math.ceil(steps / band_steps), tops, at + axis, axis, ending)
+    return Layout(timeline, left, spans_of(timeline), tops, at + axis, axis, ending)
+
+
+def spans_of(timeline):
+    """The steps of each band: all in few bands, or those of a long run in one, and below it those around what matters."""
+    steps = max(1, timeline.steps)
+    bands = max(1, math.ceil(steps * NARROWEST_STEP / PLOT))
+    if bands <= MOST_BANDS:
+        size = math.ceil(steps / bands)
+        return [(first, first + size) for first in range(0, steps, size)]
+    size = int(PLOT / NARROWEST_STEP)
+    starts = [max(0, it.step - size // 3) for it in timeline.injections[:MOST_DETAILS]] + [steps - size]
+    details = []
+    for start in sorted(min(it, steps - size) for it in starts):
+        if not details or start > details[-1][0] + size // 2:
+            details.append((start, start + size))
+    return [(0, steps), *details]
 
 
 def axis_numbers(timeline, last):
@@ -153,7 +179,7 @@ def write_axis(output, layout, band, top):
     first, last = layout.first_step(band), layout.last_step(band)
     clock = layout.timeline.clock
     widest = max(len(f"{last:,}"), *map(len, axis_numbers(layout.timeline, last)))
-    interval = drawing.nice_interval((widest + 2) * drawing.CHARACTER / layout.step_width)
+    interval = drawing.nice_interval((widest + 2) * drawing.CHARACTER / layout.step_width(band))
     output.line(drawing.label(12, top + 18, "step", "quiet"))
     output.line(drawing.label(12, top + 32, "tick", "quiet"))
     if layout.timeline.outlasts_printed_ticks:
@@ -179,25 +205,26 @@ def write_lane_contents(output, layout):
     write_failure(output, layout)
 
 
-def pieces(layout, start, end):
-    """The parts of a stretch in the bands that it lies in."""
-    for band in range(layout.band_of(start), layout.band_of(max(start, end - 1)) + 1):
-        yield band, max(start, layout.first_step(band)), min(end, layout.last_step(band))
+def pieces(layout, band, stretches):
+    """The parts of stretches that lie in a band, each with its start and its end there."""
+    first, last = layout.first_step(band), layout.last_step(band)
+    for it in stretches:
+        if layout.overlaps(band, it.start, it.end):
+            yield max(it.start, first), min(it.end, last), it
 
 
 def write_bars(output, layout, index, bars):
     """Bars too narrow to be seen apart are drawn as one."""
-    drawn = []
-    for it in bars:
-        for band, start, end in pieces(layout, it.start, it.end):
+    for band in range(layout.bands):
+        drawn, width = [], layout.step_width(band)
+        for start, end, it in pieces(layout, band, bars):
             last = drawn[-1] if drawn else None
-            narrow = (end - start) * layout.step_width < LEAST_VISIBLE
-            if last and narrow and last[0] == band and (start - last[2]) * layout.step_width < LEAST_VISIBLE:
-                last[2], last[4] = end, last[4] + 1
+            if last and (end - start) * width < LEAST_VISIBLE and (start - last[1]) * width < LEAST_VISIBLE:
+                last[1], last[3] = end, last[3] + 1
             else:
-                drawn.append([band, start, end, it, 1])
-    for band, start, end, it, count in drawn:
-        output.line(bar_shape(layout, index, band, start, end, it, count))
+                drawn.append([start, end, it, 1])
+        for start, end, it, count in drawn:
+            output.line(bar_shape(layout, index, band, start, end, it, count))
 
 
 def bar_shape(layout, index, band, start, end, it, count):
@@ -218,10 +245,10 @@ def bar_shape(layout, index, band, start, end, it, count):
 
 
 def write_windows(output, layout, index, windows):
-    for it in windows:
-        below = 1 if it.kind is WindowKind.LOCKED else 5
-        name = "locked" if it.kind is WindowKind.LOCKED else "held"
-        for band, start, end in pieces(layout, it.start, it.end):
+    for band in range(layout.bands):
+        for start, end, it in pieces(layout, band, windows):
+            below = 1 if it.kind is WindowKind.LOCKED else 5
+            name = "locked" if it.kind is WindowKind.LOCKED else "held"
             left, right = layout.across(band, start), layout.across(band, end)
             top = layout.bar_top(band, index) + BAR + below
             title = f"{it.kind.value}: steps {it.start} to {it.end - 1} of {it.lane.name}"
@@ -231,20 +258,22 @@ def write_windows(output, layout, index, windows):
 def write_endings(output, layout, index, boundaries):
     """Where a task has ended."""
     for boundary in boundaries:
-        band = layout.band_of(max(0, boundary - 1))
-        at, top = layout.across(band, boundary), layout.bar_top(band, index)
-        title = f"{layout.timeline.lanes[index].name} has ended, in step {boundary - 1}"
-        output.line(drawing.box(at, top, 4, BAR, "ended", title))
+        for band in layout.bands_of(max(0, boundary - 1)):
+            at, top = layout.across(band, boundary), layout.bar_top(band, index)
+            title = f"{layout.timeline.lanes[index].name} has ended, in step {boundary - 1}"
+            output.line(drawing.box(at, top, 4, BAR, "ended", title))
 
 
 def write_notes(output, layout, index, notes):
     """A mark at each step with something reported, and what is reported above it."""
-    for band, there in groupby(notes, key=lambda it: layout.band_of(it.step)):
-        labels = drawing.Labels(2, layout.left + PLOT + RIGHT - 4)
-        write_marks(output, layout, index, band, there, labels)
-        top = layout.bar_top(band, index)
-        for row, it in labels.placed():
-            output.line(it.shape(top - 5 - row * LABEL_ROW))
+    for band in range(layout.bands):
+        there = [it for it in notes if layout.overlaps(band, it.step, it.step)]
+        if there:
+            labels = drawing.Labels(2, layout.left + PLOT + RIGHT - 4)
+            write_marks(output, layout, index, band, there, labels)
+            top = layout.bar_top(band, index)
+            for row, it in labels.placed():
+                output.line(it.shape(top - 5 - row * LABEL_ROW))
 
 
 def write_marks(output, layout, index, band, notes, labels):
@@ -268,28 +297,33 @@ def write_failure(output, layout):
     names = [it.name for it in layout.timeline.lanes]
     if head.verdict.task not in names or not head.steps:
         return
-    band, index = layout.band_of(head.steps - 1), names.index(head.verdict.task)
-    at, top = layout.across(band, head.steps), layout.bar_top(band, index)
-    output.line(drawing.box(at - 3, top - 4, 5, BAR + 8, "injected", head.end_text()))
+    index = names.index(head.verdict.task)
+    for band in layout.bands_of(head.steps - 1):
+        at, top = layout.across(band, head.steps), layout.bar_top(band, index)
+        output.line(drawing.box(at - 3, top - 4, 5, BAR + 8, "injected", head.end_text()))
 
 
 def write_injections(output, layout):
     """A line at each injection. Texts that would lie over each other are one."""
     labels = []
     for step, injections in groups_of(layout.timeline.injections):
-        band = layout.band_of(step)
-        at, top = layout.across(band, step), layout.band_top(band)
-        bottom = top + layout.band_height - layout.axis + 4
         text = f"{', '.join(it.handler for it in injections)} before step {step}"
-        output.line(drawing.line(at, top, at, bottom, "injection", text))
-        last = labels[-1] if labels else None
-        if last and last[0] == top and left_of(layout, at, text) < last[1] + drawing.width_of(last[2]) + drawing.Labels.GAP:
-            text = f"{last[2]}, {text}"
-            labels[-1] = top, left_of(layout, last[1] - 5, text), text
-        else:
-            labels.append((top, left_of(layout, at, text), text))
-    for top, left, text in labels:
+        for band in layout.bands_of(step):
+            write_injection(output, layout, band, step, text, labels)
+    for top, left, text in sorted(labels):
         output.line(drawing.label(left, top + 11, text, "injected"))
+
+
+def write_injection(output, layout, band, step, text, labels):
+    """The line of an injection in a band, and its text among those of the others."""
+    at, top = layout.across(band, step), layout.band_top(band)
+    output.line(drawing.line(at, top, at, top + layout.band_height - layout.axis + 4, "injection", text))
+    last = next((it for it in reversed(labels) if it[0] == top), None)
+    if last and left_of(layout, at, text) < last[1] + drawing.width_of(last[2]) + drawing.Labels.GAP:
+        text = f"{last[2]}, {text}"
+        labels[labels.index(last)] = top, left_of(layout, last[1] - 5, text), text
+    else:
+        labels.append((top, left_of(layout, at, text), text))
 
 
 def left_of(layout, at, text):

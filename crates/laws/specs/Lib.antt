@@ -10,5 +10,6 @@ pub mod HoldExamples
 pub mod Looking
 pub mod LookingExamples
 pub mod MutexExamples
+pub mod PlacementExamples
 pub mod StampExamples
 pub mod TicklessExamples

@@ -7,6 +7,7 @@ mod campaigns;
 mod endless;
 mod examples;
 mod looking;
+mod placements;
 mod runs;
 mod stamps;
 mod states;
@@ -27,6 +28,10 @@ pub use examples::{
 pub use looking::{
     failed_checks_end_the_handler, first_failed_check_counts, handlers_do_one_branch,
     passed_checks_change_nothing,
+};
+pub use placements::{
+    order_counts_within_a_step, placements_are_ordered, placements_of_two_steps,
+    steps_have_all_placements,
 };
 pub use runs::{late_points_do_nothing, row_is_one, run_is_one};
 pub use stamps::{stamps_measure_time, stamps_stay, stamps_take_no_time};

@@ -14,3 +14,5 @@ pub mod Injected
 pub mod OneRun
 pub mod Packing
 pub mod Points
+pub mod Among
+pub mod Placements

@@ -24,4 +24,5 @@ pub mod Run
 pub mod EndStates
 pub mod Campaign
 pub mod Plans
+pub mod Placements
 pub mod Invariant

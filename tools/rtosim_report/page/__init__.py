@@ -18,6 +18,8 @@ def write_page(output, job):
             output.write("".join(map(read_part, SCRIPTS)))
         elif part == "DATA":
             content.write(output)
+        elif part == "FIRSTS":
+            content.write_firsts(output)
         elif part == "TITLE":
             output.write(escaped(content.title))
         else:
@@ -25,7 +27,7 @@ def write_page(output, job):
 
 
 def template_parts():
-    """The page's frame, cut at its four places."""
+    """The page's frame, cut at its five places."""
     return read_part("page.html").split("@@")
 
 

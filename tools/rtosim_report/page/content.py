@@ -7,7 +7,7 @@ from array import array
 
 from ..colours import colours_of, has_light_text
 from ..escaping import plain, shell_word
-from ..show import all_pairs
+from ..show import Mark, all_pairs
 from ..table import base_words, span, words_of
 from .. import timeline
 from .embedding import json_text
@@ -15,6 +15,8 @@ from .embedding import json_text
 # A run of more lines is too long for a page.
 MOST_LINES = 20_000
 LONGEST_SLUG = 60
+# Of a run that is too long so many lines are shown around its injection, around the first difference, and at its end.
+AROUND = 150
 
 
 class Texts:
@@ -54,7 +56,8 @@ class Content:
     def __init__(self, job):
         self.job = job
         self.texts, self.points, self.firsts, self.indices = Texts(), Points(), [], {}
-        self.classes, self.rows = job.classify(self.see)
+        self.classes = job.classify(self.see)
+        self.rows = job.total.rows
         name = job.given.application or job.given.report
         self.title = f"{plain(name)}: {self.rows:,} rows" if name not in (None, "-") else f"{self.rows:,} rows"
 
@@ -62,17 +65,42 @@ class Content:
         """Takes a row with its class; the first one of a class whole."""
         index = self.indices.setdefault(id(found), len(self.indices))
         if index == len(self.firsts):
-            self.firsts.append(json_text(self.run_content(run)))
+            self.firsts.append(json_text(self.run_content(self.whole(run))))
         self.points.add(run.head, index)
 
+    def whole(self, run):
+        """A row of which perhaps the head alone is there, whole if the program can make it."""
+        is_head = not run.text and run.head.steps > 0
+        return self.job.made.row(run.head.row) if is_head and self.job.made else run
+
     def run_content(self, run):
-        lines = run.checked_lines()
         content = {"head": run.head.text(), "row": run.head.row}
-        if len(lines) > MOST_LINES:
-            return {**content, "tooLong": len(lines)}
-        marks = "".join(it.mark.value for it in all_pairs(run, self.job.base))
-        found = timeline.of_row(run, self.job.base, self.job.texts)
-        return {**content, "marks": marks, "lines": self.lines_content(lines), "lanes": self.lanes_content(found)}
+        if self.job.made is None and self.job.source.has_heads_alone():
+            return {**content, "tooLong": 0}
+        pairs = all_pairs(run, self.job.base)
+        if len(pairs) > MOST_LINES:
+            shown, folds = excerpt(pairs)
+            content.update(folds=folds, **self.pairs_content(shown, 0))
+        else:
+            content.update(self.pairs_content(pairs, self.shared(pairs)))
+        lines = sum(it.row is not None for it in pairs)
+        if lines > MOST_LINES:
+            return {**content, "tooLong": lines}
+        return {**content, "lanes": self.lanes_content(timeline.of_row(run, self.job.base, self.job.texts))}
+
+    def shared(self, pairs):
+        """How many lines at the beginning are those of the base run, which the page has once."""
+        base = self.job.base
+        if base is None or len(base.lines) > MOST_LINES:
+            return 0
+        return next((at for at, it in enumerate(pairs) if it.mark is not Mark.SAME or at >= len(base.lines)), len(pairs))
+
+    def pairs_content(self, pairs, shared):
+        """What marks say, the row's lines but the first ones, and the base run's lines where they aren't the row's."""
+        others = [it.base for it in pairs if it.mark in (Mark.NUMBERS, Mark.OTHER, Mark.ONLY_BASE)]
+        lines = [it.row for it in pairs[shared:] if it.row is not None]
+        return {"marks": "".join(it.mark.value for it in pairs), "shared": shared, "lines": self.lines_content(lines),
+                "others": self.lines_content(others)}
 
     def lines_content(self, lines):
         """Step, tick and text of each, one after the other."""
@@ -115,7 +143,7 @@ class Content:
         """What the command of a row is made of."""
         given = self.job.given
         if given.application is not None:
-            return {"run": f"rtosim run {shell_word(given.application)}"}
+            return {"run": f"rtosim run {shell_word(given.application)}", "takesPoints": given.takes_points}
         if given.report in (None, "-"):
             return {}
         return {"show": shell_word(given.report), "base": f" --base {shell_word(given.base)}" if given.base else ""}
@@ -138,9 +166,27 @@ class Content:
         output.line("{")
         for key, value in parts.items():
             output.line(f'"{key}":{json_text(value)},')
-        output.line('"firsts":[' + ",\n".join(self.firsts) + "],")
         output.line(f'"texts":{json_text(list(self.texts.numbers))}')
         output.line("}")
+
+    def write_firsts(self, output):
+        """The first rows of the classes, each by itself: a browser reads one when it is looked at."""
+        for index, it in enumerate(self.firsts):
+            output.line(f'<script type="application/json" id="first-{index}">{it}</script>')
+
+
+def excerpt(pairs):
+    """The pairs around the injection, the first difference and the end; and before which of them how many others are left out."""
+    marked = [at for at, it in enumerate(pairs) if it.mark is not Mark.SAME]
+    differing = [at for at in marked if pairs[at].mark is not Mark.OWN]
+    shown, folds, last = [], [], -1
+    for at, it in enumerate(pairs):
+        if any(abs(at - there) <= AROUND for there in (*marked[:1], *differing[:1], len(pairs) - 1)):
+            if at > last + 1:
+                folds.append([len(shown), at - last - 1])
+            shown.append(it)
+            last = at
+    return shown, folds
 
 
 def link_of(name):

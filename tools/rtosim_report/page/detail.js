@@ -41,13 +41,19 @@ async function copyCommand() {
 
 // The pairs of lines: what a mark says is there on either side.
 function pairsOf(first) {
-  const lines = linesOf(first.lines), base = data.base ? linesOf(data.base.lines) : [];
-  let inBase = 0, inRow = 0;
-  return [...first.marks].map(mark => {
-    const row = "<".includes(mark) ? null : lines[inRow++];
-    const there = "+>".includes(mark) ? null : base[inBase++] || row;
+  const shared = first.shared ? linesOf(data.base.lines.slice(0, 3 * first.shared)) : [];
+  const lines = [...shared, ...linesOf(first.lines)], others = linesOf(first.others);
+  let inRow = 0, inOthers = 0;
+  const found = [...first.marks].map(mark => {
+    const row = mark === "<" ? null : lines[inRow++];
+    const there = "~|<".includes(mark) ? others[inOthers++] : mark === " " ? row : null;
     return { mark, base: there, row };
   });
+  for (const [at, count] of [...(first.folds || [])].reverse()) {
+    const text = `.. ${count.toLocaleString("en")} lines are left out ..`;
+    found.splice(at, 0, { mark: " ", base: { text }, row: null });
+  }
+  return found;
 }
 
 function tableOf(pairs, heads) {
@@ -82,12 +88,13 @@ function scripts() {
 
 function runView(run, table) {
   const found = document.createDocumentFragment();
-  if (run.tooLong) {
-    found.append(element("p", {}, `${counted(run.tooLong, "line")}: too long for this page; rtosim-report svg --row draws it`));
-    return found;
+  if (run.tooLong !== undefined) {
+    const why = run.tooLong ? `${counted(run.tooLong, "line")}: too long to be drawn on this page; rtosim-report svg draws it` : "the report has heads alone";
+    found.append(element("p", {}, why));
+    if (!table) return found;
   }
   const box = element("div", { class: "lanes", id: "lanes", tabindex: 0 });
-  found.append(element("h3", {}, run.head), legend(), box);
+  found.append(element("h3", {}, run.head), ...(run.lanes ? [legend(), box] : []));
   found.append(element("p", { class: "quiet", id: "at", role: "status" }));
   found.append(element("div", { class: "beside" }, element("div", { class: "scroll", tabindex: 0 }, table), scripts()));
   if (!run.lanes) return found;
@@ -100,7 +107,7 @@ function runView(run, table) {
 }
 
 function showClass(it) {
-  const first = data.firsts[it.index], head = pointOfHead(first.head);
+  const first = firstOf(it.index), head = pointOfHead(first.head);
   const point = state.point && state.point.found === it ? state.point : null;
   const pointText = point ? several.get(point.row) || `${point.step} ${data.handlers[point.handler]}` : head;
   const row = point ? point.row : first.row;
@@ -119,7 +126,8 @@ function showBase() {
   shownRun = null;
   detail.replaceChildren(element("h2", {}, "the base run"), element("p", {}, data.base.words));
   if (data.command.run) detail.append(commandLine(data.command.run));
-  detail.append(runView({ ...data.base, head: data.base.head || "" }, data.base.lines.length ? baseTable() : element("p", {}, "no line is known")));
+  const table = data.base.lines.length ? baseTable() : data.base.tooLong ? null : element("p", {}, "no line is known");
+  detail.append(runView({ ...data.base, head: data.base.head || "" }, table));
 }
 
 // The op that each lane's task is in at a step.

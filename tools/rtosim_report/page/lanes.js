@@ -28,8 +28,11 @@ class Lanes {
     }
     this.bottom = top;
     this.width = this.left + run.steps * this.stepWidth + 36;
+    // How far to the right what is reported goes.
+    this.needed = this.width;
     this.svg = shape("svg", { width: this.width, height: top + 40, role: "img", "aria-label": "lanes of the run" });
     this.draw();
+    this.svg.setAttribute("width", Math.max(this.width, this.needed + 12));
   }
 
   across(boundary) {
@@ -56,7 +59,7 @@ class Lanes {
   drawGround(name, lane) {
     const rows = this.run.names[lane][1] === "idle" ? 0 : 2 * LABEL;
     const top = this.tops[lane] - rows - LANE_GAP / 2;
-    if (lane % 2 === 0) this.svg.append(shape("rect", { class: "stripe", x: 0, y: top, width: this.width, height: rows + BAR + LANE_GAP }));
+    if (lane % 2 === 0) this.svg.append(shape("rect", { class: "stripe", x: 0, y: top, width: "100%", height: rows + BAR + LANE_GAP }));
     this.svg.append(shape("text", { x: 8, y: this.tops[lane] + BAR - 3 }, name));
   }
 
@@ -93,7 +96,8 @@ class Lanes {
     this.svg.append(shape("rect", box, null, `${what}: steps ${start} to ${end - 1}`));
   }
 
-  // A mark at each step, and what is reported above it; a text without room is counted behind one beside it.
+  // A mark at each step, and what is reported above it; a text without room is counted behind one beside it. The last one of a lane, which
+  // may be the answer that fails, is shown in any case.
   drawNotes(notes, lane) {
     const rows = [[], []], top = this.tops[lane];
     const groups = new Map();
@@ -101,12 +105,14 @@ class Lanes {
       const key = `${step} ${isInjected}`;
       groups.set(key, [...(groups.get(key) || []), data.texts[text]]);
     }
+    const lastKey = [...groups.keys()].pop();
     for (const [key, texts] of groups) {
       const [step, isInjected] = key.split(" ").map(Number), told = texts.join(", ");
       const at = this.across(step + (isInjected ? 0 : 0.5));
       this.svg.append(shape("line", { class: "note", x1: at, x2: at, y1: top - 3, y2: top + BAR }, null, `${told}; ${isInjected ? "before " : ""}step ${step}`));
-      const left = at + (isInjected ? 5 : -2);
-      const free = rows.find(row => !row.length || left >= row[row.length - 1].end + 6);
+      const own = at + (isInjected ? 5 : -2), ends = rows.map(row => (row.length ? row[row.length - 1].end + 6 : 0));
+      const left = key === lastKey ? Math.max(own, Math.min(...ends)) : own;
+      const free = rows.find((_, index) => left >= ends[index]);
       if (free) free.push({ left, told, isInjected, folded: 0, end: left + told.length * CHARACTER });
       else {
         const last = rows.map(row => row[row.length - 1]).sort((one, other) => one.end - other.end)[0];
@@ -114,6 +120,7 @@ class Lanes {
         last.end = last.left + `${last.told} +${last.folded}`.length * CHARACTER;
       }
     }
+    this.needed = Math.max(this.needed, ...rows.map(row => (row.length ? row[row.length - 1].end : 0)));
     rows.forEach((row, index) => row.forEach(it => this.svg.append(shape(
       "text", { class: it.isInjected ? "injected" : "", x: it.left, y: top - 5 - index * LABEL }, it.told + (it.folded ? ` +${it.folded}` : "")))));
   }

@@ -25,6 +25,13 @@ const stretchAt = pointsOf.map(stretches => {
   return found;
 });
 
+// The first row of a class, which is read when it is looked at.
+const readFirsts = new Map();
+function firstOf(index) {
+  if (!readFirsts.has(index)) readFirsts.set(index, JSON.parse(document.getElementById(`first-${index}`).textContent));
+  return readFirsts.get(index);
+}
+
 const state = { found: null, point: null, step: 0, failing: false, handler: "", words: "" };
 
 function counted(number, noun) {
@@ -50,7 +57,7 @@ function pointAt(handler, step) {
 // The command that shows a row, or the entry for a campaign of several injections.
 function commandOf(row, pointText) {
   const words = pointText.split(" ");
-  if (words.length > 2) return `points = ["${pointText}"]`;
+  if (words.length > 2) return data.command.takesPoints ? `${data.command.run} --point '${pointText}'` : `points = ["${pointText}"]`;
   const at = `--at ${words[0]} --handler ${words[1]}`;
   if (data.command.run) return `${data.command.run} ${at}`;
   return data.command.show ? `rtosim-report show ${row} ${data.command.show}${data.command.base}` : at;

@@ -1,0 +1,12 @@
+pub mod Reorderings
+pub mod Ordering
+pub mod Carrying
+pub mod Choosing
+pub mod Results
+pub mod Stepping
+pub mod Tallying
+pub mod Passing
+pub mod Bounds
+pub mod Advancing
+pub mod Sorted
+pub mod FirstAndLast

@@ -1,0 +1,50 @@
+use Rattle.std.proofs.Common.{◌≡◌, ◌∙◌, ap, length, refl, subst}
+use Rattle.model.specs.State.{State}
+use Rattle.model.specs.Run.{end_of}
+use Rattle.machine.specs.declared.machine.Machine.{Machine}
+use Rattle.machine.specs.StandsFor.{Stands}
+use Rattle.explorer.proofs.Passing.{goes_if, passes_ended, passes_going}
+use Rattle.explorer.proofs.Results.{on_ok}
+use Rattle.explorer.proofs.advance.pass.Goals as goal
+
+pub go_on-requires-clause-goes : goal.go_on-requires-clause-goes
+go_on-requires-clause-goes c =
+    let k = c.args.node.now.kernel.value in
+    let restored : c.restore.new.self ≡ k = c.restore.ensures ∙ c.deref.ensures in
+    let ends : (s : State) → Stands k s → c.ended.result ≡ end_of c.args.app.now c.args.limits.now s =
+    subst (λ (j : Machine). (s : State) → Stands j s → c.ended.result
+    ≡ end_of c.args.app.now c.args.limits.now s) restored c.ended.ensures in
+    goes_if c.args.app.now c.args.limits.now k c.requires.way c.ended.result ends c.in-None.is
+
+pub returns-in-None : goal.returns-in-None
+returns-in-None c =
+    let k = c.args.node.now.kernel.value in
+    let restored : c.restore.new.self ≡ k = c.restore.ensures ∙ c.deref.ensures in
+    let ends : (s : State) → Stands k s → c.ended.result ≡ end_of c.args.app.now c.args.limits.now s =
+    subst (λ (j : Machine). (s : State) → Stands j s → c.ended.result
+    ≡ end_of c.args.app.now c.args.limits.now s) restored c.ended.ensures in
+    on_ok c.go_on.result
+    (λ gains.
+    passes_going c.args.app.now c.args.limits.now c.args.choices.now.handlers.items (length c.args.choices.now.levels.items)
+    c.args.node.now c.ended.result ends c.in-None.is c.args.next.now.nodes.items c.go_on.new.next.nodes.items
+    c.args.findings.now.items gains)
+    c.go_on.ensures
+
+pub returns-in-Some : goal.returns-in-Some
+returns-in-Some c =
+    let k = c.args.node.now.kernel.value in
+    let restored : c.restore.new.self ≡ k = c.restore.ensures ∙ c.deref.ensures in
+    let ends : (s : State) → Stands k s → c.ended.result ≡ end_of c.args.app.now c.args.limits.now s =
+    subst (λ (j : Machine). (s : State) → Stands j s → c.ended.result
+    ≡ end_of c.args.app.now c.args.limits.now s) restored c.ended.ensures in
+    let ticks : (s : State) → Stands k s → c.ticks.result ≡ s.elapsed =
+    subst (λ (j : Machine). (s : State) → Stands j s → c.ticks.result ≡ s.elapsed) restored c.ticks.ensures in
+    on_ok c.count_end.result
+    (λ tallies.
+    passes_ended c.args.app.now c.args.limits.now c.args.choices.now.handlers.items (length c.args.choices.now.levels.items)
+    c.args.node.now c.ended.result ends c.in-Some.end c.in-Some.is c.args.next.now.nodes.items c.args.findings.now.items
+    c.count_end.new.found.items
+    (record { injections = c.copy.result; steps = c.steps.result; ticks = c.ticks.result; end = c.in-Some.end })
+    c.args.node.now.count refl c.copy.ensures refl
+    (c.steps.ensures ∙ ap (λ (j : Machine). j.steps) c.deref-in-Some.ensures) ticks tallies)
+    c.count_end.ensures

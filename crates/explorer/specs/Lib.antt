@@ -1,0 +1,7 @@
+pub mod Choosing
+pub mod Reordered
+pub mod Layers
+pub mod Tallies
+pub mod Nodes
+pub mod Finding
+pub mod Sorting

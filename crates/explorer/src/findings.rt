@@ -1,0 +1,82 @@
+//! What is found of each end.
+ghost use Rattle.std.specs.Prelude.{◌≡◌, ◌≢◌, ◌<◌, ◌≤◌, ◌+◌, ◌^◌, OnOk, MatchOption, length};
+ghost use Rattle.std.specs.List.{AllByRecursion};
+ghost use Rattle.model.specs.Placements as definitions;
+ghost use Rattle.explorer.specs.Finding.{HasEnd, HaveOthers, IsAddedAt, IsCounted};
+ghost use Rattle.explorer.specs.Tallies.{TalliesMore};
+
+use crate::placement::Placement;
+use model::{End, Memory};
+use std::marker::Model;
+
+/// What is found of an end: how many placements have it, the least of them, and what the run with that one comes to.
+#[derive(Drop)]
+pub struct Found {
+    /// How many placements have this end.
+    pub number: u128,
+    /// The least of them.
+    pub least: Placement,
+    /// The steps that the run with the least one has.
+    pub steps: u32,
+    /// The ticks that pass in it.
+    pub ticks: u64,
+    /// The end.
+    pub end: End,
+}
+
+// Clauses see the number and the placement.
+impl Model for Found {
+    ghost use Rattle.model.specs.Placements as definitions;
+
+    ghost Value = { definitions.Found };
+
+    ghost view = { λ f. record { number = f.number; least = record { injections = f.least; steps = f.steps; ticks = f.ticks; end = f.end } } };
+}
+
+impl Found {
+    // So many placements more have its end, of which this is the least.
+    fn add(&mut self, more: Found)
+        requires { self.old.number + more.number < 2 ^ 128 }
+        ensures { IsCounted self.old self.new more }
+    {
+        let number = self.number + more.number;
+        if more.least.is_less(&self.least) {
+            *self = more;
+        }
+        self.number = number;
+    }
+}
+
+// The number of what is found of this end, if something is.
+fn find_end(found: &[Found], end: End) -> Option<usize>
+    ensures { MatchOption result (HaveOthers found.now end) (HasEnd found.now end) }
+{
+    for (number, one) in found.iter().enumerate() {
+        if one.end == end {
+            return Some(number);
+        }
+    }
+    None
+}
+
+// To what is found under this number come more placements of its end.
+fn add_at(found: &mut Vec<Found>, number: usize, more: Found)
+    requires within { number < length found.old.items }
+    requires room { AllByRecursion (λ f. f.number + more.number < 2 ^ 128) found.old.items }
+    ensures { IsAddedAt found.old.items found.new.items number more }
+{
+    let one = &mut found[number];
+    one.add(more);
+}
+
+/// So many placements more have this end, of which this is the least.
+pub(crate) fn count_end(found: &mut Vec<Found>, more: Found) -> Result<(), Memory>
+    requires { AllByRecursion (λ f. f.number + more.number < 2 ^ 128) found.old.items }
+    ensures { OnOk result (TalliesMore found.old.items found.new.items more.number more.least) }
+{
+    match find_end(found.as_slice(), more.end) {
+        Some(number) => add_at(found, number, more),
+        None => found.push(more)?,
+    }
+    Ok(())
+}

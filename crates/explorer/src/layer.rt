@@ -1,0 +1,139 @@
+//! The kernels that runs have come to before a step.
+ghost use Rattle.std.specs.Prelude.{◌≡◌, ◌<◌, ◌+◌, ◌^◌, [], true, length, IfSome, OnOk};
+ghost use Rattle.explorer.specs.Layers.{Gains, count_of};
+ghost use Rattle.explorer.specs.Nodes.{IsAlike, IsJoined, IsPut};
+
+use crate::placement::Placement;
+use kernel::{Kernel, Snapshot};
+use model::{App, Memory};
+use std::alloc::Global;
+
+// The number that a place has where no node is.
+const NO_NODE: u32 = u32::MAX;
+
+/// A kernel that runs have come to before a step, with plans of as many injections: how many they are, and the least of them.
+#[derive(Drop)]
+pub(crate) struct Node {
+    pub(crate) kernel: Box<Snapshot>,
+    pub(crate) count: u128,
+    pub(crate) least: Placement,
+    hint: u64,
+    // The number of the node that is looked at after this one.
+    after: u32,
+}
+
+/// All kernels that runs have come to before a step, and a table of guesses at where to look for one. A wrong guess costs time and memory
+/// alone.
+#[derive(Drop)]
+pub(crate) struct Layer {
+    pub(crate) nodes: Vec<Node>,
+    heads: Vec<u32>,
+}
+
+impl Layer {
+    /// One without kernels, with a table for about so many. Where there is no memory for the table none will be found.
+    pub(crate) fn new(alloc: Global, about: usize) -> Layer
+        ensures { result.nodes.items ≡ [] }
+    {
+        let places = about.saturating_mul(2).saturating_add(8);
+        Layer {
+            nodes: Vec::new(alloc),
+            heads: vec![in alloc; NO_NODE; places].unwrap_or(Vec::new(alloc)),
+        }
+    }
+
+    /// Whether there are none.
+    pub(crate) fn is_empty(&self) -> bool
+        ensures { result ≡ true → self.now.nodes.items ≡ [] }
+    {
+        self.nodes.is_empty()
+    }
+
+    // The place of the table for a hint.
+    fn place(&self, hint: u64) -> usize {
+        match self.heads.len() {
+            0 => 0,
+            places => (hint as usize) % places,
+        }
+    }
+
+    // The number of a node of this kernel, of this hint, with plans of so many injections, if one is found.
+    fn find(&self, kernel: &Kernel, hint: u64, length: usize) -> Option<usize>
+        ensures { IfSome result (IsAlike self.now.nodes.items kernel.now length) }
+    {
+        let mut number = *self.heads.get(self.place(hint))?;
+        for _ in 0..self.nodes.len() {
+            let node = self.nodes.get(number as usize)?;
+            if node.hint == hint && node.least.len() == length && kernel.is_at(&node.kernel) {
+                return Some(number as usize);
+            }
+            number = node.after;
+        }
+        None
+    }
+
+    // To the plans of this node come others, so many, of which this is the least.
+    fn join(&mut self, number: usize, count: u128, least: Placement)
+        requires within { number < length self.old.nodes.items }
+        requires room { count_of self.old.nodes.items + count < 2 ^ 128 }
+        ensures { IsJoined self.old.nodes.items self.new.nodes.items number count least }
+    {
+        let node = &mut self.nodes[number];
+        node.count += count;
+        if least.is_less(&node.least) {
+            node.least = least;
+        }
+    }
+
+    // One node more.
+    fn put(
+        &mut self,
+        alloc: Global,
+        kernel: &Kernel,
+        hint: u64,
+        count: u128,
+        least: Placement,
+    ) -> Result<(), Memory>
+        ensures { OnOk result (IsPut self.old.nodes.items self.new.nodes.items kernel.now count least) }
+    {
+        let place = self.place(hint);
+        let number = u32::try_from(self.nodes.len()).unwrap_or(NO_NODE);
+        let after = self.heads.get(place).copied().unwrap_or(NO_NODE);
+        let snapshot = kernel.boxed_snapshot(alloc)?;
+        self.nodes.push(Node {
+            kernel: snapshot,
+            count,
+            least,
+            hint,
+            after,
+        })?;
+        if let Some(head) = self.heads.get_mut(place) {
+            *head = number;
+        }
+        Ok(())
+    }
+
+    /// So many plans more come to this kernel, all of as many injections, of which this is the least.
+    pub(crate) fn add(
+        &mut self,
+        alloc: Global,
+        app: &App,
+        kernel: &Kernel,
+        count: u128,
+        least: Placement,
+    ) -> Result<(), Memory>
+        requires room { count_of self.old.nodes.items + count < 2 ^ 128 }
+        ensures gains { OnOk result (Gains self.old.nodes.items self.new.nodes.items kernel.now count least) }
+        ensures count { OnOk result (count_of self.new.nodes.items ≡ count_of self.old.nodes.items + count) }
+    {
+        let hint = kernel.hint(app);
+        let found = self.find(kernel, hint, least.len());
+        match found {
+            Some(number) => {
+                self.join(number, count, least);
+                Ok(())
+            }
+            None => self.put(alloc, kernel, hint, count, least),
+        }
+    }
+}

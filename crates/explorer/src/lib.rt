@@ -1,0 +1,14 @@
+//! All placements of a few handlers in a run of an application: how many of them end in which way, and the least of each.
+#![tactic(auto)]
+
+mod advance;
+mod choices;
+mod exploring;
+mod findings;
+mod layer;
+mod order;
+mod placement;
+
+pub use exploring::explore;
+pub use findings::Found;
+pub use placement::Placement;

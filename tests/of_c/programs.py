@@ -1,0 +1,204 @@
+"""Random functions in C around calls of FreeRTOS, each of one task alone."""
+import random
+from typing import Callable, List
+
+HEAD = """#include "FreeRTOS.h"
+#include "task.h"
+#include "queue.h"
+#include "semphr.h"
+#include "event_groups.h"
+
+static QueueHandle_t jobs, box;
+static SemaphoreHandle_t flag, count, bus;
+static EventGroupHandle_t events;
+static const int limit = 3;
+enum command { STOP, GO = 4, WAIT };
+"""
+CREATES = """
+    jobs = xQueueCreate(3, sizeof(int));
+    box = xQueueCreate(1, sizeof(uint8_t));
+    flag = xSemaphoreCreateBinary();
+    count = xSemaphoreCreateCounting(3, 1);
+    bus = xSemaphoreCreateMutex();
+    events = xEventGroupCreate();
+"""
+INTEGERS = ("a", "b", "n", "v", "ok")
+WAITS = ("0", "0", "0", "2", "pdMS_TO_TICKS(3)")
+COMPARISONS = ("==", "!=", "<", "<=", ">", ">=")
+
+
+class Programs:
+    """A source of tasks. A name of a local is chosen at random, so some are asked for when a script doesn't keep them any more."""
+
+    def __init__(self, seed: int):
+        self.dice = random.Random(seed)
+        self.helpers: List[str] = []
+        self.depth = 0
+
+    def one_of(self, *choices: str) -> str:
+        return self.dice.choice(choices)
+
+    def number(self) -> str:
+        return self.one_of("0", "1", "2", "3", "4", "7", "limit", "GO", "'c'", "0x10", "250u")
+
+    def file(self, tasks: int) -> str:
+        functions, creates = [], []
+        for at in range(tasks):
+            functions.append(self.task(f"task_{at}"))
+            creates.append(f'    xTaskCreate(task_{at}, "task_{at}", 128, NULL, 1, NULL);\n')
+        helpers = "".join(self.helpers)
+        return f"{HEAD}{helpers}{''.join(functions)}\nint main(void)\n{{{CREATES}{''.join(creates)}    vTaskStartScheduler();\n}}\n"
+
+    def task(self, name: str) -> str:
+        body = "".join(self.statement(1, "") for _ in range(self.dice.randrange(2, 7)))
+        return f"\nstatic void {name}(void *parameters)\n{{\n{self.locals()}{body}}}\n"
+
+    def locals(self) -> str:
+        a, b, n, v = (self.one_of("0", "1", "2", "3", "5") for _ in range(4))
+        return f"    int a = {a}, b = {b}, item = 0;\n    unsigned n = {n};\n    uint8_t v = {v};\n    bool ok = false;\n"
+
+    # -- calls
+
+    def flagging(self) -> str:
+        """A call that returns pdTRUE or pdFALSE."""
+        wait = self.one_of(*WAITS)
+        return self.one_of(
+            f"xQueueReceive(jobs, &item, {wait})", f"xQueueReceive(box, &v, {wait})", f"xQueuePeek(jobs, &item, {wait})",
+            f"xSemaphoreTake(flag, {wait})", f"xSemaphoreTake(count, {wait})", f"xSemaphoreTake(bus, {wait})", "xSemaphoreGive(flag)",
+            "xSemaphoreGive(count)", self.sending(wait), self.sending(wait),
+        )
+
+    def sending(self, wait: str) -> str:
+        return self.one_of(
+            f"xQueueSend(jobs, &a, {wait})", f"xQueueSendToFront(jobs, &b, {wait})", f"xQueueSend(box, &v, {wait})",
+            f"xQueueSendToBack(jobs, &n, {wait})", "xQueueOverwrite(box, &a)",
+        )
+
+    def counting(self) -> str:
+        """A call that returns a number."""
+        return self.one_of(
+            "uxQueueMessagesWaiting(jobs)", "uxQueueSpacesAvailable(jobs)", "xEventGroupGetBits(events)", "xEventGroupSetBits(events, 2)",
+            "xEventGroupClearBits(events, 1)", "xEventGroupSetBits(events, 1)", "xEventGroupWaitBits(events, 3, pdTRUE, pdFALSE, 1)",
+            "xEventGroupWaitBits(events, 3, pdFALSE, pdTRUE, 0)",
+        )
+
+    def helper(self) -> str:
+        """A call of a function of the file, which may be a new one."""
+        if len(self.helpers) < 6 or self.dice.random() < 0.1:
+            self.new_helper()
+        at = self.dice.randrange(len(self.helpers))
+        return f"helper_{at}({self.one_of('1', '2', 'a', 'GO')}, &{self.one_of('a', 'b')})"
+
+    def new_helper(self) -> None:
+        depth, self.depth = self.depth, 3
+        body = self.one_of(
+            f"    if ({self.flagging()} != pdTRUE) return {self.number()};\n",
+            f"    for (int i = 0; i < x; i++) {{\n        if ({self.flagging()}) return i;\n    }}\n",
+            f"    for (int i = 0; i < 2; i++) {{\n        {self.sending('0')};\n        if ({self.flagging()}) return 1;\n    }}\n",
+            f"    if ({self.flagging()}) *out = x; else *out = {self.number()};\n",
+            f"    switch (x) {{\n    case 1: ok = {self.flagging()};\n    case 2: rtosim_mark(4); return ok;\n    default: *out = 1;\n    }}\n",
+            f"    while ({self.flagging()}) {{\n        if ({self.flagging()}) return 2;\n    }}\n",
+        )
+        self.depth = depth
+        at = len(self.helpers)
+        end = self.one_of("0", "x", "x + 1", "ok", "*out")
+        self.helpers.append(f"\nstatic int helper_{at}(int x, int *out)\n{{\n{self.locals()}{body}    return {end};\n}}\n")
+
+    # -- expressions
+
+    def integer(self, depth: int = 2) -> str:
+        """An expression without calls."""
+        if depth == 0 or self.dice.random() < 0.4:
+            return self.one_of(*INTEGERS, self.number(), self.number())
+        left, right = self.integer(depth - 1), self.integer(depth - 1)
+        return self.one_of(
+            f"({left} + {right})", f"({left} - {right})", f"({left} * {self.number()})", f"({left} / {self.one_of('2', '3', '7')})",
+            f"({left} % {self.one_of('2', '3', '5')})", f"({left} & {right})", f"({left} | {right})", f"({left} ^ {right})",
+            f"({left} << {self.one_of('1', '3')})", f"((unsigned){left} >> {self.one_of('1', '2')})", f"- {left}", f"~{left}",
+            f"({left} {self.one_of(*COMPARISONS)} {right})", f"!{left}", f"(uint8_t){left}", f"({left} ? {right} : {self.number()})",
+        )
+
+    def asking(self) -> str:
+        """An expression with one call."""
+        if self.dice.random() < 0.12:
+            return self.helper()
+        if self.dice.random() < 0.3:
+            return f"{self.counting()}{self.one_of('', f' & {self.one_of(chr(49), chr(50))}', f' + {self.number()}')}"
+        return f"{self.flagging()}{self.one_of('', ' == pdTRUE', ' != pdPASS', ' == pdFALSE')}"
+
+    def condition(self, depth: int = 2) -> str:
+        choice = self.dice.random()
+        if depth and choice < 0.2:
+            return f"{self.condition(depth - 1)} {self.one_of('&&', '||')} {self.condition(depth - 1)}"
+        if depth and choice < 0.28:
+            return f"!({self.condition(depth - 1)})"
+        if choice < 0.5:
+            return f"{self.one_of(*INTEGERS)} {self.one_of(*COMPARISONS)} {self.number()}"
+        if choice < 0.58:
+            return self.integer()
+        return f"({self.asking()})" if self.dice.random() < 0.6 else f"({self.asking()}) {self.one_of(*COMPARISONS)} {self.number()}"
+
+    # -- statements
+
+    def block(self, level: int, jumps: str, most: int = 4) -> str:
+        return "".join(self.statement(level, jumps) for _ in range(self.dice.randrange(1, most)))
+
+    def statement(self, level: int, jumps: str) -> str:
+        """One statement; `jumps` has the letters of those that are allowed: b of `break`, c of `continue`."""
+        indent = "    " * level
+        simple: List[Callable[[], str]] = [
+            lambda: f"{self.one_of(*INTEGERS)} = {self.asking()};", lambda: f"{self.one_of(*INTEGERS)} = {self.integer()};",
+            lambda: f"{self.asking()};", lambda: f"{self.one_of('a', 'b', 'n', 'v')}{self.one_of('++', '--', ' += 2', ' |= 5', ' *= 3')};",
+            lambda: f"rtosim_mark({self.number()});", lambda: f"rtosim_mark((uint8_t){self.one_of('a', 'n', 'v')});", self.passing,
+            lambda: f"configASSERT({self.condition(1)});", lambda: f"ok = {self.condition()};",
+            lambda: f"if ({self.condition()}) {self.one_of(*self.jumps(jumps))};",
+        ]
+        nested = [self.branch, self.branch, self.switch, self.while_loop, self.counted_loop, self.endless_loop, self.do_loop]
+        if level >= 4 or self.dice.random() < 0.6:
+            return f"{indent}{self.dice.choice(simple)()}\n"
+        return self.dice.choice(nested)(level, jumps, indent)
+
+    def passing(self) -> str:
+        return self.one_of("rtosim_work(2);", "vTaskDelay(1);", "/* rtosim: work 1 */", "taskYIELD();", "/* rtosim: mark 6 */")
+
+    def jumps(self, jumps: str) -> List[str]:
+        """Statements that leave."""
+        found = ["vTaskDelete(NULL)", "return"]
+        return found + ["break"] * 4 * ("b" in jumps) + ["continue"] * 3 * ("c" in jumps)
+
+    def branch(self, level: int, jumps: str, indent: str) -> str:
+        text = f"{indent}if ({self.condition()}) {{\n{self.block(level + 1, jumps)}{indent}}}"
+        return text + (f" else {{\n{self.block(level + 1, jumps)}{indent}}}\n" if self.dice.random() < 0.5 else "\n")
+
+    def switch(self, level: int, jumps: str, indent: str) -> str:
+        text = f"{indent}switch ({self.one_of(self.asking(), self.one_of(*INTEGERS), self.integer(1))}) {{\n"
+        labels = self.dice.sample(["0", "1", "2", "3", "GO", "7", "250"], self.dice.randrange(1, 4)) + ["default"] * self.dice.randrange(2)
+        self.dice.shuffle(labels)
+        for it in labels:
+            text += f"{indent}{'default' if it == 'default' else f'case {it}'}:\n"
+            if self.dice.random() < 0.8:
+                text += self.block(level + 1, jumps.replace("b", "") + "b", 3)
+                text += f"{indent}    break;\n" if self.dice.random() < 0.7 else ""
+        return text + f"{indent}    ;\n{indent}}}\n"
+
+    def while_loop(self, level: int, jumps: str, indent: str) -> str:
+        condition = self.one_of(self.condition(), f"{self.flagging()} == pdTRUE", f"{self.flagging()} && {self.condition(1)}")
+        return f"{indent}while ({condition}) {{\n{indent}    {self.flagging()};\n{self.block(level + 1, 'bc')}{indent}}}\n"
+
+    def counted_loop(self, level: int, jumps: str, indent: str) -> str:
+        turns, name = self.one_of("1", "2", "3", "limit"), f"i{level}"
+        head = self.one_of(
+            f"for (int {name} = 0; {name} < {turns}; {name}++)", f"for (int {name} = {turns}; {name} > 0; --{name})",
+            f"for (int {name} = 0; {name} < {turns} && ({self.condition(1)}); {name}++)",
+            f"for (unsigned {name} = 0; {name} != 4; {name} += 2)",
+        )
+        mark = f"{indent}    rtosim_mark((unsigned){name});\n" if self.dice.random() < 0.3 else ""
+        return f"{indent}{head} {{\n{mark}{self.block(level + 1, 'bc')}{indent}}}\n"
+
+    def endless_loop(self, level: int, jumps: str, indent: str) -> str:
+        leave = f"{indent}    if ({self.condition(1)}) {self.one_of('break', 'break', 'return', 'vTaskDelete(NULL)')};\n"
+        return f"{indent}for (;;) {{\n{indent}    {self.flagging()};\n{self.block(level + 1, 'bc')}{leave}{indent}}}\n"
+
+    def do_loop(self, level: int, jumps: str, indent: str) -> str:
+        condition = self.one_of(self.condition(), "--n > 0 && n < 9", "0", f"{self.flagging()} == pdTRUE")
+        return f"{indent}do {{\n{indent}    {self.flagging()};\n{self.block(level + 1, 'bc')}{indent}}} while ({condition});\n"

@@ -1,0 +1,293 @@
+"""Calls of FreeRTOS: by the table, each with its arguments, its op and what it returns."""
+from typing import Dict, Optional
+
+from . import trees
+from .answers import NUMBERS, NONE, Answers, answers, failing, condition_for, only
+from .calls import (CALLS, CREATORS, MASKS_OF_HANDLERS, NO_OP, TASK_CREATORS, YIELDS_OF_HANDLERS, Answer, Argument, Call, Result, Who)
+from .expressions import Expressions
+from .integers import INT, UNSIGNED, Integer
+from .paths import Path
+from .refusals import Lost, LostUse
+from .values import Handle, Known, Nothing, Piece, Reference, Stamp, Value, constant, converted, is_received, lost, the_answer
+
+FOREVER = 4294967295
+SILENT = ("printf", "puts", "putchar")
+KINDS = {
+    Argument.QUEUE: ("queue",), Argument.SEMAPHORE: ("binary", "counting", "mutex"), Argument.GROUP: ("group",), Argument.TASK: ("task",),
+}
+ACTIONS = ("none", "bits {}", "increment", "overwrite {}", "keep {}")
+BY_HANDLER = Lost("whether a handler has woken a task isn't known here", instead="portYIELD_FROM_ISR with it, or nothing")
+LEAST_MASK, GREATEST_MASK = 1, (1 << 24) - 1
+
+
+class Api(Expressions):
+    """Calls, and the ops that they make."""
+
+    def of_FuncCall(self, node: object, path: Path) -> Known:
+        name = trees.called(node)
+        if name is None:
+            raise self.refuse(node, "a call by a pointer to a function has no op", "a call of the function by its name")
+        if name in self.unit.directives.ignored or name in SILENT and name not in self.unit.functions:
+            return self.left_out(name, node, path)
+        if name in CALLS:
+            return self.call(CALLS[name], node, path)
+        if name in self.unit.functions:
+            key = self.result_key(node)
+            return self.taken(key, path, node) if key in path.state.locals else self.followed(node, path)
+        return self.other_call(name, node, path)
+
+    def other_call(self, name: str, node: object, path: Path) -> Known:
+        if name == "configASSERT":
+            self.assertion(trees.arguments(node)[0], path)
+            return Nothing()
+        if name in YIELDS_OF_HANDLERS and self.is_handler:
+            self.evaluate_calls(node, path)
+            self.note(node, f"{name}: every handler ends so here")
+            return Nothing()
+        if name in MASKS_OF_HANDLERS and self.is_handler:
+            self.evaluate_calls(node, path)
+            self.note(node, f"{name}: no handler comes during another here")
+            return constant(0)
+        if name in (*CREATORS, *TASK_CREATORS):
+            return self.creation(name, node)
+        if name == "xTaskGetCurrentTaskHandle" and not self.is_handler:
+            return Handle("task", self.owner.name)
+        if name in NO_OP:
+            what, instead = NO_OP[name]
+            raise self.refuse(node, f"{name}: {what}", instead)
+        raise self.refuse(node, f"`{name}` isn't in this file", f"its body, rtosim_work(n) for the ticks that it takes, or --ignore {name}")
+
+    def left_out(self, name: str, node: object, path: Path) -> Known:
+        """A call that has no effect on tasks. What its arguments call is called all the same."""
+        self.evaluate_calls(node, path)
+        self.note(node, f"{name} is left out")
+        return lost(INT, Lost(f"what {name} returns isn't known"))
+
+    def evaluate_calls(self, node: object, path: Path) -> None:
+        """Calls among the arguments of a call that has no op."""
+        for it in trees.arguments(node):
+            if trees.calls_in(it):
+                self.evaluate(it, path)
+
+    def creation(self, name: str, node: object) -> Known:
+        self.note(node, f"{name}: what it creates is there from reset on", name in TASK_CREATORS)
+        return constant(1)
+
+    # -- calls of the table
+
+    def call(self, call: Call, node: object, path: Path) -> Known:
+        if call.who is Who.HANDLER and not self.is_handler or call.who is Who.TASK and self.is_handler:
+            whose = "a handler" if call.who is Who.HANDLER else "a task"
+            instead = f"{call.function}FromISR" if f"{call.function}FromISR" in CALLS else "the call of the other one of the two"
+            raise self.refuse(node, f"{call.function} is for {whose}", instead)
+        self.need(call.family, node, f"{call.function} ({call.op.split()[0]})", call.instead)
+        words = trees.arguments(node)
+        if len(words) != len(call.arguments):
+            raise self.refuse(node, f"{call.function} has {len(call.arguments)} arguments, and here {len(words)}")
+        values = dict(zip(call.arguments, self.evaluate_all(words, path)))
+        nodes = dict(zip(call.arguments, words))
+        texts = {it.name.lower(): self.text(it, values, nodes[it], path) for it in call.arguments}
+        op = call.op
+        if call.of_mutex and self.handle(values[Argument.SEMAPHORE], Argument.SEMAPHORE, node).kind == "mutex":
+            op = call.of_mutex
+        if op == "work {number}" and texts["number"] == "0":
+            return Nothing()
+        self.take_daemon(op)
+        self.op(op.format(**texts), node, path)
+        return self.answered(call, values, texts, node, path)
+
+    def take_daemon(self, op: str) -> None:
+        if self.is_handler and op.split()[0] in ("set", "clear"):
+            self.uses_daemon = True
+
+    def text(self, argument: Argument, values: Dict[Argument, Known], node: object, path: Path) -> str:
+        """The argument as a word of the op; empty if it is none."""
+        value = values[argument]
+        if argument in KINDS:
+            return self.handle(value, argument, node).name
+        if argument is Argument.ITEM:
+            return self.item(value, self.handle(values[Argument.QUEUE], Argument.QUEUE, node), node, path)
+        if argument is Argument.MARK:
+            return self.mark_number(value, node, path)
+        if argument in (Argument.NUMBER, Argument.TICKS, Argument.MASK, Argument.BITS, Argument.BITS_AFTER):
+            return str(self.fixed(value, argument, node, path))
+        if argument is Argument.WAIT:
+            ticks = self.fixed(value, argument, node, path)
+            return "forever" if ticks == FOREVER else str(ticks)
+        if argument in (Argument.ALL, Argument.CLEARS, Argument.TAKES):
+            words = {Argument.ALL: ("any", "all"), Argument.CLEARS: ("keep", "clear"), Argument.TAKES: ("decrement", "clear")}
+            return words[argument][bool(self.fixed(value, argument, node, path))]
+        if argument is Argument.ACTION:
+            action = self.fixed(value, argument, node, path)
+            return ACTIONS[action % len(ACTIONS)].format(self.fixed(values[Argument.BITS], argument, node, path))
+        return ""
+
+    def mark_number(self, value: Known, node: object, path: Path) -> str:
+        return str(self.fixed(value, Argument.MARK, node, path))
+
+    def fixed(self, value: Known, argument: Argument, node: object, path: Path) -> int:
+        """A number that is the same whatever was answered."""
+        found = self.number(value, node, path)
+        if found is None:
+            raise LostUse(self.place(node), Lost(f"this is to be {argument.value}, and depends on an answer", instead="a constant"))
+        if argument is Argument.MASK and not LEAST_MASK <= found <= GREATEST_MASK:
+            raise self.refuse(node, f"bits of a group are 1 to {GREATEST_MASK}, and here {found}")
+        return UNSIGNED.wrapped(found)
+
+    def handle(self, value: Known, argument: Argument, node: object) -> Handle:
+        if argument is Argument.TASK and isinstance(value, Value) and value.constant() == 0 and not self.is_handler:
+            return Handle("task", self.owner.name)
+        if not isinstance(value, Handle) or value.kind not in KINDS[argument]:
+            raise self.refuse(node, f"this is to be {argument.value}", "the handle that it was created with")
+        return value
+
+    def item(self, value: Known, queue: Handle, node: object, path: Path) -> str:
+        """The item at an address, cut to the size of the queue's items."""
+        if not isinstance(value, Reference):
+            raise self.refuse(node, "an item is read at the address of a local", "a local that has it, and `&` with its name")
+        kept = self.fitted(self.integer(self.read_local(value.local, node, path), node), self.item_type(queue), node, path)
+        found = self.number(converted(kept, UNSIGNED), node, path)
+        if found is None:
+            return self.item_of_answer(kept, queue, node, path)
+        if found > INT.greatest:
+            self.unit.with_large_items.add(queue.name)
+        return str(found)
+
+    def item_of_answer(self, value: Value, queue: Handle, node: object, path: Path) -> str:
+        raise LostUse(self.place(node), Lost("not in this version: an item that depends on an answer", instead="an item that is a constant"))
+
+    def item_type(self, queue: Handle) -> Integer:
+        size = self.unit.object(queue.name).numbers.get("size", 4)
+        return Integer(8 * size, False) if 1 <= size <= 4 else UNSIGNED
+
+    # -- answers
+
+    def answered(self, call: Call, values: Dict[Argument, Known], texts: Dict[str, str], node: object, path: Path) -> Known:
+        """What is known after the op, and what the function returns."""
+        if call.answer is Answer.UNCHANGED:
+            return Nothing()
+        path.state = path.state.answered(self.answers_of(call, values, texts), f"{call.function} in line {self.place(node).line}",
+                                         self.place(node))
+        storage = values.get(Argument.STORAGE, values.get(Argument.VALUE_STORAGE))
+        if isinstance(storage, Reference):
+            self.keep_received(storage.local, node, path)
+        elif storage is not None and not isinstance(storage, Value):
+            raise self.refuse(node, "what is received is put into a local", "the address of a local")
+        woken = values.get(Argument.WOKEN)
+        if isinstance(woken, Reference):
+            path.state = path.state.with_local(woken.local, lost(INT, BY_HANDLER))
+        if call.result is Result.VOID:
+            return Nothing()
+        if call.result is Result.RECEIVED:
+            return is_received()
+        if call.result is Result.OTHER:
+            return lost(INT, Lost(f"what {call.function} returns isn't what the op answers", instead="the call without its result"))
+        type_ = UNSIGNED if call.answer in (Answer.COUNT, Answer.SET_BITS, Answer.NUMBER) else INT
+        return the_answer(type_, path.state.answers)
+
+    def answers_of(self, call: Call, values: Dict[Argument, Known], texts: Dict[str, str]) -> Answers:
+        never_fails = texts.get("wait") == "forever"
+        queue = values.get(Argument.QUEUE)
+        if call.answer is Answer.SUCCESS:
+            semaphore = values.get(Argument.SEMAPHORE)
+            is_unlock = isinstance(semaphore, Handle) and semaphore.kind == "mutex" and Argument.WAIT not in values
+            return only(1) if never_fails or is_unlock else only(0, 1)
+        if call.answer is Answer.ITEM:
+            greatest = self.item_type(queue).greatest
+            items = answers((0, greatest if queue.name in self.unit.with_large_items else min(greatest, INT.greatest)))
+            return items if never_fails else items | only(NONE)
+        if call.answer is Answer.COUNT:
+            return answers((0, max(1, self.unit.object(queue.name).numbers["length"])))
+        if call.answer is Answer.SET_BITS:
+            return self.unit.bits_of_groups()
+        fixed = {Answer.ONE: only(1), Answer.ZERO: only(0), Answer.NUMBER: NUMBERS, Answer.NUMBER_OR_NONE: NUMBERS | only(NONE)}
+        return fixed[call.answer]
+
+    def keep_received(self, local: str, node: object, path: Path) -> None:
+        """What was received is in the local, unless nothing was: then it keeps what it had."""
+        type_ = self.types[local]
+        if not isinstance(type_, Integer):
+            raise self.refuse(node, f"{type_} as an item has no op", "integers")
+        before = path.state.locals[local]
+        kept = [Piece(NONE, NONE, it.kind, it.number, it.lost) for it in before.pieces[:1]] if isinstance(before, Value) else []
+        if not kept or before.constant() is None:
+            kept = [Piece(NONE, NONE, "lost", 0, Lost(f"`{local.split('@')[0]}` isn't known where nothing was received", local))]
+        now = the_answer(type_, path.state.answers)
+        path.state = path.state.with_local(local, Value(type_, (*kept, *now.pieces)))
+
+    # -- time
+
+    def measured_from(self, target: object, value: Optional[object], path: Path) -> Optional[Known]:
+        """`x = xTaskGetTickCount()`: a stamp if the function measures from `x`, and nothing if `x` is its wake time."""
+        call = trees.plain(value) if value is not None else None
+        if call is None or trees.called(call) != "xTaskGetTickCount" or self.is_handler:
+            return None
+        name = getattr(target, "name", None)
+        name = name if isinstance(name, str) else None
+        body = self.unit.functions[self.frame.function].body
+        if trees.find(body, lambda it: is_delay_of(it, name)) is not None:
+            self.note(call, f"`{name}`: the first period of a task counts from reset", True)
+            return lost(UNSIGNED, Lost("the wake time of a task isn't known", instead="xTaskGetTickCount() for the time of now"))
+        if trees.find(body, lambda it: is_measure_of(it, name)) is None:
+            return None
+        self.op("stamp", call, path)
+        number = self.stamps.setdefault(self.place(call), len(self.stamps) + 1)
+        path.state = path.state.stamped(number)
+        return Stamp(number)
+
+    def measured(self, node: object, path: Path) -> Value:
+        self.op("since", node, path)
+        path.state = path.state.answered(NUMBERS, f"the measuring in line {self.place(node).line}", self.place(node))
+        return the_answer(UNSIGNED)
+
+    # -- checks
+
+    def assertion(self, node: object, path: Path) -> None:
+        """`configASSERT`: an `expect`, or one for each part that `&&` joins."""
+        if trees.kind(node) == "BinaryOp" and node.op == "&&":
+            self.assertion(node.left, path)
+            if not path.is_over:
+                self.assertion(node.right, path)
+            return
+        try:
+            with self.attempt(path):
+                wanted = self.truth(self.evaluate(node, path), node, path)
+        except LostUse:
+            self.meet(path, lambda end: self.condition(node, path, self.later(end), self.later(lambda it: self.fail(node, it))))
+            return
+        self.expect(wanted, node, path)
+
+    def expect(self, wanted: Answers, node: object, path: Path) -> None:
+        """Checks that the last answer is a wanted one."""
+        among = path.state.answers
+        text = condition_for(wanted, among)
+        if wanted == among:
+            self.note(node, "this check always holds: no op")
+        elif text is not None:
+            self.op(f"expect {text}", node, path)
+            path.state = path.state.among(wanted)
+        else:
+            self.meet(path, lambda end: self.branch(path, wanted, end, lambda it: self.fail(node, it), node))
+
+    def fail(self, node: object, path: Path) -> None:
+        """A check that fails whatever was answered."""
+        text = failing(path.state.answers)
+        if text is None:
+            raise self.refuse(node, "this check can't be said by the last answer", "the check right after the call that it is about")
+        self.op(f"expect {text}", node, path)
+        path.end()
+
+
+def is_delay_of(node: object, name: Optional[str]) -> bool:
+    if trees.called(node) not in ("vTaskDelayUntil", "xTaskDelayUntil"):
+        return False
+    first = trees.arguments(node)[0]
+    return trees.kind(first) == "UnaryOp" and trees.kind(first.expr) == "ID" and first.expr.name == name
+
+
+def is_measure_of(node: object, name: Optional[str]) -> bool:
+    if trees.kind(node) != "BinaryOp" or node.op != "-":
+        return False
+    right = trees.plain(node.right)
+    return trees.called(trees.plain(node.left)) == "xTaskGetTickCount" and trees.kind(right) == "ID" and right.name == name
+

@@ -1,0 +1,133 @@
+"""Types of declarations, and expressions that are constant wherever they are."""
+import re
+from typing import Dict, List, Optional, Union
+
+from . import trees
+from .answers import ALL
+from .integers import INT, LONG_LONG, UNSIGNED, Integer, named
+from .values import Value, binary, constant, converted, unary
+
+# The types of handles, each with the kinds of objects that it may be of.
+HANDLES = {"QueueHandle_t": "queue", "SemaphoreHandle_t": "semaphore", "EventGroupHandle_t": "group", "TaskHandle_t": "task"}
+ESCAPES = {"n": 10, "t": 9, "r": 13, "0": 0, "\\": 92, "'": 39, '"': 34, "a": 7, "b": 8, "f": 12, "v": 11}
+SUFFIX = re.compile(r"[uUlL]*$")
+POINTER = Integer(64, False)
+# What a declaration may be of: integers, a handle by its kind, or another thing by its name.
+Type = Union[Integer, str]
+
+
+class Constants:
+    """The types and the constants of a file."""
+
+    def __init__(self) -> None:
+        self.typedefs: Dict[str, object] = {}
+        self.numbers: Dict[str, Value] = {}
+
+    def type_of(self, node: object) -> Type:
+        """The type of a declaration, a parameter or a cast: integers, `handle ..`, or what else it is."""
+        name = trees.kind(node)
+        if name in ("Decl", "Typename", "TypeDecl", "Typedef"):
+            return self.type_of(node.type)
+        if name == "Enum":
+            return INT
+        if name == "IdentifierType":
+            return self.named(node.names)
+        return {"PtrDecl": "a pointer", "ArrayDecl": "an array", "Struct": "a structure", "Union": "a union",
+                "FuncDecl": "a function"}.get(name, name)
+
+    def named(self, names: List[str]) -> Type:
+        if names == ["void"]:
+            return "void"
+        if len(names) == 1 and names[0] in HANDLES:
+            return f"handle {HANDLES[names[0]]}"
+        if len(names) == 1 and names[0] in self.typedefs:
+            return self.type_of(self.typedefs[names[0]].type)
+        if set(names) & {"float", "double"}:
+            return "a float"
+        return named(names) or f"of type {' '.join(names)}"
+
+    def value(self, node: object) -> Optional[Value]:
+        """The value of a constant expression; None if it is none, or none of integers."""
+        name = trees.kind(node)
+        if name == "Constant":
+            return literal(node)
+        if name == "ID":
+            return self.numbers.get(node.name)
+        if name == "Cast":
+            return self.cast(node)
+        if name == "UnaryOp":
+            return self.of_one(node)
+        if name == "BinaryOp":
+            left, right = self.value(node.left), self.value(node.right)
+            return None if left is None or right is None else known(binary_of(node.op, left, right))
+        if name == "TernaryOp":
+            which = self.value(node.cond)
+            return None if which is None else self.value(node.iftrue if which.constant() else node.iffalse)
+        return None
+
+    def cast(self, node: object) -> Optional[Value]:
+        type_, inner = self.type_of(node.to_type), self.value(node.expr)
+        if inner is None or isinstance(type_, str) and type_ not in ("a pointer", "void") and not type_.startswith("handle"):
+            return None
+        return converted(inner, POINTER if isinstance(type_, str) else type_)
+
+    def of_one(self, node: object) -> Optional[Value]:
+        if node.op == "sizeof":
+            type_ = self.type_of(node.expr)
+            return constant(-(-type_.bits // 8), UNSIGNED) if isinstance(type_, Integer) else None
+        inner = self.value(node.expr)
+        return known(unary(node.op, inner, ALL)) if inner is not None and node.op in "+-~!" else None
+
+    def take_enum(self, node: object) -> None:
+        """The names of an enumeration."""
+        next_one = 0
+        for it in node.values.enumerators if node.values else []:
+            if it.value is not None:
+                value = self.value(it.value)
+                if value is None:
+                    continue
+                next_one = value.constant() or 0
+            self.numbers[it.name] = constant(next_one)
+            next_one += 1
+
+
+def known(value: Value) -> Optional[Value]:
+    return value if value.constant() is not None else None
+
+
+def binary_of(operator: str, left: Value, right: Value) -> Value:
+    if operator in ("&&", "||"):
+        first, second = bool(left.constant()), bool(right.constant())
+        return constant(int(first and second if operator == "&&" else first or second))
+    return binary(operator, left, right, ALL)
+
+
+def literal(node: object) -> Optional[Value]:
+    """A number or a character as it is written."""
+    if node.type in ("char", "signed char", "unsigned char") or node.value.startswith("'"):
+        return constant(character(node.value[1:-1]))
+    if "float" in node.type or "double" in node.type or node.value.startswith('"'):
+        return None
+    digits = SUFFIX.sub("", node.value)
+    is_decimal = not digits.startswith("0") or digits == "0"
+    number = int(digits, 10) if is_decimal else int(digits, 0) if digits[1:2] in "xXbB" else int(digits, 8)
+    suffix = node.value[len(digits):].lower()
+    return constant(number, type_of_literal(number, "u" in suffix, "ll" in suffix, is_decimal))
+
+
+def type_of_literal(number: int, is_unsigned: bool, is_long_long: bool, is_decimal: bool) -> Integer:
+    types = [INT, UNSIGNED, LONG_LONG, Integer(64, False)]
+    for it in types:
+        if it.bits < 64 and is_long_long or is_unsigned and it.is_signed or is_decimal and not is_unsigned and not it.is_signed:
+            continue
+        if number <= it.greatest:
+            return it
+    return types[-1]
+
+
+def character(text: str) -> int:
+    if not text.startswith("\\"):
+        return ord(text[0])
+    if text[1:2] == "x":
+        return int(text[2:], 16)
+    return int(text[1:], 8) if text[1:].isdigit() else ESCAPES.get(text[1], ord(text[1]))

@@ -1,0 +1,371 @@
+"""Expressions: constants, locals, arithmetic, and calls of functions of the file, which are followed."""
+from dataclasses import replace
+from typing import Callable, List, Optional, Sequence
+
+from . import trees
+from .constants import POINTER, literal
+from .core import Core
+from .families import Family
+from .frames import Frame, Jumps
+from .integers import BOOL, INT, Integer
+from .paths import Path
+from .refusals import Lost, Refusal
+from .values import (Handle, Known, Nothing, Reference, Stamp, Text, Value, binary, constant, converted, lost, unary)
+
+IN_PLACE = {
+    "ArrayRef": ("an array", "a queue, whose items are kept in order"),
+    "StructRef": ("a structure", "a variable for each of its members"),
+    "CompoundLiteral": ("a value without a name", "a local"),
+    "InitList": ("a list of values", "a local for each of them"),
+}
+WRITTEN = {"=": None, "+=": "+", "-=": "-", "*=": "*", "/=": "/", "%=": "%", "&=": "&", "|=": "|", "^=": "^", "<<=": "<<", ">>=": ">>"}
+NOT_SET = Lost("this local has no value yet")
+
+
+class Expressions(Core):
+    """What an expression is, and the ops that it takes."""
+
+    def evaluate(self, node: object, path: Path) -> Known:
+        name = trees.kind(node)
+        member = self.unit.handle(self.frame.function, node) if name == "StructRef" else None
+        if member is not None:
+            return member
+        if name in IN_PLACE:
+            raise self.refuse(node, f"{IN_PLACE[name][0]} has no op", IN_PLACE[name][1])
+        method = getattr(self, f"of_{name}", None)
+        if method is None:
+            raise self.refuse(node, f"no expression of this kind ({name}) is read")
+        return method(node, path)
+
+    def of_Constant(self, node: object, path: Path) -> Known:
+        if node.value.startswith('"'):
+            return Text()
+        found = literal(node)
+        if found is None:
+            raise self.refuse(node, "floats have no op", "integers")
+        return found
+
+    def of_ID(self, node: object, path: Path) -> Known:
+        key = self.frame.local(node.name)
+        if key is not None:
+            return self.read_local(key, node, path)
+        if node.name in self.unit.constants.numbers:
+            return self.unit.constants.numbers[node.name]
+        handle = self.unit.handles.get(("", node.name)) or self.unit.handles.get((self.frame.function, node.name))
+        if handle is not None:
+            return handle
+        if node.name in self.unit.globals:
+            return self.read_global(node, path)
+        if node.name in self.unit.functions:
+            raise self.refuse(node, "a function as a value has no op", "a call of it")
+        raise self.refuse(node, f"`{node.name}` isn't declared in this file", "its declaration, or `#ifndef RTOSIM` around this")
+
+    def of_Cast(self, node: object, path: Path) -> Known:
+        type_ = self.unit.constants.type_of(node.to_type)
+        value = self.evaluate(node.expr, path)
+        if type_ == "void":
+            return Nothing()
+        if not isinstance(value, Value) or isinstance(type_, str) and type_.startswith("handle"):
+            return value
+        if type_ == "a pointer":
+            return converted(value, POINTER)
+        if isinstance(type_, str):
+            raise self.refuse(node, f"a cast to {type_} has no op", "integers")
+        return self.fitted(value, type_, node, path)
+
+    def of_ExprList(self, node: object, path: Path) -> Known:
+        value: Known = Nothing()
+        for it in node.exprs:
+            value = self.evaluate(it, path)
+        return value
+
+    def of_UnaryOp(self, node: object, path: Path) -> Known:
+        if node.op in ("++", "--", "p++", "p--"):
+            return self.step(node, path)
+        if node.op == "&":
+            return self.address(node, path)
+        if node.op == "sizeof":
+            found = self.unit.constants.value(node)
+            if found is None:
+                raise self.refuse(node, "the size of this isn't known", "a number")
+            return found
+        value = self.evaluate(node.expr, path)
+        if node.op == "*":
+            if not isinstance(value, Reference):
+                raise self.refuse(node, "a pointer has no op", "a variable by its name")
+            return self.read_local(value.local, node, path)
+        if isinstance(value, Handle) and node.op == "!":
+            return constant(0)
+        return self.unary(node, self.integer(value, node), path)
+
+    def unary(self, node: object, value: Value, path: Path) -> Value:
+        return unary(node.op, value, path.state.answers)
+
+    def address(self, node: object, path: Path) -> Known:
+        inner = node.expr
+        key = self.frame.local(inner.name) if trees.kind(inner) == "ID" else None
+        if key is not None:
+            return Reference(key)
+        if trees.kind(inner) == "UnaryOp" and inner.op == "*":
+            return self.evaluate(inner.expr, path)
+        raise self.refuse(node, "an address has no op", "a local of its own, whose address a call may take")
+
+    def of_TernaryOp(self, node: object, path: Path) -> Known:
+        key = f"?@{self.spot(node)}"
+        ways = (node.iftrue, node.iffalse)
+
+        def take(which: object) -> Callable[[Path], None]:
+            def go(fork: Path) -> None:
+                self.put(key, self.evaluate(which, fork), which, fork)
+            return go
+
+        def part(end: Callable[[Path], None]) -> None:
+            yes, no = (self.later(lambda fork, one=it: (take(one)(fork), end(fork))) for it in ways)
+            self.condition(node.cond, path, yes, no)
+        self.meet(path, part)
+        return self.taken(key, path, node)
+
+    def evaluate_all(self, nodes: Sequence[object], path: Path) -> List[Known]:
+        """The values of several expressions; a later one may take the answer of which an earlier one is made."""
+        return [self.taken(key, path) for key in self.keep_all(nodes, path)]
+
+    def keep_all(self, nodes: Sequence[object], path: Path) -> List[str]:
+        """Evaluates several expressions, and returns the keys under which they are kept."""
+        keys = [f"operand {at}@{self.spot(it)}" for at, it in enumerate(nodes)]
+        for key, it in zip(keys, nodes):
+            self.put(key, self.operand(it, path), it, path)
+        return keys
+
+    def operand(self, node: object, path: Path) -> Known:
+        return self.evaluate(node, path)
+
+    def fitted(self, value: Value, type_: Integer, node: object, path: Path) -> Value:
+        """The value as its type keeps it."""
+        return converted(value, type_)
+
+    # -- operators
+
+    def of_BinaryOp(self, node: object, path: Path) -> Known:
+        if node.op in ("&&", "||"):
+            return self.logical(node, path)
+        since = self.since(node, path)
+        if since is not None:
+            return since
+        left, right = self.evaluate_all([node.left, node.right], path)
+        if isinstance(left, Handle) or isinstance(right, Handle):
+            return self.compared_handles(node, left, right, path)
+        return self.arithmetic(node, self.integer(left, node.left), self.integer(right, node.right), path)
+
+    def arithmetic(self, node: object, left: Value, right: Value, path: Path) -> Value:
+        return binary(node.op, left, right, path.state.answers)
+
+    def compared_handles(self, node: object, left: Known, right: Known, path: Path) -> Value:
+        if node.op not in ("==", "!="):
+            raise self.refuse(node, "this of a handle has no op", "a comparison with NULL or with another handle")
+        if isinstance(left, Handle) and isinstance(right, Handle):
+            is_same = left == right
+        else:
+            other = right if isinstance(left, Handle) else left
+            is_same = self.number(other, node, path) != 0
+        return constant(int(is_same == (node.op == "==")))
+
+    def logical(self, node: object, path: Path) -> Value:
+        """`&&` and `||` as a number: the right one is asked only where the left one doesn't say it all."""
+        key, is_and = f"{node.op}@{self.spot(node)}", node.op == "&&"
+        wanted = self.truth(self.evaluate(node.left, path), node.left, path)
+
+        def fixed(fork: Path) -> None:
+            self.put(key, constant(int(not is_and)), node, fork)
+
+        def right(fork: Path) -> None:
+            value = self.integer(self.evaluate(node.right, fork), node.right)
+            self.put(key, replace(converted(value, BOOL), type=INT), node, fork)
+
+        def part(end: Callable[[Path], None]) -> None:
+            ways = [self.later(lambda fork, one=it: (one(fork), end(fork))) for it in (right, fixed)]
+            self.branch(path, wanted, *(ways if is_and else reversed(ways)), node)
+        self.meet(path, part)
+        return self.integer(self.taken(key, path, node), node)
+
+    def since(self, node: object, path: Path) -> Optional[Value]:
+        """`xTaskGetTickCount() - x`, where `x` is the time of the last stamp."""
+        if node.op != "-" or trees.called(trees.plain(node.left)) != "xTaskGetTickCount":
+            return None
+        right = self.evaluate(node.right, path) if trees.kind(trees.plain(node.right)) == "ID" else None
+        if not isinstance(right, Stamp):
+            return None
+        if right.number != path.state.stamp:
+            raise self.refuse(node, "a task measures from its last time only, and this one is an earlier one",
+                              "one time that is measured from, until it is read")
+        return self.measured(node, path)
+
+    # -- locals
+
+    def read_local(self, key: str, node: object, path: Path) -> Known:
+        found = path.state.locals.get(key)
+        if found is None:
+            raise self.refuse(node, "this local has no value here")
+        return found
+
+    def declare(self, name: str, type_: object, node: object) -> str:
+        """A new local of the innermost block."""
+        key = f"{name}@{self.spot(node)}"
+        self.frame.scopes[-1][name] = key
+        self.types[key] = type_
+        return key
+
+    def write_local(self, key: str, value: Known, node: object, path: Path) -> Known:
+        type_ = self.types[key]
+        if isinstance(value, Value):
+            if isinstance(type_, Integer):
+                value = self.fitted(value, type_, node, path)
+            elif type_ != "a pointer" and not type_.startswith("handle"):
+                raise self.refuse(node, f"{type_} has no op", "integers")
+        elif isinstance(type_, Integer) and not isinstance(value, Stamp):
+            raise self.refuse(node, "this is no integer", "integers in integers")
+        self.put(key, value, node, path)
+        return self.written(key, value, path)
+
+    def written(self, key: str, value: Known, path: Path) -> Known:
+        """What an assignment is, after it."""
+        return value
+
+    def of_Assignment(self, node: object, path: Path) -> Known:
+        if node.op not in WRITTEN:
+            raise self.refuse(node, f"`{node.op}` isn't read")
+        if self.is_ignored(node.lvalue):
+            return self.leave_out_write(node.lvalue, node.rvalue, path)
+        operator = WRITTEN[node.op]
+        if operator is None:
+            value = self.measured_from(node.lvalue, node.rvalue, path)
+            value = self.evaluate(node.rvalue, path) if value is None else value
+        else:
+            left, right = self.evaluate_all([node.lvalue, node.rvalue], path)
+            value = self.arithmetic(Written(operator, node), self.integer(left, node), self.integer(right, node), path)
+        return self.write(node.lvalue, value, node, path)
+
+    def write(self, target: object, value: Known, node: object, path: Path) -> Known:
+        """Gives what is named a new value."""
+        if trees.kind(target) == "UnaryOp" and target.op == "*":
+            inner = self.evaluate(target.expr, path)
+            if isinstance(inner, Reference):
+                return self.write_local(inner.local, value, node, path)
+        name = trees.dotted(target)
+        key = self.frame.local(name) if name is not None else None
+        if key is not None:
+            return self.write_local(key, value, node, path)
+        if isinstance(value, Handle) and name is not None:
+            self.note(node, f"`{name}` is `{value.name}` from reset on")
+            return value
+        if trees.kind(target) != "ID":
+            raise self.refuse(target, "only variables that have a name are written", "a variable for each of them")
+        return self.write_global(target, self.integer(value, node), node, path)
+
+    def step(self, node: object, path: Path) -> Known:
+        """`++` and `--`."""
+        if self.is_ignored(node.expr):
+            return self.leave_out_write(node.expr, None, path)
+        key = f"before@{self.spot(node)}"
+        before = self.integer(self.evaluate(node.expr, path), node)
+        self.put(key, before, node, path)
+        after = self.arithmetic(Written(node.op.strip("p")[0], node), before, constant(1), path)
+        written = self.write(node.expr, after, node, path)
+        if not node.op.startswith("p") or node in self.unit.statement_nodes:
+            self.taken(key, path)
+            return written
+        return self.taken(key, path, node)
+
+    # -- what needs variables
+
+    def read_global(self, node: object, path: Path) -> Known:
+        type_ = self.unit.constants.type_of(self.unit.globals[node.name])
+        if self.is_ignored(node):
+            return lost(INT, Lost(f"`{node.name}` is left out, so its value isn't known"))
+        if not isinstance(type_, Integer):
+            raise self.never_created(node, type_)
+        self.need(Family.VARIABLES, node, f"a variable that tasks and handlers share, `{node.name}`", self.instead_of_global(node.name))
+        raise NotImplementedError
+
+    def never_created(self, node: object, type_: str) -> Refusal:
+        if type_.startswith("handle"):
+            return self.refuse(node, f"`{node.name}` is created nowhere in this file", "its xQueueCreate, xTaskCreate or the like, in `main`")
+        return self.refuse(node, f"{type_} has no op", "integers, and handles of objects and tasks")
+
+    def instead_of_global(self, name: str) -> str:
+        if name in self.unit.names_read():
+            return "a queue or a semaphore that carries it, or bits of an event group"
+        return f"--ignore {name}, or /* rtosim: ignore {name} */, if nothing depends on it"
+
+    def write_global(self, target: object, value: Value, node: object, path: Path) -> Known:
+        return self.read_global(target, path)
+
+    def is_ignored(self, target: object) -> bool:
+        return trees.kind(target) == "ID" and self.frame.local(target.name) is None and target.name in self.unit.directives.ignored
+
+    def leave_out_write(self, target: object, value: Optional[object], path: Path) -> Known:
+        """A variable that has no effect is given no value; what is called for it is called."""
+        if value is not None and trees.calls_in(value):
+            self.evaluate(value, path)
+        self.note(target, f"`{target.name}` is left out")
+        return lost(INT, Lost(f"`{target.name}` is left out, so its value isn't known"))
+
+    # -- calls of functions of the file
+
+    def follow(self, node: object, path: Path, on_return: Callable[[Path, Known], None]) -> None:
+        """Follows a call of a function of the file; each of its ways ends by `on_return`, in the frame of the call."""
+        name, outer = trees.called(node), self.frame
+        if name in outer.functions():
+            raise self.refuse(node, f"`{name}` calls itself, and a script has no recursion", "a loop")
+        definition = self.unit.functions[name]
+        keys = self.keep_all(trees.arguments(node), path)
+
+        def leave(fork: Path, value: Known) -> None:
+            type_ = self.unit.constants.type_of(definition.decl.type.type)
+            if isinstance(type_, Integer) and isinstance(value, Value):
+                value = self.fitted(value, type_, node, fork)
+            with self.using(outer):
+                on_return(fork, value)
+        inner = Frame(name, Jumps(leave), ({},), (*outer.calls, self.place(node).line), outer)
+        with self.using(inner):
+            self.bind(definition, keys, node, path)
+            body = definition.body.block_items or []
+            self.statements(body, path, lambda fork: leave(fork, Nothing()))
+
+    def bind(self, definition: object, keys: List[str], node: object, path: Path) -> None:
+        """Gives the parameters the values that are kept under these keys."""
+        parameters = parameters_of(definition)
+        if len(parameters) != len(keys):
+            raise self.refuse(node, f"{len(keys)} arguments for {len(parameters)} parameters")
+        for parameter, kept in zip(parameters, keys):
+            key = self.declare(parameter.name, self.unit.constants.type_of(parameter), parameter)
+            self.write_local(key, self.taken(kept, path, node), node, path)
+
+    def followed(self, node: object, path: Path) -> Known:
+        """What a call of a function of the file returns."""
+        key = f"return@{self.spot(node)}"
+
+        def part(end: Callable[[Path], None]) -> None:
+            def on_return(fork: Path, value: Known) -> None:
+                self.put(key, value, node, fork)
+                end(fork)
+            self.follow(node, path, on_return)
+        self.meet(path, part)
+        return self.taken(key, path, node)
+
+
+class Written:
+    """An operator at the place of another node, as `+` of `+=`."""
+
+    def __init__(self, op: str, node: object):
+        self.op, self.coord = op, node.coord
+
+
+def parameters_of(definition: object) -> List[object]:
+    """The parameters of a function, without a lone `void`."""
+    found = definition.decl.type.args.params if definition.decl.type.args else []
+    return [it for it in found if getattr(it, "name", None)]
+
+
+def not_set(type_: object) -> Value:
+    return lost(type_ if isinstance(type_, Integer) else INT, NOT_SET)
+

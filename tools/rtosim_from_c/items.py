@@ -1,0 +1,144 @@
+"""The ops of a script as a tree, and as the list that a file has."""
+from dataclasses import dataclass, field
+from typing import List, Optional, Sequence, Tuple, Union
+
+from .answers import Answers, condition_for, segments
+from .refusals import Place
+
+
+@dataclass(frozen=True)
+class Op:
+    """An op that is no edge of a block."""
+
+    text: str
+    place: Place = field(compare=False)
+
+
+@dataclass(frozen=True)
+class If:
+    condition: str
+    yes: Tuple["Item", ...]
+    no: Tuple["Item", ...]
+    place: Place = field(compare=False)
+
+
+@dataclass(frozen=True)
+class Repeat:
+    """`turns` is a number, or `forever`."""
+
+    turns: str
+    body: Tuple["Item", ...]
+    place: Place = field(compare=False)
+
+
+@dataclass(frozen=True)
+class Break:
+    place: Place = field(compare=False)
+
+
+TAKE_TIME = ("work", "delay", "delay_until", "suspend", "yield")
+MAY_BLOCK = ("send", "send_front", "receive", "peek", "take", "lock", "wait", "notify_take", "notify_wait")
+
+Item = Union[Op, If, Repeat, Break]
+
+
+@dataclass(frozen=True)
+class Line:
+    """An op of a script. `is_edge` of an `else` or an `end`, whose place is that of what they belong to."""
+
+    text: str
+    place: Place
+    is_edge: bool = False
+
+
+def lines_of(items: Sequence[Item]) -> List[Line]:
+    """The script of these items."""
+    found: List[Line] = []
+    for it in items:
+        if isinstance(it, If):
+            found += [Line(f"if {it.condition}", it.place), *lines_of(it.yes)]
+            if it.no:
+                found += [Line("else", it.place, True), *lines_of(it.no)]
+            found.append(Line("end", it.place, True))
+        elif isinstance(it, Repeat):
+            found += [Line(f"repeat {it.turns}", it.place), *lines_of(it.body), Line("end", it.place, True)]
+        else:
+            found.append(Line("break" if isinstance(it, Break) else it.text, it.place))
+    return found
+
+
+def leaves(items: Sequence[Item]) -> bool:
+    """Whether what is behind these items is never reached by them: they end with a `break`."""
+    last = items[-1] if items else None
+    if isinstance(last, If):
+        return bool(last.no) and leaves(last.yes) and leaves(last.no)
+    return isinstance(last, Break)
+
+
+def takes_time(items: Sequence[Item]) -> bool:
+    """Whether time may pass in these items, or another task of the same priority may run."""
+    for it in lines_of(items):
+        word, *words = it.text.split()
+        if word in TAKE_TIME or word in MAY_BLOCK and words[-1] != "0":
+            return True
+    return False
+
+
+def has_break(items: Sequence[Item]) -> bool:
+    """Whether a `break` of these items leaves the loop around them."""
+    return any(isinstance(it, Break) or isinstance(it, If) and (has_break(it.yes) or has_break(it.no)) for it in items)
+
+
+def is_test(item: Item) -> bool:
+    """Whether the item does nothing but perhaps leave the loop."""
+    return isinstance(item, Break) or isinstance(item, If) and all(is_test(it) for it in (*item.yes, *item.no))
+
+
+def chosen(among: Answers, wanted: Answers, yes: Sequence[Item], no: Sequence[Item], place: Place) -> List[Item]:
+    """The items that do `yes` if the last answer is a wanted one among these, and `no` otherwise."""
+    if list(yes) == list(no):
+        return list(yes)
+    if not yes or leaves(no) and not leaves(yes):
+        wanted, yes, no = among - wanted, no, yes
+    condition = condition_for(wanted, among)
+    if condition is not None:
+        return [If(condition, tuple(yes), (), place), *no] if leaves(yes) else [If(condition, tuple(yes), tuple(no), place)]
+    opposite = condition_for(among - wanted, among)
+    if opposite is not None:
+        return [If(opposite, tuple(no), (), place), *yes] if leaves(no) else [If(opposite, tuple(no), tuple(yes), place)]
+    return chain(parts_of(among, wanted, yes, no), place)
+
+
+def parts_of(among: Answers, wanted: Answers, yes: Sequence[Item], no: Sequence[Item]) -> List[Tuple[Answers, Sequence[Item]]]:
+    """The answers in parts, each of which a condition picks among those that are left; single answers first, where that is all."""
+    parts = segments(wanted, among)
+    for is_one, items, others in ((True, yes, no), (False, no, yes)):
+        singles = [part for part, is_wanted in parts if is_wanted == is_one]
+        if all(it.single() is not None for it in singles):
+            rest = among - wanted if is_one else among & wanted
+            return [*((it, items) for it in singles), (rest, others)]
+    return [(part, yes if is_wanted else no) for part, is_wanted in parts]
+
+
+def chain(parts: Sequence[Tuple[Answers, Sequence[Item]]], place: Place) -> List[Item]:
+    """One `if` in another, for answers that no single condition picks."""
+    (first, items), *others = parts
+    if not others:
+        return list(items)
+    left = first
+    for part, _ in others:
+        left = left | part
+    return chosen(left, first, list(items), chain(others, place), place)
+
+
+def folded(items: Sequence[Item]) -> Optional[Tuple[int, Tuple[Item, ...]]]:
+    """Equal parts one after another, as how many they are and one of them. What lacks at the end may be tests, which then leave
+    the loop where it ends anyway."""
+    size = len(items)
+    for period in range(1, size // 2 + 2):
+        part = items[:period]
+        lacking = [part[at % period] for at in range(size, -(-size // period) * period)]
+        turns = -(-size // period)
+        if turns > 1 and all(map(is_test, lacking)) and list(part) * turns == [*items, *lacking]:
+            return turns, tuple(part)
+    return None

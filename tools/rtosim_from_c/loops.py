@@ -1,0 +1,266 @@
+"""Loops: as one that repeats for ever and is left, or, where a local counts its turns, as so many turns that are the same."""
+from dataclasses import dataclass, field
+from typing import Callable, List, Optional, Set, Tuple
+
+from . import trees
+from .frames import Continuation
+from .items import Break, Item, Repeat, chosen, folded, has_break
+from .paths import Path, State, is_same, merged
+from .refusals import Lost, LostUse
+from .statements import Statements
+from .values import Known
+
+MOST_TURNS = 1000
+MOST_ROUNDS = 40
+MOST_APART = 300
+FEW_TURNS = 8
+RETURNED = "returned by a loop"
+
+
+@dataclass
+class Ways:
+    """The states in which a loop is left, by its end or a `break`, and by a `return`; and those in which a turn of it ends."""
+
+    left: List[State] = field(default_factory=list)
+    returned: List[State] = field(default_factory=list)
+    back: List[State] = field(default_factory=list)
+
+
+Turn = Tuple[List[Item], Ways]
+
+
+class Loops(Statements):
+    """`while`, `do` and `for`."""
+
+    def do_While(self, node: object, path: Path, rest: Optional[Continuation]) -> None:
+        self.loop(node, path, rest)
+
+    def do_DoWhile(self, node: object, path: Path, rest: Optional[Continuation]) -> None:
+        self.loop(node, path, rest)
+
+    def do_For(self, node: object, path: Path, rest: Optional[Continuation]) -> None:
+        after = None if rest is None else self.later(rest)
+        with self.using(self.frame.inner()):
+            if node.init is not None:
+                self.statement(node.init, path, None)
+            self.loop(node, path, after)
+
+    def loop(self, node: object, path: Path, rest: Optional[Continuation]) -> None:
+        """The first of these forms in which every value that decides something is known."""
+        if self.is_handler:
+            items, ways = self.counted(node, path.state)
+        else:
+            items, ways = self.first_form(node, path.state)
+        path.items += items
+        self.after_loop(node, path, ways, rest)
+
+    def first_form(self, node: object, state: State) -> Turn:
+        forms: List[Callable[[object, State], Turn]] = [self.all_alike, self.asked_before, self.counted]
+        if trees.kind(node) == "DoWhile":
+            forms.remove(self.asked_before)
+        first: Optional[LostUse] = None
+        for it in forms:
+            notes = dict(self.notes)
+            try:
+                return it(node, state)
+            except LostUse as why:
+                self.notes = notes
+                first = first or why
+        assert first is not None
+        raise first
+
+    # -- forms
+
+    def all_alike(self, node: object, state: State) -> Turn:
+        """`repeat forever`, whose turns have the condition where C has it."""
+        is_last = trees.kind(node) == "DoWhile"
+        return self.repeated(node, state, lambda it, ways: self.turn(node, it, ways, not is_last, is_last))
+
+    def asked_before(self, node: object, state: State) -> Turn:
+        """The condition of a `while` once, and then `repeat forever`, whose turns end with the condition."""
+        before, ways = Path(state), Ways()
+
+        def enter(fork: Path) -> None:
+            items, inner = self.repeated(node, fork.state, lambda it, found: self.turn(node, it, found, False, True))
+            fork.items += items
+            ways.left += inner.left
+            ways.returned += inner.returned
+            fork.end()
+
+        def skip(fork: Path) -> None:
+            ways.left.append(fork.state)
+            fork.end()
+        self.condition_of(node, before, self.later(enter), self.later(skip))
+        return before.items, ways
+
+    def repeated(self, node: object, state: State, turn: Callable[[Path, Ways], None]) -> Turn:
+        """Turns that are the same for ever, from what is known before each of them."""
+        head = state
+        for _ in range(MOST_ROUNDS):
+            path, ways = Path(head), Ways()
+            turn(path, ways)
+            if not ways.back:
+                return self.once(node, path.items), ways
+            again = merged([head, *ways.back])
+            if is_same(again, head):
+                return [Repeat("forever", tuple(path.items), self.place(node))], ways
+            head = again
+        raise LostUse(self.place(node), Lost("a local has another value in each turn of this loop"))
+
+    def once(self, node: object, items: List[Item]) -> List[Item]:
+        """A loop that is left in its first turn."""
+        if items and isinstance(items[-1], Break):
+            items = items[:-1]
+        return [Repeat("1", tuple(items), self.place(node))] if has_break(items) else items
+
+    def counted(self, node: object, state: State) -> Turn:
+        """Each turn by itself, with the number that counts it. Turns that are the same become a `repeat` of so many, and the last one
+        a `repeat forever` if nothing else is known after it than before it."""
+        turns: List[List[Item]] = []
+        total = Ways()
+        while True:
+            path, ways = Path(state), Ways()
+            is_asked = bool(turns) or trees.kind(node) != "DoWhile"
+            self.turn(node, path, ways, is_asked, False)
+            turns.append(path.items)
+            total.left += ways.left
+            total.returned += ways.returned
+            again = merged(ways.back)
+            if again is None:
+                break
+            if is_asked and is_same(again, state) and not self.is_handler:
+                turns[-1] = [Repeat("forever", tuple(path.items), self.place(node))]
+                break
+            self.give_up_on_many(node, turns, {key.split("@")[0] for key, it in again.locals.items() if state.locals.get(key) != it})
+            state = again
+        return self.turns(node, [it for turn in turns for it in turn]), total
+
+    def give_up_on_many(self, node: object, turns: List[List[Item]], changed: Set[str]) -> None:
+        """Gives up where the turns are too many; where nothing that is tested in the loop has changed, a few are."""
+        is_alike = len(turns) > 1 and turns[-1] == turns[-2]
+        is_counted = len(turns) < FEW_TURNS or changed & self.unit.tested(node)
+        if len(turns) > MOST_TURNS or not is_counted or sum(map(len, turns)) > MOST_APART and not is_alike:
+            raise LostUse(self.place(node), Lost("how many turns this loop has isn't known, or they are too many to write out"))
+
+    def turns(self, node: object, items: List[Item]) -> List[Item]:
+        if items and isinstance(items[-1], Break):
+            items = items[:-1]
+        parts = folded(items)
+        if parts is not None and parts[0] <= MOST_TURNS:
+            if not self.is_handler:
+                return [Repeat(str(parts[0]), parts[1], self.place(node))]
+        if not has_break(items):
+            return items
+        if self.is_handler:
+            raise self.refuse(node, "a handler has no loops that are left", "branches")
+        return [Repeat("1", tuple(items), self.place(node))]
+
+    # -- one turn
+
+    def turn(self, node: object, path: Path, ways: Ways, is_asked_first: bool, is_asked_last: bool) -> None:
+        """A turn, with the condition before it or behind it."""
+        self.count(node)
+        bodies: List[State] = []
+
+        def leave(fork: Path) -> None:
+            ways.left.append(fork.state)
+            fork.items.append(Break(self.place(self.jump or node)))
+            fork.end()
+
+        def leave_by_return(fork: Path, value: Known) -> None:
+            self.put(RETURNED, value, node, fork)
+            ways.returned.append(fork.state)
+            fork.items.append(Break(self.place(self.jump or node)))
+            fork.end()
+
+        def end(fork: Path) -> None:
+            if not fork.is_over:
+                bodies.append(fork.state)
+            fork.end()
+        inner = self.frame.with_jumps(on_break=leave, on_continue=end, on_return=leave_by_return, break_is_op=True, return_is_op=True,
+                                      labels={})
+
+        def body(fork: Path) -> None:
+            with self.using(inner):
+                self.statements([node.stmt] if node.stmt is not None else [], fork, end)
+        outside = self.later(lambda fork: self.leave_at_condition(node, fork, leave))
+        if is_asked_first:
+            self.condition_of(node, path, self.later(body), outside)
+        else:
+            body(path)
+        self.close_turn(node, path, bodies, ways, outside if is_asked_last else None)
+
+    def leave_at_condition(self, node: object, path: Path, leave: Continuation) -> None:
+        self.jump = node
+        leave(path)
+
+    def close_turn(self, node: object, path: Path, bodies: List[State], ways: Ways, outside: Optional[Continuation]) -> None:
+        """What comes behind the body: the step of a `for`, and perhaps the condition."""
+        state = merged(bodies)
+        if state is None:
+            return
+        path.state = state
+        if trees.kind(node) == "For" and node.next is not None:
+            self.unit.statement_nodes.add(node.next)
+            self.evaluate(node.next, path)
+
+        def back(fork: Path) -> None:
+            ways.back.append(fork.state)
+            fork.end()
+        if outside is None:
+            back(path)
+        else:
+            self.condition_of(node, path, self.later(back), outside)
+
+    def condition_of(self, node: object, path: Path, yes: Continuation, no: Continuation) -> None:
+        if getattr(node, "cond", None) is None:
+            yes(path)
+        else:
+            self.condition(node.cond, path, yes, no)
+
+    def learns(self, why: Lost) -> bool:
+        """Notes where ways are to go on apart, so that this isn't lost the next time; false if that was noted before."""
+        local = why.local or ""
+        size = len(self.splits) + len(self.parted)
+        if why.taken_at is not None:
+            self.splits.add((local, why.taken_at))
+        elif local.startswith("return@"):
+            self.parted.add(local)
+        return len(self.splits) + len(self.parted) > size
+
+    # -- behind a loop
+
+    def after_loop(self, node: object, path: Path, ways: Ways, rest: Optional[Continuation]) -> None:
+        """Goes on with the states in which the loop is left; by a `return` it is left as the function is."""
+        left, returned = merged(ways.left), merged(ways.returned)
+        path.end()
+        if left is not None and returned is None:
+            path.state = left
+            if rest is not None:
+                rest(path)
+        elif returned is not None and left is None:
+            path.state = returned
+            self.return_on(path)
+        elif returned is not None and left is not None:
+            self.part(node, path, left, returned, rest)
+
+    def return_on(self, path: Path) -> None:
+        self.frame.jumps.on_return(path, self.taken(RETURNED, path, self.jump))
+
+    def part(self, node: object, path: Path, left: State, returned: State, rest: Optional[Continuation]) -> None:
+        """Both ways lead behind the loop: the last answer says which it was."""
+        by_return, by_end = Path(returned), Path(left)
+        self.return_on(by_return)
+        if rest is not None:
+            rest(by_end)
+        if left.answers & returned.answers:
+            if rest is None or by_return.items != by_end.items:
+                raise self.refuse(node, "this loop is left by its end and by `return`, and the last answer doesn't say by which",
+                                  "a loop that is left by `break`, and a test after it that the answer decides")
+            path.items += by_end.items
+            return
+        items = chosen(left.answers | returned.answers, returned.answers, by_return.items, by_end.items, self.place(node))
+        path.items += items
+        if rest is None:
+            path.state = left
+

@@ -1,0 +1,357 @@
+"""Variables: globals, and locals of which the last answer doesn't keep enough. It is for a program that knows them (`families.py`).
+
+A read is `load`, a write `store`; arithmetic is done with the last answer and a number or a variable."""
+from typing import Dict, List, Optional, Tuple
+
+from . import trees
+from .answers import GREATEST, NONE, NUMBERS, Answers, answers, only
+from .expressions import Written
+from .families import Family
+from .integers import BOOL, COMPARISONS, INT, UNSIGNED, Integer, common, promoted
+from .items import If, Op
+from .loops import Loops
+from .paths import Path
+from .refusals import Lost
+from .values import ANSWER, LOST, NUMBER, Handle, Known, Stored, Value, binary, constant, converted, the_answer
+
+SIZE = 1 << 32
+SIGN = 1 << 31
+OPS = {"+": "add", "-": "sub", "*": "mul", "/": "div", "%": "mod", "&": "and", "|": "or", "^": "xor"}
+COMMUTATIVE = "+*&|^"
+# The condition of the last answer and a variable, and whether the comparison holds where that condition does.
+CONDITIONS = {"==": ("{}", True), "!=": ("{}", False), "<": ("below {}", True), ">=": ("below {}", False), ">": ("above {}", True),
+              "<=": ("above {}", False)}
+GLOBAL = "global "
+
+
+class Memory(Loops):
+    """What needs variables, where the program knows them. Without that everything here leaves it to the refusals."""
+
+    @property
+    def has_variables(self) -> bool:
+        return Family.VARIABLES in self.target
+
+    def variable(self, key: str, type_: Integer, initial: int = 0) -> Stored:
+        """The variable of a local, a global or a value between."""
+        scope, shown = "" if key.startswith(GLOBAL) else self.owner.name, key.split("@")[0].replace(GLOBAL, "")
+        name = self.unit.names.name(f"variable {scope}", key, shown if " " not in shown else "t")
+        self.unit.variables.setdefault(name, UNSIGNED.wrapped(initial))
+        return Stored(name, type_)
+
+    # -- reads and writes
+
+    def load(self, stored: Stored, node: object, path: Path) -> Value:
+        self.op(f"load {stored.name}", node, path)
+        return self.is_answered(numbers_in_memory(stored.type), stored.type, node, path)
+
+    def is_answered(self, among: Answers, type_: Integer, node: object, path: Path) -> Value:
+        """The last answer is one of these now, and a value of this type."""
+        path.state = path.state.answered(among, f"what line {self.place(node).line} reads", self.place(node))
+        return the_answer(type_, among)
+
+    def store(self, stored: Stored, value: Known, node: object, path: Path) -> None:
+        """Gives the variable a value, which is the last answer then."""
+        value = self.known(self.integer(value, node), node, path)
+        if value.constant() is not None:
+            number = UNSIGNED.wrapped(value.constant() or 0)
+            self.op(f"store {stored.name} {number}", node, path)
+            self.is_answered(only(number), stored.type, node, path)
+            return
+        self.to_answer(value, node, path)
+        self.op(f"store {stored.name} answer", node, path)
+
+    def to_answer(self, value: Value, node: object, path: Path) -> None:
+        """Makes the last answer the value, with 32 bits."""
+        value = self.known(value, node, path)
+        parts: Dict[Tuple[str, int], List[Tuple[int, int]]] = {}
+        for it in value.pieces:
+            parts.setdefault((it.kind, it.number % SIZE), []).append((it.low, it.high))
+        if set(parts) == {(ANSWER, 0)}:
+            return
+
+        def set_part(fork: Path) -> None:
+            kind, number = next(part for part, ranges in parts.items() if answers(*ranges) & fork.state.answers)
+            among = fork.state.answers
+            if kind == NUMBER and among != only(number):
+                spare = self.variable("spare", UNSIGNED)
+                self.op(f"store {spare.name} {number}", node, fork)
+                self.is_answered(only(number), UNSIGNED, node, fork)
+            elif kind == ANSWER and number:
+                self.op(f"add {number}", node, fork)
+                self.is_answered(shifted(among, number), UNSIGNED, node, fork)
+        self.meet(path, lambda end: self.split(path, [answers(*it) for it in parts.values()], lambda fork: (set_part(fork), end(fork)), node))
+
+    def read_global(self, node: object, path: Path) -> Known:
+        stored = self.stored_global(node)
+        return super().read_global(node, path) if stored is None else self.load(stored, node, path)
+
+    def stored_global(self, node: object) -> Optional[Stored]:
+        """The variable of a global; None if it is none."""
+        declaration = self.unit.globals.get(getattr(node, "name", None)) if self.has_variables else None
+        type_ = self.unit.constants.type_of(declaration) if declaration is not None else None
+        if not isinstance(type_, Integer) or self.is_ignored(node):
+            return None
+        initial = self.unit.constants.value(declaration.init) if declaration.init is not None else None
+        return self.variable(GLOBAL + node.name, type_, (initial.constant() or 0) if initial is not None else 0)
+
+    def write_global(self, target: object, value: Value, node: object, path: Path) -> Known:
+        stored = self.stored_global(target)
+        if stored is None:
+            return super().write_global(target, value, node, path)
+        self.store(stored, self.fitted(value, stored.type, node, path), node, path)
+        return the_answer(stored.type, path.state.answers)
+
+    def put(self, key: str, value: Known, node: object, path: Path) -> None:
+        """Keeps a value under this key: a variable if the last answer doesn't keep it."""
+        if key not in self.in_memory or not isinstance(value, Value):
+            return super().put(key, value, node, path)
+        type_ = self.types.get(key)
+        stored = self.variable(key, type_ if isinstance(type_, Integer) else value.type)
+        if not all(it.kind == LOST for it in value.among(path.state.answers).pieces):
+            self.store(stored, value, node, path)
+        path.state = path.state.with_local(key, stored)
+        return None
+
+    def read_local(self, key: str, node: object, path: Path) -> Known:
+        found = super().read_local(key, node, path)
+        return self.load(found, node, path) if isinstance(found, Stored) else found
+
+    def taken(self, key: str, path: Path, node: Optional[object] = None) -> Known:
+        found = super().taken(key, path)
+        return self.load(found, node, path) if isinstance(found, Stored) and node is not None else found
+
+    def written(self, key: str, value: Known, path: Path) -> Known:
+        found = path.state.locals.get(key)
+        return the_answer(found.type, path.state.answers) if isinstance(found, Stored) else value
+
+    def static(self, node: object, type_: Integer, path: Path) -> None:
+        """A static local is a variable of its function."""
+        if not self.has_variables:
+            return super().static(node, type_, path)
+        initial = self.unit.constants.value(node.init) if node.init is not None else None
+        key = f"{GLOBAL}{node.name}@{self.frame.function}"
+        self.frame.scopes[-1][node.name] = key
+        self.types[key] = type_
+        self.in_memory.add(key)
+        stored = self.variable(key, type_, (initial.constant() or 0) if initial is not None else 0)
+        path.state = path.state.with_local(key, stored)
+        return None
+
+    def operand(self, node: object, path: Path) -> Known:
+        """An operand of arithmetic: a variable is left where it is, since an op can name it."""
+        inner = trees.plain(node)
+        if inner is not node or trees.kind(inner) != "ID" or not self.has_variables:
+            return self.evaluate(node, path)
+        key = self.frame.local(inner.name)
+        found = path.state.locals.get(key) if key is not None else self.stored_global(inner) if self.is_global(inner) else None
+        return found if isinstance(found, Stored) else self.evaluate(node, path)
+
+    def is_global(self, node: object) -> bool:
+        return node.name in self.unit.globals and node.name not in self.unit.constants.numbers
+
+    # -- arithmetic
+
+    def arithmetic(self, node: object, left: Known, right: Known, path: Path) -> Value:
+        if not self.has_variables:
+            return super().arithmetic(node, left, right, path)
+        left, right = steady(left), steady(right)
+        left = self.loaded_if_alone(left, right, node, path)
+        right = self.loaded_if_alone(right, left, node, path)
+        if isinstance(left, Value) and isinstance(right, Value):
+            found = binary(node.op, left, right, path.state.answers)
+            if found.lost() is None:
+                return found
+            self.known(left, node, path)
+            self.known(right, node, path)
+        return self.compared(node, left, right, path) if node.op in COMPARISONS else self.computed(node, left, right, path)
+
+    def loaded_if_alone(self, value: Known, other: Known, node: object, path: Path) -> Known:
+        """A variable beside a constant is loaded; beside another value it stays, so that both are known at once."""
+        is_alone = isinstance(value, Stored) and isinstance(other, Value) and other.constant() is not None
+        return self.load(value, node, path) if is_alone else value
+
+    def computed(self, node: object, left: Known, right: Known, path: Path) -> Value:
+        operator = node.op
+        if operator in ("<<", ">>"):
+            return self.shift(node, left, right, path)
+        type_ = common(left.type, right.type)
+        number = right.constant() if isinstance(right, Value) else None
+        if operator in "/%" and (type_.is_signed or left.type.is_signed):
+            return self.signed_division(node, left, number, path)
+        if number is None and not isinstance(right, Stored):
+            if operator in COMMUTATIVE:
+                left, right = right, left
+                number = right.constant() if isinstance(right, Value) else None
+            if number is None and not isinstance(right, Stored):
+                right = self.set_aside("right", right, node, path)
+        self.bring(left, node, path)
+        by = None if number is None else UNSIGNED.wrapped(number)
+        self.op(f"{OPS[operator]} {right.name if isinstance(right, Stored) else by}", node, path)
+        return self.is_answered(results(operator, by), type_, node, path)
+
+    def bring(self, value: Known, node: object, path: Path) -> None:
+        """Makes a value the last answer."""
+        if isinstance(value, Stored):
+            self.load(value, node, path)
+        else:
+            self.to_answer(value, node, path)
+
+    def set_aside(self, name: str, value: Known, node: object, path: Path) -> Stored:
+        stored = self.variable(f"{name}@{self.spot(node)}", value.type)
+        self.store(stored, value, node, path)
+        return stored
+
+    def shift(self, node: object, left: Known, right: Known, path: Path) -> Value:
+        number = right.constant() if isinstance(right, Value) else None
+        type_ = promoted(left.type)
+        if number is None or not 0 <= number < 32 or node.op == ">>" and left.type.is_signed:
+            raise self.refuse(node, "a shift by what isn't constant, or of what may be negative, has no op", "unsigned types and constants")
+        self.bring(left, node, path)
+        self.op(f"{'mul' if node.op == '<<' else 'div'} {1 << number}", node, path)
+        return self.is_answered(NUMBERS, type_, node, path)
+
+    def signed_division(self, node: object, left: Known, number: Optional[int], path: Path) -> Value:
+        """A division by a positive constant, rounded toward 0."""
+        if number is None or number <= 0:
+            raise self.refuse(node, "a division of signed numbers by what is no positive constant has no op", "unsigned types")
+        self.bring(left, node, path)
+
+        def negative(fork: Path) -> None:
+            for op in (f"mul {GREATEST}", f"{OPS[node.op]} {number}", f"mul {GREATEST}"):
+                self.op(op, node, fork)
+            self.is_answered(NUMBERS, INT, node, fork)
+
+        def positive(fork: Path) -> None:
+            self.op(f"{OPS[node.op]} {number}", node, fork)
+            self.is_answered(results(node.op, number) & answers((0, SIGN - 1)), INT, node, fork)
+        wanted = answers((SIGN, GREATEST))
+        self.meet(path, lambda end: self.branch(
+            path, wanted, lambda fork: (negative(fork), end(fork)), lambda fork: (positive(fork), end(fork)), node))
+        return the_answer(INT, path.state.answers)
+
+    def compared(self, node: object, left: Known, right: Known, path: Path) -> Value:
+        """A comparison of two values that aren't constant: 1 or 0 as the last answer."""
+        is_signed = common(left.type, right.type).is_signed and node.op not in ("==", "!=")
+        if is_signed or not isinstance(right, Stored):
+            right = self.biased("right", right, is_signed, node, path, left)
+            left = self.left_of_two
+        if is_signed:
+            left = self.biased("left", left, True, node, path, None)
+        self.bring(left, node, path)
+        condition, holds = CONDITIONS[node.op]
+        spare = self.variable("spare", UNSIGNED)
+        place = self.place(node)
+        ways = tuple((Op(f"store {spare.name} {int(it)}", place),) for it in (holds, not holds))
+        path.items.append(If(condition.format(right.name), *ways, place))
+        return self.is_answered(only(0, 1), INT, node, path)
+
+    def biased(self, name: str, value: Known, is_signed: bool, node: object, path: Path, other: Optional[Known]) -> Stored:
+        """A value in a variable, for a comparison as of unsigned numbers; the other one is set aside first if this would take it."""
+        if other is not None:
+            self.left_of_two = other
+            if isinstance(other, Value) and other.constant() is None:
+                self.left_of_two = self.both_aside(other, value, node, path)
+                value = self.right_of_two
+        self.bring(value, node, path)
+        if is_signed:
+            self.op(f"xor {SIGN}", node, path)
+            self.is_answered(NUMBERS, UNSIGNED, node, path)
+        return self.set_aside(name, the_answer(UNSIGNED, path.state.answers), node, path)
+
+    def both_aside(self, left: Value, right: Known, node: object, path: Path) -> Stored:
+        """Two values of one answer, each in a variable: the answer itself is set aside for the second."""
+        if isinstance(right, Stored):
+            self.right_of_two = right
+            return self.set_aside("first", left, node, path)
+        raise self.refuse(node, "a comparison of two values of one answer has no op", "a local for one of them")
+
+    def unary(self, node: object, value: Value, path: Path) -> Value:
+        if self.has_variables and node.op == "~":
+            return self.arithmetic(Written("^", node), value, constant(-1), path)
+        if self.has_variables and node.op == "-":
+            return self.arithmetic(Written("*", node), value, constant(-1), path)
+        return super().unary(node, value, path)
+
+    def fitted(self, value: Value, type_: Integer, node: object, path: Path) -> Value:
+        """The value as its type keeps it: what is too large loses its upper bits."""
+        found = converted(value, type_)
+        before = value.among(path.state.answers).lost()
+        if not self.has_variables or before is not None or found.among(path.state.answers).lost() is None or type_ == BOOL:
+            return found
+        self.to_answer(value, node, path)
+        self.op(f"and {(1 << type_.bits) - 1}", node, path)
+        self.is_answered(answers((0, (1 << type_.bits) - 1)), UNSIGNED, node, path)
+        if type_.is_signed:
+            half = 1 << (type_.bits - 1)
+            self.op(f"xor {half}", node, path)
+            self.op(f"sub {half}", node, path)
+            self.is_answered(numbers_in_memory(type_), UNSIGNED, node, path)
+        return the_answer(type_, path.state.answers)
+
+    # -- items and marks
+
+    def mark_number(self, value: Known, node: object, path: Path) -> str:
+        if not self.has_variables or isinstance(value, Value) and value.among(path.state.answers).constant() is not None:
+            return super().mark_number(value, node, path)
+        self.bring(self.integer(value, node), node, path)
+        return "answer"
+
+    def item_of_answer(self, value: Value, queue: Handle, node: object, path: Path) -> str:
+        if not self.has_variables:
+            return super().item_of_answer(value, queue, node, path)
+        self.to_answer(value, node, path)
+        self.unit.with_large_items.add(queue.name)
+        return "answer"
+
+    def keep_received(self, key: str, node: object, path: Path) -> None:
+        """Puts what was received into a variable, unless nothing was."""
+        stored = path.state.locals.get(key)
+        if not isinstance(stored, Stored):
+            return super().keep_received(key, node, path)
+
+        def keep(fork: Path) -> None:
+            self.op(f"store {stored.name} answer", node, fork)
+        self.meet(path, lambda end: self.branch(path, NUMBERS, lambda fork: (keep(fork), end(fork)), end, node))
+        return None
+
+    def learns(self, why: Lost) -> bool:
+        """A value that the last answer doesn't keep is a variable the next time."""
+        if not self.has_variables or why.local is None:
+            return super().learns(why)
+        is_new = why.local not in self.in_memory
+        self.in_memory.add(why.local)
+        return is_new
+
+
+def results(operator: str, number: Optional[int]) -> Answers:
+    """What an op on 32 bits and this number may be."""
+    if number and operator == "%":
+        return answers((0, number - 1))
+    if number and operator == "/":
+        return answers((0, GREATEST // number))
+    return answers((0, number)) if number is not None and operator == "&" else NUMBERS
+
+
+def steady(value: Known) -> Known:
+    """A constant, whatever is answered later; any other value as it is."""
+    number = value.constant() if isinstance(value, Value) else None
+    return value if number is None else constant(number, value.type)
+
+
+def numbers_in_memory(type_: Integer) -> Answers:
+    """The 32 bits that a variable of this type may have."""
+    if not type_.is_signed:
+        return answers((0, min(GREATEST, type_.greatest)))
+    return answers((0, type_.greatest), (SIZE + type_.least, GREATEST)) if type_.bits <= 32 else NUMBERS
+
+
+def shifted(among: Answers, number: int) -> Answers:
+    """These answers and a number, with 32 bits."""
+    found = []
+    for low, high in among.ranges:
+        first, last = low + number, high + number
+        if first // SIZE == last // SIZE:
+            found.append((first % SIZE, last % SIZE))
+        else:
+            found += [(first % SIZE, GREATEST), (0, last % SIZE)]
+    return answers(*(it for it in found if it[0] > NONE))

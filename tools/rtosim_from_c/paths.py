@@ -1,0 +1,82 @@
+"""A way through a function: the ops that were written on it, and what is known at its end."""
+from dataclasses import dataclass, field, replace
+from typing import Dict, Iterable, List, Optional
+
+from .answers import Answers, only, NONE, NOTHING
+from .items import Item
+from .refusals import Lost, Place
+from .values import Known, after_an_answer, either
+
+
+@dataclass(frozen=True)
+class State:
+    """Which last answers are possible, and what each local is then. `stamp` is the number of the last `stamp`."""
+
+    answers: Answers = only(NONE)
+    locals: Dict[str, Known] = field(default_factory=dict)
+    stamp: int = 0
+
+    def with_local(self, name: str, value: Known) -> "State":
+        return replace(self, locals={**self.locals, name: value})
+
+    def among(self, known: Answers) -> "State":
+        return replace(self, answers=self.answers & known)
+
+    def answered(self, answers: Answers, by: str, at: Place) -> "State":
+        """After a call at this place that answers one of these; what is never reached stays so."""
+        if not self.answers:
+            return self
+        kept = {name: after_an_answer(it, self.answers, name, by, at) for name, it in self.locals.items()}
+        return replace(self, answers=answers, locals=kept)
+
+    def stamped(self, number: int) -> "State":
+        return replace(self, stamp=number)
+
+    def without(self, name: str) -> "State":
+        return replace(self, locals={key: it for key, it in self.locals.items() if key != name})
+
+
+def merged(states: Iterable[State]) -> Optional[State]:
+    """What is known where these ways come together; None if there is none."""
+    found: Optional[State] = None
+    for it in states:
+        found = it if found is None else merged_two(found, it)
+    return found
+
+
+def merged_two(first: State, second: State) -> State:
+    names = [name for name in first.locals if name in second.locals]
+    locals_ = {
+        name: either(first.locals[name], first.answers, second.locals[name], second.answers,
+                     Lost(f"`{name.split('@')[0]}` has different values on two ways to this place", name))
+        for name in names
+    }
+    stamp = first.stamp if first.stamp == second.stamp else -1
+    return State(first.answers | second.answers, locals_, stamp)
+
+
+def is_same(first: State, second: State) -> bool:
+    """Whether the same is known in both."""
+    if (first.answers, first.stamp, first.locals.keys()) != (second.answers, second.stamp, second.locals.keys()):
+        return False
+    among = lambda state, it: it.among(state.answers) if hasattr(it, "among") else it
+    return all(among(first, it) == among(second, second.locals[name]) for name, it in first.locals.items())
+
+
+class Path:
+    """The ops so far and the state after them. It is over when it has no answers any more: what comes then is never reached."""
+
+    def __init__(self, state: State, items: Optional[List[Item]] = None):
+        self.state = state
+        self.items: List[Item] = [] if items is None else items
+
+    @property
+    def is_over(self) -> bool:
+        return not self.state.answers
+
+    def end(self) -> None:
+        self.state = self.state.among(NOTHING)
+
+    def fork(self, known: Answers) -> "Path":
+        """A way on from here for these answers, whose ops are apart."""
+        return Path(self.state.among(known))

@@ -1,0 +1,179 @@
+"""From a file to an application: the script of each task, the ops of each handler, and what was left out."""
+from dataclasses import dataclass, field
+from typing import Dict, List, Sequence, Tuple, Union
+
+from .families import PROGRAM, Target
+from .frames import Frame, Jumps
+from .integers import INT
+from .items import If, Item, Line, Repeat, lines_of, takes_time
+from .memory import Memory
+from .expressions import parameters_of
+from .paths import Path, State
+from .refusals import Lost, LostUse, Note, Refusal, SeveralRefusals
+from .source import Lines, parsed, preprocessed
+from .unit import Handler, Object, Task, Unit
+from .values import lost
+
+MOST_OPS = {True: 16, False: 256}
+MOST_LOOPS, MOST_BLOCKS = 4, 8
+MOST_RETRIES = 40
+OF_HANDLER = lost(INT, Lost("what a handler is given isn't known", instead="a constant in its place, by `#ifdef RTOSIM`"))
+
+
+@dataclass
+class Script:
+    """The ops of a task or a handler. `is_endless` if its end is never reached."""
+
+    owner: Union[Task, Handler]
+    lines: List[Line]
+    is_endless: bool = False
+
+
+@dataclass
+class Application:
+    """What is written."""
+
+    unit: Unit
+    tasks: List[Script] = field(default_factory=list)
+    handlers: List[Script] = field(default_factory=list)
+    notes: List[Note] = field(default_factory=list)
+    uses_daemon: bool = False
+
+    def objects(self, *kinds: str) -> List[Object]:
+        return [it for it in self.unit.objects if it.kind in kinds]
+
+    def variables(self) -> List[Tuple[str, int]]:
+        """The variables that an op names, with what each is at reset."""
+        named = {word for script in (*self.handlers, *self.tasks) for it in script.lines for word in it.text.split()[1:]}
+        return [(name, initial) for name, initial in self.unit.variables.items() if name in named]
+
+
+class TooDeep(Refusal):
+    """Blocks that are deeper than a script may have them."""
+
+
+class Translation(Memory):
+    """A task's function or a handler, from its first statement to its last."""
+
+    uses_daemon = False
+
+    def script(self) -> Script:
+        """The script; a local whose value another answer takes splits its ways, where that helps."""
+        for _ in range(MOST_RETRIES):
+            try:
+                return self.once_through()
+            except TooDeep:
+                if self.is_flat:
+                    raise
+                self.is_flat = True
+            except LostUse as why:
+                if not self.learns(why.lost):
+                    raise
+        raise Refusal(self.owner.place, "this function keeps too many answers at once", "a test right after each call")
+
+    def once_through(self) -> Script:
+        self.notes, self.statements_done = {}, 0
+        definition = self.unit.functions[self.owner.function]
+        ends: List[State] = []
+        path = Path(State())
+
+        def end(fork: Path, _: object = None) -> None:
+            ends.append(fork.state)
+            fork.end()
+        self.frame = Frame(self.owner.function, Jumps(end), ({},))
+        keys = ["parameter"] if parameters_of(definition) else []
+        if keys:
+            path.state = path.state.with_local("parameter", OF_HANDLER if self.is_handler else self.owner.parameter)
+        self.bind(definition, keys, definition, path)
+        with self.using(self.frame.inner()):
+            self.statements(definition.body.block_items or [], path, end)
+        lines = lines_of(path.items)
+        self.check_size(path.items, lines)
+        self.warn_of_polls(path.items)
+        return Script(self.owner, lines, not ends)
+
+    def warn_of_polls(self, items: Sequence[Item]) -> None:
+        """A loop that only looks leaves no time for what it looks for."""
+        for it in items:
+            if isinstance(it, Repeat) and it.turns == "forever" and not takes_time(it.body):
+                text = "no time passes in this loop: a run may end in it; rtosim_work(1) makes a turn take a tick"
+                self.notes[Note(it.place, text, True)] = None
+            for body in ([it.body] if isinstance(it, Repeat) else [it.yes, it.no] if isinstance(it, If) else []):
+                self.warn_of_polls(body)
+
+    def check_size(self, items: Sequence[Item], lines: List[Line]) -> None:
+        most = MOST_OPS[self.is_handler]
+        if len(lines) > most:
+            raise Refusal(lines[most].place, f"{self.owner.name} would need {len(lines)} ops, and {most} are the most",
+                          "fewer calls, or loops whose turns are all the same")
+        self.check_depth(items, 0, 0)
+
+    def check_depth(self, items: Sequence[Item], loops: int, blocks: int) -> None:
+        for it in items:
+            if isinstance(it, (If, Repeat)):
+                inner = loops + isinstance(it, Repeat)
+                if inner > MOST_LOOPS or blocks + 1 > MOST_BLOCKS:
+                    raise TooDeep(it.place, f"loops and branches are too deep here: at most {MOST_LOOPS} loops and {MOST_BLOCKS} blocks",
+                                  "a test right after its call, so that later calls needn't be in its branches")
+                for body in ([it.body] if isinstance(it, Repeat) else [it.yes, it.no]):
+                    self.check_depth(body, inner, blocks + 1)
+
+
+def translated(unit: Unit, target: Target = PROGRAM) -> Application:
+    """The application; all refusals at once, where there are some."""
+    while True:
+        known = set(unit.with_large_items)
+        found, refusals = translated_once(unit, target)
+        if unit.with_large_items == known:
+            break
+    if not unit.tasks:
+        refusals.append(Refusal(None, "no task is created in this file", "xTaskCreate(..) in `main`, for each task"))
+    if refusals:
+        raise SeveralRefusals(without_doubles(refusals))
+    found.notes += warnings_of(found)
+    return found
+
+
+def translated_once(unit: Unit, target: Target) -> Tuple[Application, List[Refusal]]:
+    """The application, from what is known by now of the items of its queues, and the refusals."""
+    found, refusals = Application(unit), list(unit.refusals)
+    notes: Dict[Note, None] = dict.fromkeys(unit.notes)
+    for owner in [*unit.handlers, *unit.tasks]:
+        translation = Translation(unit, target, owner)
+        try:
+            script = translation.script()
+        except Refusal as refusal:
+            refusals.append(refusal)
+            continue
+        (found.handlers if translation.is_handler else found.tasks).append(script)
+        found.uses_daemon |= translation.uses_daemon
+        notes.update(translation.notes)
+    found.notes = list(notes)
+    return found, refusals
+
+
+def warnings_of(found: Application) -> List[Note]:
+    """What of the whole is likely not meant."""
+    notes = [Note(None, f"`{it}` is called by no task and no handler: left out") for it in found.unit.unreached()
+             if found.unit.functions[it].decl.coord.file not in found.unit.of_headers]
+    if all(it.is_endless for it in found.tasks):
+        notes.append(Note(None, "every task is endless, so no run can pass: add a task that ends, with a configASSERT of what is to hold",
+                          True))
+    return notes
+
+
+def without_doubles(refusals: Sequence[Refusal]) -> List[Refusal]:
+    found: Dict[tuple, Refusal] = {}
+    for it in refusals:
+        place = it.place
+        found.setdefault((place and (place.file, place.line, place.column), it.what), it)
+    return sorted(found.values(), key=lambda it: (it.place is None, it.place and (it.place.line, it.place.column)))
+
+
+def read_unit(name: str, lines: Lines, folders: Sequence[str] = (), macros: Sequence[str] = (), handlers: Sequence[str] = (),
+              ignored: Sequence[str] = ()) -> Unit:
+    """What the file declares, with its objects and tasks."""
+    text = preprocessed(name, folders, macros, lines)
+    return Unit(parsed(text, name, lines), lines, handlers, ignored)
+
+

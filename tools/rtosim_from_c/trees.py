@@ -1,0 +1,78 @@
+"""Questions about trees of pycparser, which name their nodes by class."""
+from typing import Callable, Iterator, List, Optional, Set
+
+
+def kind(node: object) -> str:
+    return type(node).__name__
+
+
+def children(node: object) -> List[object]:
+    return [it for _, it in node.children()]
+
+
+def walk(node: object) -> Iterator[object]:
+    """The node and all below it, in the order of the text."""
+    yield node
+    for it in children(node):
+        yield from walk(it)
+
+
+def called(node: object) -> Optional[str]:
+    """The name of the function that this node calls; None if it is no such call."""
+    if kind(node) == "FuncCall" and kind(node.name) == "ID":
+        return node.name.name
+    return None
+
+
+def arguments(call: object) -> List[object]:
+    return list(call.args.exprs) if call.args is not None else []
+
+
+def calls_in(node: object) -> List[str]:
+    """The functions that are called in it, in the order of the text."""
+    return [name for name in map(called, walk(node)) if name]
+
+
+def escapes(node: object) -> Set[str]:
+    """How this statement may leave what is around it: `break`, `continue`, `return`, `goto`."""
+    name = kind(node)
+    if name in ("Break", "Continue", "Return", "Goto"):
+        return {name.lower()}
+    if called(node) == "vTaskDelete":
+        return {"return"}
+    found: Set[str] = set()
+    for it in children(node):
+        found |= escapes(it)
+    if name in ("For", "While", "DoWhile"):
+        return found & {"return", "goto"}
+    return found - {"break"} if name == "Switch" else found
+
+
+def plain(node: object) -> object:
+    """An expression without casts around it."""
+    while kind(node) == "Cast":
+        node = node.expr
+    return node
+
+
+def dotted(node: object) -> Optional[str]:
+    """The name of a variable, or of a member of one, as `uart.rx`; None if it is neither."""
+    if kind(node) == "StructRef" and node.type == ".":
+        inner = dotted(node.name)
+        return f"{inner}.{node.field.name}" if inner else None
+    return node.name if kind(node) == "ID" else None
+
+
+def assigned(node: object) -> Optional[str]:
+    """The name that this node gives a new value; None if it gives none."""
+    name = kind(node)
+    target = None
+    if name == "Assignment":
+        target = node.lvalue
+    elif name == "UnaryOp" and node.op in ("++", "--", "p++", "p--", "&"):
+        target = node.expr
+    return target.name if kind(target) == "ID" else None
+
+
+def find(node: object, wanted: Callable[[object], bool]) -> Optional[object]:
+    return next((it for it in walk(node) if wanted(it)), None)

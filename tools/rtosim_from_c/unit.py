@@ -1,0 +1,388 @@
+"""What a file declares: its functions, constants and globals; the objects and tasks that it creates; its handlers."""
+import os
+from dataclasses import dataclass, field
+from typing import Dict, FrozenSet, Iterator, List, Optional, Sequence, Set, Tuple, Union
+
+from . import trees
+from .answers import Answers, answers, only
+from .calls import CALLS, CREATORS, SETUP, TASK_CREATORS
+from .constants import Constants
+from .directives import Directives
+from .integers import Integer
+from .naming import Names, fitting, of_handler
+from .refusals import Note, Place, Refusal
+from .source import HEADERS, Lines, place_of
+from .values import Handle, Known, Value, constant
+
+SETS_OF_BITS = ("xEventGroupSetBits", "xEventGroupSetBitsFromISR")
+ALL_BITS = (1 << 24) - 1
+MOST_BITS_APART = 6
+HANDLER_ENDINGS = ("_IRQHandler", "_ISR")
+MOST_PRIORITY = 31
+
+
+@dataclass
+class Object:
+    """What a section describes: a queue, a semaphore, a mutex or an event group."""
+
+    kind: str
+    name: str
+    place: Place
+    numbers: Dict[str, int] = field(default_factory=dict)
+
+
+@dataclass
+class Task:
+    function: str
+    name: str
+    priority: int
+    parameter: Known
+    place: Place
+
+
+@dataclass
+class Handler:
+    function: str
+    name: str
+    place: Place
+
+
+class Unit:
+    """A file, as far as it is known without its functions being followed."""
+
+    def __init__(self, tree: object, lines: Lines, handlers: Sequence[str] = (), ignored: Sequence[str] = ()):
+        self.lines, self.names, self.constants = lines, Names(), Constants()
+        self.directives = Directives(handlers=set(handlers), ignored=set(ignored))
+        self.functions: Dict[str, object] = {}
+        self.globals: Dict[str, object] = {}
+        self.objects: List[Object] = []
+        self.handles: Dict[Tuple[str, str], Handle] = {}
+        self.tasks: List[Task] = []
+        self.handlers: List[Handler] = []
+        self.notes: List[Note] = []
+        self.refusals: List[Refusal] = []
+        self.of_headers = {f"{HEADERS}/{it}" for it in os.listdir(HEADERS)}
+        # queues into which a number is sent that is negative as an int
+        self.with_large_items: Set[str] = set()
+        self.variables: Dict[str, int] = {}
+        # expressions whose value nothing takes
+        self.statement_nodes: Set[object] = set()
+        self.named_by_callers: List[Tuple[str, Optional[str]]] = []
+        self.jumps: Dict[object, FrozenSet[str]] = {}
+        self.called_lines: Dict[object, FrozenSet[int]] = {}
+        self.tests: Dict[object, FrozenSet[str]] = {}
+        self.name_lines: Dict[object, Dict[str, List[int]]] = {}
+        self.bits: Optional[Answers] = None
+        self.declare(tree)
+        for find in (self.find_objects, self.find_handlers, self.find_tasks, self.find_gives):
+            find()
+
+    def place(self, node: object) -> Place:
+        return place_of(node, self.lines) or Place("", 0, 0)
+
+    # -- declarations
+
+    def declare(self, tree: object) -> None:
+        for it in tree.ext:
+            name = trees.kind(it)
+            for inner in trees.walk(it):
+                if trees.kind(inner) == "Enum":
+                    self.constants.take_enum(inner)
+            if name == "Typedef":
+                self.constants.typedefs[it.name] = it
+            elif name == "FuncDef":
+                self.functions[it.decl.name] = it
+            elif name == "Decl" and it.name and trees.kind(it.type) != "FuncDecl":
+                self.declare_global(it)
+            elif name == "Pragma":
+                self.take_comment(it)
+        self.assigned = {trees.assigned(it) for function in self.functions.values() for it in trees.walk(function)}
+        for name, it in list(self.globals.items()):
+            self.declare_constant(name, it)
+
+    def declare_global(self, declaration: object) -> None:
+        name = declaration.name
+        if name not in self.globals or declaration.init is not None:
+            self.globals[name] = declaration
+
+    def declare_constant(self, name: str, declaration: object) -> None:
+        """A global that nothing gives another value is a constant."""
+        type_ = self.constants.type_of(declaration)
+        is_volatile = any("volatile" in (getattr(it, "quals", None) or []) for it in trees.walk(declaration.type))
+        if isinstance(type_, Integer) and name not in self.assigned and not is_volatile and declaration.init is not None:
+            value = self.constants.value(declaration.init)
+            if value is not None:
+                self.constants.numbers[name] = constant(value.constant() or 0, type_)
+
+    def take_comment(self, pragma: object) -> None:
+        text = pragma.string or ""
+        if not text.startswith("rtosim"):
+            return
+        try:
+            self.directives.take(text[len("rtosim"):], self.place(pragma))
+        except Refusal as refusal:
+            self.refusals.append(refusal)
+
+    # -- objects
+
+    def find_objects(self) -> None:
+        for function in self.ordered_functions():
+            named: Set[int] = set()
+            for node in trees.walk(self.functions[function]):
+                target, call = created(node)
+                named.add(id(call))
+                if call is not None and trees.called(call) in CREATORS:
+                    self.create(function, target, call)
+                elif call is not None and trees.called(call) == "xTaskGetCurrentTaskHandle":
+                    self.named_by_callers.append((function, target))
+                elif trees.called(node) in CREATORS and id(node) not in named:
+                    self.create(function, None, node)
+
+    def create(self, function: str, target: Optional[str], call: object) -> None:
+        place = self.place(call)
+        if target is None:
+            self.refusals.append(Refusal(place, "this object has no name", "assign what creates it to a variable"))
+            return
+        scope = self.scope_of(target, function)
+        if (scope, target) in self.handles:
+            self.refusals.append(Refusal(place, f"`{target}` is created twice", "a variable for each object"))
+            return
+        kind, *keys = CREATORS[trees.called(call)]
+        handle = Handle(kind, self.names.name(f"object of {scope}", target))
+        self.handles[scope, target] = handle
+        numbers = {}
+        for key, argument in zip(keys, trees.arguments(call)):
+            value = self.constants.value(argument)
+            if value is None and key != "size":
+                self.refusals.append(Refusal(self.place(argument), f"the {key} is no constant", "a number"))
+                value = constant(1)
+            numbers[key] = (value.constant() or 0) if value is not None else 4
+        self.objects.append(Object(kind, handle.name, place, numbers))
+
+    def escapes(self, node: object) -> FrozenSet[str]:
+        """How a statement may leave what is around it."""
+        if node not in self.jumps:
+            self.jumps[node] = frozenset(trees.escapes(node))
+        return self.jumps[node]
+
+    def mentions(self, node: object, name: str) -> int:
+        """How often a name is in a statement."""
+        return self.named_from(node, name, 0)
+
+    def named_from(self, node: object, name: str, line: int) -> int:
+        """How often a name is in a statement, from this line on."""
+        if node not in self.name_lines:
+            found: Dict[str, List[int]] = {}
+            for it in trees.walk(node):
+                if trees.kind(it) == "ID":
+                    found.setdefault(it.name, []).append(self.place(it).line)
+            self.name_lines[node] = found
+        return sum(it >= line for it in self.name_lines[node].get(name, []))
+
+    def tested(self, loop: object) -> FrozenSet[str]:
+        """The names in the conditions of a loop, and of what is in it."""
+        if loop not in self.tests:
+            conditions = [it.cond for it in trees.walk(loop) if getattr(it, "cond", None) is not None]
+            self.tests[loop] = frozenset(it.name for one in conditions for it in trees.walk(one) if trees.kind(it) == "ID")
+        return self.tests[loop]
+
+    def lines_of_calls(self, node: object) -> FrozenSet[int]:
+        """The lines in which something is called."""
+        if node not in self.called_lines:
+            self.called_lines[node] = frozenset(self.place(it).line for it in trees.walk(node) if trees.kind(it) == "FuncCall")
+        return self.called_lines[node]
+
+    def bits_of_groups(self) -> Answers:
+        """The bits that a group may have: those of the masks that are set somewhere."""
+        if self.bits is None:
+            self.bits = self.bits_set()
+        return self.bits
+
+    def bits_set(self) -> Answers:
+        masks = [trees.arguments(it)[1] for it in self.nodes() if trees.called(it) in SETS_OF_BITS]
+        values = [self.constants.value(it) for it in masks]
+        if any(it is None for it in values):
+            return answers((0, ALL_BITS))
+        union = 0
+        for it in values:
+            union |= (it.constant() or 0) & ALL_BITS
+        places = [1 << at for at in range(24) if union >> at & 1]
+        if len(places) > MOST_BITS_APART:
+            return answers((0, union))
+        return only(*(sum(it for at, it in enumerate(places) if which >> at & 1) for which in range(1 << len(places))))
+
+    def scope_of(self, target: str, function: str) -> str:
+        """Where a name belongs: to the file, or to a function."""
+        return "" if target.split(".")[0] in self.globals else function
+
+    def handle(self, function: str, node: object) -> Optional[Handle]:
+        """The handle that a variable, or a member of one, has."""
+        name = trees.dotted(node)
+        return (self.handles.get((function, name)) or self.handles.get(("", name))) if name else None
+
+    def object(self, name: str) -> Object:
+        return next(it for it in self.objects if it.name == name)
+
+    # -- handlers and tasks
+
+    def find_handlers(self) -> None:
+        for name in sorted(self.directives.handlers - self.functions.keys()):
+            self.refusals.append(Refusal(None, f"no function is called {name}, which is to be a handler"))
+        for name, it in self.functions.items():
+            if name in self.directives.handlers or name.endswith(HANDLER_ENDINGS):
+                place = self.place(it)
+                self.handlers.append(Handler(name, self.names.name("handler", of_handler(name)), place))
+
+    def find_tasks(self) -> None:
+        for function in self.ordered_functions():
+            for node in trees.walk(self.functions[function]):
+                if trees.called(node) in TASK_CREATORS:
+                    try:
+                        self.find_task(function, node)
+                    except Refusal as refusal:
+                        self.refusals.append(refusal)
+            for node in trees.walk(self.functions[function]):
+                if trees.kind(node) in ("For", "While", "DoWhile"):
+                    self.refuse_creators(node)
+        for function, target in self.named_by_callers:
+            self.name_caller(function, target)
+
+    def find_task(self, scope: str, call: object) -> None:
+        name, words = trees.called(call), trees.arguments(call)
+        place = self.place(call)
+        function = words[0] if words else None
+        function = function.expr if trees.kind(function) == "UnaryOp" else trees.plain(function)
+        if trees.kind(function) != "ID" or function.name not in self.functions:
+            raise Refusal(place, "the function of this task isn't in the file", "the task's function, with its body")
+        if len(words) < 6:
+            raise Refusal(place, f"{name} has {len(words)} arguments", "those of FreeRTOS")
+        priority = self.constants.value(words[4])
+        if priority is None or not 0 <= (priority.constant() or 0) <= MOST_PRIORITY:
+            raise Refusal(self.place(words[4]), f"a task's priority is a constant from 0 to {MOST_PRIORITY}")
+        wanted = text_of(words[1]) or function.name
+        key = f"{wanted} {place.line}"
+        self.names.of["task", key] = self.names.free(fitting_task(wanted, function.name, self.names.taken))
+        task = Task(function.name, self.names.of["task", key], priority.constant() or 0, self.parameter(scope, words[3]), place)
+        self.names.taken.add(task.name)
+        self.tasks.append(task)
+        self.name_task(scope, call, words, task)
+
+    def name_task(self, scope: str, call: object, words: List[object], task: Task) -> None:
+        """The variable that has the task's handle."""
+        if trees.called(call) == "xTaskCreate":
+            last = trees.plain(words[5])
+            target = trees.dotted(last.expr) if trees.kind(last) == "UnaryOp" else None
+            if target is None:
+                return
+        else:
+            whole = trees.find(self.functions[scope], lambda it: created(it)[1] is call)
+            target = created(whole)[0] if whole is not None else None
+        if target is not None:
+            self.handles[self.scope_of(target, scope), target] = Handle("task", task.name)
+
+    def parameter(self, scope: str, node: object) -> Known:
+        found = self.handle(scope, trees.plain(node))
+        if found is not None:
+            return found
+        value: Union[Value, None] = self.constants.value(node)
+        if value is None:
+            raise Refusal(self.place(node), "this parameter of a task is no constant and no handle", "a number, NULL, or a handle")
+        return value
+
+    def name_caller(self, function: str, target: Optional[str]) -> None:
+        """A global that a task gives its own handle."""
+        owners = [it for it in self.tasks if it.function == function]
+        if target is not None and not self.scope_of(target, function) and len(owners) == 1:
+            self.handles["", target] = Handle("task", owners[0].name)
+
+    def refuse_creators(self, loop: object) -> None:
+        for node in trees.walk(loop):
+            if trees.called(node) in (*CREATORS, *TASK_CREATORS):
+                self.refusals.append(Refusal(self.place(node), f"{trees.called(node)} in a loop", "each creation by itself"))
+
+    # -- before the scheduler starts
+
+    def find_gives(self) -> None:
+        """What `main` does with objects: a semaphore may be given there, all else is an op of a task."""
+        for function in self.reached(SETUP):
+            for node in trees.walk(self.functions[function]):
+                name = trees.called(node)
+                if name == "xSemaphoreGive" and self.gives(function, node):
+                    continue
+                if name in CALLS:
+                    self.refusals.append(Refusal(self.place(node), f"{name} before the scheduler starts",
+                                                 "the same at the beginning of a task"))
+
+    def gives(self, function: str, call: object) -> bool:
+        handle = self.handle(function, trees.plain(trees.arguments(call)[0]))
+        found = self.object(handle.name) if handle else None
+        if found is None or found.kind not in ("binary", "counting"):
+            return False
+        if found.kind == "binary":
+            found.kind, found.numbers = "counting", {"max": 1, "initial": 0}
+            for key, it in self.handles.items():
+                self.handles[key] = Handle("counting", it.name) if it.name == found.name else it
+        found.numbers["initial"] = min(found.numbers["max"], found.numbers.get("initial", 0) + 1)
+        self.notes.append(Note(self.place(call), f"the semaphore `{found.name}` counts {found.numbers['initial']} at reset"))
+        return True
+
+    # -- what is read, and which functions call which
+
+    def names_read(self) -> Set[str]:
+        """The names that decide something: not those that are only given values, or counted."""
+        written = {id(it.lvalue) for it in self.nodes() if trees.kind(it) == "Assignment"}
+        for it in self.nodes():
+            if trees.kind(it) == "UnaryOp" and it.op in ("++", "--", "p++", "p--"):
+                written.add(id(it.expr))
+        return {it.name for it in self.nodes() if trees.kind(it) == "ID" and id(it) not in written}
+
+    def nodes(self) -> Iterator[object]:
+        return (it for function in self.functions.values() for it in trees.walk(function))
+
+    def reached(self, roots: Sequence[str]) -> List[str]:
+        """These functions and all that they call, each once, in the order of the calls."""
+        found: List[str] = []
+        waiting = [it for it in reversed(roots) if it in self.functions]
+        while waiting:
+            name = waiting.pop()
+            if name not in found:
+                found.append(name)
+                waiting += [it for it in reversed(trees.calls_in(self.functions[name])) if it in self.functions]
+        return found
+
+    def ordered_functions(self) -> List[str]:
+        """All functions, those of `main` first, in the order of their calls."""
+        first = self.reached(SETUP)
+        return [*first, *(it for it in self.functions if it not in first)]
+
+    def unreached(self) -> Iterator[str]:
+        """Functions that no task, no handler and no `main` calls."""
+        roots: Set[str] = {it.function for it in self.tasks} | {it.function for it in self.handlers} | set(SETUP)
+        seen = set(self.reached(sorted(roots)))
+        creating = [name for name, it in self.functions.items() if set(trees.calls_in(it)) & {*CREATORS, *TASK_CREATORS}]
+        seen |= set(self.reached(creating))
+        return (it for it in self.functions if it not in seen)
+
+
+def created(node: object) -> Tuple[Optional[str], Optional[object]]:
+    """The name and the call of `name = call(..)` or of `type name = call(..)`; no name if what is assigned to is no name."""
+    name = trees.kind(node)
+    if name == "Decl" and node.init is not None:
+        call = trees.plain(node.init)
+        return (node.name, call) if trees.called(call) else (None, None)
+    if name == "Assignment" and node.op == "=":
+        call = trees.plain(node.rvalue)
+        target = trees.dotted(node.lvalue)
+        return (target, call) if trees.called(call) else (None, None)
+    return None, None
+
+
+def text_of(node: object) -> Optional[str]:
+    node = trees.plain(node)
+    is_text = trees.kind(node) == "Constant" and node.value.startswith('"')
+    return node.value[1:-1] if is_text else None
+
+
+def fitting_task(wanted: str, function: str, taken: Set[str]) -> str:
+    """The name of a task: that which the file gives it, or, if it is taken, that of its function."""
+    return fitting(function) if fitting(wanted) in taken else fitting(wanted)

@@ -1,0 +1,305 @@
+"""What is known of a value of C: a function of the task's last answer, in pieces.
+
+A script keeps nothing but its last answer. So a local may be a constant, it may be the last answer itself, or it may depend on the last
+answer in pieces: of `ok = xQueueReceive(..)` it is 0 for `none` and 1 otherwise. When another call answers, only constants are left."""
+from dataclasses import dataclass, field
+from typing import Callable, Iterable, Iterator, List, Optional, Tuple, Union
+
+from .answers import GREATEST, NONE, NUMBERS, Answers, answers
+from .integers import ARITHMETIC, BOOL, COMPARISONS, INT, SHIFTS, UNSIGNED, Integer, common, promoted
+from .refusals import Lost, Place
+
+MOST_PIECES = 64
+NUMBER, ANSWER, LOST = "number", "answer", "lost"
+
+
+@dataclass(frozen=True)
+class Piece:
+    """For the answers from `low` to `high`: a number, or the answer and a number, or lost: then one of `among`, if that is known."""
+
+    low: int
+    high: int
+    kind: str
+    number: int = 0
+    lost: Optional[Lost] = field(default=None, compare=False)
+    among: Optional[Answers] = None
+
+    def at(self, answer: int) -> int:
+        return self.number + (answer if self.kind == ANSWER else 0)
+
+    def between(self, low: int, high: int) -> "Piece":
+        """The same for these answers."""
+        return Piece(low, high, self.kind, self.number, self.lost, self.among)
+
+    def numbers(self) -> Optional[Answers]:
+        """The numbers that it may be, where that is known."""
+        return self.among if self.kind == LOST else answers((self.at(self.low), self.at(self.high)))
+
+
+@dataclass(frozen=True)
+class Value:
+    """An integer of a type, as pieces in rising order."""
+
+    type: Integer
+    pieces: Tuple[Piece, ...]
+
+    def among(self, known: Answers) -> "Value":
+        """What is left of it where the last answer is one of these."""
+        if len(self.pieces) == 1 and len(known.ranges) == 1:
+            low, high = max(self.pieces[0].low, known.ranges[0][0]), min(self.pieces[0].high, known.ranges[0][1])
+            return Value(self.type, (self.pieces[0].between(low, high),) if low <= high else ())
+        return Value(self.type, joined(
+            it.between(max(it.low, low), min(it.high, high))
+            for it in self.pieces for low, high in known.ranges if max(it.low, low) <= min(it.high, high)
+        ))
+
+    def constant(self) -> Optional[int]:
+        """The number that it is, whatever the answer is."""
+        first = self.pieces[0] if self.pieces else None
+        is_one = first and first.kind != LOST and all(it.kind == NUMBER and it.number == first.number for it in self.pieces)
+        if first and first.kind == ANSWER and len(self.pieces) == 1 and first.low == first.high:
+            return first.at(first.low)
+        return first.number if is_one and first.kind == NUMBER else None
+
+    def lost(self) -> Optional[Lost]:
+        return next((it.lost for it in self.pieces if it.kind == LOST), None)
+
+
+@dataclass(frozen=True)
+class Handle:
+    """An object, an event group or a task, by its name in the application file."""
+
+    kind: str
+    name: str
+
+
+@dataclass(frozen=True)
+class Reference:
+    """`&x` of a local, by its key."""
+
+    local: str
+
+
+@dataclass(frozen=True)
+class Stamp:
+    """The time of a `stamp`, the one of this number."""
+
+    number: int
+
+
+@dataclass(frozen=True)
+class Stored:
+    """What is in a variable of the application, by its name."""
+
+    name: str
+    type: Integer
+
+
+@dataclass(frozen=True)
+class Text:
+    """A text, which only a log can take."""
+
+
+@dataclass(frozen=True)
+class Nothing:
+    """What a `void` function returns."""
+
+
+Known = Union[Value, Handle, Reference, Stamp, Stored, Text, Nothing]
+
+
+def joined(pieces: Iterable[Piece]) -> Tuple[Piece, ...]:
+    """The pieces in rising order, where neighbours that are the same are one."""
+    found: List[Piece] = []
+    for it in sorted(pieces, key=lambda one: one.low):
+        last = found[-1] if found else None
+        if last and last.high + 1 == it.low and (last.kind, last.number, last.among) == (it.kind, it.number, it.among):
+            found[-1] = last.between(last.low, it.high)
+        else:
+            found.append(it)
+    return tuple(found)
+
+
+def constant(number: int, type_: Integer = INT) -> Value:
+    return Value(type_, (Piece(NONE, GREATEST, NUMBER, type_.wrapped(number)),))
+
+
+def lost(type_: Integer, why: Lost) -> Value:
+    return Value(type_, (Piece(NONE, GREATEST, LOST, 0, why),))
+
+
+def the_answer(type_: Integer, among: Answers = NUMBERS) -> Value:
+    """The last answer, one of these numbers, as a value of this type."""
+    pieces = tuple(Piece(low, high, ANSWER) for low, high in (among & NUMBERS).ranges)
+    return converted(Value(UNSIGNED, pieces), type_)
+
+
+def is_received() -> Value:
+    """What a call returns whose answer is `none` if it failed: 0 then, otherwise 1."""
+    return Value(INT, (Piece(NONE, NONE, NUMBER, 0), Piece(0, GREATEST, NUMBER, 1)))
+
+
+def either(first: Known, of_first: Answers, second: Known, of_second: Answers, why: Lost) -> Known:
+    """The value of which one way says the first, for these answers, and another way the second: lost where both may be and differ."""
+    if not isinstance(first, Value) or not isinstance(second, Value):
+        return first if first == second else lost(INT, why)
+    both = of_first & of_second
+    pieces = [*first.among(of_first - of_second).pieces, *second.among(of_second - of_first).pieces]
+    for it, other in overlaid(first.among(both), second.among(both)):
+        is_same = (it.kind, it.number) == (other.kind, other.number)
+        if LOST in (it.kind, other.kind) or not is_same:
+            reason = it.lost if it.kind == LOST else other.lost if other.kind == LOST else why
+            pieces.append(Piece(it.low, it.high, LOST, 0, reason))
+        else:
+            pieces.append(it)
+    return Value(first.type, joined(pieces))
+
+
+def overlaid(left: Value, right: Value) -> Iterator[Tuple[Piece, Piece]]:
+    """The pieces of both, cut so that each pair is of the same answers."""
+    for it in left.pieces:
+        for other in right.pieces:
+            low, high = max(it.low, other.low), min(it.high, other.high)
+            if low <= high:
+                yield it.between(low, high), other.between(low, high)
+
+
+def converted(value: Value, type_: Integer) -> Value:
+    """The value as this type keeps it."""
+    return Value(type_, joined(one for it in value.pieces for one in converted_piece(it, type_)))
+
+
+def converted_piece(piece: Piece, type_: Integer) -> List[Piece]:
+    if piece.kind == LOST:
+        return [converted_lost(piece, type_)]
+    if piece.kind == NUMBER:
+        return [Piece(piece.low, piece.high, NUMBER, type_.wrapped(piece.number))]
+    if type_ == BOOL:
+        return compared_piece(piece, 0, COMPARISONS["!="])
+    size = 1 << type_.bits
+    turn_of = lambda answer: (piece.at(answer) - type_.least) // size
+    first, last = turn_of(piece.low), turn_of(piece.high)
+    if last - first > 2:
+        return [Piece(piece.low, piece.high, LOST, 0, Lost("this number may be larger than its type, and a script keeps 32 bits"))]
+    cuts = [piece.low, *(type_.least + turn * size - piece.number for turn in range(first + 1, last + 1)), piece.high + 1]
+    return [
+        Piece(low, end - 1, ANSWER, piece.number - (first + at) * size)
+        for at, (low, end) in enumerate(zip(cuts, cuts[1:]))
+    ]
+
+
+def converted_lost(piece: Piece, type_: Integer) -> Piece:
+    """What is known of a lost number stays known where its type can keep it."""
+    among = piece.among
+    if type_ == BOOL and among:
+        decided = decide("!=", among, answers((0, 0)))
+        return piece if decided is None else Piece(piece.low, piece.high, NUMBER, int(decided))
+    is_kept = among and type_.least <= among.least() and among.greatest() <= type_.greatest
+    return piece if is_kept else Piece(piece.low, piece.high, LOST, 0, piece.lost)
+
+
+def decide(operator: str, left: Answers, right: Answers) -> Optional[bool]:
+    """Whether a comparison holds of all numbers of these, or of none; None if it depends."""
+    if operator in ("==", "!="):
+        is_same = True if left.single() is not None and left == right else None if left & right else False
+        return None if is_same is None else is_same == (operator == "==")
+    holds = COMPARISONS[operator]
+    found = {holds(it, other) for it in (left.least(), left.greatest()) for other in (right.least(), right.greatest())}
+    return found.pop() if len(found) == 1 else None
+
+
+def compared_piece(piece: Piece, number: int, holds: Callable[[int, int], bool]) -> List[Piece]:
+    """1 where the comparison with the number holds, and 0 elsewhere."""
+    at = number - piece.number
+    parts = [(piece.low, min(piece.high, at - 1)), (max(piece.low, at), min(piece.high, at)), (max(piece.low, at + 1), piece.high)]
+    return [Piece(low, high, NUMBER, int(holds(piece.at(low), number))) for low, high in parts if low <= high]
+
+
+def binary(operator: str, left: Value, right: Value, known: Answers) -> Value:
+    """What C computes; lost where a script can't say it without a variable."""
+    left, right = left.among(known), right.among(known)
+    if operator in SHIFTS:
+        type_ = promoted(left.type)
+        left = converted(left, type_)
+    else:
+        type_ = common(left.type, right.type)
+        left, right = converted(left, type_), converted(right, type_)
+    pieces = [one for it, other in overlaid(left, right) for one in binary_pieces(operator, it, other, type_)]
+    return Value(INT if operator in COMPARISONS else type_, joined(pieces))
+
+
+def binary_pieces(operator: str, left: Piece, right: Piece, type_: Integer) -> List[Piece]:
+    low, high = left.low, left.high
+    if LOST in (left.kind, right.kind):
+        numbers, others = left.numbers(), right.numbers()
+        decided = decide(operator, numbers, others) if operator in COMPARISONS and numbers and others else None
+        if decided is not None:
+            return [Piece(low, high, NUMBER, int(decided))]
+        why = left.lost if left.kind == LOST else right.lost
+        return [Piece(low, high, LOST, 0, why)]
+    is_fixed = left.kind == NUMBER and right.kind == NUMBER
+    if is_fixed or left.kind == right.kind and operator in COMPARISONS:
+        return [Piece(low, high, *computed(operator, left.number, right.number, type_))]
+    if operator in COMPARISONS:
+        holds = COMPARISONS[operator]
+        if left.kind == ANSWER:
+            return compared_piece(left, right.number, holds)
+        return compared_piece(right, left.number, lambda answer, number: holds(number, answer))
+    if operator == "+" and right.kind != left.kind or operator == "-" and right.kind == NUMBER:
+        shift = left.number + (right.number if operator == "+" else -right.number)
+        return converted_piece(Piece(low, high, ANSWER, shift), type_)
+    if high - low < MOST_PIECES:
+        return [Piece(it, it, *computed(operator, left.at(it), right.at(it), type_)) for it in range(low, high + 1)]
+    return [Piece(low, high, LOST, 0, Lost(f"`{operator}` with the answer of a call needs a variable"))]
+
+
+def computed(operator: str, left: int, right: int, type_: Integer) -> Tuple[str, int, Optional[Lost]]:
+    """The kind of the piece that this makes, its number, and why it is lost."""
+    if operator in COMPARISONS:
+        return NUMBER, int(COMPARISONS[operator](left, right)), None
+    if operator in "/%" and right == 0:
+        return LOST, 0, Lost("a division by 0")
+    if operator in SHIFTS:
+        if not 0 <= right < type_.bits:
+            return LOST, 0, Lost(f"a shift by {right} bits")
+        return NUMBER, type_.wrapped(SHIFTS[operator](left, right)), None
+    return NUMBER, type_.wrapped(ARITHMETIC[operator](left, right)), None
+
+
+def unary(operator: str, value: Value, known: Answers) -> Value:
+    if operator == "!":
+        return binary("==", value, constant(0), known)
+    if operator == "-":
+        return binary("-", constant(0), value, known)
+    if operator == "~":
+        return binary("^", value, constant(-1), known)
+    return converted(value, promoted(value.type))
+
+
+def truth(value: Value, known: Answers) -> Answers:
+    """The answers for which the value isn't 0."""
+    found = converted(value.among(known), BOOL)
+    return answers(*((it.low, it.high) for it in found.pieces if it.kind == NUMBER and it.number))
+
+
+def after_an_answer(known: Known, before: Answers, local: str, by: str, at: Place) -> Known:
+    """What is left of a local when another call answers, at this place: constants."""
+    if not isinstance(known, Value):
+        return known
+    now = known.among(before)
+    number = now.constant()
+    if number is not None:
+        return constant(number, known.type)
+    reason = now.lost()
+    if reason is None or reason.local is None and any(it.kind != LOST for it in now.pieces):
+        name = local.split("@")[0]
+        reason = Lost(f"`{name}` holds an answer from before {by}, and a script keeps its last answer only", local, at)
+    sets = [it.numbers() for it in now.pieces]
+    among = answers(*(one for it in sets for one in it.ranges)) if all(sets) else None
+    return Value(known.type, (Piece(NONE, GREATEST, LOST, 0, reason, among),))
+
+
+def numbers_of(value: Value) -> Answers:
+    """All answers for which it is known."""
+    return answers(*((it.low, it.high) for it in value.pieces if it.kind != LOST))
+

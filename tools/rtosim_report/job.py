@@ -1,0 +1,256 @@
+"""What was asked for, and the report that it is asked of: one that is named, or one that the program makes of an application."""
+import sys
+
+from .application import read_application
+from .base_run import BaseRun, find_base, given_base, tail_of_row
+from .classes import By, Classifier
+from .emptiness import emptiness_of
+from .end_state import state_of
+from .endings import Endings
+from .escaping import plain
+from .faults import Fault, WordsFault, counted
+from .known import Failure, failures_of
+from .made import MadeReport, Plan
+from .reading import Tally, ViewReader, lone_run_of
+from .source import file_source, standard_input, state_source
+from .table import Given
+from .words import takes_points, words_of_point
+
+# So many rows' states are asked for.
+MOST_ASKED = 100
+BASE_RUN = "the base run"
+HEADS_ALONE = "the report has heads alone (--heads): this needs whole rows"
+HEADS_ONLY = Plan(False, False)
+
+
+def say(text):
+    print(f"rtosim-report: {text}", file=sys.stderr)
+
+
+class Job:
+    """What was asked for, and the report."""
+
+    def __init__(self, words, has_texts=True):
+        self.words = words
+        self.application = words.application
+        is_made = self.application is not None and words.report is None
+        self.made = MadeReport(self.application, words.workers, words.whole) if is_made else None
+        self.source = None if is_made else self.open_source()
+        self.texts = self.read_texts() if self.application is not None and has_texts else None
+        self.base = None
+        # The head of the base run of a report without rows, what it says at its end, and the name of its failure.
+        self.lone_run, self.ending, self.lone_name = None, [], ""
+        # What the total line counts, and what there is to say of rows that aren't looked at whole.
+        self.total, self.notes = Tally(), []
+        self.asked = 0 if is_made and words.asks_for_states else MOST_ASKED
+        self.endings = Endings(self.texts, self.ask_for_state)
+
+    @property
+    def given(self):
+        return Given(self.application, self.words.report, self.words.base, self.takes_points)
+
+    @property
+    def takes_points(self):
+        """Whether there is a program that runs a point of several injections, which is asked if there are such rows."""
+        return self.made is not None and self.made.has_several and takes_points()
+
+    def open_source(self):
+        if self.words.report in (None, "-"):
+            return standard_input(self.words.partial)
+        return file_source(self.words.report, self.words.partial)
+
+    def read_texts(self):
+        """The application. What the program ignores of it is named on standard error."""
+        found = read_application(self.application)
+        for it in found.ignored:
+            say(f"{plain(self.application)}: {plain(it)}")
+        return found
+
+    # -- what is judged
+
+    @property
+    def is_of_a_run(self):
+        """Whether the report is that of `rtosim run`, and of no campaign."""
+        return self.lone_run is not None and self.made is None
+
+    def failures(self, classes):
+        """What fails: classes, and the base run of a report without rows."""
+        if self.lone_run is None or self.lone_run.verdict.passes:
+            return failures_of(classes)
+        return [Failure(self.lone_name), *failures_of(classes)]
+
+    def emptiness(self):
+        """Why nothing is tested, if that is so."""
+        return emptiness_of(self.total, self.is_of_a_run)
+
+    def is_empty(self):
+        """Whether nothing is tested, which is named on standard error, and may not be."""
+        found = None if self.words.allow_empty else self.emptiness()
+        if found is not None:
+            say(found.line())
+        return found is not None
+
+    # -- the report
+
+    def runs(self):
+        """The runs of a report that is named, all of which are there when the last one was taken."""
+        reader = self.source.reader()
+        yield from self.read(reader)
+        if reader.is_cut_off:
+            say(f"the report is cut off: {counted(reader.tally.rows, 'whole row')}")
+        self.total = reader.total or reader.tally
+
+    def read(self, reader):
+        try:
+            yield from reader
+        finally:
+            reader.progress.end()
+        if isinstance(reader, ViewReader) and reader.total is not None and reader.contradiction():
+            raise Fault(reader.contradiction())
+
+    def heads(self):
+        """The heads of all rows, of a report that was read before or that the program makes."""
+        if self.made:
+            yield from self.made.campaign("--heads")
+        else:
+            yield from self.read(self.source.reader())
+
+    def whole_runs(self):
+        """The runs, whole and in order; of an application without points its base run; of a report of heads these."""
+        if self.made is None:
+            yield from self.runs()
+            return
+        survey = self.made.survey(True)
+        self.total = survey.total
+        if not survey.total.rows:
+            yield self.made.base().run()
+        yield from self.made.whole(None, survey)
+
+    def ask_for_state(self, head):
+        """The state at the end of a row, as the program writes it. Where it writes none once, it isn't asked again."""
+        words = None if self.asked >= MOST_ASKED else words_of_point(head.point, self.takes_points)
+        if words is None:
+            return None
+        self.asked += 1
+        source = state_source(self.application, words)
+        run = None if source is None else lone_run_of(source.reader())
+        if run is None or run.head.end_text() != head.end_text() or not run.state:
+            self.asked = MOST_ASKED
+            return None
+        return state_of(run.state)
+
+    def find_base(self):
+        if self.words.base is not None:
+            self.base = given_base(file_source(self.words.base).reader())
+        elif self.made:
+            self.base = self.made.base()
+        else:
+            self.base = None if self.source.has_heads_alone() else find_base(self.source)
+        return self.base
+
+    # -- classes
+
+    def classify(self, see=None):
+        """All rows that are looked at in classes. Each row and its class are shown to `see`."""
+        classifier = Classifier(self.find_base(), self.words.by, self.texts, self.endings)
+        if self.made:
+            self.classify_made(classifier, see)
+        else:
+            self.classify_named(classifier, see)
+        return self.with_endings(classifier.in_order())
+
+    @property
+    def wants_passing(self):
+        """Whether rows that pass are looked at whole."""
+        return self.words.whole or not (self.words.folds or getattr(self.words, "failing", False))
+
+    def classify_named(self, classifier, see):
+        heads_alone = self.words.by is By.VERDICT or self.source.has_heads_alone()
+        for run in self.runs():
+            if run.head.row is None:
+                run.checked_lines()
+                self.take_lone_run(run, classifier)
+                continue
+            if self.source.has_heads_alone():
+                found = classifier.add_head(run)
+            elif heads_alone or run.head.verdict.passes and not self.wants_passing:
+                classifier.check(run)
+                found = classifier.add_head(run)
+            else:
+                found = classifier.add(run)
+            if see:
+                see(run, found)
+        if self.total.rows and self.source.has_heads_alone() and self.words.by is not By.VERDICT:
+            self.notes.append("the report has heads alone (--heads), so rows are classed by these")
+
+    def classify_made(self, classifier, see):
+        by_heads = self.words.by is By.VERDICT
+        is_complete = by_heads or see is not None or self.wants_passing
+        survey = self.made.survey(is_complete)
+        self.total = survey.total
+        if not survey.total.rows:
+            return self.take_lone_run(self.base.run(), classifier)
+        plan = HEADS_ONLY if by_heads else self.made.plan(self.wants_passing, survey)
+        if not by_heads:
+            for it in self.made.needs(plan, survey, self.wants_passing):
+                say(it)
+        for run in self.made.runs(plan, survey) if is_complete else self.failing_runs(plan):
+            is_whole = plan.reads(run.head.verdict.passes)
+            found = classifier.add(run, True) if is_whole else classifier.add_head(run)
+            if see:
+                see(run, found)
+
+    def failing_runs(self, plan):
+        """The rows that fail, whole or as heads."""
+        if plan.failing:
+            return self.made.whole(False, self.made.surveyed)
+        return self.made.campaign("--only", "failing", "--heads")
+
+    def take_lone_run(self, run, classifier):
+        """The base run is all that there is."""
+        self.lone_run = run.head
+        self.ending, self.lone_name = self.endings.lines_of(run), f"{BASE_RUN}: {classifier.causes.end_of(run)}"
+
+    def with_endings(self, classes):
+        """The classes. What the first row says at its end is looked for in those that were made of heads."""
+        for it in classes:
+            if self.made and it.is_by_head and not it.verdict.passes and self.words.by is not By.VERDICT and not it.ending:
+                it.ending = self.endings.lines_of(self.made.row(it.first.row))
+        return classes
+
+    # -- one run
+
+    def wanted_run(self, row):
+        """The run of this row, or none for the base run; and the base run beside it. A report that is named is checked as a whole."""
+        base = self.find_base()
+        if self.made:
+            return (None if row is None else self.made.row(row)), base
+        if row is not None and self.source.has_heads_alone():
+            raise Fault(HEADS_ALONE)
+        wanted, rows = None, 0
+        for run in self.runs():
+            if run.head.row is None:
+                run.checked_lines()
+                continue
+            rows += 1
+            tail_of_row(run, base)
+            if run.head.row == row:
+                wanted = run
+        if row is not None and wanted is None:
+            of_all = "" if rows == self.total.rows else f", of {self.total.rows:,}"
+            raise WordsFault(f"there is no row {row}: the report has {counted(rows, 'row')}{of_all}")
+        return wanted, base
+
+    def timeline(self):
+        from . import timeline
+
+        run, base = self.wanted_run(self.words.row)
+        if run is not None:
+            found = timeline.of_row(run, base, self.texts)
+            found.ending = self.endings.lines_of(run)
+            return found
+        if base is None or base.head is None:
+            raise WordsFault("the report does not have the base run: --row N, --base or --application")
+        found = timeline.of_base(base, self.texts)
+        found.ending = self.endings.lines_of(base.run())
+        return found
