@@ -157,61 +157,6 @@ fn known_at_six(rt: &impl Abort, alloc: Global, app: &App, step: u32) -> Option<
     shelf.known(&kernel, kernel.hint(app))
 }
 
-/// What the second of two rows costs, of the first handler before these steps, on one walk. The base run reaches both.
-fn cost_of_the_second(
-    rt: &impl Abort,
-    alloc: Global,
-    app: &App,
-    stride: u32,
-    steps: [u32; 2],
-) -> u64
-    requires some { 0 < stride }
-    requires few { stride ≤ 65536 }
-{
-    let shelf = Shelf::make(alloc, app, app.limits(), stride).expect(rt, "memory");
-    let limits = shelf.limits();
-    limits.well_formed();
-    let first = Point::one(steps[0], HandlerId { number: 0 });
-    let second = Point::one(steps[1], HandlerId { number: 0 });
-    if !shelf.reaches(&first) {
-        return 0;
-    }
-    if !shelf.reaches(&second) {
-        return 0;
-    }
-    let mut walk = Walk::new(app);
-    let mut kernel = Kernel::boot(app);
-    let mut log = StepLog::new();
-    let mut trail = Trail::new(alloc);
-    let mut meter = Meter::new();
-    shelf
-        .begin_row_after(
-            app,
-            &first,
-            u32::MAX,
-            &mut walk,
-            &mut kernel,
-            &mut meter,
-            &mut log,
-            &mut trail,
-        )
-        .expect(rt, "memory");
-    let mut cost = Meter::new();
-    shelf
-        .begin_row_after(
-            app,
-            &second,
-            u32::MAX,
-            &mut walk,
-            &mut kernel,
-            &mut cost,
-            &mut log,
-            &mut trail,
-        )
-        .expect(rt, "memory");
-    cost.steps()
-}
-
 #[test]
 fn a_row_costs_the_steps_from_the_stop_before_its_point(rt: HostRuntime) {
     let app = loaded(&rt, rt.alloc(), RECEIVE);
@@ -222,16 +167,6 @@ fn a_row_costs_the_steps_from_the_stop_before_its_point(rt: HostRuntime) {
         assert!(rt; row.reached == cost.is_reached, "stride {stride}");
         assert!(rt; row.run.steps == cost.steps, "stride {stride}");
     }
-}
-
-// From the walk, which is at step 3 after the first row: three steps to step 6 at a stride of 1000. At a stride of 4 the stop before step 4
-// is nearer.
-#[test]
-fn a_walk_costs_the_steps_from_where_it_is_or_from_a_nearer_stop(rt: HostRuntime) {
-    let app = loaded(&rt, rt.alloc(), RECEIVE);
-    assert!(rt; cost_of_the_second(&rt, rt.alloc(), &app, 1000, [3, 6]) == 3 + 1);
-    assert!(rt; cost_of_the_second(&rt, rt.alloc(), &app, 4, [3, 6]) == 2 + 1);
-    assert!(rt; cost_of_the_second(&rt, rt.alloc(), &app, 6, [3, 6]) == 1);
 }
 
 #[test]

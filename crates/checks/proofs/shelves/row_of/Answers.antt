@@ -1,4 +1,0 @@
-use Rattle.checks.proofs.shelves.row_of.Goals as goal
-
-pub begin_row_after-requires-clause-walk : goal.begin_row_after-requires-clause-walk
-begin_row_after-requires-clause-walk g c = c.new-walk.ensures _
