@@ -10,7 +10,7 @@ use Rattle.machine.specs.declared.machine.Machine.{Machine}
 use Rattle.machine.specs.StandsFor.{AtAny, Does, DoesAny, Moves}
 use Rattle.machine.specs.Logged.{Logged}
 use Rattle.machine.specs.Can.{Agrees}
-use Rattle.machine.proofs.Either.{suspensions_are, does_any, does_more}
+use Rattle.machine.proofs.Either.{none_in_force, does_any, does_more}
 use Rattle.clock.specs.Timeline.{Timeline}
 use Rattle.objects.specs.Objects.{Objects, HasRoom}
 use Rattle.ops.specs.Can.{CanTick}
@@ -24,7 +24,7 @@ pub freely : (app : Application) (old new : Machine) (old_log new_log : Logged) 
 freely app old new old_log new_log task op none fine ne d = record {
   at = λ s h.
       subst (AtAny new new_log.told)
-      (sym (acts_calm app task op s (sym (suspensions_are old s h.stands) ∙ none) (fine s) ne)) (d.at s h);
+      (sym (acts_calm app task op s (none_in_force old s h.stands none) (fine s) ne)) (d.at s h);
   few = d.few;
   before = d.before;
 }

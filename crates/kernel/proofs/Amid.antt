@@ -34,7 +34,7 @@ use Rattle.sched.proofs.Standing as on_sched
 use Rattle.machine.specs.declared.machine.Machine.{Machine}
 use Rattle.machine.specs.StandsFor.{AtAny, DoesAny, IsPlaced, Stands}
 use Rattle.machine.specs.Logged.{Logged, all_of}
-use Rattle.machine.proofs.Either.{any, current_is, either, elapsed_is, progress_is, steps_are, stopped_is, suspensions_are}
+use Rattle.machine.proofs.Either.{any, current_is, either, elapsed_is, progress_is, steps_are, stopped_is, none_in_force}
 use Rattle.machine.proofs.Switches.{settled_before, settled_either, settled_on}
 use Rattle.machine.specs.Can.{Runs}
 use Rattle.machine.specs.StandsFor.Stands.{Placed, Placing}
@@ -47,6 +47,8 @@ use Rattle.kernel.proofs.Ending.{begun, handled_before, stepped}
 use Rattle.kernel.proofs.Left.{on_if_ready}
 use Rattle.kernel.proofs.Running.{told_after}
 use Rattle.kernel.proofs.Silent.{not_over_by, on-choose}
+use Rattle.machine.proofs.Pending.{plain_by}
+use Rattle.machine.specs.Can.{NonePends}
 
 -- Such an op is no misuse.
 no_misuse : (op : Op) → may_stay_amid op ≡ true → (s : State) (task : ℕ) → own_misuse s task op ≡ None
@@ -233,7 +235,7 @@ suspensions_hold k s (Placing task list b) = let d = b.sched.depth in let n = b.
 -- ---- the step
 
 module _ (app : Application) (limits : Limits) (k new : Machine) (task : ℕ) (op : Op) (at : IsAt app k task op)
-    (stays : may_stay_amid op ≡ true) (runs : Runs k task) (placed : IsPlaced k new task) (told : List Event)
+    (calm : NonePends k) (stays : may_stay_amid op ≡ true) (runs : Runs k task) (placed : IsPlaced k new task) (told : List Event)
     (does : (s : State) → AtAny k [] s → AtAny new told (act_current app limits s.current s)) where
   same_sched : new.sched ≡ k.sched
   same_sched = ap (λ (x : Machine). x.sched) placed.1
@@ -257,7 +259,7 @@ module _ (app : Application) (limits : Limits) (k new : Machine) (task : ℕ) (o
 
   module _ (s : State) (h : Stands k s) where
     came : AtAny new told (unless_held settle (act_current app limits (before_step app [] s).current (before_step app [] s)))
-    came = settled _ (does (before_step app [] s) (handled_before app [] s k [] (begun k [] s h refl)))
+    came = settled _ (does (before_step app [] s) (handled_before app [] s (plain_by k s calm h) k [] (begun k [] s h refl)))
 
     same_steps : new.steps ≡ s.steps
     same_steps = ap (λ (x : Machine). x.steps) placed.1 ∙ steps_are k s h
@@ -289,7 +291,7 @@ module _ (app : Application) (limits : Limits) (k new : Machine) (task : ℕ) (o
         ap (λ (c : Option ℕ). act_current app limits c r) (sym (current_is k s h) ∙ at.current)
         ∙ ap (λ (o : Option Op). act_if app task o r)
         (ap (λ (p : Progress). op_at app task p.op_index) (sym (progress_is k s h task)) ∙ at.at)
-        ∙ acts_calm app task op r (sym (suspensions_are k s h) ∙ at.awake) (no_misuse op stays r task) (no_suspension op stays)
+        ∙ acts_calm app task op r (none_in_force k s h at.awake) (no_misuse op stays r task) (no_suspension op stays)
 
     ends_nobody : (j : ℕ) → is_ended (status_at s j) ≡ false → is_ended (status_at done j) ≡ false
     unfolding begun_now
@@ -305,7 +307,7 @@ module _ (app : Application) (limits : Limits) (k new : Machine) (task : ℕ) (o
     pub on_amid : is_over app limits s ≡ false → is_over app limits (step app limits [] s) ≡ false
     unfolding done begun_now
     on_amid going =
-        not_over_by app limits task s (act_current app limits s.current (record s { log = [] })) refl ends_nobody
+        not_over_by app limits task s (plain_by k s calm h) (act_current app limits s.current (record s { log = [] })) refl ends_nobody
         (sym (stopped_is new done at_done.stands) ∙ ap (λ (x : Machine). x.stopped) placed.1 ∙ stopped_is k s h)
         (sym (elapsed_is new done at_done.stands) ∙ ap (λ (x : Machine). x.clock.age + x.clock.held) placed.1 ∙ elapsed_is k s h)
         (sym (current_is (record new { steps = new.steps + 1 }) (step app limits [] s) stands_amid) ∙ still_runs)

@@ -46,7 +46,9 @@ use Rattle.machine.specs.Can.{Runs, HasRoom, Agrees, IsAhead, IsInCall, StandsFo
 use Rattle.ops.specs.Can.{HasLoopRoom, HasObject, HasObjects, CanTick, Can, CanTry, IsShort, CanDecide, CanPlace, CanLeave, CanGoOn}
 use Rattle.ops.specs.Can.{CanSetBits, CanWaitBits, CanHold}
 use Rattle.kernel.specs.Can.{CanOp, CanAct, CanIdle, CanStep}
-use Rattle.machine.proofs.Either.{elapsed_is, held_is, now_is, current_is, progress_is, suspensions_are}
+use Rattle.machine.proofs.Either.{elapsed_is, held_is, now_is, current_is, progress_is, sections_are, suspensions_are}
+use Rattle.sched.specs.StandsFor.{depth_of, task_holds_of}
+use Rattle.soundness.proofs.Settled.{nothing_holds}
 
 leb-less : (a b : ℕ) → leb a b ≡ false → b < a
 leb-less a b e = grind (arith, nat_tests)
@@ -183,9 +185,9 @@ module _ (app : Application) (formed : IsWellFormed app) (k : Machine) (state : 
     by_stands (Placing task list b) =
         has_room app (hold_of state) k.objects (Some (decider task list state)) state object access reached.sound b.objects fit
 
-  depth_in : k.sched.depth ≡ state.suspensions + (if state.call_hold then 1 else 0)
+  depth_in : k.sched.depth ≡ depth_of state
   depth_in = by_stands stands where
-    by_stands : Stands k state → k.sched.depth ≡ state.suspensions + (if state.call_hold then 1 else 0)
+    by_stands : Stands k state → k.sched.depth ≡ depth_of state
     by_stands (Placed h) = h.sched.depth
     by_stands (Placing task list b) = b.sched.depth
 
@@ -202,14 +204,14 @@ module _ (app : Application) (formed : IsWellFormed app) (k : Machine) (state : 
 
   -- no `suspend_all` is in force
   module _ (awake : k.sched.suspensions ≡ 0) where
-    calm : state.suspensions ≡ 0
+    calm : task_holds_of state ≡ 0
     calm = sym (suspensions_are k state stands) ∙ awake
 
     not_held : state.call_hold ≡ false → k.sched.depth ≡ 0
-    not_held free = none_held state.suspensions state.call_hold k.sched.depth depth_in calm free
+    not_held free = none_held (task_holds_of state) state.call_hold k.sched.depth depth_in calm free
 
     held_once : state.call_hold ≡ true → k.sched.depth ≡ 1
-    held_once held = once_held state.suspensions state.call_hold k.sched.depth depth_in calm held
+    held_once held = once_held (task_holds_of state) state.call_hold k.sched.depth depth_in calm held
 
     can_tick : state.call_hold ≡ false → CanTick app k
     can_tick free =
@@ -472,7 +474,8 @@ module _ (app : Application) (formed : IsWellFormed app) (k : Machine) (state : 
         → op_at app task (progress_in k.progress task).op_index ≡ Some op → CanHold app k task op
     can_hold some few op is =
         let free : state.call_hold ≡ false =
-        reached.apart (lt-ltb 0 state.suspensions (rw (sym (suspensions_are k state stands)) some)) in
+        reached.apart (lt-ltb 0 state.suspensions
+        (let all = suspensions_are k state stands in let shut = reached.closed in omega arith)) in
         let h = placed free in
         let elapsed = elapsed_is k state stands in
         record {
@@ -481,8 +484,10 @@ module _ (app : Application) (formed : IsWellFormed app) (k : Machine) (state : 
           free = no_lock free;
           age = let l = early in omega arith;
           held = let l = little in let e = held_is k state stands in omega arith;
-          suspensions = let e = suspensions_are k state stands in let l = few in omega arith;
-          depth = depth_in ∙ unheld state.suspensions state.call_hold free ∙ sym (suspensions_are k state stands);
+          suspensions =
+              let e = suspensions_are k state stands in let l = few in let shut = reached.closed in omega arith;
+          closed = sections_are k state stands ∙ reached.closed;
+          depth = depth_in ∙ unheld (task_holds_of state) state.call_hold free ∙ sym (suspensions_are k state stands);
           objects = rooms;
           used = used op is;
           nesting = nesting op is;
@@ -494,12 +499,13 @@ module _ (app : Application) (formed : IsWellFormed app) (k : Machine) (state : 
   idle_held idle = subst (RunsIn app state) (sym (current_is k state stands) ∙ idle) reached.runs
 
   idle_free : k.sched.current ≡ None → state.call_hold ≡ false
-  idle_free idle = or_left state.call_hold (is_scheduler_suspended state) (idle_held idle)
+  idle_free idle = (nothing_holds state (idle_held idle)).0
 
   idle_awake : k.sched.current ≡ None → k.sched.suspensions ≡ 0
   idle_awake idle =
-      let most = ltb-false 0 state.suspensions (or_right state.call_hold (is_scheduler_suspended state) (idle_held idle)) in
-      suspensions_are k state stands ∙ (let none : state.suspensions ≡ 0 = omega arith in none)
+      let most = ltb-false 0 state.suspensions (nothing_holds state (idle_held idle)).1 in
+      let shut = reached.closed in
+      suspensions_are k state stands ∙ (let none : task_holds_of state ≡ 0 = omega arith in none)
 
   can_idle : (limits : Limits) → state.elapsed < limits.ticks
       → (state.current ≡ None → is_stuck app state ≡ false) → k.sched.current ≡ None → CanIdle app limits k

@@ -44,8 +44,12 @@ use Rattle.model.specs.Suspension.{can_resume}
 use Rattle.machine.specs.declared.machine.Machine.{Machine}
 use Rattle.machine.specs.StandsFor.{StandsFor, StandsBefore, Stands, AtAny, decider, progress_in}
 use Rattle.machine.specs.StandsFor.Stands.{Placed, Placing}
-use Rattle.machine.proofs.Either.{current_is, progress_is, steps_are, stopped_is, suspensions_are}
+use Rattle.machine.proofs.Either.{current_is, progress_is, steps_are, stopped_is, none_in_force}
 use Rattle.machine.proofs.Renewed.{renewed}
+use Rattle.soundness.proofs.Settled.{nothing_holds}
+use Rattle.sched.specs.StandsFor.{task_holds_of}
+use Rattle.machine.proofs.Pending.{IsPlain}
+use Rattle.soundness.proofs.Pending.{begun_with}
 
 pub leb-yes : (a b : ℕ) → a ≤ b → leb a b ≡ true
 leb-yes a b e = grind (arith, nat_tests)
@@ -431,7 +435,7 @@ pub on_unheld : (app : Application) (s : State) (task : ℕ) → is_endless app 
     → IsState app s → s.current ≡ Some task → is_held s ≡ false → are_all_ended app s ≡ false
 on_unheld app s task awaited is runs free =
     let running : IsRunning app s task = subst (RunsIn app s) runs is.runs in
-    let none = neither s.call_hold (is_scheduler_suspended s) free in
+    let none = nothing_holds s free in
     let ready : is_ready s task ≡ true =
     elim (running.ready none.0) [
       | inl r ↦ r
@@ -453,8 +457,8 @@ on_unheld app s task awaited is runs free =
 
 placed_free : (k : Machine) (s : State) (other : ℕ) (list : WaitList) → StandsBefore other list k s → k.sched.depth ≡ 0 → ⊥
 placed_free k s other list b free =
-    let depth : k.sched.depth ≡ s.suspensions + (if s.call_hold then 1 else 0) = b.sched.depth in
-    let one : s.suspensions + 1 ≡ 0 = sym (ap (λ (h : Bool). s.suspensions + (if h then 1 else 0)) b.held) ∙ sym depth ∙ free in
+    let depth : k.sched.depth ≡ task_holds_of s + (if s.call_hold then 1 else 0) = b.sched.depth in
+    let one : task_holds_of s + 1 ≡ 0 = sym (ap (λ (h : Bool). task_holds_of s + (if h then 1 else 0)) b.held) ∙ sym depth ∙ free in
     absurd (omega arith)
 
 and_true_not : (a b : Bool) → (a ≡ false → b ≡ false) → a && b ≡ b
@@ -503,8 +507,9 @@ not_over_undecided app limits k s task h is runs decides none on more early =
     let running : IsRunning app s task = subst (RunsIn app s) current is.runs in
     let no_call : s.call_hold ≡ false =
     sym running.holding ∙ ap (λ (p : Progress). holds p.call.phase) (sym (progress_is k s h task)) ∙ ap holds decides in
-    let awake : s.suspensions ≡ 0 = sym (suspensions_are k s h) ∙ none in
-    let free : is_held s ≡ false = rw (no_call, awake) refl in
+    let awake : s.suspensions ≡ 0 = none_in_force k s h none in
+    let shut : s.sections ≡ 0 = is.closed in
+    let free : is_held s ≡ false = rw (no_call, awake, shut) refl in
     none_of (is_some s.stopped) (are_all_ended app s) (is_at_tick_limit app limits s) (is_stuck app s)
     (ap (λ (o : Option End). is_some o) (sym (stopped_is k s h)) ∙ on)
     (sym (and_true_not (is_endless app task) (are_all_ended app s) (λ e. on_unheld app s task e is current free)) ∙ more)
@@ -581,10 +586,9 @@ module _ (app : Application) (limits : Limits) (s : State) where
 pub begun : (k : Machine) (log : List Event) (s : State) → Stands k s → log ≡ [] → AtAny k log (record s { log = [] })
 begun k log s h e = record { stands = renewed k s h [] s.steps k.steps (steps_are k s h); log = e }
 
-pub handled_before : (app : Application) (handlers : List ℕ) (s : State) (k : Machine) (log : List Event)
+pub handled_before : (app : Application) (handlers : List ℕ) (s : State) → IsPlain s → (k : Machine) (log : List Event)
     → AtAny k log (for_each (inject app) handlers (record s { log = [] })) → AtAny k log (before_step app handlers s)
-unfolding before_step
-handled_before app handlers s k log h = h
+handled_before app handlers s plain k log h = subst (AtAny k log) (sym (begun_with app handlers s plain.0 plain.1)) h
 
 pub stepped : (app : Application) (limits : Limits) (handlers : List ℕ) (s : State) (k : Machine) (log : List Event) (n : ℕ)
     → n ≡ s.steps

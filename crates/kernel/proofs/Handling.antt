@@ -21,7 +21,7 @@ use Rattle.model.specs.Switching.{is_held, preempt, write}
 use Rattle.soundness.proofs.Settled.{when_free, when_held, held_by_call}
 use Rattle.model.specs.Objects.{answer_to, attempt}
 use Rattle.model.specs.declared.event.End.TheVariants.{HandlerCheck}
-use Rattle.model.specs.Handlers.{isr_told, isr, isr_answer, isr_jump, is_failed, isr_each, handle, inject}
+use Rattle.model.specs.Handlers.{isr_told, isr, isr_answer, isr_jump, is_failed, isr_each, handle, serve, inject}
 use Rattle.model.proofs.Chosen.{each-end}
 use Rattle.soundness.proofs.InScripts.{isr_known}
 use Rattle.machine.specs.declared.machine.Machine.{Machine}
@@ -282,7 +282,7 @@ module _ (app : Application) (handler : ℕ) (s : State) (mid : Machine) where
       → (Stands mid (handle app handler s) → is_held (handle app handler s) ≡ false) → AtAny mid log (handle app handler s)
       → (At mid log (handle app handler s) → At new new_log (preempt (handle app handler s)))
       → AtAny new new_log (inject app handler s)
-  unfolding inject
+  unfolding inject serve
   injected_free new log new_log free h goes =
       let off : is_held t ≡ false = free h.stands in
       either mid log t h
@@ -291,7 +291,7 @@ module _ (app : Application) (handler : ℕ) (s : State) (mid : Machine) where
 
   pub injected_held : (log : List Event) → (Stands mid (handle app handler s) → is_held (handle app handler s) ≡ true)
       → AtAny mid log (handle app handler s) → AtAny mid log (inject app handler s)
-  unfolding inject
+  unfolding inject serve
   injected_held log held h = let on : is_held t ≡ true = held h.stands in subst (AtAny mid log) (sym (when_held preempt t on)) h
 
 -- an element of what a function makes of each

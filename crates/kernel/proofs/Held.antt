@@ -22,7 +22,7 @@ use Rattle.model.specs.Step.{act, act_unless, is_ended, judge, may_switch, misus
 use Rattle.model.proofs.Sorting.{by_test}
 use Rattle.soundness.proofs.Settled.{when_held}
 use Rattle.sched.specs.StandsFor as sched
-use Rattle.sched.specs.StandsFor.{depth_of}
+use Rattle.sched.specs.StandsFor.{depth_of, task_holds_of}
 use Rattle.sched.specs.Schedule.{Schedule}
 use Rattle.sched.proofs.Standing as on_sched
 use Rattle.clock.specs.StandsFor as clock
@@ -33,35 +33,42 @@ use Rattle.machine.specs.StandsFor.{At, Does, Moves}
 use Rattle.machine.proofs.Acting.{stopped_at}
 use Rattle.ops.proofs.Held.{with_ticks}
 
+-- Tasks hold the scheduler more often than by critical sections, so a `suspend_all` is in force.
+pub suspended_by : (k : Machine) (log : List Event) (s : State) → At k log s → k.sections < k.sched.suspensions
+    → is_scheduler_suspended s ≡ true
+suspended_by k log s h some =
+    let all : k.sched.suspensions ≡ task_holds_of s = h.stands.sched.suspensions in
+    let open_ : k.sections ≡ s.sections = h.stands.rest.sections in
+    lt-ltb 0 s.suspensions (omega arith)
+
 module _ (k : Machine) (log : List Event) (s : State) (h : At k log s) where
   -- a tick is held
-  pub tick_held : (t : Timeline) → 0 < k.sched.suspensions → clock.StandsFor t (increment_tick s)
+  pub tick_held : (t : Timeline) → k.sections < k.sched.suspensions → clock.StandsFor t (increment_tick s)
       → At (record k { clock = t }) log (increment_tick s)
   unfolding increment_tick
   tick_held t some on =
-      let n = h.stands.sched.suspensions in
-      let is : is_scheduler_suspended s ≡ true = lt-ltb 0 s.suspensions (omega arith) in
+      let is : is_scheduler_suspended s ≡ true = suspended_by k log s h some in
       rw is (with_ticks k log s h t (s.elapsed + 1) (s.held_ticks + 1) (rw is at on))
 
 -- ---- who came to its end
 
 module _ (k : Machine) (log : List Event) (s : State) (h : At k log s) (i op_index : ℕ) where
-  pub judged : 0 < k.sched.suspensions → is_ended (status_at s i) ≡ true
+  pub judged : k.sections < k.sched.suspensions → is_ended (status_at s i) ≡ true
       → At (record k { stopped = Some (ending.Misuse i op_index EndedSuspended) }) log (judge i op_index s)
   unfolding judge
   judged some t =
-      let n = h.stands.sched.suspensions in
-      let is : is_scheduler_suspended s ≡ true = lt-ltb 0 s.suspensions (omega arith) in
+      let is : is_scheduler_suspended s ≡ true = suspended_by k log s h some in
       rw (is, t) (stopped_at k log s h (ending.Misuse i op_index EndedSuspended) (ending.Misuse i op_index EndedSuspended) refl)
 
   pub passed : is_ended (status_at s i) ≡ false → At k log (judge i op_index s)
   unfolding judge
   passed t = by_test (is_scheduler_suspended s) (λ u. rw (u, t) h) (λ u. rw u h)
 
-  pub passed_free : k.sched.suspensions ≤ 0 → At k log (judge i op_index s)
+  pub passed_free : k.sched.suspensions ≤ k.sections → At k log (judge i op_index s)
   unfolding judge
   passed_free none =
-      let n = h.stands.sched.suspensions in
+      let all : k.sched.suspensions ≡ task_holds_of s = h.stands.sched.suspensions in
+      let open_ : k.sections ≡ s.sections = h.stands.rest.sections in
       let is : is_scheduler_suspended s ≡ false = le-ltb 0 s.suspensions (omega arith) in
       rw is h
 
@@ -218,10 +225,6 @@ no_misuse s i = by_test (is_scheduler_suspended s) (λ t. rw t refl) (λ t. rw t
 -- `resume_all` where none is in force is one
 pub not_suspended : (s : State) (i : ℕ) → s.suspensions ≡ 0 → misuse s i ResumeAll ≡ Some NotSuspended
 not_suspended s i none = rw none refl
-
-pub suspended_by : (k : Machine) (log : List Event) (s : State) → At k log s → 0 < k.sched.suspensions
-    → is_scheduler_suspended s ≡ true
-suspended_by k log s h some = let n = h.stands.sched.suspensions in lt-ltb 0 s.suspensions (omega arith)
 
 module _ (app : Application) (new : Machine) (log : List Event) (s : State) (i : ℕ) (op : Op) where
   pub misused_at : (kind : Misuse) → misuse s i op ≡ Some kind

@@ -15,7 +15,7 @@ use Rattle.sched.specs.Schedule.{Schedule}
 use Rattle.sched.proofs.Standing.{held_by_depth}
 use Rattle.machine.specs.declared.machine.Machine.{Machine}
 use Rattle.machine.specs.StandsFor.{AtAny, Stands, progress_in}
-use Rattle.machine.proofs.Either.{all_placed, any, current_is, either, progress_is, steps_are, suspensions_are}
+use Rattle.machine.proofs.Either.{all_placed, any, current_is, either, progress_is, steps_are, none_in_force}
 use Rattle.machine.proofs.Switches.{settled_before, settled_held}
 use Rattle.ops.specs.InCall.{Remains}
 use Rattle.kernel.specs.Bits.{Begins, HasTakenHold, IsLettingGo, is_for_bits}
@@ -25,6 +25,8 @@ use Rattle.kernel.specs.Over.{is_over}
 use Rattle.kernel.proofs.Counting.{steps_still}
 use Rattle.kernel.proofs.Ending.{begun, handled_before, stepped}
 use Rattle.kernel.proofs.Silent.{not_over_set, not_over_wait}
+use Rattle.machine.proofs.Pending.{plain_by}
+use Rattle.machine.specs.Can.{NonePends}
 
 held_by : (v : Schedule) (s : State) → sched.StandsFor v s → 0 < v.depth → is_held s ≡ true
 held_by v s h some = held_by_depth s ∙ ap (λ (n : ℕ). nat_lt 0 n) (sym h.depth) ∙ lt-ltb 0 v.depth some
@@ -35,11 +37,11 @@ still_held k log s some h = either k log s h
     (λ a. any k log (unless_held settle s) (settled_held k log s (held_by k.sched s a.stands.sched some) a))
     (λ task list b. settled_before k log s h task list b)
 
-module _ (app : Application) (limits : Limits) (k new : Machine) (told : List Event)
+module _ (app : Application) (limits : Limits) (k new : Machine) (calm : NonePends k) (told : List Event)
     (does : (s : State) → AtAny k [] s → AtAny new told (act_current app limits s.current s))
     (held : 0 < new.sched.depth) (s : State) (h : Stands k s) where
   came : AtAny new told (unless_held settle (act_current app limits (before_step app [] s).current (before_step app [] s)))
-  came = still_held new told _ held (does (before_step app [] s) (handled_before app [] s k [] (begun k [] s h refl)))
+  came = still_held new told _ held (does (before_step app [] s) (handled_before app [] s (plain_by k s calm h) k [] (begun k [] s h refl)))
 
   pub steps_held : new.steps ≡ k.steps
   steps_held = steps_still app limits [] s k new told h came
@@ -77,9 +79,9 @@ module _ (app : Application) (limits : Limits) (k new : Machine) (task : ℕ) (o
       letting app k new task op at.current at.at at.awake (for_bits w.begins) w.takes.remains w.takes.reached n
 
   -- It ends no run.
-  pub on_begun : (after : Machine) (s : State) → Stands k s → after.sched ≡ new.sched → Stands after (step app limits [] s)
+  pub on_begun : NonePends k → (after : Machine) (s : State) → Stands k s → after.sched ≡ new.sched → Stands after (step app limits [] s)
       → is_over app limits s ≡ false → is_over app limits (step app limits [] s) ≡ false
-  on_begun after s h same there = by_form w.begins where
+  on_begun calm after s h same there = by_form w.begins where
     now : progress_in k.progress task ≡ progress_at s task
     now = progress_is k s h task
 
@@ -93,7 +95,7 @@ module _ (app : Application) (limits : Limits) (k new : Machine) (task : ℕ) (o
     reached = ap (λ (p : Progress). p.call.phase) (sym now) ∙ w.start
 
     none : s.suspensions ≡ 0
-    none = sym (suspensions_are k s h) ∙ at.awake
+    none = none_in_force k s h at.awake
 
     still : (step app limits [] s).current ≡ Some task
     still =
@@ -103,7 +105,7 @@ module _ (app : Application) (limits : Limits) (k new : Machine) (task : ℕ) (o
         ∙ at.current
 
     by_form : Begins k op → is_over app limits s ≡ false → is_over app limits (step app limits [] s) ≡ false
-    by_form (Sets group mask same) = not_over_set app limits task op s runs is reached none group mask same still
+    by_form (Sets group mask same) = not_over_set app limits task op s (plain_by k s calm h) runs is reached none group mask same still
     by_form (Waits group condition ticks same unmet) =
-        not_over_wait app limits task op s runs is reached none group condition ticks same
+        not_over_wait app limits task op s (plain_by k s calm h) runs is reached none group condition ticks same
         (unmet (record s { log = [] }) (all_placed k w.takes.agrees [] _ (begun k [] s h refl)).stands) still

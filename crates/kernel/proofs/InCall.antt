@@ -23,13 +23,15 @@ use Rattle.ops.specs.InCall.{IsSilent, Remains}
 use Rattle.kernel.specs.InCall.{IsCallOn, IsInPhase, IsLeaving}
 use Rattle.kernel.specs.InCall.IsCallOn.{Awaits, Receives}
 use Rattle.kernel.specs.Over.{is_over}
-use Rattle.machine.proofs.Either.{current_is, does_any, does_more, progress_is, suspensions_are}
+use Rattle.machine.proofs.Either.{current_is, does_any, does_more, progress_is, none_in_force}
 use Rattle.kernel.proofs.Acted.{any_by_form, two_within}
 use Rattle.ops.proofs.Commanding.{receive_in_phase}
 use Rattle.ops.proofs.Calling.{in_phase}
 use Rattle.kernel.proofs.Running.{acts}
 use Rattle.kernel.proofs.Holding as holding
 use Rattle.kernel.proofs.Silent.{not_over_silently}
+use Rattle.machine.specs.Can.{NonePends}
+use Rattle.machine.proofs.Pending.{plain_by}
 
 -- A call reports nothing in three phases: in all but the first the scheduler is held before it too.
 pub holds_silently : (phase : Phase) → IsSilent phase → phase ≢ Decide → holds phase ≡ true
@@ -117,15 +119,15 @@ module _ (app : Application) (limits : Limits) (k : Machine) (task object : ℕ)
         (acts_in_phase past new told told one).at s h
 
     -- as it reports nothing, and switches nothing.
-    module _ (held : 0 < new.sched.depth) (s : State) (h : Stands k s) where
+    module _ (calm : NonePends k) (held : 0 < new.sched.depth) (s : State) (h : Stands k s) where
       pub steps_held : new.steps ≡ k.steps
-      steps_held = holding.steps_held app limits k new [] (acts_there []) held s h
+      steps_held = holding.steps_held app limits k new calm [] (acts_there []) held s h
 
       pub stepped_held : Stands (record new { steps = new.steps + 1 }) (step app limits [] s)
-      stepped_held = holding.stands_held app limits k new [] (acts_there []) held s h
+      stepped_held = holding.stands_held app limits k new calm [] (acts_there []) held s h
 
       pub told_nothing : (step app limits [] s).log ≡ []
-      told_nothing = sym (holding.told_held app limits k new [] (acts_there []) held s h)
+      told_nothing = sym (holding.told_held app limits k new calm [] (acts_there []) held s h)
 
       -- Nor does it end the run.
       pub not_over_after : IsSilent phase → new.sched.current ≡ k.sched.current
@@ -133,11 +135,11 @@ module _ (app : Application) (limits : Limits) (k : Machine) (task object : ℕ)
       not_over_after silent same =
           let now : Progress = progress_at s task in
           let is : progress_in k.progress task ≡ now = progress_is k s h task in
-          not_over_silently app limits task object access c.ticks phase silent c.op c.on s
+          not_over_silently app limits task object access c.ticks phase silent c.op c.on s (plain_by k s calm h)
           (sym (current_is k s h) ∙ c.current)
           (ap (λ (p : Progress). op_at app task p.op_index) (sym is) ∙ c.at)
           (ap (λ (p : Progress). p.call.phase) (sym is) ∙ c.reached)
-          (sym (suspensions_are k s h) ∙ c.awake)
+          (none_in_force k s h c.awake)
           (sym (current_is (record new { steps = new.steps + 1 }) (step app limits [] s) stepped_held) ∙ same ∙ c.current)
 
 -- So it is where the call lets go of the scheduler.

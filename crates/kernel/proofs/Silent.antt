@@ -39,6 +39,8 @@ use Rattle.kernel.specs.InCall.IsCallOn.{Awaits, Receives}
 use Rattle.kernel.specs.Over.{is_at_tick_limit, is_over}
 use Rattle.kernel.proofs.Unstopped.{stopped-all_ready, stopped-inherit, stopped-set, stopped-settled}
 use Rattle.kernel.proofs.Ending.{each_of, none_of, not_all_but, not_passed, runs_on, some_left}
+use Rattle.machine.proofs.Pending.{IsPlain}
+use Rattle.soundness.proofs.Pending.{begun_alone}
 
 -- Whoever wasn't Ended isn't.
 abbrev EndsNobody : State → State → Type 0
@@ -198,16 +200,18 @@ on-begin_bits_wait s i group c ticks j on =
 
 -- Where what is done in a step ends nobody and stops nothing, and lets no tick pass,
 -- a run that isn't over before it isn't over after it.
-module _ (app : Application) (limits : Limits) (task : ℕ) (s done : State)
+module _ (app : Application) (limits : Limits) (task : ℕ) (s : State) (plain : IsPlain s) (done : State)
     (does : act_current app limits s.current (record s { log = [] }) ≡ done)
     (ends_nobody : EndsNobody s done) (stops_not : done.stopped ≡ s.stopped) (lasts_not : done.elapsed ≡ s.elapsed) where
   pub not_over_by : (step app limits [] s).current ≡ Some task
       → is_over app limits s ≡ false → is_over app limits (step app limits [] s) ≡ false
-  unfolding step before_step
+  unfolding step
   not_over_by still going =
-      let begun : State = record s { log = [] } in
+      let begun : State = before_step app [] s in
+      let alone : begun ≡ record s { log = [] } = begun_alone app s plain.0 in
       let acted : State = act_current app limits begun.current begun in
       let ended : State = step app limits [] s in
+      let does : acted ≡ done = ap (λ (x : State). act_current app limits x.current x) alone ∙ does in
       let stopped : ended.stopped ≡ s.stopped = stopped-settled acted ∙ ap (λ (x : State). x.stopped) does ∙ stops_not in
       let each = each_of (is_some s.stopped) (are_all_ended app s) (is_at_tick_limit app limits s) (is_stuck app s) going in
       let lasts : acted.elapsed ≡ s.elapsed = ap (λ (x : State). x.elapsed) does ∙ lasts_not in
@@ -258,19 +262,19 @@ module _ (app : Application) (limits : Limits) (task object : ℕ) (access : Acc
       ∙ call_acts app task object access ticks phase silent s reached op on
 
   -- a run that isn't over before such a step isn't over after it
-  pub not_over_silently : (s : State) → s.current ≡ Some task
+  pub not_over_silently : (s : State) → IsPlain s → s.current ≡ Some task
       → op_at app task (progress_at s task).op_index ≡ Some op → (call_at s task).phase ≡ phase → s.suspensions ≡ 0
       → (step app limits [] s).current ≡ Some task → is_over app limits s ≡ false
       → is_over app limits (step app limits [] s) ≡ false
-  not_over_silently s runs is reached none still going =
+  not_over_silently s plain runs is reached none still going =
       let begun : State = record s { log = [] } in
-      not_over_by app limits task s (await app task object access ticks phase begun) (acts_silently begun runs is reached none)
+      not_over_by app limits task s plain (await app task object access ticks phase begun) (acts_silently begun runs is reached none)
       (on-await app task object access ticks phase begun silent) (stopped-await app task object access ticks phase begun silent)
       (lasts-await app task object access ticks phase begun).elapsed
       still going
 
 -- So it is where the daemon begins to set the bits of a command.
-module _ (app : Application) (limits : Limits) (task : ℕ) (s : State) (runs : s.current ≡ Some task)
+module _ (app : Application) (limits : Limits) (task : ℕ) (s : State) (plain : IsPlain s) (runs : s.current ≡ Some task)
     (is : op_at app task (progress_at s task).op_index ≡ Some Obey) (reached : (call_at s task).phase ≡ Start)
     (none : s.suspensions ≡ 0) (sets : (command_at s task).clear ≡ false) where
   begun : State
@@ -294,13 +298,13 @@ module _ (app : Application) (limits : Limits) (task : ℕ) (s : State) (runs : 
       → is_over app limits s ≡ false → is_over app limits (step app limits [] s) ≡ false
   unfolding begun command
   not_over_setting running still going =
-      not_over_by app limits running s (begin_set task command.group command.mask begun) begins_set
+      not_over_by app limits running s plain (begin_set task command.group command.mask begun) begins_set
       (on-begin_set begun task command.group command.mask) (stopped-begin_set begun task command.group command.mask)
       (lasts-begin_set task command.group command.mask begun).elapsed
       still going
 
 -- So it is where a call of a task on an event group begins.
-module _ (app : Application) (limits : Limits) (task : ℕ) (op : Op) (s : State) (runs : s.current ≡ Some task)
+module _ (app : Application) (limits : Limits) (task : ℕ) (op : Op) (s : State) (plain : IsPlain s) (runs : s.current ≡ Some task)
     (is : op_at app task (progress_at s task).op_index ≡ Some op) (reached : (call_at s task).phase ≡ Start)
     (none : s.suspensions ≡ 0) where
   anew : State
@@ -325,7 +329,7 @@ module _ (app : Application) (limits : Limits) (task : ℕ) (op : Op) (s : State
         → is_over app limits s ≡ false → is_over app limits (step app limits [] s) ≡ false
     unfolding anew
     not_over_set =
-        not_over_by app limits task s (begin_set task group mask anew) sets
+        not_over_by app limits task s plain (begin_set task group mask anew) sets
         (on-begin_set anew task group mask) (stopped-begin_set anew task group mask)
         (lasts-begin_set task group mask anew).elapsed
 
@@ -344,5 +348,5 @@ module _ (app : Application) (limits : Limits) (task : ℕ) (op : Op) (s : State
         → is_over app limits s ≡ false → is_over app limits (step app limits [] s) ≡ false
     unfolding anew begin_bits_wait wait_for_bits set_deadline
     not_over_wait =
-        not_over_by app limits task s (begin_bits_wait task group condition ticks anew) waits
+        not_over_by app limits task s plain (begin_bits_wait task group condition ticks anew) waits
         (on-begin_bits_wait anew task group condition ticks) refl refl

@@ -42,6 +42,10 @@ use Rattle.kernel.proofs.Ending.{all_meant, begun, ends_not, is_everybody_ended,
 use Rattle.kernel.proofs.Left.{any_left}
 use Rattle.machine.proofs.Switches.{settled_either, settled_idle, settled_on, unheld_by}
 use Rattle.machine.proofs.Waking.{groups-jumped, objects-jumped, sched-jumped, woken}
+use Rattle.machine.proofs.Pending.{plain_by}
+use Rattle.soundness.proofs.Pending.{begun_alone}
+use Rattle.sched.specs.StandsFor.{task_holds_of}
+use Rattle.sched.proofs.Standing.{none_suspends}
 
 -- ---- nothing is held
 
@@ -51,11 +55,12 @@ zero_left n m e = omega arith
 placed_by : (k : Machine) (s : State) → k.sched.depth ≡ 0 → Stands k s → StandsFor k s
 placed_by k s z (Placed h) = h
 placed_by k s z (Placing task list b) =
-    let e : k.sched.depth ≡ s.suspensions + 1 = b.sched.depth ∙ ap (λ (h : Bool). s.suspensions + (if h then 1 else 0)) b.held in
+    let e : k.sched.depth ≡ task_holds_of s + 1 =
+    b.sched.depth ∙ ap (λ (h : Bool). task_holds_of s + (if h then 1 else 0)) b.held in
     absurd (omega arith)
 
 none_suspended : (k : Machine) (s : State) → k.sched.depth ≡ 0 → StandsFor k s → s.suspensions ≡ 0
-none_suspended k s z h = zero_left s.suspensions (if s.call_hold then 1 else 0) (sym h.sched.depth ∙ z)
+none_suspended k s z h = none_suspends s (zero_left (task_holds_of s) (if s.call_hold then 1 else 0) (sym h.sched.depth ∙ z))
 
 -- ---- no base interrupt comes
 
@@ -162,10 +167,6 @@ module _ (app : Application) (k : Machine) (z : k.sched.depth ≡ 0) (calm : k.s
 
 -- ---- the step
 
-before_none : (app : Application) (s : State) → before_step app [] s ≡ record s { log = [] }
-unfolding before_step
-before_none app s = refl
-
 -- a `work` goes on
 works_on : (app : Application) (limits : Limits) (s : State) (task n : ℕ) → s.suspensions ≡ 0
     → s.current ≡ Some task → op_at app task (progress_at s task).op_index ≡ Some (Work n)
@@ -223,7 +224,7 @@ module _ (app : Application) (limits : Limits) (count : ℕ) (k : Machine)
       let b : AtAny k [] r = begun k [] s h refl in
       let end : At after [] (unless_held settle (act_current app limits r.current r)) =
       acted r (record { stands = placed_by k r q.depth b.stands; log = b.log }) k.sched.current refl q.works in
-      subst (λ (x : State). At after [] (unless_held settle (act_current app limits x.current x))) (sym (before_none app s)) end
+      subst (λ (x : State). At after [] (unless_held settle (act_current app limits x.current x))) (sym (begun_alone app s (plain_by k s q.none h).0)) end
 
   passed : (s : State) → Stands k s → Stands (record after { steps = k.steps + 1 }) (step app limits [] s)
   passed s h =
@@ -275,6 +276,7 @@ module _ (app : Application) (limits : Limits) (count : ℕ) (k : Machine)
       let steps = q.steps in
       record {
         stopped = q.stopped;
+        none = record { pending = q.none.pending; closed = q.none.closed };
         depth = q.depth;
         pending = q.pending;
         steady = q.steady;
@@ -371,6 +373,7 @@ quiet_fewer app limits count few k le q =
     let turn = q.turn in
     record {
       stopped = q.stopped;
+      none = q.none;
       depth = q.depth;
       pending = q.pending;
       steady = q.steady;

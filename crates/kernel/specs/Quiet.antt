@@ -9,6 +9,7 @@ use Rattle.sched.specs.Schedule.{is_ready, is_steady}
 use Rattle.clock.specs.Timeline.{Advances}
 use Rattle.machine.specs.declared.machine.Machine.{Machine}
 use Rattle.machine.specs.StandsFor.{progress_in}
+use Rattle.machine.specs.Can.{NonePends}
 use Rattle.kernel.specs.Left.{IsAnyLeft}
 
 -- The running task has more than this much of a `work` before it; or idle runs, which lets one tick pass in a
@@ -24,6 +25,7 @@ WorksOn app count k (Some task) =
 -- doesn't become 0, no base interrupt comes, and nothing switches.
 pub record IsQuiet (app : Application) (limits : Limits) (count : ℕ) (k : Machine) : Type 0 where
   pub stopped : k.stopped ≡ None
+  pub none : NonePends k
   pub depth : k.sched.depth ≡ 0
   pub pending : k.sched.pending ≡ []
   pub steady : is_steady k.sched ≡ true

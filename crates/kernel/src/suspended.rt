@@ -69,7 +69,7 @@ pub(crate) fn is_ended(machine: &Machine, task: TaskId) -> bool
 fn judge(machine: &mut Machine, task: TaskId, op_index: u16)
     ensures { Moves machine.old machine.new (judge task op_index) }
 {
-    if machine.sched.suspensions() > 0 && is_ended(machine, task) {
+    if machine.sched.suspensions() > machine.sections && is_ended(machine, task) {
         machine.stopped = Some(End::Misuse(task, op_index, Misuse::EndedSuspended));
     }
 }
@@ -92,7 +92,7 @@ fn held_tick_interrupt<L: Log>(machine: &mut Machine, app: &App, log: &mut L)
     requires room { 64 ≤ (L.logged log.old).room }
     requires agrees { Agrees machine.old }
     requires objects { HasObjects app.now machine.old }
-    requires some { 0 < machine.old.sched.suspensions }
+    requires some { machine.old.sections < machine.old.sched.suspensions }
     requires few { machine.old.clock.held < 4294967295 }
     ensures { Does 64 machine.old (L.logged log.old) machine.new (L.logged log.new)
         (tick_interrupt app.now) }

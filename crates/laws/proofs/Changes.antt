@@ -35,7 +35,7 @@ use Rattle.model.specs.State.{ticket_of, wake_time_of, no_call, task_at, progres
 use Rattle.model.specs.State.{with_task, with_call, with_object, with_bits, take_ticket, for_one, for_each, no_task, printed}
 use Rattle.model.specs.Order.{tasks_of, task_of, first}
 use Rattle.model.specs.Switching.{make_ready, to_back, dispatch, choose, choice, is_same, is_ready, yield_now, is_outranked}
-use Rattle.model.specs.Switching.{is_sharing, preempt, slice, settle, is_off, unless_held, write, is_held, is_scheduler_suspended}
+use Rattle.model.specs.Switching.{is_sharing, preempt, slice, settle, is_off, unless_held, write, is_held, is_critical, is_scheduler_suspended}
 use Rattle.model.specs.Waiting.{waiters, awakened, awake_status, is_locked, wake_one, wake_best, wait_in, set_deadline, is_expired}
 use Rattle.model.specs.Waiting.{end_hold, unlock_object, unlock}
 use Rattle.model.specs.Objects.{possible, answer_to, object_after, list_woken, list_for, fulfil, attempt}
@@ -46,7 +46,8 @@ use Rattle.model.specs.Time.{wake_due, advance, increment_tick, jump, apply_one,
 use Rattle.model.specs.declared.plan.Injection.{Injection}
 use Rattle.model.specs.declared.op.IsrOp.{IsrOp}
 use Rattle.model.specs.declared.op.IsrOp.TheVariants as isr_op
-use Rattle.model.specs.Handlers.{isr_told, isr, isr_answer, isr_jump, is_failed, isr_each, handle, inject, interrupt}
+use Rattle.model.specs.Handlers.{isr_told, isr, isr_answer, isr_jump, is_failed, isr_each, handle, serve, inject, interrupt}
+use Rattle.model.specs.Handlers.{pend, pending_of, none_pending, serve_pending}
 use Rattle.model.specs.Handlers.{tick_interrupt, idle, ticks_ahead}
 use Rattle.model.specs.Ops.{one_if, go_to, called, answer, use_up, delay, delay_until, expect, open_loop, next_turn, turn}
 use Rattle.model.specs.Ops.{close_turn, branch, skip_branch, leave_loop, stamp, since, fail}
@@ -655,15 +656,27 @@ module _ (P : State → Type 0)
       (λ t. subst P (sym (when_held deed s t)) h)
       (λ t. subst P (sym (when_free deed s t)) (k s h))
 
+  kept-serve : (app : Application) (handler : ℕ) (s : State) → P s → P (serve app handler s)
+  unfolding serve
+  kept-serve app handler s h = kept-unless_held preempt kept-preempt (handle app handler s) (kept-handle app handler s h)
+
   kept-inject : (app : Application) (handler : ℕ) (s : State) → P s → P (inject app handler s)
   unfolding inject
-  kept-inject app handler s h = kept-unless_held preempt kept-preempt (handle app handler s) (kept-handle app handler s h)
+  kept-inject app handler s h = kept-serve app handler s h
+
+  kept-pend : (handler : ℕ) (s : State) → P s → P (pend handler s)
+  kept-pend handler s h = framed s (pend handler s) refl refl refl (inl refl) h
 
   kept-before_step : (app : Application) (handlers : List ℕ) (s : State) → P s → P (before_step app handlers s)
-  unfolding before_step
+  unfolding before_step serve_pending
   kept-before_step app handlers s h =
       let t : State = record s { log = [] } in
-      kept-each (inject app) (kept-inject app) handlers t (framed s t refl refl refl (inl refl) h)
+      let none : State = none_pending t in
+      by_test (is_critical t)
+      (λ q. rw q (kept-each pend kept-pend handlers t (framed s t refl refl refl (inl refl) h)))
+      (λ q.
+      rw q (kept-each (inject app) (kept-inject app) handlers (for_each (serve app) (pending_of t) none)
+      (kept-each (serve app) (kept-serve app) (pending_of t) none (framed s none refl refl refl (inl refl) h))))
 
   kept-increment : (s : State) → P s → P (increment_tick s)
   unfolding increment_tick advance

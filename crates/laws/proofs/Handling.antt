@@ -14,7 +14,7 @@ use Rattle.model.specs.Answers.{holds}
 use Rattle.model.specs.Application.{Application, Limits, commands_of, ops_of}
 use Rattle.model.specs.Blocks.{edge_of_isr, isr_edges_of, past_branch}
 use Rattle.model.specs.Daemon.{item_of}
-use Rattle.model.specs.Handlers.{handle, inject, isr, isr_answer, isr_each, isr_jump, is_failed}
+use Rattle.model.specs.Handlers.{handle, serve, inject, pend, pending_of, none_pending, serve_pending, isr, isr_answer, isr_each, isr_jump, is_failed}
 use Rattle.model.specs.Objects.{attempt, fulfil, list_woken, object_after, possible}
 use Rattle.model.specs.Ops.{fail}
 use Rattle.model.specs.Order.{first, task_of, tasks_of}
@@ -22,7 +22,7 @@ use Rattle.model.specs.Run.{end_of}
 use Rattle.model.specs.State.{State, for_each, for_one, object_at, status_at, with_object}
 use Rattle.model.specs.Step.{act_current, before_step}
 use Rattle.model.specs.Suspension.{can_resume, resume}
-use Rattle.model.specs.Switching.{choice, choose, dispatch, is_held, is_outranked, is_ready, is_same, preempt, to_back, yield_now}
+use Rattle.model.specs.Switching.{choice, choose, dispatch, is_held, is_critical, is_outranked, is_ready, is_same, preempt, to_back, yield_now}
 use Rattle.model.specs.Time.{due, wake_due}
 use Rattle.model.specs.Waiting.{is_locked, waiters, wake_best, wake_one}
 use Rattle.model.proofs.Sorting.{by_test}
@@ -180,14 +180,26 @@ module _ (end : End) where
   stands-preempt s h =
       by_test (is_outranked s) (λ t. rw t (stands-choose (for_one to_back s.current s) (stands-back s.current s h))) (λ t. rw t h)
 
-  stands-inject : (app : Application) (handler : ℕ) (s : State) → IsStopped s → IsStopped (inject app handler s)
-  unfolding inject
-  stands-inject app handler s h =
+  stands-serve : (app : Application) (handler : ℕ) (s : State) → IsStopped s → IsStopped (serve app handler s)
+  unfolding serve
+  stands-serve app handler s h =
       let t : State = handle app handler s in
       let k : IsStopped t = stands-handle app handler s h in
       by_test (is_held t)
       (λ q. subst IsStopped (sym (when_held preempt t q)) k)
       (λ q. subst IsStopped (sym (when_free preempt t q)) (stands-preempt t k))
+
+  stands-inject : (app : Application) (handler : ℕ) (s : State) → IsStopped s → IsStopped (inject app handler s)
+  unfolding inject
+  stands-inject app handler s h = stands-serve app handler s h
+
+  stands-served : (app : Application) (handlers : List ℕ) (s : State) → IsStopped s → IsStopped (for_each (serve app) handlers s)
+  stands-served app [] s h = h
+  stands-served app (handler ∷ handlers) s h = stands-served app handlers (serve app handler s) (stands-serve app handler s h)
+
+  stands-pended : (handlers : List ℕ) (s : State) → IsStopped s → IsStopped (for_each pend handlers s)
+  stands-pended [] s h = h
+  stands-pended (handler ∷ handlers) s h = stands-pended handlers (pend handler s) h
 
   stands-each : (app : Application) (handlers : List ℕ) (s : State) → IsStopped s → IsStopped (for_each (inject app) handlers s)
   stands-each app [] s h = h
@@ -195,8 +207,12 @@ module _ (end : End) where
 
   pub stands_before_step : (app : Application) (handlers : List ℕ) (s : State)
       → IsStopped s → IsStopped (before_step app handlers s)
-  unfolding before_step
-  stands_before_step app handlers s h = stands-each app handlers (record s { log = [] }) h
+  unfolding before_step serve_pending
+  stands_before_step app handlers s h =
+      let r : State = record s { log = [] } in
+      by_test (is_critical r)
+      (λ q. rw q (stands-pended handlers r h))
+      (λ q. rw q (stands-each app handlers (serve_pending app r) (stands-served app (pending_of r) (none_pending r) h)))
 
   -- ---- and a task changes it by a misuse alone
 

@@ -43,7 +43,7 @@ use Rattle.model.specs.Run.{injected, state_after}
 use Rattle.model.proofs.Sorting.{by_test, Falls, Falls-in_order, IsAfter}
 use Rattle.model.proofs.Lists.{HasKey, list_has}
 use Rattle.model.proofs.Chosen.{same_eq}
-use Rattle.soundness.proofs.Settled.{when_held, when_free}
+use Rattle.soundness.proofs.Settled.{when_held, when_free, held_as_it_was}
 use Rattle.soundness.proofs.Passing.{held-told, either_way, jumped, jump_come}
 use Rattle.soundness.proofs.Bits.{stays-set}
 use Rattle.soundness.proofs.Handled.{spares-handle}
@@ -113,8 +113,7 @@ held-jumped app n s =
     let k : Keeps (jump_come n s) (interrupt app (jump n s)) =
     keeps_both (jump_come n s) (jump n s) (interrupt app (jump n s))
     (keeps-wake_due (jump_come n s)) (keeps-interrupt app (jump n s)) in
-    ap₂ (λ (b : Bool) (c : ℕ). b || ltb 0 c) (ap (λ (x : Hold). x.held) k.hold)
-    (ap (λ (x : Suspension). x.suspensions) k.suspension)
+    held_as_it_was (jump_come n s) (interrupt app (jump n s)) k.hold k.suspension
 
 idle-jumped : (app : Application) (n : ℕ) (s : State) → is_held s ≡ false → IdleAlone (jumped app n s)
 idle-jumped app n s free =

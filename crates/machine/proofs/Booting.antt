@@ -1,16 +1,16 @@
 -- The kernel at reset.
 use Rattle.std.proofs.Common.{◌≡◌, ◌≢◌, ◌<◌, ◌≤◌, ◌+◌, ℕ, zero, suc, Bool, true, false, cond, eqb, List, [], ◌∷◌, ◌++◌, map, length}
 use Rattle.std.proofs.Common.{get_or, set, take, replicate, refl, ap, sym, subst, ◌∙◌, arith, get_or-set_same, get_or-set_other}
-use Rattle.std.proofs.Common.{append-nil, inl, inr, None}
+use Rattle.std.proofs.Common.{append-nil, length-append, inl, inr, None}
 use Rattle.std.specs.List.{AllByRecursion}
 use Rattle.std.proofs.lemmas.List.{take_more, map-append, length-map, get_or_past}
 use Rattle.std.proofs.lemmas.Bool.{cases_lt}
 use Rattle.model.specs.declared.call.Phase.TheVariants.{Place}
 use Rattle.model.specs.declared.op.Op.{Op}
-use Rattle.model.specs.Application.{Application, Definition, Limits}
+use Rattle.model.specs.Application.{Application, Definition, Handler, Limits}
 use Rattle.model.specs.Scripts.{IsDefinition, IsWellFormed}
 use Rattle.model.specs.State.{State, Task, Progress, no_call, Ready, Ended, wake_time_of, no_task, no_progress, task_at, status_at}
-use Rattle.model.specs.State.{for_each}
+use Rattle.model.specs.State.{Source, no_source, for_each}
 use Rattle.model.specs.Order.{keyed, list_by, tasks_of}
 use Rattle.model.specs.Switching.{make_ready, ready_key, choice, choose, dispatch, is_held, is_same}
 use Rattle.model.specs.Time.{delayed_key, due}
@@ -33,7 +33,8 @@ use Rattle.std.specs.Prelude.{None}
 use Rattle.model.proofs.Tables.{table-make_ready}
 use Rattle.soundness.proofs.Reached.{with_ops_within}
 use Rattle.machine.specs.declared.machine.Machine.{Machine}
-use Rattle.machine.specs.StandsFor.{progress_in, StandsFor, Stands}
+use Rattle.soundness.proofs.Pending.{none_listed, not_pending}
+use Rattle.machine.specs.StandsFor.{progress_in, AreSources, StandsFor, Stands}
 use Rattle.machine.specs.Boot.{priorities_in, HasNoneFrom}
 use Rattle.machine.proofs.Parts.{clock-same, ready_alike, rest_with_clock}
 use Rattle.sched.proofs.LinedUp.{ready_made}
@@ -351,7 +352,8 @@ booted app formed k v w h ready chooses =
     let keep = keeps-all_ready is none in
     let on =
     sched_chosen w s (chooses s ready
-    (held_by_none s (ap (λ (h : Hold). h.held) keep.hold) (ap (λ (x : Suspension). x.suspensions) keep.suspension))) in
+    (held_by_none s (ap (λ (h : Hold). h.held) keep.hold) (ap (λ (x : Suspension). x.suspensions) keep.suspension)
+    (ap (λ (x : Suspension). x.sections) keep.suspension))) in
     let bits : SameBitWaits none (reset app) =
     bits_kept.same_both none s (reset app) (bits_kept.same_all_ready is none (nobody_waits is))
     (bits_kept.same_parts s (reset app) refl refl) in
@@ -365,6 +367,22 @@ booted app formed k v w h ready chooses =
       nobody_waits : (js : List ℕ) → AllByRecursion (λ i. bits_wait (status_at (nobody_ready app) i) ≡ None) js
       nobody_waits [] = tt
       nobody_waits (j ∷ js) = (ap bits_wait (ended_reset app.start j app.tasks), nobody_waits js)
+
+-- ---- no source is pending
+
+pub sources_at_reset : (app : Application) → length app.handlers ≤ 16 → (pending : List Bool)
+    → ((source : ℕ) → get_or pending source false ≡ false) → length pending ≡ 17
+    → AreSources pending (map (λ (handler : Handler). no_source) app.handlers ++ no_source ∷ [])
+sources_at_reset app few pending none full =
+    let sources : List Source = map (λ (handler : Handler). no_source) app.handlers ++ no_source ∷ [] in
+    let many : length sources ≡ length app.handlers + 1 =
+    length-append (map (λ (handler : Handler). no_source) app.handlers) (no_source ∷ [])
+    ∙ ap (λ (n : ℕ). n + 1) (length-map app.handlers (λ (handler : Handler). no_source)) in
+    record {
+      pending = λ source. none source ∙ sym (not_pending sources source (none_listed app.handlers));
+      full = full;
+      few = omega arith;
+    }
 
 -- ---- how many steps are done
 

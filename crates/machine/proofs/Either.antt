@@ -1,10 +1,13 @@
 -- What holds of a kernel whether or not a task is still to be placed.
-use Rattle.std.proofs.Common.{◌+◌, ◌≡◌, ◌∙◌, ◌≤◌, ℕ, List, refl, ap, arith}
+use Rattle.std.proofs.Common.{◌+◌, ◌≡◌, ◌∙◌, ◌≤◌, ℕ, List, refl, ap, sym, arith}
 use Rattle.model.specs.declared.call.WaitList.{WaitList}
 use Rattle.model.specs.declared.event.Event.{Event}
 use Rattle.model.specs.State.{State, Progress, progress_at}
 use Rattle.machine.specs.declared.machine.Machine.{Machine}
-use Rattle.machine.specs.StandsFor.{StandsBefore, Stands, At, AtAny, Does, DoesAny, Moves, progress_in}
+use Rattle.sched.specs.StandsFor.{task_holds_of}
+use Rattle.sched.proofs.Standing as on_sched
+use Rattle.sched.proofs.Standing.{none_suspends}
+use Rattle.machine.specs.StandsFor.{AreSources, StandsBefore, Stands, At, AtAny, Does, DoesAny, Moves, progress_in}
 use Rattle.machine.specs.Logged.{Logged}
 use Rattle.machine.specs.Can.{Agrees}
 use Rattle.machine.specs.StandsFor.Stands.{Placed, Placing}
@@ -38,9 +41,25 @@ module _ (k : Machine) (s : State) where
   elapsed_is (Placed h) = h.rest.clock.age
   elapsed_is (Placing task list b) = b.clock.age
 
-  pub suspensions_are : Stands k s → k.sched.suspensions ≡ s.suspensions
+  pub suspensions_are : Stands k s → k.sched.suspensions ≡ task_holds_of s
   suspensions_are (Placed h) = h.sched.suspensions
   suspensions_are (Placing task list b) = b.sched.suspensions
+
+  -- Where no task holds the scheduler, no `suspend_all` is in force.
+  pub none_in_force : Stands k s → k.sched.suspensions ≡ 0 → s.suspensions ≡ 0
+  none_in_force h none = none_suspends s (sym (suspensions_are h) ∙ none)
+
+  -- and no critical section is open
+  pub none_open : Stands k s → k.sched.suspensions ≡ 0 → s.sections ≡ 0
+  none_open h none = on_sched.none_open s (sym (suspensions_are h) ∙ none)
+
+  pub sections_are : Stands k s → k.sections ≡ s.sections
+  sections_are (Placed h) = h.rest.sections
+  sections_are (Placing task list b) = b.sections
+
+  pub sources_are : Stands k s → AreSources k.sources s.sources
+  sources_are (Placed h) = h.rest.sources
+  sources_are (Placing task list b) = b.sources
 
   pub now_is : Stands k s → k.clock.now ≡ s.time
   now_is (Placed h) = h.rest.clock.now

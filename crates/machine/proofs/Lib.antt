@@ -10,3 +10,4 @@ pub mod Acting
 pub mod Continuing
 pub mod Booting
 mod Fronts
+pub mod Pending

@@ -8,7 +8,7 @@ use Rattle.model.specs.declared.call.Phase.TheVariants.{Place}
 use Rattle.model.specs.declared.event.Event.{Event}
 use Rattle.model.specs.declared.event.End.{End}
 use Rattle.model.specs.State.{State, Task, Progress, Status, Ready, Awake, Waiting, Asleep, WaitingForBits, Suspended, Ended}
-use Rattle.model.specs.State.{Object, ticket_if_ready, wait_if_awake, wake_time_of, no_call, no_task, no_progress, task_at}
+use Rattle.model.specs.State.{Object, Source, ticket_if_ready, wait_if_awake, wake_time_of, no_call, no_task, no_progress, task_at}
 use Rattle.model.specs.State.{status_at, progress_at, call_at, with_task, printed}
 use Rattle.model.specs.State as state
 use Rattle.model.specs.Order.{Entry, list_by, tasks_of}
@@ -43,7 +43,7 @@ use Rattle.groups.proofs.Standing as on_groups
 use Rattle.groups.proofs.Kept as bits_kept
 use Rattle.groups.proofs.Kept.{ready_waits_not}
 use Rattle.machine.specs.declared.machine.Machine.{Machine}
-use Rattle.machine.specs.StandsFor.{progress_in, RestStandsFor, StandsFor, At, with_progress}
+use Rattle.machine.specs.StandsFor.{progress_in, AreSources, RestStandsFor, StandsFor, At, with_progress}
 
 -- ---- each task's progress
 
@@ -64,7 +64,7 @@ progress-kept ts i t e = each-set no_task (λ j (u : Task). u.progress ≡ (get_
 
 -- ---- the scheduler
 
--- The scheduler represents each state of the same tasks, where the same one runs, as many `suspend_all` are in force, and a call
+-- The scheduler represents each state of the same tasks, where the same one runs, tasks hold it as often, and a call
 -- holds it as before.
 pub sched-same : {v : Schedule} {s new : State} → sched.StandsFor v s → IsTable new
     → new.tasks ≡ s.tasks → new.current ≡ s.current → holds_of new ≡ holds_of s → sched.StandsFor v new
@@ -150,10 +150,10 @@ same_parts s new tasks objects locked = record {
 
 -- what the kernel keeps of a state beside its parts
 abbrev pub Kept : Type 0
-Kept = ℕ × Option End
+Kept = ℕ × Option End × List Source × ℕ
 
 abbrev pub kept_of : State → Kept
-kept_of s = (s.steps, s.stopped)
+kept_of s = (s.steps, s.stopped, s.sources, s.sections)
 
 -- The clock represents the new state; each task is where it was in its script, and what is kept beside the parts stays.
 module _ {k : Machine} {s new : State} {v : Schedule} {t : Timeline} (h : RestStandsFor k s) (on : clock.StandsFor t new)
@@ -169,6 +169,8 @@ module _ {k : Machine} {s new : State} {v : Schedule} {t : Timeline} (h : RestSt
     objects = left;
     groups = there;
     awake = locked;
+    sources = subst (AreSources k.sources) (sym (ap (λ (x : Kept). x.2) kept)) h.sources;
+    sections = h.sections ∙ sym (ap (λ (x : Kept). x.3) kept);
     steps = h.steps ∙ sym (ap (λ (x : Kept). x.0) kept);
     stopped = h.stopped ∙ sym (ap (λ (x : Kept). x.1) kept);
     placed = h.placed;
@@ -210,23 +212,25 @@ rest_moved {k} {s} {new} h on kept i t l few is off waits bits =
       objects = stands_same s new waits k.objects None h.objects on.table;
       groups = on_groups.stands_same k.groups s new h.groups bits on.table;
       awake = at_locked_same None s new waits h.awake;
+      sources = subst (AreSources k.sources) (sym (ap (λ (x : Kept). x.2) kept)) h.sources;
+      sections = h.sections ∙ sym (ap (λ (x : Kept). x.3) kept);
       steps = h.steps ∙ sym (ap (λ (x : Kept). x.0) kept);
       stopped = h.stopped ∙ sym (ap (λ (x : Kept). x.1) kept);
       placed = each-set no_progress (λ _ (p : Progress). p.call.phase ≢ Place) k.progress i t.progress off h.placed;
     }
 
--- what the clock, the objects and the groups see of a state
+-- what the clock, the objects, the groups and the sources see of a state
 abbrev pub Seen : Type 0
-Seen = List Task × ℕ × (ℕ × ℕ) × List Object × (ℕ → ℕ) × Option ℕ
+Seen = List Task × ℕ × (ℕ × ℕ) × List Object × (ℕ → ℕ) × Option ℕ × List Source
 
 abbrev pub seen : State → Seen
-seen s = (s.tasks, s.time, ticks_of s, s.objects, s.group_bits, s.locked)
+seen s = (s.tasks, s.time, ticks_of s, s.objects, s.group_bits, s.locked, s.sources)
 
 -- Nothing changes that they see.
 pub rest_unseen : {k : Machine} {s new : State} {v : Schedule} {n : ℕ} {e : Option End} → RestStandsFor k s
-    → IsTable new → seen new ≡ seen s → n ≡ new.steps → e ≡ new.stopped
+    → IsTable new → seen new ≡ seen s → new.sections ≡ s.sections → n ≡ new.steps → e ≡ new.stopped
     → RestStandsFor (record k { sched = v; steps = n; stopped = e }) new
-rest_unseen {k} {s} {new} h table same steps stopped =
+rest_unseen {k} {s} {new} h table same sections steps stopped =
     let tasks = ap (λ (x : Seen). x.0) same in
     let waits = same_parts s new tasks (ap (λ (x : Seen). x.3) same) (ap (λ (x : Seen). x.5) same) in
     record {
@@ -236,6 +240,8 @@ rest_unseen {k} {s} {new} h table same steps stopped =
       objects = stands_same s new waits k.objects None h.objects table;
       groups = on_groups.stands_same k.groups s new h.groups (bits_kept.same_parts s new tasks (ap (λ (x : Seen). x.4) same)) table;
       awake = at_locked_same None s new waits h.awake;
+      sources = subst (AreSources k.sources) (sym (ap (λ (x : Seen). x.6) same)) h.sources;
+      sections = h.sections ∙ sym sections;
       steps = steps;
       stopped = stopped;
       placed = h.placed;
@@ -251,7 +257,7 @@ stands-unseen k s h log steps n stopped end same same_end =
     let table : IsTable new = record { tickets = old.tickets; few = old.few; current = old.current; holders = old.holders } in
     record {
       sched = sched-same h.sched table refl refl refl;
-      rest = rest_unseen h.rest table refl same same_end;
+      rest = rest_unseen h.rest table refl refl same same_end;
     }
 
 -- other events alone

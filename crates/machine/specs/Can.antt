@@ -1,5 +1,5 @@
 -- What a deed of the kernel asks of it: that the numbers of the code suffice, and that the parts agree.
-use Rattle.std.specs.Prelude.{◌≡◌, ◌≢◌, ◌<◌, ◌≤◌, ℕ, ◌+◌, ◌^◌, true, false, List, [], ◌∷◌, Option, Some, None, IfSome, length}
+use Rattle.std.specs.Prelude.{◌≡◌, ◌≢◌, ◌<◌, ◌≤◌, ℕ, ◌+◌, ◌^◌, true, false, slice_index_or, List, [], ◌∷◌, Option, Some, None, IfSome, length}
 use Rattle.std.specs.List.{AllByRecursion}
 use Rattle.model.specs.declared.op.Access.{Access}
 use Rattle.model.specs.declared.plan.Injection.{Injection}
@@ -42,6 +42,11 @@ pub record CanAdvance (k : Machine) : Type 0 where
 pub record CanJump (ticks : ℕ) (k : Machine) : Type 0 where
   pub advance : CanAdvance k
   pub soon : Each (λ e. k.clock.now + ticks ≤ e.1) k.clock.delayed_list
+
+-- No interrupt is pending, and none becomes so: no critical section is open.
+pub record NonePends (k : Machine) : Type 0 where
+  pub pending : (source : ℕ) → slice_index_or k.sources source false ≡ false
+  pub closed : k.sections ≡ 0
 
 -- The task is the running one, and each task is in its lists.
 pub record IsInCall (k : Machine) (task : ℕ) : Type 0 where

@@ -1,11 +1,11 @@
 -- What a kernel represents: a state of the definitions, whose tickets it doesn't have.
-use Rattle.std.specs.Prelude.{◌≡◌, ◌≢◌, ℕ, ◌+◌, ◌≤◌, true, List, [], ◌∷◌, Option, Some, None, length, slice_index_or, slice_set}
+use Rattle.std.specs.Prelude.{◌≡◌, ◌≢◌, ℕ, ◌+◌, ◌≤◌, Bool, false, true, List, [], ◌∷◌, Option, Some, None, length, slice_index_or, slice_set}
 use Rattle.std.specs.Prelude.{if◌then◌else◌}
 use Rattle.model.specs.declared.call.Phase.TheVariants.{Place}
 use Rattle.model.specs.declared.call.WaitList.{WaitList}
 use Rattle.model.specs.declared.event.Event.{Event}
 use Rattle.model.specs.declared.event.What.TheVariants as what
-use Rattle.model.specs.State.{State, Progress, no_progress, task_at, progress_at, call_at, printed}
+use Rattle.model.specs.State.{State, Progress, Source, no_progress, no_source, task_at, progress_at, call_at, printed}
 use Rattle.model.specs.Switching.{is_same}
 use Rattle.sched.specs.StandsFor as sched
 use Rattle.clock.specs.StandsFor as clock
@@ -23,6 +23,12 @@ progress_in ps task = slice_index_or ps task no_progress
 abbrev pub AreBlankFrom : ℕ → List Progress → Type 0
 AreBlankFrom tasks ps = (task : ℕ) → tasks ≤ task → progress_in ps task ≡ no_progress
 
+-- The code keeps in 17 places which of these sources are pending.
+pub record AreSources (kept : List Bool) (sources : List Source) : Type 0 where
+  pub pending : (source : ℕ) → slice_index_or kept source false ≡ (slice_index_or sources source no_source).pending
+  pub full : length kept ≡ 17
+  pub few : length sources ≤ 17
+
 -- all but the scheduler, where no task has begun to wait without being in its lists yet
 pub record RestStandsFor (k : Machine) (s : State) : Type 0 where
   pub progress : (task : ℕ) → progress_in k.progress task ≡ progress_at s task
@@ -31,13 +37,16 @@ pub record RestStandsFor (k : Machine) (s : State) : Type 0 where
   pub objects : objects.StandsFor k.objects None s
   pub groups : groups.StandsFor k.groups s
   pub awake : AtLocked None s
+  pub sources : AreSources k.sources s.sources
+  pub sections : k.sections ≡ s.sections
   pub steps : k.steps ≡ s.steps
   pub stopped : k.stopped ≡ s.stopped
   pub placed : (task : ℕ) → (progress_in k.progress task).call.phase ≢ Place
 
 -- Where each task is in its script is kept as it is. The scheduler represents who is Ready, who runs and what holds it, and the
 -- clock the time and who wakes when. The objects represent what they hold, who waits at them, and which one is locked, and the
--- groups their bits and who waits for them.
+-- groups their bits and who waits for them. Beside them it is kept which interrupt sources are pending, and how many critical
+-- sections are open.
 pub record StandsFor (k : Machine) (s : State) : Type 0 where
   pub sched : sched.StandsFor k.sched s
   pub rest : RestStandsFor k s
@@ -56,6 +65,8 @@ pub record StandsBefore (task : ℕ) (list : WaitList) (k : Machine) (s : State)
   pub awake : AtLocked (Some (decider task list s)) s
   pub progress : (other : ℕ) → progress_in k.progress other ≡ progress_at s other
   pub full : length k.progress ≡ 32
+  pub sources : AreSources k.sources s.sources
+  pub sections : k.sections ≡ s.sections
   pub steps : k.steps ≡ s.steps
   pub stopped : k.stopped ≡ s.stopped
   pub current : s.current ≡ Some task

@@ -16,6 +16,7 @@ ghost use Rattle.machine.specs.Boot.{priorities_in, HasNoneFrom};
 
 use crate::machine::Machine;
 use crate::progress::Progress;
+use crate::sources::Sources;
 use clock::Clock;
 use groups::Groups;
 use model::{App, ObjectId, TaskDefinition, TaskId, WaitList};
@@ -108,6 +109,8 @@ impl Machine {
             clock: Clock::new(app.start()),
             objects: Objects::new(app.objects()),
             groups: Groups::new(),
+            sources: Sources::new(),
+            sections: 0,
             wait_list: NO_WAIT_LIST,
             next_interrupt: 0,
             steps: 0,

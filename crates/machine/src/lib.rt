@@ -11,6 +11,7 @@ mod loops;
 mod machine;
 mod progress;
 mod snapshot;
+mod sources;
 mod switching;
 mod trail;
 
@@ -22,5 +23,6 @@ pub use loops::Loops;
 pub use machine::Machine;
 pub use progress::Progress;
 pub use snapshot::Snapshot;
+pub use sources::Sources;
 pub use switching::wake_all;
 pub use trail::Trail;

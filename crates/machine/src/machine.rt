@@ -8,6 +8,7 @@ ghost use Rattle.machine.specs.StandsFor.{AreBlankFrom, Does, DoesAny, progress_
 
 use crate::log::Log;
 use crate::progress::Progress;
+use crate::sources::Sources;
 use clock::Clock;
 use groups::Groups;
 use model::{CallProgress, Condition, End, Event, Loop, Phase, TaskId, WaitList, What};
@@ -22,6 +23,9 @@ pub struct Machine {
     pub clock: Clock,
     pub objects: Objects,
     pub groups: Groups,
+    pub sources: Sources,
+    /// How many critical sections are open, each of which holds the scheduler once.
+    pub sections: u32,
     /// The list in which a wait at an object has begun, whose task is still to be put there. Where there is none it is
     /// `NO_WAIT_LIST`, on which nothing rests.
     pub wait_list: WaitList,
@@ -52,6 +56,8 @@ impl Machine {
             clock: self.clock.copy(),
             objects: self.objects.copy(),
             groups: self.groups.copy(),
+            sources: self.sources.copy(),
+            sections: self.sections,
             wait_list: self.wait_list,
             next_interrupt: self.next_interrupt,
             steps: self.steps,
@@ -77,6 +83,8 @@ impl Machine {
         self.clock.set_from(&other.clock);
         self.objects.set_from(&other.objects);
         self.groups.set_from(&other.groups);
+        self.sources.set_from(&other.sources);
+        self.sections = other.sections;
         self.wait_list = other.wait_list;
         self.next_interrupt = other.next_interrupt;
         self.steps = other.steps;

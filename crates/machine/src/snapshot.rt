@@ -7,6 +7,7 @@ ghost use Rattle.machine.specs.StandsFor.{AreBlankFrom, Stands};
 use crate::front::{fill_from, front_of, is_same_progress, save_front};
 use crate::machine::Machine;
 use crate::progress::Progress;
+use crate::sources::Sources;
 use clock::Clock;
 use groups::Groups;
 use model::{End, Memory, WaitList};
@@ -25,6 +26,8 @@ pub struct Snapshot {
     clock: Clock,
     objects: ObjectsSnapshot,
     groups: Groups,
+    sources: Sources,
+    sections: u32,
     wait_list: WaitList,
     next_interrupt: u32,
     steps: u32,
@@ -39,7 +42,7 @@ impl Model for Snapshot {
 
     ghost Value = { declared.Machine };
 
-    ghost view = { λ s. record { progress = with_blanks s.progress.items; sched = s.sched; clock = s.clock; objects = s.objects; groups = s.groups; wait_list = s.wait_list; next_interrupt = s.next_interrupt; steps = s.steps; stopped = s.stopped } };
+    ghost view = { λ s. record { progress = with_blanks s.progress.items; sched = s.sched; clock = s.clock; objects = s.objects; groups = s.groups; sources = s.sources; sections = s.sections; wait_list = s.wait_list; next_interrupt = s.next_interrupt; steps = s.steps; stopped = s.stopped } };
 
     ghost invariant = { λ s. length s.progress.items ≤ 32 };
 }
@@ -96,6 +99,8 @@ impl Machine {
             clock: self.clock.copy(),
             objects,
             groups: self.groups.copy(),
+            sources: self.sources.copy(),
+            sections: self.sections,
             wait_list: self.wait_list,
             next_interrupt: self.next_interrupt,
             steps: self.steps,
@@ -117,6 +122,8 @@ impl Machine {
         snapshot.sched.set_from(&self.sched);
         snapshot.clock.set_from(&self.clock);
         snapshot.groups.set_from(&self.groups);
+        snapshot.sources.set_from(&self.sources);
+        snapshot.sections = self.sections;
         snapshot.wait_list = self.wait_list;
         snapshot.next_interrupt = self.next_interrupt;
         snapshot.steps = self.steps;
@@ -133,6 +140,8 @@ impl Machine {
         self.clock.set_from(&snapshot.clock);
         self.objects.restore(&snapshot.objects);
         self.groups.set_from(&snapshot.groups);
+        self.sources.set_from(&snapshot.sources);
+        self.sections = snapshot.sections;
         self.wait_list = snapshot.wait_list;
         self.next_interrupt = snapshot.next_interrupt;
         self.steps = snapshot.steps;
@@ -148,11 +157,13 @@ impl Machine {
         if self.steps != snapshot.steps
             || self.next_interrupt != snapshot.next_interrupt
             || self.wait_list != snapshot.wait_list
+            || self.sections != snapshot.sections
             || self.stopped != snapshot.stopped
         {
             return false;
         }
         self.clock.is_same(&snapshot.clock)
+            && self.sources.is_same(&snapshot.sources)
             && self.sched.is_same(&snapshot.sched)
             && is_same_progress(&self.progress, snapshot.progress.as_slice(), tasks)
             && self.objects.is_at(&snapshot.objects)

@@ -1,5 +1,5 @@
 -- The end state of a run, as it is reported: what each task is doing, and who holds which mutex.
-use Rattle.std.specs.Prelude.{ℕ, ◌+◌, Bool, List, [], ◌∷◌, Option, Some, map, length, option_map, if◌then◌else◌}
+use Rattle.std.specs.Prelude.{ℕ, ◌+◌, Bool, List, [], ◌∷◌, Some, map, length, option_map, if◌then◌else◌}
 use Rattle.std.specs.List.{cons_option, range_with_len}
 use Rattle.model.specs.declared.end_state.Situation.{Situation}
 use Rattle.model.specs.declared.end_state.Situation.TheVariants as situation

@@ -1,8 +1,9 @@
 -- Interrupt handlers: they do their ops without waiting, before a step or at a tick.
-use Rattle.std.specs.Prelude.{ℕ, zero, suc, ◌+◌, ◌-◌, Bool, false, not, min, List, [], ◌∷◌, ◌++◌, Option, Some, None, nat_lt}
-use Rattle.std.specs.Prelude.{if◌then◌else◌, map, filter, fold, filter_map, option_map}
+use Rattle.std.specs.Prelude.{ℕ, zero, suc, ◌+◌, ◌-◌, Bool, true, false, not, min, List, [], ◌∷◌, ◌++◌, Option, Some, None, nat_lt}
+use Rattle.std.specs.Prelude.{if◌then◌else◌, map, filter, fold, filter_map, option_map, length}
+use Rattle.std.specs.List.{range_with_len}
 use Rattle.model.specs.declared.op.IsrOp.{IsrOp}
-use Rattle.model.specs.declared.op.IsrOp.TheVariants.{Do, Command, Resume, GetBits, Mark, Expect, If, Else, EndIf}
+use Rattle.model.specs.declared.op.IsrOp.TheVariants.{Do, Command, Resume, GetBits, Mark, Expect, If, Else}
 use Rattle.model.specs.declared.event.End.TheVariants.{HandlerCheck}
 use Rattle.model.specs.Answers.{holds}
 use Rattle.model.specs.Blocks.{isr_edges_of, past_branch}
@@ -10,7 +11,7 @@ use Rattle.model.specs.declared.op.Access.TheVariants.{Send}
 use Rattle.model.specs.declared.event.What.{What}
 use Rattle.model.specs.declared.event.What.TheVariants.{Isr, IsrNone, IsrMark}
 use Rattle.model.specs.Application.{Application, Interrupt, Limits, ops_of, commands_of, interrupts_at}
-use Rattle.model.specs.State.{State, Task, wake_time_of, status_at, bits_at, for_each}
+use Rattle.model.specs.State.{State, Task, Source, wake_time_of, status_at, bits_at, source_at, with_source, for_each}
 use Rattle.model.specs.Switching.{write, preempt, slice, unless_held}
 use Rattle.model.specs.Time.{increment_tick, jump}
 use Rattle.model.specs.Ops.{fail, one_if}
@@ -23,20 +24,6 @@ abbrev pub isr_told : ℕ → ℕ → Option ℕ → What
 isr_told handler op_index (Some n) = Isr handler op_index n
 isr_told handler op_index None = IsrNone handler op_index
 
--- what each op of a handler does, and its event: a call is done if it is possible (`xQueueSendFromISR` and the like); the
--- answer of resume, and mark, are profile
-abbrev pub isr : Application → ℕ → ℕ → IsrOp → State → State
-isr app handler op_index (Do object access) s =
-    write (isr_told handler op_index (answer_to s object access)) (attempt None object access s)
-isr app handler op_index (Command c) s =
-    write (isr_told handler op_index (answer_to s (commands_of app) (Send (item_of c))))
-    (attempt None (commands_of app) (Send (item_of c)) s)
-isr app handler op_index (Resume task) s =
-    write (isr_told handler op_index (one_if (can_resume (status_at s task)))) (resume task s)
-isr app handler op_index (GetBits group) s = write (isr_told handler op_index (Some (bits_at s group))) s
-isr app handler op_index (Mark n) s = write (IsrMark handler n) s
-isr app handler op_index _ s = s
-
 -- the last answer in a handler behind this op, where it is this before it; `mark` and the ops of blocks leave it (profile)
 abbrev pub isr_answer : Application → State → IsrOp → Option ℕ → Option ℕ
 isr_answer app s (Do object access) answer = answer_to s object access
@@ -44,6 +31,22 @@ isr_answer app s (Command c) answer = answer_to s (commands_of app) (Send (item_
 isr_answer app s (Resume task) answer = one_if (can_resume (status_at s task))
 isr_answer app s (GetBits group) answer = Some (bits_at s group)
 isr_answer app s _ answer = answer
+
+-- What the op, done in this state before, answers is reported.
+abbrev pub tell : Application → (handler op_index : ℕ) → IsrOp → (before : State) → State → State
+tell app handler op_index op before s = write (isr_told handler op_index (isr_answer app before op None)) s
+
+-- what each op of a handler does, and its event: a call is done if it is possible (`xQueueSendFromISR` and the like); the
+-- answer of resume, and mark, are profile
+abbrev pub isr : Application → ℕ → ℕ → IsrOp → State → State
+isr app handler op_index (Do object access) s =
+    tell app handler op_index (Do object access) s (attempt None object access s)
+isr app handler op_index (Command c) s =
+    tell app handler op_index (Command c) s (attempt None (commands_of app) (Send (item_of c)) s)
+isr app handler op_index (Resume task) s = tell app handler op_index (Resume task) s (resume task s)
+isr app handler op_index (GetBits group) s = tell app handler op_index (GetBits group) s s
+isr app handler op_index (Mark n) s = write (IsrMark handler n) s
+isr app handler op_index _ s = s
 
 -- It is an `expect` that fails where this is the last answer.
 abbrev pub is_failed : IsrOp → Option ℕ → Bool
@@ -71,9 +74,33 @@ isr_each app handler op_index zero answer (op ∷ ops) s =
 unfoldable pub handle : Application → ℕ → State → State
 handle app handler s = isr_each app handler 0 0 None (ops_of app handler) s
 
--- An injected handler runs, and a higher task may run after it (`portYIELD_FROM_ISR`).
+-- A handler comes: it runs, and a higher task may run after it (`portYIELD_FROM_ISR`).
+unfoldable pub serve : Application → ℕ → State → State
+serve app handler s = unless_held preempt (handle app handler s)
+
+-- An injected handler comes.
 unfoldable pub inject : Application → ℕ → State → State
-inject app handler s = unless_held preempt (handle app handler s)
+inject app handler s = serve app handler s
+
+-- ---- pending handlers
+
+-- The handler is pending; one that is so already stays so, once.
+abbrev pub pend : ℕ → State → State
+pend handler s = with_source handler (record (source_at s handler) { pending = true }) s
+
+-- those that are pending, in the order of the file
+abbrev pub pending_of : State → List ℕ
+pending_of s = filter (λ source. (source_at s source).pending) (range_with_len 0 (length s.sources))
+
+-- Nothing is pending any more.
+abbrev pub none_pending : State → State
+none_pending s = record s { sources = map (λ (x : Source). record x { pending = false }) s.sources }
+
+-- All that are pending come, one after another.
+unfoldable pub serve_pending : Application → State → State
+serve_pending app s = for_each (serve app) (pending_of s) (none_pending s)
+
+-- ---- ticks
 
 -- The base interrupts of this tick come, in the order of the file.
 unfoldable pub interrupt : Application → State → State

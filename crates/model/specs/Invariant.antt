@@ -16,7 +16,7 @@ use Rattle.model.specs.declared.loops.Loop.{Loop}
 use Rattle.model.specs.Application.{Application, script_of, op_at}
 use Rattle.model.specs.Blocks.{Nests, edges_of, loops_in}
 use Rattle.model.specs.Scripts.{priorities}
-use Rattle.model.specs.State.{State, Task, Progress, Object, Status, Wait, Waiting, Awake, Asleep, Suspended, Ended, wait_if_awake}
+use Rattle.model.specs.State.{State, Task, Source, Progress, Object, Status, Wait, Waiting, Awake, Asleep, Suspended, Ended, wait_if_awake}
 use Rattle.model.specs.State.{ticket_of, task_at, status_at, progress_at, call_at, object_at}
 use Rattle.model.specs.Switching.{is_ready, is_held, is_scheduler_suspended}
 use Rattle.model.specs.Waiting.{is_locked}
@@ -160,6 +160,8 @@ pub record IsSound (app : Application) (hold : Hold) (s : State) : Type 0 where
   pub table : IsTable s
   pub tasks : length s.tasks ≡ length app.tasks
   pub objects : length s.objects ≡ length app.objects
+  -- there is a source for each handler, and one for the tick
+  pub sources : length s.sources ≡ length app.handlers + 1
   pub progress : (task : ℕ) → IsAt s.time (script_of app task) (progress_at s task) (status_at s task)
   pub calls : (task : ℕ) → IsCall hold s.time (op_at app task (progress_at s task).op_index) (task_at s task)
   pub contents : (object : ℕ) → IsObject (slice_get app.objects object) (object_at s object)
@@ -167,14 +169,15 @@ pub record IsSound (app : Application) (hold : Hold) (s : State) : Type 0 where
   -- the time is none before the start; with the held ticks it is the start and the elapsed ticks
   pub time : (app.start ≤ s.time) × (s.time + s.held_ticks ≡ app.start + s.elapsed)
 
--- how many `suspend_all` are in force, and how many ticks are held
+-- how many `suspend_all` are in force, how many ticks are held, and how many critical sections are open
 pub record Suspension : Type 0 where
   pub suspensions : ℕ
   pub held_ticks : ℕ
+  pub sections : ℕ
 
 -- those of a state
 abbrev pub suspension_of : State → Suspension
-suspension_of s = record { suspensions = s.suspensions; held_ticks = s.held_ticks }
+suspension_of s = record { suspensions = s.suspensions; held_ticks = s.held_ticks; sections = s.sections }
 
 -- In these phases a call holds the scheduler.
 abbrev pub holds : Phase → Bool
@@ -217,3 +220,9 @@ pub record IsState (app : Application) (s : State) : Type 0 where
   pub apart : is_scheduler_suspended s ≡ true → s.call_hold ≡ false
   -- ticks are held only then
   pub held : is_scheduler_suspended s ≡ false → s.held_ticks ≡ 0
+  -- no critical section is open: no op opens one
+  pub closed : s.sections ≡ 0
+
+-- No source is pending.
+abbrev pub IsNonePending : State → Type 0
+IsNonePending s = AllByRecursion (λ (x : Source). x.pending ≡ false) s.sources

@@ -111,6 +111,11 @@ pub record Object : Type 0 where
   -- who holds a mutex (`xMutexHolder`)
   pub holder : Option ℕ
 
+-- what is kept of an interrupt source: a handler, or the tick
+pub record Source : Type 0 where
+  -- it was raised while a critical section was open, and hasn't come yet (the pending bit of an interrupt controller)
+  pub pending : Bool
+
 -- the whole of the kernel, between two steps
 pub record State : Type 0 where
   pub tasks : List Task
@@ -132,6 +137,10 @@ pub record State : Type 0 where
   pub suspensions : ℕ
   -- the ticks that came meanwhile, which are still to be applied (`xPendedTicks`)
   pub held_ticks : ℕ
+  -- how many critical sections are open (`uxCriticalNesting`)
+  pub sections : ℕ
+  -- the interrupt sources: the handlers in the order of the file, and then the tick
+  pub sources : List Source
   -- the steps done
   pub steps : ℕ
   -- the end that a step has brought about by itself: a failed `expect`, or a misuse
@@ -205,6 +214,18 @@ object_at s object = slice_index_or s.objects object no_object
 -- The object is now as given.
 abbrev pub with_object : ℕ → Object → State → State
 with_object object o s = record s { objects = slice_set s.objects object o }
+
+-- what is kept where there is no source, and of each source at reset
+abbrev pub no_source : Source
+no_source = record { pending = false }
+
+-- what is kept of this source
+abbrev pub source_at : State → ℕ → Source
+source_at s source = slice_index_or s.sources source no_source
+
+-- The source is now as given.
+abbrev pub with_source : ℕ → Source → State → State
+with_source source x s = record s { sources = slice_set s.sources source x }
 
 -- the bits of this event group
 abbrev pub bits_at : State → ℕ → ℕ

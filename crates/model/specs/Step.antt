@@ -1,6 +1,6 @@
 -- One step of the kernel: what the running task's op does, or idle, after the handlers that are injected.
 use Rattle.std.specs.Prelude.{ℕ, ◌+◌, ◌-◌, ◌&&◌, ◌==◌, Bool, true, false, List, [], ◌∷◌, Option, Some, None, if◌then◌else◌, map}
-use Rattle.std.specs.Prelude.{length}
+use Rattle.std.specs.Prelude.{length, ◌++◌}
 use Rattle.model.specs.declared.object.ObjectKind.{ObjectKind}
 use Rattle.model.specs.declared.object.ObjectKind.TheVariants.{Queue, Semaphore, Mutex}
 use Rattle.model.specs.declared.op.Op.{Op}
@@ -12,10 +12,11 @@ use Rattle.model.specs.declared.event.What.TheVariants as what
 use Rattle.model.specs.declared.event.End.TheVariants as end
 use Rattle.model.specs.declared.event.Misuse.{Misuse}
 use Rattle.model.specs.declared.event.Misuse.TheVariants.{WhileSuspended, NotSuspended, NotHolder, EndedSuspended}
-use Rattle.model.specs.Application.{Application, Definition, Limits, op_at}
-use Rattle.model.specs.State.{State, Task, Object, Status, Ended, no_progress, no_object, status_at, progress_at, call_at}
+use Rattle.model.specs.Application.{Application, Definition, Handler, Limits, op_at}
+use Rattle.model.specs.State.{State, Task, Object, Status, Ended, no_progress, no_object, no_source, status_at, progress_at, call_at}
 use Rattle.model.specs.State.{object_at, bits_at, for_each, printed}
-use Rattle.model.specs.Switching.{write, is_same, make_ready, choice, yield_now, settle, is_scheduler_suspended, unless_held}
+use Rattle.model.specs.Switching.{write, is_same, make_ready, choice, yield_now, settle, is_scheduler_suspended, is_critical}
+use Rattle.model.specs.Switching.{unless_held}
 use Rattle.model.specs.Ops.{complete, answer, use_up, delay, delay_until, expect, open_loop, close_turn, branch, skip_branch}
 use Rattle.model.specs.Ops.{leave_loop, stamp, since}
 use Rattle.model.specs.Calls.{await, do_now}
@@ -23,7 +24,7 @@ use Rattle.model.specs.Mutexes.{give_mutex}
 use Rattle.model.specs.Groups.{set_bits, clear, wait_bits}
 use Rattle.model.specs.Suspension.{call_suspend, call_resume, suspend_all, resume_all}
 use Rattle.model.specs.Daemon.{next_command, obey, command_at}
-use Rattle.model.specs.Handlers.{inject, tick_interrupt, idle}
+use Rattle.model.specs.Handlers.{inject, pend, serve_pending, tick_interrupt, idle}
 
 -- what each op does; that yield answers 0, and all of mark, is profile
 abbrev pub act : Application → ℕ → Op → State → State
@@ -119,9 +120,12 @@ abbrev pub act_current : Application → Limits → Option ℕ → State → Sta
 act_current app limits None s = idle app limits s
 act_current app limits (Some task) s = act_if app task (op_at app task (progress_at s task).op_index) s
 
--- These handlers come, one after another, before a step that has reported nothing yet.
+-- These handlers are injected, one after another, before a step that has reported nothing yet. While a critical section is open
+-- they become pending. Otherwise they come, and before them those that are pending.
 unfoldable pub before_step : Application → List ℕ → State → State
-before_step app handlers s = for_each (inject app) handlers (record s { log = [] })
+before_step app handlers s =
+    let r : State = record s { log = [] } in
+    if is_critical s then for_each pend handlers r else for_each (inject app) handlers (serve_pending app r)
 
 -- A step. The injected handlers run, and then the running task or idle acts. Where that leaves the running task not
 -- Ready, the choice runs, unless the scheduler is held.
@@ -162,6 +166,8 @@ nobody_ready app = record {
   call_hold = false;
   suspensions = 0;
   held_ticks = 0;
+  sections = 0;
+  sources = map (λ (handler : Handler). no_source) app.handlers ++ no_source ∷ [];
   steps = 0;
   stopped = None;
   log = [];

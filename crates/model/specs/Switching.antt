@@ -103,8 +103,16 @@ abbrev pub is_scheduler_suspended : State → Bool
 is_scheduler_suspended s = nat_lt 0 s.suspensions
 
 -- A call holds the scheduler, or a `suspend_all` does (`uxSchedulerSuspended` above 0).
+abbrev pub holds_ticks : State → Bool
+holds_ticks s = s.call_hold || is_scheduler_suspended s
+
+-- A critical section is open (`uxCriticalNesting` above 0).
+abbrev pub is_critical : State → Bool
+is_critical s = nat_lt 0 s.sections
+
+-- In any of them the scheduler is held.
 abbrev pub is_held : State → Bool
-is_held s = s.call_hold || is_scheduler_suspended s
+is_held s = holds_ticks s || is_critical s
 
 -- While the scheduler is held nothing switches (`vTaskSwitchContext` sets `xYieldPending` then).
 abbrev pub unless_held : (State → State) → State → State

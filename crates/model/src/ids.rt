@@ -42,7 +42,7 @@ impl Default for TaskId {
     }
 }
 
-/// An interrupt handler, by its index in the file: 0 to 15.
+/// An interrupt source: a handler, by its index in the file, or the tick, whose number is how many handlers the file has. 0 to 16.
 #[derive(Clone, Copy, PartialEq, Eq)]
 pub struct HandlerId {
     pub number: u8,
@@ -56,18 +56,18 @@ impl Model for HandlerId {
 
     ghost view = { λ handler. handler.number };
 
-    ghost invariant = { λ handler. handler.number < 16 };
+    ghost invariant = { λ handler. handler.number < 17 };
 
     ghost inverse = { λ number. record { number = number } };
 }
 
 impl HandlerId {
-    /// The handler of this index; `None` from 16 on.
+    /// The handler of this index; `None` from 17 on.
     pub fn new(number: u8) -> Option<Self>
-        ensures known { IsSome result ↔ (number < 16) }
+        ensures known { IsSome result ↔ (number < 17) }
         ensures value { IfSome result (λ handler. handler ≡ number) }
     {
-        if number < 16 {
+        if number < 17 {
             Some(HandlerId { number })
         } else {
             None

@@ -38,7 +38,7 @@ use Rattle.groups.proofs.Standing as on_groups
 use Rattle.groups.proofs.Kept as bits_kept
 use Rattle.groups.proofs.Elsewhere as bits_elsewhere
 use Rattle.machine.specs.declared.machine.Machine.{Machine}
-use Rattle.machine.specs.StandsFor.{StandsBefore, Stands, decider}
+use Rattle.machine.specs.StandsFor.{AreSources, StandsBefore, Stands, decider}
 use Rattle.machine.specs.StandsFor.Stands.{Placed, Placing}
 use Rattle.machine.proofs.Parts.{Kept, kept_of, progress-kept}
 use Rattle.machine.proofs.Waking.{progress-ready}
@@ -70,6 +70,8 @@ before_with {task} {list} {k} {s} {new} {v} {t} {q} b on awake there locked bits
   awake = subst (λ (n : ℕ). AtLocked (Some (record { task = task; list = list; priority = n })) new) (sym priority) locked;
   progress = λ i. b.progress i ∙ sym (progress i);
   full = b.full;
+  sources = subst (AreSources k.sources) (sym (ap (λ (x : Kept). x.2) kept)) b.sources;
+  sections = b.sections ∙ sym (ap (λ (x : Kept). x.3) kept);
   steps = b.steps ∙ sym (ap (λ (x : Kept). x.0) kept);
   stopped = b.stopped ∙ sym (ap (λ (x : Kept). x.1) kept);
   current = current ∙ b.current;

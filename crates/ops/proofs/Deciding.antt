@@ -23,6 +23,7 @@ use Rattle.model.proofs.Lists.{eqb-refl, eqb-same}
 use Rattle.model.proofs.Tables.{ticket_at, table-set}
 use Rattle.model.proofs.Statuses.{ready_free}
 use Rattle.sched.specs.StandsFor as sched
+use Rattle.sched.specs.StandsFor.{task_holds_of}
 use Rattle.sched.specs.Schedule.{Schedule, IsCalm}
 use Rattle.sched.proofs.Standing as on_sched
 use Rattle.clock.specs.StandsFor as clock
@@ -40,7 +41,7 @@ use Rattle.groups.proofs.Kept as bits_kept
 use Rattle.groups.proofs.Kept.{ready_waits_not}
 use Rattle.groups.proofs.Elsewhere as bits_elsewhere
 use Rattle.machine.specs.declared.machine.Machine.{Machine}
-use Rattle.machine.specs.StandsFor.{StandsBefore, At, AtAny, decider, progress_in, with_progress}
+use Rattle.machine.specs.StandsFor.{AreSources, StandsBefore, At, AtAny, decider, progress_in, with_progress}
 use Rattle.machine.specs.StandsFor.Stands.{Placing}
 use Rattle.ops.specs.Can.{CanDecide, CanLeave}
 use Rattle.machine.proofs.Parts.{clock-same, progress-set, rest_unseen, rest_with_objects, same_parts, same_alike, sched-same}
@@ -136,8 +137,9 @@ module _ (s : State) (i : ℕ) (list : WaitList) (object : ℕ) (l : i < length 
 
   pub begun_free : (begun.call_hold ≡ s.call_hold) × (begun.current ≡ s.current) × (begun.time ≡ s.time)
       × (begun.elapsed ≡ s.elapsed) × (begun.steps ≡ s.steps) × (begun.stopped ≡ s.stopped) × (begun.log ≡ s.log)
+      × (begun.sources ≡ s.sources) × (begun.sections ≡ s.sections)
   unfolding wait_in
-  begun_free = (refl, refl, refl, refl, refl, refl, refl)
+  begun_free = (refl, refl, refl, refl, refl, refl, refl, refl, refl)
 
   -- the scheduler
   pub sched_decided : (v : Schedule) → v.pending ≡ [] → sched.StandsFor v s → is_ready s i ≡ true → s.call_hold ≡ false
@@ -171,7 +173,7 @@ module _ (k : Machine) (log : List Event) (s : State) (h : At k log s) (i o : �
   l = within k log s h i c.runs.current
 
   free : s.call_hold ≡ false
-  free = not_held s.suspensions s.call_hold k.sched.depth h.stands.sched.depth c.depth
+  free = not_held (task_holds_of s) s.call_hold k.sched.depth h.stands.sched.depth c.depth
 
   unlocked : s.locked ≡ None
   unlocked = sym h.stands.rest.objects.locked ∙ ap locked_by c.free
@@ -260,6 +262,8 @@ module _ (k : Machine) (log : List Event) (s : State) (h : At k log s) (i o : �
             awake = awake_there;
             progress = progress_then;
             full = rw length-set h.stands.rest.full;
+            sources = sources_then;
+            sections = sections_then;
             steps = steps_then;
             stopped = stopped_then;
             current = current_then;
@@ -289,6 +293,12 @@ module _ (k : Machine) (log : List Event) (s : State) (h : At k log s) (i o : �
 
           steps_then : k.steps ≡ after.steps
           steps_then = h.stands.rest.steps ∙ sym (begun_free s i list o l).4
+
+          sources_then : AreSources k.sources after.sources
+          sources_then = subst (AreSources k.sources) (sym (begun_free s i list o l).7) h.stands.rest.sources
+
+          sections_then : k.sections ≡ after.sections
+          sections_then = h.stands.rest.sections ∙ sym (begun_free s i list o l).8
 
           stopped_then : k.stopped ≡ after.stopped
           stopped_then = h.stands.rest.stopped ∙ sym (begun_free s i list o l).5
@@ -367,6 +377,8 @@ module _ (k : Machine) (log : List Event) (s : State) (i : ℕ) (list : WaitList
             objects = shown table;
             groups = on_groups.stands_same k.groups s later b.groups (bits_kept.same_task i u s refl (λ _. refl)) table;
             awake = at_locked_same None s later same (at_locked-placed (Some (decider i list s)) s b.awake);
+            sources = b.sources;
+            sections = b.sections;
             steps = b.steps;
             stopped = b.stopped;
             placed = placed_then;
@@ -387,7 +399,7 @@ hold_at b k log s h v on =
       stands =
           record {
             sched = on;
-            rest = rest_unseen h.stands.rest on.table refl h.stands.rest.steps h.stands.rest.stopped;
+            rest = rest_unseen h.stands.rest on.table refl refl h.stands.rest.steps h.stands.rest.stopped;
           };
       log = h.log;
     }
@@ -406,7 +418,7 @@ module _ (k new : Machine) (log : List Event) (s : State) (h : At k log s) (i : 
   freed =
       recalled (record k { sched = w }) new log (record s { call_hold = false })
       (hold_at false k log s h w (unhold
-      (is_held s.suspensions s.call_hold k.sched.depth h.stands.sched.depth (sym h.stands.sched.suspensions ∙ c.awake) c.held)))
+      (is_held (task_holds_of s) s.call_hold k.sched.depth h.stands.sched.depth (sym h.stands.sched.suspensions ∙ c.awake) c.held)))
       i
       (runs ∙ c.call.current)
       (record v.call { phase = phase; waits = false }) (record (call_at s i) { phase = phase; waits = false })

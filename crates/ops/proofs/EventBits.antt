@@ -29,6 +29,7 @@ use Rattle.model.proofs.Lists.{HasKey, list_has}
 use Rattle.model.proofs.Statuses.{ready_free}
 use Rattle.lists.specs.Lists.{place_of}
 use Rattle.sched.specs.StandsFor as sched
+use Rattle.sched.specs.StandsFor.{task_holds_of}
 use Rattle.sched.specs.Schedule.{Schedule, IsCalm}
 use Rattle.sched.specs.Schedule as schedule
 use Rattle.sched.proofs.Standing as on_sched
@@ -97,7 +98,7 @@ pub held_then : (k : Machine) (log : List Event) (s : State) → At k log s → 
     → (v : Schedule) → (s.call_hold ≡ false → sched.StandsFor v (record s { call_hold = true }))
     → At (record k { sched = v }) log (record s { call_hold = true })
 held_then k log s h free v holds =
-    hold_at true k log s h v (holds (not_held s.suspensions s.call_hold k.sched.depth h.stands.sched.depth free))
+    hold_at true k log s h v (holds (not_held (task_holds_of s) s.call_hold k.sched.depth h.stands.sched.depth free))
 
 -- ---- a task begins to wait for bits
 

@@ -1,6 +1,6 @@
 -- While a `suspend_all` is in force: what its calls make of the states that the kernel represents.
 use Rattle.std.proofs.Common.{◌≡◌, ◌≢◌, ◌<◌, ◌+◌, ◌-◌, ℕ, zero, suc, true, false, List, Option, Some, None, refl, ap, sym, subst}
-use Rattle.std.proofs.Common.{◌∙◌, arith}
+use Rattle.std.proofs.Common.{◌∙◌, arith, ap₂}
 use Rattle.std.proofs.lemmas.Bool.{eq-eqb, ne_eqb, lt-ltb}
 use Rattle.model.specs.declared.event.Event.{Event}
 use Rattle.model.specs.Application.{Application}
@@ -13,9 +13,11 @@ use Rattle.model.specs.Invariant.{Hold, Suspension}
 use Rattle.soundness.proofs.Frames.{keeps-answer}
 use Rattle.soundness.proofs.Settled.{when_free, when_held}
 use Rattle.soundness.proofs.Passing.{applies}
-use Rattle.soundness.proofs.Going.{current-resumed, resumed_apart, suspended_held}
+use Rattle.soundness.proofs.Going.{current-resumed, resumed_apart}
 use Rattle.sched.specs.StandsFor as sched
+use Rattle.sched.specs.StandsFor.{depth_of, task_holds_of}
 use Rattle.sched.specs.Schedule.{Schedule}
+use Rattle.sched.proofs.Standing.{held_by_depth}
 use Rattle.clock.specs.StandsFor as clock
 use Rattle.clock.specs.StandsFor.{before_held}
 use Rattle.clock.specs.Timeline.{Timeline}
@@ -37,7 +39,7 @@ module _ (k : Machine) (log : List Event) (s : State) (h : At k log s) where
       → At (record k { sched = v }) log (record s { suspensions = n })
   with_suspensions v n on =
       record {
-        stands = record { sched = on; rest = rest_unseen h.stands.rest on.table refl h.stands.rest.steps h.stands.rest.stopped };
+        stands = record { sched = on; rest = rest_unseen h.stands.rest on.table refl refl h.stands.rest.steps h.stands.rest.stopped };
         log = h.log;
       }
 
@@ -104,7 +106,10 @@ module _ (k now : Machine) (can : CanApply k) (n : ℕ) (does : Moves k now (λ 
         let c = can.agrees.1.rest.clock.age in
         let d = can.age in
         omega arith;
-    awake = there.stands.sched.suspensions ∙ (applies n first).suspensions ∙ sym can.agrees.1.sched.suspensions ∙ can.awake;
+    awake =
+        there.stands.sched.suspensions
+        ∙ ap₂ (λ (a b : ℕ). a + b) (applies n first).suspensions (applies n first).sections
+        ∙ sym can.agrees.1.sched.suspensions ∙ can.awake;
   }
 
 one_later : (n : ℕ) (s : State) → apply_one (apply_held n s) ≡ apply_held (suc n) s
@@ -142,14 +147,23 @@ module _ (app : Application) (new : Machine) (log : List Event) (s : State) wher
     unfolding resume_all
     resumed_held held h = subst (At new log) (sym (when_held preempt t held)) h
 
+-- Where no section is open, what tasks hold the scheduler by are `suspend_all`.
+pub in_force : (s : State) (k : Machine) → StandsFor k s → 0 < k.sched.suspensions → k.sections ≡ 0 → 0 < s.suspensions
+in_force s k h some none =
+    let all : k.sched.suspensions ≡ task_holds_of s = h.sched.suspensions in
+    let open_ : k.sections ≡ s.sections = h.rest.sections in
+    omega arith
+
 -- where some are in force still, the scheduler is held
 pub still_held : (app : Application) (i : ℕ) (mid : Machine) (log : List Event) (u : State)
     → At mid log u → mid.sched.suspensions ≢ 0 → is_held (answer app i (Some 0) u) ≡ true
 still_held app i mid log u h ne =
-    let kept : (answer app i (Some 0) u).suspensions ≡ u.suspensions =
-    ap (λ (x : Suspension). x.suspensions) (keeps-answer app i (Some 0) u).suspension in
-    let n = h.stands.sched.suspensions in
-    suspended_held (answer app i (Some 0) u) (lt-ltb 0 (answer app i (Some 0) u).suspensions (omega arith))
+    let t : State = answer app i (Some 0) u in
+    let kept : task_holds_of t ≡ task_holds_of u =
+    ap (λ (x : Suspension). x.suspensions + x.sections) (keeps-answer app i (Some 0) u).suspension in
+    let n : mid.sched.suspensions ≡ task_holds_of u = h.stands.sched.suspensions in
+    let some : 0 < task_holds_of t = rw kept (rw (sym n) (let some : 0 < mid.sched.suspensions = omega arith in some)) in
+    held_by_depth t ∙ lt-ltb 0 (depth_of t) (omega arith)
 
 pub runs_after_all : (k new : Machine) (i : ℕ) (s : State) → Runs k i
     → StandsFor k s → StandsFor new (resume_scheduler s) → Runs new i

@@ -131,6 +131,8 @@ pub record CanHold (app : Application) (k : Machine) (task : ℕ) (op : Op) : Ty
   pub held : k.clock.held < 4294967295
   pub suspensions : k.sched.suspensions < 4294967295
   pub depth : k.sched.depth ≡ k.sched.suspensions
+  -- no critical section is open
+  pub closed : k.sections ≡ 0
   pub objects : HasObjects app k
   pub used : IsUsedBy (progress_in k.progress task).used (Some op)
   pub nesting : HasLoopRoom op (length (progress_in k.progress task).loops)

@@ -31,14 +31,14 @@ use Rattle.task_lists.proofs.Priorities.{has_node-with_priorities}
 use Rattle.sched.specs.Schedule as mine
 use Rattle.sched.specs.Schedule.{IsCalm, Schedule, is_suspended, lined_up, priority_in}
 use Rattle.task_lists.specs.Tasks.{insert_by_priority}
-use Rattle.sched.specs.StandsFor.{DoesFree, StandsFor, StandsBefore, depth_of}
+use Rattle.sched.specs.StandsFor.{DoesFree, StandsFor, StandsBefore, depth_of, task_holds_of}
 use Rattle.sched.proofs.ReadyList.{none_of}
 use Rattle.sched.proofs.LinedUp.{IsFalling, has_node-added, line_up-append, line_up-falling, line_up-under, lined_up-block}
 use Rattle.sched.proofs.LinedUp.{lined_up_calm, without-added}
 
--- how many `suspend_all` are in force, and whether a call holds the scheduler
+-- how often tasks hold the scheduler, and whether a call does
 abbrev pub holds_of : State → ℕ × Bool
-holds_of s = (s.suspensions, s.call_hold)
+holds_of s = (task_holds_of s, s.call_hold)
 
 -- how often it is held then
 abbrev pub depth_by : ℕ × Bool → ℕ
@@ -396,12 +396,24 @@ yielded_if v s b c same none h = by_test c
     (λ t. let u = same ∙ t in rw (t, u) (stands_yielded v s none h))
     (λ t. let u = same ∙ t in rw (t, u) h)
 
+-- Where no task holds the scheduler, no `suspend_all` is in force, and no critical section is open.
+pub none_suspends : (s : State) → task_holds_of s ≡ 0 → s.suspensions ≡ 0
+none_suspends s none = omega arith
+
+pub none_open : (s : State) → task_holds_of s ≡ 0 → s.sections ≡ 0
+none_open s none = omega arith
+
 -- the scheduler is held where it is held at least once
 pub held_by_depth : (s : State) → is_held s ≡ nat_lt 0 (depth_of s)
-held_by_depth s = either s.call_hold s.suspensions where
-  either : (b : Bool) (n : ℕ) → (b || nat_lt 0 n) ≡ nat_lt 0 (n + (if b then 1 else 0))
-  either true n = sym (lt-ltb 0 (n + 1) (omega arith))
-  either false n = ap (nat_lt 0) (let same : n ≡ n + 0 = omega arith in same)
+held_by_depth s = either s.call_hold s.suspensions s.sections where
+  of_two : (n m : ℕ) → (nat_lt 0 n || nat_lt 0 m) ≡ nat_lt 0 (n + m + 0)
+  of_two n m = by_test (nat_lt 0 n)
+      (λ t. let more = ltb-true 0 n t in rw t (sym (lt-ltb 0 (n + m + 0) (omega arith))))
+      (λ t. let none = ltb-false 0 n t in rw t (ap (nat_lt 0) (let same : m ≡ n + m + 0 = omega arith in same)))
+
+  either : (b : Bool) (n m : ℕ) → ((b || nat_lt 0 n) || nat_lt 0 m) ≡ nat_lt 0 (n + m + (if b then 1 else 0))
+  either true n m = sym (lt-ltb 0 (n + m + 1) (omega arith))
+  either false n m = of_two n m
 
 pub free_depth : (s : State) → is_held s ≡ false → depth_of s ≡ 0
 free_depth s free = let le = ltb-false 0 (depth_of s) (sym (held_by_depth s) ∙ free) in omega (arith, le)
@@ -670,11 +682,11 @@ stands_before_kept v s new i j t h l is current held key_same same same_base tab
 
 -- A call holds the scheduler, where none did.
 pub stands_before_held : (v : Schedule) (s new : State) (i : ℕ) → StandsBefore i v s → s.call_hold ≡ false
-    → new.tasks ≡ s.tasks → new.current ≡ s.current → holds_of new ≡ (s.suspensions, true) → IsTable new
+    → new.tasks ≡ s.tasks → new.current ≡ s.current → holds_of new ≡ (task_holds_of s, true) → IsTable new
     → StandsBefore i (record v { depth = v.depth + 1 }) new
 stands_before_held v s new i h free tasks current held table =
-    let before : v.depth ≡ s.suspensions + 0 = h.depth ∙ ap (λ (b : Bool). s.suspensions + (if b then 1 else 0)) free in
-    let after : depth_of new ≡ s.suspensions + 1 = ap depth_by held in
+    let before : v.depth ≡ task_holds_of s + 0 = h.depth ∙ ap (λ (b : Bool). task_holds_of s + (if b then 1 else 0)) free in
+    let after : depth_of new ≡ task_holds_of s + 1 = ap depth_by held in
     record {
       ready = h.ready ∙ sym (ap (λ ts. with_priorities (list_by ready_key ts)) tasks);
       still = h.still;

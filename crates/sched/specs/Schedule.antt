@@ -16,9 +16,9 @@ pub record Schedule : Type 0 where
   pub priorities : List ℕ
   -- the priority that the file gives each task (`uxBasePriority`)
   pub base_priorities : List ℕ
-  -- how often the scheduler is held, by calls and by `suspend_all` together (`uxSchedulerSuspended`)
+  -- how often the scheduler is held, by calls, by `suspend_all` and by critical sections together
   pub depth : ℕ
-  -- how many `suspend_all` are in force, each of which holds it once
+  -- how many `suspend_all` are in force and critical sections open, each of which holds it once
   pub suspensions : ℕ
   -- of each task whether it is suspended (`xSuspendedTaskList`)
   pub suspended : List Bool

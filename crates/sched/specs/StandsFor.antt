@@ -8,20 +8,24 @@ use Rattle.lists.specs.Lists.{has_node, without}
 use Rattle.task_lists.specs.Priorities.{with_priorities}
 use Rattle.sched.specs.Schedule.{Schedule, is_suspended, lined_up, priority_in}
 
--- how often the scheduler is held in a state: by `suspend_all`, and by a call
+-- how often tasks hold the scheduler in a state: by `suspend_all`, and by critical sections, which a schedule doesn't tell apart
+abbrev pub task_holds_of : State → ℕ
+task_holds_of s = s.suspensions + s.sections
+
+-- how often it is held: by tasks, and by a call
 abbrev pub depth_of : State → ℕ
-depth_of s = s.suspensions + (if s.call_hold then 1 else 0)
+depth_of s = task_holds_of s + (if s.call_hold then 1 else 0)
 
 -- The schedule's Ready tasks, once the pending ones are lined up, are those of the ready list in order. The same
 -- task runs, the priorities and the base priorities are the tasks', the same tasks are suspended, and the scheduler
--- is held as often, and by as many `suspend_all`.
+-- is held as often, and as often by tasks.
 pub record StandsFor (v : Schedule) (s : State) : Type 0 where
   pub ready : lined_up v ≡ with_priorities (ready_list s)
   pub current : v.current ≡ s.current
   pub priorities : (task : ℕ) → priority_in v.priorities task ≡ (task_at s task).priority
   pub base_priorities : (task : ℕ) → priority_in v.base_priorities task ≡ (task_at s task).base_priority
   pub depth : v.depth ≡ depth_of s
-  pub suspensions : v.suspensions ≡ s.suspensions
+  pub suspensions : v.suspensions ≡ task_holds_of s
   pub suspended : (task : ℕ) → is_suspended v task ≡ can_resume (status_at s task)
   pub table : IsTable s
 
@@ -33,7 +37,7 @@ pub record StandsBefore (task : ℕ) (v : Schedule) (s : State) : Type 0 where
   pub priorities : (other : ℕ) → priority_in v.priorities other ≡ (task_at s other).priority
   pub base_priorities : (other : ℕ) → priority_in v.base_priorities other ≡ (task_at s other).base_priority
   pub depth : v.depth ≡ depth_of s
-  pub suspensions : v.suspensions ≡ s.suspensions
+  pub suspensions : v.suspensions ≡ task_holds_of s
   pub suspended : (other : ℕ) → is_suspended v other ≡ can_resume (status_at s other)
   pub table : IsTable s
 

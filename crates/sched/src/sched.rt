@@ -31,7 +31,7 @@ pub struct Sched {
     /// Of each task its priority now, and the one that the file gives it.
     priorities: [u8; 32],
     base_priorities: [u8; 32],
-    /// How often it is held, and how many of these holds are those of a `suspend_all`.
+    /// How often it is held, and how many of these holds are those of tasks, by a `suspend_all` or a critical section.
     depth: u32,
     suspensions: u32,
     /// Of each task whether it is suspended.
@@ -190,7 +190,7 @@ impl Sched {
         self.depth
     }
 
-    /// How many `suspend_all` are in force, each of which holds the scheduler once.
+    /// How many `suspend_all` are in force and critical sections open, each of which holds the scheduler once.
     #[inline(always)]
     pub fn suspensions(&self) -> u32
         ensures suspensions { result ≡ self.now.suspensions }
@@ -228,8 +228,8 @@ impl Sched {
         self.depth -= 1;
     }
 
-    /// One `suspend_all` more is in force, and holds the scheduler once more (`vTaskSuspendAll`). Either count is below
-    /// 4294967295 before.
+    /// One `suspend_all` more is in force, or one critical section more is open, and holds the scheduler once more
+    /// (`vTaskSuspendAll`, `taskENTER_CRITICAL`). Either count is below 4294967295 before.
     #[inline(always)]
     pub fn suspend_all(&mut self)
         requires depth { self.old.depth < 4294967295 }
@@ -237,12 +237,15 @@ impl Sched {
         ensures schedule { self.new ≡ suspend_all self.old }
         ensures stands { (s : State) → StandsFor self.old s
             → StandsFor self.new (record s { suspensions = s.suspensions + 1 }) }
+        ensures section { (s : State) → StandsFor self.old s
+            → StandsFor self.new (record s { sections = s.sections + 1 }) }
     {
         self.hold();
         self.suspensions += 1;
     }
 
-    /// One `suspend_all` less is in force, of which there is one, and its hold ends as a call's does (`xTaskResumeAll`).
+    /// One `suspend_all` less is in force, or one critical section less is open, of which there is one, and its hold ends as a
+    /// call's does (`xTaskResumeAll`, `taskEXIT_CRITICAL`).
     #[inline(always)]
     pub fn resume_all(&mut self)
         requires held { 0 < self.old.depth }
@@ -250,8 +253,10 @@ impl Sched {
         ensures schedule { self.new ≡ resume_all self.old }
         ensures depth { self.new.depth ≡ self.old.depth - 1 }
         ensures suspensions { self.new.suspensions ≡ self.old.suspensions - 1 }
-        ensures stands { (s : State) → StandsFor self.old s
+        ensures stands { (s : State) → StandsFor self.old s → 0 < s.suspensions
             → StandsFor self.new (record s { suspensions = s.suspensions - 1 }) }
+        ensures section { (s : State) → StandsFor self.old s → 0 < s.sections
+            → StandsFor self.new (record s { sections = s.sections - 1 }) }
     {
         self.unhold();
         self.suspensions -= 1;

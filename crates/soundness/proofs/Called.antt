@@ -129,6 +129,7 @@ module _ (app : Application) (formed : IsWellFormed app) (hold : Hold) where
     progress = h.progress;
     calls = h.calls;
     contents = each-set no_object (λ k. IsObject (slice_get app.objects k)) s.objects o x fine h.contents;
+    sources = h.sources;
     priorities = h.priorities;
     time = h.time;
   }
@@ -462,6 +463,7 @@ module _ (app : Application) (formed : IsWellFormed app) (old new : Hold) where
         progress = λ j. (all j).0;
         calls = λ j. (all j).1;
         contents = h.contents;
+        sources = h.sources;
         priorities = λ j. (all j).2;
         time = h.time;
       }
@@ -477,6 +479,7 @@ module _ (app : Application) (formed : IsWellFormed app) (old new : Hold) where
         progress = h.progress;
         calls = calls;
         contents = h.contents;
+        sources = h.sources;
         priorities = h.priorities;
         time = h.time;
       }

@@ -25,7 +25,7 @@ use Rattle.model.specs.State.{call_at, object_at, with_task, with_progress, with
 use Rattle.model.specs.State.{for_one, for_each}
 use Rattle.model.specs.Order.{tasks_of, task_of, first}
 use Rattle.model.specs.Switching.{make_ready, to_back, dispatch, choose, choice, is_same, is_ready, yield_now, is_outranked}
-use Rattle.model.specs.Switching.{is_sharing, preempt, slice, settle, is_held, unless_held, is_off, write}
+use Rattle.model.specs.Switching.{is_sharing, preempt, slice, settle, is_held, is_critical, unless_held, is_off, write}
 use Rattle.model.specs.Time.{wake_due, due, sleep, set_previous_wake}
 use Rattle.model.specs.Waiting.{waiters, awake_status, is_locked, wake_one, wake_best, set_deadline, is_expired}
 use Rattle.model.specs.Objects.{possible, answer_to, object_after, list_woken, fulfil, attempt}
@@ -40,13 +40,14 @@ use Rattle.model.specs.Daemon.{item_of, received, take_command, obeyed, clear_by
 use Rattle.model.specs.Mutexes.{set_priority, mutexes_held, raise, inherits, inherit_from, inherit, best_priority, fall_back}
 use Rattle.model.specs.Mutexes.{after_timeout, disinherit, give_mutex, note_inherited}
 use Rattle.model.specs.Invariant.{hold_of, suspension_of}
-use Rattle.model.specs.Handlers.{isr_told, isr, isr_answer, isr_jump, is_failed, isr_each, handle, inject, interrupt}
+use Rattle.model.specs.Handlers.{isr_told, isr, isr_answer, isr_jump, is_failed, isr_each, handle, serve, inject, interrupt}
+use Rattle.model.specs.Handlers.{pend, pending_of, none_pending, serve_pending}
 use Rattle.model.specs.Step.{before_step}
 use Rattle.model.proofs.Sorting.{by_test}
 use Rattle.soundness.proofs.Settled.{when_held, when_free}
 
--- No time passes, no step is done, there are as many tasks, the same is held and locked, and as many
--- `suspend_all` are in force.
+-- No time passes, no step is done, there are as many tasks, the same is held and locked, as many `suspend_all` are in force,
+-- as many critical sections are open, and what is kept of the interrupt sources stays.
 pub record Keeps (old new : State) : Type 0 where
   pub time : new.time ≡ old.time
   pub elapsed : new.elapsed ≡ old.elapsed
@@ -54,9 +55,10 @@ pub record Keeps (old new : State) : Type 0 where
   pub tasks : length new.tasks ≡ length old.tasks
   pub hold : hold_of new ≡ hold_of old
   pub suspension : suspension_of new ≡ suspension_of old
+  pub sources : new.sources ≡ old.sources
 
 pub keeps : (s : State) → Keeps s s
-keeps s = record { time = refl; elapsed = refl; steps = refl; tasks = refl; hold = refl; suspension = refl }
+keeps s = record { time = refl; elapsed = refl; steps = refl; tasks = refl; hold = refl; suspension = refl; sources = refl }
 
 -- one deed, and then another
 pub keeps_both : (a b c : State) → Keeps a b → Keeps b c → Keeps a c
@@ -68,13 +70,14 @@ keeps_both a b c h k =
       tasks = k.tasks ∙ h.tasks;
       hold = k.hold ∙ h.hold;
       suspension = k.suspension ∙ h.suspension;
+      sources = k.sources ∙ h.sources;
     }
 
 -- ---- who runs
 
 pub keeps-with_task : (i : ℕ) (t : Task) (s : State) → Keeps s (with_task i t s)
 keeps-with_task i t s =
-    record { time = refl; elapsed = refl; steps = refl; tasks = length-set s.tasks i t; hold = refl; suspension = refl }
+    record { time = refl; elapsed = refl; steps = refl; tasks = length-set s.tasks i t; hold = refl; suspension = refl; sources = refl }
 
 pub keeps-take_ticket : (i : ℕ) (f : ℕ → Status) (s : State) → Keeps s (take_ticket i f s)
 keeps-take_ticket i f s =
@@ -85,6 +88,7 @@ keeps-take_ticket i f s =
       tasks = length-set s.tasks i (record (task_at s i) { status = f s.next_ticket });
       hold = refl;
       suspension = refl;
+      sources = refl;
     }
 
 pub keeps-to_back : (i : ℕ) (s : State) → Keeps s (to_back i s)
@@ -99,7 +103,7 @@ pub keeps-choose : (s : State) → Keeps s (choose s)
 unfolding choose dispatch
 keeps-choose s =
     by_test (is_same (choice s) s.current) (λ t. rw t (keeps s))
-    (λ t. rw t (record { time = refl; elapsed = refl; steps = refl; tasks = refl; hold = refl; suspension = refl }))
+    (λ t. rw t (record { time = refl; elapsed = refl; steps = refl; tasks = refl; hold = refl; suspension = refl; sources = refl }))
 
 pub keeps-yield_now : (s : State) → Keeps s (yield_now s)
 unfolding yield_now
@@ -151,7 +155,7 @@ unfolding answer
 keeps-answer app i a s =
     let p : Progress = record (progress_at s i) { answer = a } in
     let k = keeps-go_to app i (p.op_index + 1) p (write (called i p.op_index a) s) in
-    record { time = k.time; elapsed = k.elapsed; steps = k.steps; tasks = k.tasks; hold = k.hold; suspension = k.suspension }
+    record { time = k.time; elapsed = k.elapsed; steps = k.steps; tasks = k.tasks; hold = k.hold; suspension = k.suspension; sources = k.sources }
 
 pub keeps-use_up : (app : Application) (i n : ℕ) (s : State) → Keeps s (use_up app i n s)
 unfolding use_up
@@ -261,7 +265,7 @@ keeps-fulfil caller o a s =
     let t : State = with_object o (object_after caller a (object_at s o)) s in
     let k : Keeps t (for_one wake_best (list_woken caller o a) t) =
     keeps-for_one wake_best (list_woken caller o a) t (λ list. keeps-wake_best list t) in
-    record { time = k.time; elapsed = k.elapsed; steps = k.steps; tasks = k.tasks; hold = k.hold; suspension = k.suspension }
+    record { time = k.time; elapsed = k.elapsed; steps = k.steps; tasks = k.tasks; hold = k.hold; suspension = k.suspension; sources = k.sources }
 
 pub keeps-attempt : (caller : Option ℕ) (o : ℕ) (a : Access) (s : State) → Keeps s (attempt caller o a s)
 unfolding attempt
@@ -319,7 +323,7 @@ keeps-disinherit i s = by_test (eqb (mutexes_held s i) 0)
     (λ t. rw t (keeps s))
 
 pub keeps-with_object : (o : ℕ) (x : Object) (s : State) → Keeps s (with_object o x s)
-keeps-with_object o x s = record { time = refl; elapsed = refl; steps = refl; tasks = refl; hold = refl; suspension = refl }
+keeps-with_object o x s = record { time = refl; elapsed = refl; steps = refl; tasks = refl; hold = refl; suspension = refl; sources = refl }
 
 pub keeps-give_mutex : (app : Application) (i o : ℕ) (s : State) → Keeps s (give_mutex app i o s)
 unfolding give_mutex
@@ -361,7 +365,7 @@ keeps-do_now app i o a s =
 -- ---- event groups, and tasks suspended and resumed
 
 pub keeps-with_bits : (group bits : ℕ) (s : State) → Keeps s (with_bits group bits s)
-keeps-with_bits group bits s = record { time = refl; elapsed = refl; steps = refl; tasks = refl; hold = refl; suspension = refl }
+keeps-with_bits group bits s = record { time = refl; elapsed = refl; steps = refl; tasks = refl; hold = refl; suspension = refl; sources = refl }
 
 keeps-wake_with_bits : (bits i : ℕ) (s : State) → Keeps s (wake_with_bits i bits s)
 keeps-wake_with_bits bits i s =
@@ -451,7 +455,7 @@ pub keeps-obeyed : (app : Application) (i : ℕ) (clear : Bool) (bits : ℕ) (s 
 unfolding obeyed
 keeps-obeyed app i clear bits s =
     let k = keeps-go_to app i 0 (record (progress_at s i) { answer = Some bits }) (write (what.Obeyed i clear bits) s) in
-    record { time = k.time; elapsed = k.elapsed; steps = k.steps; tasks = k.tasks; hold = k.hold; suspension = k.suspension }
+    record { time = k.time; elapsed = k.elapsed; steps = k.steps; tasks = k.tasks; hold = k.hold; suspension = k.suspension; sources = k.sources }
 
 pub keeps-clear_by_daemon : (app : Application) (i group mask : ℕ) (s : State) → Keeps s (clear_by_daemon app i group mask s)
 unfolding clear_by_daemon
@@ -464,7 +468,7 @@ keeps-clear_by_daemon app i group mask s =
 -- ---- handlers
 
 pub keeps-write : (w : What) (s : State) → Keeps s (write w s)
-keeps-write w s = record { time = refl; elapsed = refl; steps = refl; tasks = refl; hold = refl; suspension = refl }
+keeps-write w s = record { time = refl; elapsed = refl; steps = refl; tasks = refl; hold = refl; suspension = refl; sources = refl }
 
 pub keeps-isr : (app : Application) (handler op_index : ℕ) (op : IsrOp) (s : State) → Keeps s (isr app handler op_index op s)
 keeps-isr app handler op_index (isr_op.Do o a) s =
@@ -488,7 +492,7 @@ keeps-isr app handler op_index isr_op.Else s = keeps s
 keeps-isr app handler op_index isr_op.EndIf s = keeps s
 
 pub keeps-fail : (check : End) (s : State) → Keeps s (fail check s)
-keeps-fail check s = record { time = refl; elapsed = refl; steps = refl; tasks = refl; hold = refl; suspension = refl }
+keeps-fail check s = record { time = refl; elapsed = refl; steps = refl; tasks = refl; hold = refl; suspension = refl; sources = refl }
 
 keeps-isr_each : (app : Application) (handler op_index over : ℕ) (answer : Option ℕ) (ops : List IsrOp) (s : State)
     → Keeps s (isr_each app handler op_index over answer ops s)
@@ -508,20 +512,56 @@ pub keeps-handle : (app : Application) (handler : ℕ) (s : State) → Keeps s (
 unfolding handle
 keeps-handle app handler s = keeps-isr_each app handler 0 0 None (ops_of app handler) s
 
-pub keeps-inject : (app : Application) (handler : ℕ) (s : State) → Keeps s (inject app handler s)
-unfolding inject
-keeps-inject app handler s =
+pub keeps-serve : (app : Application) (handler : ℕ) (s : State) → Keeps s (serve app handler s)
+unfolding serve
+keeps-serve app handler s =
     let t : State = handle app handler s in
     keeps_both s t (unless_held preempt t) (keeps-handle app handler s) (keeps-unless_held preempt t keeps-preempt)
+
+pub keeps-inject : (app : Application) (handler : ℕ) (s : State) → Keeps s (inject app handler s)
+unfolding inject
+keeps-inject app handler s = keeps-serve app handler s
 
 pub keeps-interrupt : (app : Application) (s : State) → Keeps s (interrupt app s)
 unfolding interrupt
 keeps-interrupt app s = keeps-each (handle app) (keeps-handle app) (interrupts_at app s.elapsed) s
 
--- what a step begins with
-pub keeps-before_step : (app : Application) (handlers : List ℕ) (s : State) → Keeps s (before_step app handlers s)
-unfolding before_step
+-- ---- what a step begins with
+
+keeps-pend : (handlers : List ℕ) (s : State)
+    → Keeps (record s { sources = (for_each pend handlers s).sources }) (for_each pend handlers s)
+keeps-pend [] s = keeps s
+keeps-pend (handler ∷ handlers) s = keeps-pend handlers (pend handler s)
+
+-- all but the sources, of which those that are pending may come, or more may become so
+pub keeps-before_step : (app : Application) (handlers : List ℕ) (s : State)
+    → Keeps (record s { sources = (before_step app handlers s).sources }) (before_step app handlers s)
+unfolding before_step serve_pending
 keeps-before_step app handlers s =
-    let k : Keeps (record s { log = [] }) (for_each (inject app) handlers (record s { log = [] })) =
-    keeps-each (inject app) (keeps-inject app) handlers (record s { log = [] }) in
-    record { time = k.time; elapsed = k.elapsed; steps = k.steps; tasks = k.tasks; hold = k.hold; suspension = k.suspension }
+    let r : State = record s { log = [] } in
+    let none : State = none_pending r in
+    let served : State = for_each (serve app) (pending_of r) none in
+    let t : State = for_each (inject app) handlers served in
+    by_test (is_critical r)
+    (λ q. rw q (let k = keeps-pend handlers r in
+    record {
+      time = k.time;
+      elapsed = k.elapsed;
+      steps = k.steps;
+      tasks = k.tasks;
+      hold = k.hold;
+      suspension = k.suspension;
+      sources = refl;
+    }))
+    (λ q. rw q (let k : Keeps none t =
+    keeps_both none served t (keeps-each (serve app) (keeps-serve app) (pending_of r) none)
+    (keeps-each (inject app) (keeps-inject app) handlers served) in
+    record {
+      time = k.time;
+      elapsed = k.elapsed;
+      steps = k.steps;
+      tasks = k.tasks;
+      hold = k.hold;
+      suspension = k.suspension;
+      sources = refl;
+    }))

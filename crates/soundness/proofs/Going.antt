@@ -20,7 +20,7 @@ use Rattle.model.specs.State.{State, Task, Progress, Status, Ready, Awake, Waiti
 use Rattle.model.specs.State.{ticket_if_ready, wake_time_of, task_at, status_at, progress_at, object_at, bits_at, with_bits}
 use Rattle.model.specs.State.{for_each, printed, no_task}
 use Rattle.model.specs.Order.{Entry, tasks_of}
-use Rattle.model.specs.Switching.{make_ready, is_ready, slice, preempt, is_scheduler_suspended, is_held, unless_held, write}
+use Rattle.model.specs.Switching.{make_ready, is_ready, slice, preempt, is_scheduler_suspended, is_critical, is_held, unless_held, write}
 use Rattle.model.specs.Time.{wake_due, due, is_due, delayed_list, advance, increment_tick, apply_one, apply_held}
 use Rattle.model.specs.Ops.{go_to, moved_to, answer, use_up, expect, open_loop, next_turn, turn, close_turn, branch, skip_branch}
 use Rattle.model.specs.Ops.{leave_loop, stamp, since}
@@ -33,22 +33,21 @@ use Rattle.model.proofs.Unlocking.{current-all_ready}
 use Rattle.model.proofs.Sorting.{by_test}
 use Rattle.model.proofs.Lists.{eqb-same}
 use Rattle.soundness.proofs.Frames.{keeps-answer}
-use Rattle.soundness.proofs.Settled.{when_held}
+use Rattle.soundness.proofs.Settled.{when_held, held_as_it_was}
 use Rattle.soundness.proofs.Passing.{held-told}
 use Rattle.soundness.proofs.Handled.{Spares, spares, spares_both, spares-handle}
 
 pub suspended_held : (s : State) → is_scheduler_suspended s ≡ true → is_held s ≡ true
-suspended_held s on = either s.call_hold (is_scheduler_suspended s) on where
-  either : (a b : Bool) → b ≡ true → (a || b) ≡ true
-  either true b e = refl
-  either false b e = e
+suspended_held s on = either s.call_hold (is_scheduler_suspended s) (is_critical s) on where
+  either : (a b c : Bool) → b ≡ true → ((a || b) || c) ≡ true
+  either true b c e = refl
+  either false true c e = refl
+  either false false c e = absurd (cc)
 
 -- an answer holds nothing, and lets go of nothing
 still_held : (app : Application) (i : ℕ) (a : Option ℕ) (s : State) → is_held (answer app i a s) ≡ is_held s
 still_held app i a s =
-    let k = keeps-answer app i a s in
-    ap₂ (λ (b : Bool) (n : ℕ). b || ltb 0 n) (ap (λ (x : Hold). x.held) k.hold)
-    (ap (λ (x : Suspension). x.suspensions) k.suspension)
+    let k = keeps-answer app i a s in held_as_it_was s (answer app i a s) k.hold k.suspension
 
 -- The task goes on: it is Ready, or its script is done.
 abbrev pub GoesOn : Application → ℕ → Task → Type 0

@@ -43,7 +43,7 @@ use Rattle.model.proofs.Sorting.{by_test}
 use Rattle.model.proofs.Lists.{HasKey, list_has}
 use Rattle.model.proofs.Tables.{each-set}
 use Rattle.model.proofs.Unlocking.{is_locked-own}
-use Rattle.soundness.proofs.Settled.{when_held, when_free}
+use Rattle.soundness.proofs.Settled.{when_held, when_free, held_as_it_was}
 use Rattle.soundness.proofs.InScripts.{isr_known}
 use Rattle.soundness.proofs.Frames.{Keeps, keeps, keeps_both, keeps-with_task, keeps-take_ticket, keeps-with_object, keeps-wake_one}
 use Rattle.soundness.proofs.Frames.{keeps-fail, keeps-isr, keeps-handle, keeps-write}
@@ -582,7 +582,7 @@ module _ (app : Application) (formed : IsWellFormed app) (s t : State)
   ready_still i was = subst (λ (u : Task). is_some (ticket_if_ready u.status) ≡ true) (sym (sp.ready i was)) was
 
   runs_still : (r : Option ℕ) → RunsIn app s r → RunsIn app t r
-  runs_still None r = ap₂ (λ (a b : Bool). a || b) same_held same_suspended ∙ r
+  runs_still None r = held_as_it_was s t sp.kept.hold sp.kept.suspension ∙ r
   runs_still (Some i) r = record {
     holding = sp.holding i ∙ r.holding ∙ sym same_held;
     ready = λ none. elim (r.ready (sym same_held ∙ none)) [ inl was ↦ inl (ready_still i was) | inr x ↦ inr (stranded_still i x) ];
@@ -599,6 +599,7 @@ module _ (app : Application) (formed : IsWellFormed app) (s t : State)
     locked = λ none. ap (λ (x : Hold). x.locked) sp.kept.hold ∙ h.locked (sym same_held ∙ none);
     apart = λ on. same_held ∙ h.apart (sym same_suspended ∙ on);
     held = λ off. ap (λ (x : Suspension). x.held_ticks) sp.kept.suspension ∙ h.held (sym same_suspended ∙ off);
+    closed = ap (λ (x : Suspension). x.sections) sp.kept.suspension ∙ h.closed;
   }
 
 -- a handler that comes between two steps

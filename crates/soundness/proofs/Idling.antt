@@ -7,9 +7,9 @@ use Rattle.model.specs.Application.{Application}
 use Rattle.model.specs.State.{State, Task, Status, Ready, Awake, Waiting, Asleep, WaitingForBits, Suspended, Ended, ticket_if_ready}
 use Rattle.model.specs.State.{wake_time_of, task_at, status_at, for_one, for_each, no_task}
 use Rattle.model.specs.Order.{Key, Entry, key, entry, keyed, first, task_of}
-use Rattle.model.specs.Switching.{ready_key, ready_list, is_ready, is_above, is_outranked, is_same, is_held, to_back, choice}
+use Rattle.model.specs.Switching.{ready_key, ready_list, is_ready, is_above, is_outranked, is_same, is_held, is_critical, to_back, choice}
 use Rattle.model.specs.Switching.{choose, dispatch, yield_now, preempt, unless_held}
-use Rattle.model.specs.Handlers.{handle, inject}
+use Rattle.model.specs.Handlers.{handle, serve, inject, pend, pending_of, none_pending, serve_pending}
 use Rattle.model.specs.Step.{before_step}
 use Rattle.model.specs.Run.{will_wake, is_interrupt_to_come, is_stuck}
 use Rattle.model.specs.Invariant.{Hold, IsState, RunsIn, Suspension}
@@ -17,7 +17,7 @@ use Rattle.model.proofs.Sorting.{by_test, length-in_order}
 use Rattle.model.proofs.Lists.{HasKey, list_has}
 use Rattle.model.proofs.Chosen.{same_eq}
 use Rattle.model.proofs.Tables.{each-set}
-use Rattle.soundness.proofs.Settled.{keyed_ready, when_free, when_held}
+use Rattle.soundness.proofs.Settled.{keyed_ready, when_free, when_held, held_as_it_was, nothing_holds}
 use Rattle.soundness.proofs.Frames.{keeps-before_step}
 use Rattle.soundness.proofs.Handled.{Spares, spares-handle}
 
@@ -89,8 +89,8 @@ kept_on s t = rw t refl
 -- ---- a task that runs, or another, goes on to run
 
 stays_on : (app : Application) (handler : ℕ) (s : State)
-    → is_none s.current ≡ false → is_none (inject app handler s).current ≡ false
-unfolding inject
+    → is_none s.current ≡ false → is_none (serve app handler s).current ≡ false
+unfolding serve
 stays_on app handler s on =
     let u : State = handle app handler s in
     let P : State → Type 0 = λ x. is_none x.current ≡ false in
@@ -101,9 +101,9 @@ stays_on app handler s on =
     subst P (sym (when_free preempt u t)) (by_test (is_outranked u) (λ o. yielded u o) (λ o. subst P (sym (kept_on u o)) still)))
 
 all_on : (app : Application) (handlers : List ℕ) (s : State) → is_none s.current ≡ false
-    → is_none (for_each (inject app) handlers s).current ≡ false
+    → is_none (for_each (serve app) handlers s).current ≡ false
 all_on app [] s on = on
-all_on app (h ∷ hs) s on = all_on app hs (inject app h s) (stays_on app h s on)
+all_on app (h ∷ hs) s on = all_on app hs (serve app h s) (stays_on app h s on)
 
 no_task_runs : (o : Option ℕ) → is_none o ≡ true → o ≡ None
 no_task_runs None t = refl
@@ -111,7 +111,7 @@ no_task_runs (Some i) t = absurd (cc)
 
 -- so idle, if it runs at the end, ran before
 idle_before : (app : Application) (handlers : List ℕ) (s : State)
-    → (for_each (inject app) handlers s).current ≡ None → s.current ≡ None
+    → (for_each (serve app) handlers s).current ≡ None → s.current ≡ None
 idle_before app handlers s none = by_test (is_none s.current)
     (λ t. no_task_runs s.current t)
     (λ t. absurd (let f = all_on app handlers s t in let g = ap is_none none in cc))
@@ -133,15 +133,13 @@ nobody_above s [] t = refl
 nobody_above s (e ∷ es) t = absurd (cc)
 
 module _ (app : Application) where
-  idle_still : (handler : ℕ) (s : State) → Idles s → (inject app handler s).current ≡ None
-      → Idles (inject app handler s) × (will_wake (inject app handler s) ≡ will_wake s)
-  unfolding inject
+  idle_still : (handler : ℕ) (s : State) → Idles s → (serve app handler s).current ≡ None
+      → Idles (serve app handler s) × (will_wake (serve app handler s) ≡ will_wake s)
+  unfolding serve
   idle_still handler s h none =
       let u : State = handle app handler s in
       let sp : Spares s u = spares-handle app handler s in
-      let hold : u.call_hold ≡ s.call_hold = ap (λ (x : Hold). x.held) sp.kept.hold in
-      let count : u.suspensions ≡ s.suspensions = ap (λ (x : Suspension). x.suspensions) sp.kept.suspension in
-      let free : is_held u ≡ false = ap₂ (λ (b : Bool) (n : ℕ). b || ltb 0 n) hold count ∙ h.1 in
+      let free : is_held u ≡ false = held_as_it_was s u sp.kept.hold sp.kept.suspension ∙ h.1 in
       let is : unless_held preempt u ≡ preempt u = when_free preempt u free in
       let low : is_outranked u ≡ false =
       by_test (is_outranked u)
@@ -165,30 +163,65 @@ module _ (app : Application) where
       ) in
       subst (λ (x : State). Idles x × (will_wake x ≡ will_wake s)) (sym now) there
 
-  all_still : (handlers : List ℕ) (s : State) → Idles s → (for_each (inject app) handlers s).current ≡ None
-      → will_wake (for_each (inject app) handlers s) ≡ will_wake s
-  all_still [] s h none = refl
+  all_still : (handlers : List ℕ) (s : State) → Idles s → (for_each (serve app) handlers s).current ≡ None
+      → Idles (for_each (serve app) handlers s) × (will_wake (for_each (serve app) handlers s) ≡ will_wake s)
+  all_still [] s h none = (h, refl)
   all_still (x ∷ xs) s h none =
-      let one = idle_still x s h (idle_before app xs (inject app x s) none) in
-      all_still xs (inject app x s) one.0 none ∙ one.1
+      let one = idle_still x s h (idle_before app xs (serve app x s) none) in
+      let rest = all_still xs (serve app x s) one.0 none in
+      (rest.0, rest.1 ∙ one.1)
+
+  injected_as_served : (handlers : List ℕ) (s : State) → for_each (inject app) handlers s ≡ for_each (serve app) handlers s
+  unfolding inject
+  injected_as_served [] s = refl
+  injected_as_served (x ∷ xs) s = injected_as_served xs (serve app x s)
+
+  current-pend : (handlers : List ℕ) (s : State) → (for_each pend handlers s).current ≡ s.current
+  current-pend [] s = refl
+  current-pend (x ∷ xs) s = current-pend xs (pend x s)
+
+  -- Where no critical section is open, all that is pending comes before a step, and then what is injected.
+  begun_open : (handlers : List ℕ) (s : State) → is_critical s ≡ false → before_step app handlers s
+      ≡ for_each (serve app) handlers (for_each (serve app) (pending_of s) (none_pending (record s { log = [] })))
+  unfolding before_step serve_pending
+  begun_open handlers s off =
+      rw off (injected_as_served handlers (for_each (serve app) (pending_of s) (none_pending (record s { log = [] }))))
+
+  -- Where one is open, it becomes pending.
+  begun_critical : (handlers : List ℕ) (s : State) → is_critical s ≡ true
+      → before_step app handlers s ≡ for_each pend handlers (record s { log = [] })
+  unfolding before_step
+  begun_critical handlers s on = rw on refl
+
+  -- So idle, into which nobody comes from a handler, holds nothing.
+  idle_open : (handlers : List ℕ) (s : State) → IsState app s → (before_step app handlers s).current ≡ None → is_critical s ≡ false
+  idle_open handlers s h none = by_test (is_critical s)
+      (λ on.
+      let same : (before_step app handlers s).current ≡ s.current =
+      ap (λ (x : State). x.current) (begun_critical handlers s on) ∙ current-pend handlers (record s { log = [] }) in
+      let free : is_held s ≡ false = subst (RunsIn app s) (sym same ∙ none) h.runs in
+      (nothing_holds s free).2)
+      (λ off. off)
 
   -- So a run that isn't stuck before the handlers of a step isn't stuck after them either.
   pub not_stuck_after : (handlers : List ℕ) (s : State) → IsState app s → is_stuck app s ≡ false
       → (before_step app handlers s).current ≡ None → is_stuck app (before_step app handlers s) ≡ false
-  unfolding before_step
   not_stuck_after handlers s h moves none =
-      let r : State = record s { log = [] } in
-      let t : State = for_each (inject app) handlers r in
-      let idle : s.current ≡ None = idle_before app handlers r none in
+      let r : State = none_pending (record s { log = [] }) in
+      let u : State = for_each (serve app) (pending_of s) r in
+      let t : State = before_step app handlers s in
+      let begun : t ≡ for_each (serve app) handlers u = begun_open handlers s (idle_open handlers s h none) in
+      let none_then : (for_each (serve app) handlers u).current ≡ None = ap (λ (x : State). x.current) (sym begun) ∙ none in
+      let none_pended : u.current ≡ None = idle_before app handlers u none_then in
+      let idle : s.current ≡ None = idle_before app (pending_of s) r none_pended in
       let free : is_held s ≡ false = subst (RunsIn app s) idle h.runs in
-      let call : s.call_hold ≡ false = left_false s.call_hold (ltb 0 s.suspensions) free in
-      let wakes : will_wake t ≡ will_wake s = all_still handlers r (idle, free, h.locked call) none in
+      let call : s.call_hold ≡ false = (nothing_holds s free).0 in
+      let one = all_still (pending_of s) r (idle, free, h.locked call) none_pended in
+      let two = all_still handlers u one.0 none_then in
+      let wakes : will_wake t ≡ will_wake s = ap will_wake begun ∙ two.1 ∙ one.1 in
       let elapsed : t.elapsed ≡ s.elapsed = (keeps-before_step app handlers s).elapsed in
       let come : is_interrupt_to_come app t ≡ is_interrupt_to_come app s =
       ap (λ (n : ℕ). list_any (λ i. ltb n i.tick) app.interrupts) elapsed in
       ap (λ (o : Option ℕ). is_none o && not (will_wake t) && not (is_interrupt_to_come app t)) (none ∙ sym idle)
       ∙ ap₂ (λ (w c : Bool). is_none s.current && not w && not c) wakes come
-      ∙ moves where
-        left_false : (a b : Bool) → a || b ≡ false → a ≡ false
-        left_false true b e = absurd (cc)
-        left_false false b e = refl
+      ∙ moves

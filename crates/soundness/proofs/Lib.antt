@@ -18,3 +18,4 @@ pub mod Obeyed
 pub mod Stepped
 pub mod Reached
 pub mod Idling
+pub mod Pending

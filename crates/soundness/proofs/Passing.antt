@@ -37,6 +37,7 @@ use Rattle.model.specs.Step.{is_ended, judge, act, act_unless, own_misuse, misus
 use Rattle.model.specs.Step.{nobody_ready, ready_at_reset, with_ops}
 use Rattle.model.specs.Invariant.{Hold, hold_of, InOne, course, Suspension, suspension_of}
 use Rattle.model.proofs.Sorting.{by_test}
+use Rattle.soundness.proofs.Settled.{held_as_it_was}
 use Rattle.soundness.proofs.Frames.{Keeps, keeps, keeps_both, keeps-choose, keeps-yield_now, keeps-preempt, keeps-slice}
 use Rattle.soundness.proofs.Frames.{keeps-settle, keeps-unless_held, keeps-all_ready, keeps-wake_due, keeps-go_to, keeps-answer}
 use Rattle.soundness.proofs.Frames.{keeps-use_up, keeps-delay, keeps-delay_until, keeps-open_loop, keeps-close_turn, keeps-branch}
@@ -47,16 +48,18 @@ use Rattle.soundness.proofs.Frames.{keeps-clear_by_daemon, keeps-interrupt, keep
 
 -- ---- a call in its phases lets no time pass
 
--- No tick comes, and as many `suspend_all` are in force, and as many ticks held.
+-- No tick comes, as many `suspend_all` are in force, as many ticks are held, as many critical sections are open, and what is kept of
+-- the interrupt sources stays.
 pub record Lasts (old new : State) : Type 0 where
   pub elapsed : new.elapsed ≡ old.elapsed
   pub suspension : suspension_of new ≡ suspension_of old
+  pub sources : new.sources ≡ old.sources
 
 pub lasts : (s t : State) → Keeps s t → Lasts s t
-lasts s t k = record { elapsed = k.elapsed; suspension = k.suspension }
+lasts s t k = record { elapsed = k.elapsed; suspension = k.suspension; sources = k.sources }
 
 lasts_both : (a b c : State) → Lasts a b → Keeps b c → Lasts a c
-lasts_both a b c h k = record { elapsed = k.elapsed ∙ h.elapsed; suspension = k.suspension ∙ h.suspension }
+lasts_both a b c h k = record { elapsed = k.elapsed ∙ h.elapsed; suspension = k.suspension ∙ h.suspension; sources = k.sources ∙ h.sources }
 
 pub lasts-unlock : (s : State) → Lasts s (unlock s)
 unfolding unlock
@@ -66,19 +69,19 @@ lasts-unlock s = by_locked s.locked where
   by_locked (Some o) =
       let k =
       keeps-all_ready (tasks_of (awakened s (ToReceive o)) ++ tasks_of (awakened s (ToSend o))) (record s { locked = None }) in
-      record { elapsed = k.elapsed; suspension = k.suspension }
+      record { elapsed = k.elapsed; suspension = k.suspension; sources = k.sources }
 
 pub lasts-decide : (i o : ℕ) (a : Access) (s : State) → Lasts s (decide i o a s)
 unfolding decide wait_in
 lasts-decide i o a s = by_test (possible s o a || is_expired s i)
-    (λ t. rw t (record { elapsed = refl; suspension = refl }))
-    (λ t. rw t (let k = keeps-inherit i o s in record { elapsed = k.elapsed; suspension = k.suspension }))
+    (λ t. rw t (record { elapsed = refl; suspension = refl; sources = refl }))
+    (λ t. rw t (let k = keeps-inherit i o s in record { elapsed = k.elapsed; suspension = k.suspension; sources = k.sources }))
 
 pub lasts-leave_call : (i : ℕ) (s : State) → Lasts s (leave_call i s)
 unfolding leave_call
 lasts-leave_call i s =
     let free : State = end_hold i Try s in
-    let ended : Lasts s free = record { elapsed = refl; suspension = refl } in
+    let ended : Lasts s free = record { elapsed = refl; suspension = refl; sources = refl } in
     by_test (call_at s i).waits
     (λ t. rw t (lasts_both s free (choose free) ended (keeps-choose free)))
     (λ t. rw t (lasts_both s free (preempt free) ended (keeps-preempt free)))
@@ -90,22 +93,22 @@ lasts-await app i o a ticks Start s =
     lasts s _ (keeps_both s t _ (keeps-set_deadline i ticks s) (keeps-try app i o a t))
 lasts-await app i o a ticks Try s = lasts s _ (keeps-try app i o a s)
 lasts-await app i o a ticks Decide s = lasts-decide i o a s
-lasts-await app i o a ticks Place s = record { elapsed = refl; suspension = refl }
-lasts-await app i o a ticks Unlock s = let k = lasts-unlock s in record { elapsed = k.elapsed; suspension = k.suspension }
+lasts-await app i o a ticks Place s = record { elapsed = refl; suspension = refl; sources = refl }
+lasts-await app i o a ticks Unlock s = let k = lasts-unlock s in record { elapsed = k.elapsed; suspension = k.suspension; sources = k.sources }
 lasts-await app i o a ticks Leave s = lasts-leave_call i s
 
 pub lasts-begin_set : (i group mask : ℕ) (s : State) → Lasts s (begin_set i group mask s)
 unfolding begin_set
 lasts-begin_set i group mask s =
     let k = keeps-set group mask (record s { call_hold = true }) in
-    record { elapsed = k.elapsed; suspension = k.suspension }
+    record { elapsed = k.elapsed; suspension = k.suspension; sources = k.sources }
 
 pub lasts-end_set : (app : Application) (i : ℕ) (s : State)
     → Lasts s (preempt (answer app i (call_at s i).kept (end_hold i Start s)))
 lasts-end_set app i s =
     let free : State = end_hold i Start s in
     let told : State = answer app i (call_at s i).kept free in
-    lasts_both s free (preempt told) (record { elapsed = refl; suspension = refl })
+    lasts_both s free (preempt told) (record { elapsed = refl; suspension = refl; sources = refl })
     (keeps_both free told (preempt told) (keeps-answer app i (call_at s i).kept free) (keeps-preempt told))
 
 lasts-set_bits : (app : Application) (i group mask : ℕ) (phase : Phase) (s : State) → Lasts s (set_bits app i group mask phase s)
@@ -121,7 +124,7 @@ pub lasts-check : (app : Application) (i group : ℕ) (c : Condition) (ticks : O
 unfolding check begin_bits_wait wait_for_bits set_deadline
 lasts-check app i group c ticks s = by_test (is_met (bits_at s group) c || option_eq eqb ticks (Some 0))
     (λ t. rw t (lasts s _ (keeps-answer_bits app i group c s)))
-    (λ t. rw t (record { elapsed = refl; suspension = refl }))
+    (λ t. rw t (record { elapsed = refl; suspension = refl; sources = refl }))
 
 pub lasts-final_bits : (app : Application) (i group : ℕ) (c : Condition) (kept : Option ℕ) (s : State)
     → Keeps s (final_bits app i group c kept s)
@@ -133,7 +136,7 @@ lasts-wait_bits : (app : Application) (i group : ℕ) (c : Condition) (ticks : O
 lasts-wait_bits app i group c ticks Start s = lasts-check app i group c ticks s
 lasts-wait_bits app i group c ticks Leave s =
     let k = keeps-choose (end_hold i Try s) in
-    record { elapsed = k.elapsed; suspension = k.suspension }
+    record { elapsed = k.elapsed; suspension = k.suspension; sources = k.sources }
 lasts-wait_bits app i group c ticks Try s = lasts s _ (lasts-final_bits app i group c (call_at s i).kept s)
 lasts-wait_bits app i group c ticks Decide s = lasts s _ (lasts-final_bits app i group c (call_at s i).kept s)
 lasts-wait_bits app i group c ticks Place s = lasts s _ (lasts-final_bits app i group c (call_at s i).kept s)
@@ -151,7 +154,7 @@ pub lasts-end_command : (app : Application) (i group : ℕ) (s : State) → Last
 lasts-end_command app i group s =
     let free : State = end_hold i Start s in
     let told : State = obeyed app i false (bits_at s group) free in
-    lasts_both s free (preempt told) (record { elapsed = refl; suspension = refl })
+    lasts_both s free (preempt told) (record { elapsed = refl; suspension = refl; sources = refl })
     (keeps_both free told (preempt told) (keeps-obeyed app i false (bits_at s group) free) (keeps-preempt told))
 
 lasts-obey : (app : Application) (i : ℕ) (c : Command) (phase : Phase) (s : State) → Lasts s (obey app i c phase s)
@@ -176,7 +179,7 @@ ends-expect : (app : Application) (i : ℕ) (condition : AnswerCondition) (s : S
 unfolding expect
 ends-expect app i condition s = by_test (holds condition (progress_at s i).answer)
     (λ t. rw t (ends s _ (keeps-go_to app i ((progress_at s i).op_index + 1) (progress_at s i) s)))
-    (λ t. rw t (record { lasts = record { elapsed = refl; suspension = refl }; hold = refl }))
+    (λ t. rw t (record { lasts = record { elapsed = refl; suspension = refl; sources = refl }; hold = refl }))
 
 -- ---- the tick: it alone lets time pass
 
@@ -211,11 +214,12 @@ held-told app s =
     let come : State = increment_tick s in
     let told : State = interrupt app come in
     let k : Keeps (tick_come s) told = keeps_both (tick_come s) come told (keeps-increment s) (keeps-interrupt app come) in
-    let hold : told.call_hold ≡ s.call_hold =
-    ap (λ (x : Hold). x.held) k.hold ∙ by_test (is_scheduler_suspended s) (λ t. rw t refl) (λ t. rw t refl) in
-    let count : told.suspensions ≡ s.suspensions =
-    ap (λ (x : Suspension). x.suspensions) k.suspension ∙ by_test (is_scheduler_suspended s) (λ t. rw t refl) (λ t. rw t refl) in
-    ap₂ (λ (b : Bool) (n : ℕ). b || ltb 0 n) hold count
+    held_as_it_was (tick_come s) told k.hold k.suspension ∙ still (is_scheduler_suspended s) where
+      still : (b : Bool)
+          → is_held (if b then record s { elapsed = s.elapsed + 1; held_ticks = s.held_ticks + 1 }
+          else record s { time = s.time + 1; elapsed = s.elapsed + 1 }) ≡ is_held s
+      still true = refl
+      still false = refl
 
 pub elapsed-tick : (app : Application) (s : State) → (tick_interrupt app s).elapsed ≡ s.elapsed + 1
 elapsed-tick app s = (keeps-tick app s).elapsed ∙ by_test (is_scheduler_suspended s) (λ t. rw t refl) (λ t. rw t refl)
@@ -238,6 +242,14 @@ pub suspensions-tick : (app : Application) (s : State) → (tick_interrupt app s
 suspensions-tick app s =
     ap (λ (x : Suspension). x.suspensions) (keeps-tick app s).suspension
     ∙ by_test (is_scheduler_suspended s) (λ t. rw t refl) (λ t. rw t refl)
+
+pub sections-tick : (app : Application) (s : State) → (tick_interrupt app s).sections ≡ s.sections
+sections-tick app s =
+    ap (λ (x : Suspension). x.sections) (keeps-tick app s).suspension
+    ∙ by_test (is_scheduler_suspended s) (λ t. rw t refl) (λ t. rw t refl)
+
+pub sources-tick : (app : Application) (s : State) → (tick_interrupt app s).sources ≡ s.sources
+sources-tick app s = (keeps-tick app s).sources ∙ by_test (is_scheduler_suspended s) (λ t. rw t refl) (λ t. rw t refl)
 
 -- ---- a jump: idle lets several ticks pass
 
@@ -324,6 +336,18 @@ suspensions-idle app limits s =
     either_way (λ t. t.suspensions ≡ s.suspensions) app.tickless (jumped app (ticks_ahead app limits s) s) (tick_interrupt app s)
     (ap (λ (x : Suspension). x.suspensions) (keeps-jumped app (ticks_ahead app limits s) s).suspension) (suspensions-tick app s)
 
+sections-idle : (app : Application) (limits : Limits) (s : State) → (idle app limits s).sections ≡ s.sections
+unfolding idle
+sections-idle app limits s =
+    either_way (λ t. t.sections ≡ s.sections) app.tickless (jumped app (ticks_ahead app limits s) s) (tick_interrupt app s)
+    (ap (λ (x : Suspension). x.sections) (keeps-jumped app (ticks_ahead app limits s) s).suspension) (sections-tick app s)
+
+pub sources-idle : (app : Application) (limits : Limits) (s : State) → (idle app limits s).sources ≡ s.sources
+unfolding idle
+sources-idle app limits s =
+    either_way (λ t. t.sources ≡ s.sources) app.tickless (jumped app (ticks_ahead app limits s) s) (tick_interrupt app s)
+    (keeps-jumped app (ticks_ahead app limits s) s).sources (sources-tick app s)
+
 held-idle : (app : Application) (limits : Limits) (s : State) → (idle app limits s).held_ticks ≤ s.held_ticks + 1
 unfolding idle
 held-idle app limits s =
@@ -346,10 +370,21 @@ pub record Applies (n : ℕ) (old new : State) : Type 0 where
   pub hold : hold_of new ≡ hold_of old
   pub suspensions : new.suspensions ≡ old.suspensions
   pub held : new.held_ticks ≡ old.held_ticks - n
+  pub sections : new.sections ≡ old.sections
+  pub sources : new.sources ≡ old.sources
   pub tasks : length new.tasks ≡ length old.tasks
 
 pub applies : (n : ℕ) (s : State) → Applies n s (apply_held n s)
-applies zero s = record { elapsed = refl; hold = refl; suspensions = refl; held = omega arith; tasks = refl }
+applies zero s =
+    record {
+      elapsed = refl;
+      hold = refl;
+      suspensions = refl;
+      held = omega arith;
+      sections = refl;
+      sources = refl;
+      tasks = refl;
+    }
 applies (suc n) s =
     let k = applied s in
     let h = applies n (apply_one s) in
@@ -359,6 +394,8 @@ applies (suc n) s =
       hold = h.hold ∙ k.hold;
       suspensions = h.suspensions ∙ ap (λ (x : Suspension). x.suspensions) k.suspension;
       held = let e = h.held in omega arith;
+      sections = h.sections ∙ ap (λ (x : Suspension). x.sections) k.suspension;
+      sources = h.sources ∙ k.sources;
       tasks = h.tasks ∙ k.tasks;
     }
 
@@ -369,6 +406,8 @@ pub record Resumes (old new : State) : Type 0 where
   pub suspensions : new.suspensions ≡ old.suspensions - 1
   pub held : old.suspensions ≡ 1 → new.held_ticks ≡ 0
   pub no_more : new.held_ticks ≤ old.held_ticks
+  pub sections : new.sections ≡ old.sections
+  pub sources : new.sources ≡ old.sources
 
 pub resumes : (s : State) → Resumes s (resume_scheduler s)
 unfolding resume_scheduler
@@ -380,6 +419,8 @@ resumes s = by_test (eqb s.suspensions 1)
       suspensions = k.suspensions;
       held = λ _. let e = k.held in omega arith;
       no_more = let e = k.held in omega arith;
+      sections = k.sections;
+      sources = k.sources;
     }))
     (λ t.
     rw t (record {
@@ -388,6 +429,8 @@ resumes s = by_test (eqb s.suspensions 1)
       suspensions = refl;
       held = λ e. let u : eqb s.suspensions 1 ≡ true = rw e refl in absurd (cc);
       no_more = omega arith;
+      sections = refl;
+      sources = refl;
     }))
 
 pub resumes-all : (app : Application) (i : ℕ) (s : State) → Resumes s (resume_all app i s)
@@ -407,6 +450,8 @@ resumes-all app i s =
           (let e : (unless_held preempt u).held_ticks ≡ t.held_ticks = ap (λ (x : Suspension). x.held_ticks) k.suspension in
           let less = r.no_more in
           omega arith);
+      sections = ap (λ (x : Suspension). x.sections) k.suspension ∙ r.sections;
+      sources = k.sources ∙ r.sources;
     }
 
 pub record Suspends (old new : State) : Type 0 where
@@ -414,6 +459,8 @@ pub record Suspends (old new : State) : Type 0 where
   pub hold : hold_of new ≡ hold_of old
   pub suspensions : new.suspensions ≡ old.suspensions + 1
   pub held : new.held_ticks ≡ old.held_ticks
+  pub sections : new.sections ≡ old.sections
+  pub sources : new.sources ≡ old.sources
 
 pub suspends-all : (app : Application) (i : ℕ) (s : State) → Suspends s (suspend_all app i s)
 unfolding suspend_all
@@ -424,6 +471,8 @@ suspends-all app i s =
       hold = k.hold;
       suspensions = ap (λ (x : Suspension). x.suspensions) k.suspension;
       held = ap (λ (x : Suspension). x.held_ticks) k.suspension;
+      sections = ap (λ (x : Suspension). x.sections) k.suspension;
+      sources = k.sources;
     }
 
 -- ---- the ops
@@ -479,7 +528,7 @@ ends-act app i Yield s t w = ends s _ (keeps_both s _ _ (keeps-answer app i (Som
 ends-act app i Time s t w = ends s _ (keeps-answer app i (Some (printed s.time)) s)
 ends-act app i (Mark n) s t w =
     let k = keeps-go_to app i ((progress_at s i).op_index + 1) (progress_at s i) (write (what.Mark i n) s) in
-    record { lasts = record { elapsed = k.elapsed; suspension = k.suspension }; hold = k.hold }
+    record { lasts = record { elapsed = k.elapsed; suspension = k.suspension; sources = k.sources }; hold = k.hold }
 ends-act app i (Expect c) s t w = ends-expect app i c s
 ends-act app i (Repeat n) s t w = ends s _ (keeps-open_loop app i n s)
 ends-act app i End s t w = ends s _ (keeps-close_turn app i s)
@@ -583,12 +632,30 @@ held-act app i op s = by_op (λ op. (act app i op s).held_ticks ≤ s.held_ticks
     omega arith)
     op
 
+-- as many critical sections are open after it
+pub sections-act : (app : Application) (i : ℕ) (op : Op) (s : State) → (act app i op s).sections ≡ s.sections
+sections-act app i op s = by_op (λ op. (act app i op s).sections ≡ s.sections)
+    (λ n. sections-tick app (use_up app i n s) ∙ ap (λ (x : Suspension). x.sections) (keeps-use_up app i n s).suspension)
+    (suspends-all app i s).sections
+    (resumes-all app i s).sections
+    (λ op t. ap (λ (x : Suspension). x.sections) (lasts-act app i op s t).suspension)
+    op
+
+-- what is kept of the interrupt sources stays
+pub sources-act : (app : Application) (i : ℕ) (op : Op) (s : State) → (act app i op s).sources ≡ s.sources
+sources-act app i op s = by_op (λ op. (act app i op s).sources ≡ s.sources)
+    (λ n. sources-tick app (use_up app i n s) ∙ (keeps-use_up app i n s).sources)
+    (suspends-all app i s).sources
+    (resumes-all app i s).sources
+    (λ op t. (lasts-act app i op s t).sources)
+    op
+
 -- a judgement
 pub judged : (i op_index : ℕ) (s : State) → Lasts s (judge i op_index s)
 unfolding judge
 judged i op_index s = by_test (is_scheduler_suspended s && is_ended (status_at s i))
-    (λ t. rw t (record { elapsed = refl; suspension = refl }))
-    (λ t. rw t (record { elapsed = refl; suspension = refl }))
+    (λ t. rw t (record { elapsed = refl; suspension = refl; sources = refl }))
+    (λ t. rw t (record { elapsed = refl; suspension = refl; sources = refl }))
 
 -- ---- where no `suspend_all` is in force
 
@@ -616,12 +683,13 @@ acts_calm app i op s none fine ne =
     ∙ judged_calm i (progress_at s i).op_index (act app i op s) (calm_still app i op s none fine ne)
 
 -- no more than one tick passes, except where idle may jump, and then none past the limit; no more than one is held, and no more
--- than one `suspend_all` comes into force
+-- than one `suspend_all` comes into force; as many critical sections are open
 pub record Moves (app : Application) (limits : Limits) (old new : State) : Type 0 where
   pub elapsed : app.tickless ≡ false → new.elapsed ≤ old.elapsed + 1
   pub most : old.elapsed < limits.ticks → new.elapsed ≤ limits.ticks
   pub suspensions : new.suspensions ≤ old.suspensions + 1
   pub held : new.held_ticks ≤ old.held_ticks + 1
+  pub sections : new.sections ≡ old.sections
 
 moves-act_unless : (app : Application) (limits : Limits) (i : ℕ) (kind : Option Misuse) (op : Op) (s : State)
     → Moves app limits s (act_unless app i kind op s)
@@ -635,13 +703,31 @@ moves-act_unless app limits i None op s =
     let g : (judge i (progress_at s i).op_index t).held_ticks ≡ t.held_ticks = ap (λ (x : Suspension). x.held_ticks) j.suspension in
     let b = suspensions-act app i op s in
     let h = held-act app i op s in
-    record { elapsed = λ off. omega arith; most = λ l. omega arith; suspensions = omega arith; held = omega arith }
+    record {
+      elapsed = λ off. omega arith;
+      most = λ l. omega arith;
+      suspensions = omega arith;
+      held = omega arith;
+      sections = ap (λ (x : Suspension). x.sections) j.suspension ∙ sections-act app i op s;
+    }
 moves-act_unless app limits i (Some kind) op s =
-    record { elapsed = λ off. omega arith; most = λ l. omega arith; suspensions = omega arith; held = omega arith }
+    record {
+      elapsed = λ off. omega arith;
+      most = λ l. omega arith;
+      suspensions = omega arith;
+      held = omega arith;
+      sections = refl;
+    }
 
 moves-act_if : (app : Application) (limits : Limits) (i : ℕ) (o : Option Op) (s : State) → Moves app limits s (act_if app i o s)
 moves-act_if app limits i None s =
-    record { elapsed = λ off. omega arith; most = λ l. omega arith; suspensions = omega arith; held = omega arith }
+    record {
+      elapsed = λ off. omega arith;
+      most = λ l. omega arith;
+      suspensions = omega arith;
+      held = omega arith;
+      sections = refl;
+    }
 moves-act_if app limits i (Some op) s = moves-act_unless app limits i (misuse s i op) op s
 
 moves-act_current : (app : Application) (limits : Limits) (r : Option ℕ) (s : State)
@@ -653,8 +739,25 @@ moves-act_current app limits None s =
       most = λ l. most-idle app limits s l;
       suspensions = omega arith;
       held = held-idle app limits s;
+      sections = sections-idle app limits s;
     }
 moves-act_current app limits (Some i) s = moves-act_if app limits i (op_at app i (progress_at s i).op_index) s
+
+-- what is kept of the interrupt sources stays
+sources-act_unless : (app : Application) (i : ℕ) (kind : Option Misuse) (op : Op) (s : State)
+    → (act_unless app i kind op s).sources ≡ s.sources
+sources-act_unless app i None op s =
+    (judged i (progress_at s i).op_index (act app i op s)).sources ∙ sources-act app i op s
+sources-act_unless app i (Some kind) op s = refl
+
+sources-act_if : (app : Application) (i : ℕ) (o : Option Op) (s : State) → (act_if app i o s).sources ≡ s.sources
+sources-act_if app i None s = refl
+sources-act_if app i (Some op) s = sources-act_unless app i (misuse s i op) op s
+
+pub sources-act_current : (app : Application) (limits : Limits) (r : Option ℕ) (s : State)
+    → (act_current app limits r s).sources ≡ s.sources
+sources-act_current app limits None s = sources-idle app limits s
+sources-act_current app limits (Some i) s = sources-act_if app i (op_at app i (progress_at s i).op_index) s
 
 -- ---- a step, and reset
 
@@ -679,6 +782,8 @@ moves-step app limits handlers s =
       most = λ l. (let m3 : acted.elapsed ≤ limits.ticks = m.most (omega arith) in omega arith);
       suspensions = omega arith;
       held = omega arith;
+      sections =
+          ap (λ (x : Suspension). x.sections) k.suspension ∙ m.sections ∙ ap (λ (x : Suspension). x.sections) b.suspension;
     }
 
 pub elapsed-step : (app : Application) (limits : Limits) (handlers : List ℕ) (s : State)
@@ -705,10 +810,10 @@ pub elapsed-reset : (app : Application) → (reset app).elapsed ≡ 0
 unfolding reset ready_at_reset
 elapsed-reset app = (keeps-all_ready (with_ops 0 app.tasks) (nobody_ready app)).elapsed ∙ elapsed-nobody app
 
-suspension-nobody : (app : Application) → suspension_of (nobody_ready app) ≡ record { suspensions = 0; held_ticks = 0 }
+suspension-nobody : (app : Application) → suspension_of (nobody_ready app) ≡ record { suspensions = 0; held_ticks = 0; sections = 0 }
 unfolding nobody_ready
 suspension-nobody app = refl
 
-pub suspension-reset : (app : Application) → suspension_of (reset app) ≡ record { suspensions = 0; held_ticks = 0 }
+pub suspension-reset : (app : Application) → suspension_of (reset app) ≡ record { suspensions = 0; held_ticks = 0; sections = 0 }
 unfolding reset ready_at_reset
 suspension-reset app = (keeps-all_ready (with_ops 0 app.tasks) (nobody_ready app)).suspension ∙ suspension-nobody app

@@ -35,25 +35,27 @@ use Rattle.soundness.proofs.Called.{went_on, began, phase_free, call_apart, rehu
 abbrev pub free : Hold
 free = record { held = false; locked = None }
 
--- no `suspend_all` is in force, and no tick is held
+-- no `suspend_all` is in force, no tick is held, and no critical section is open
 abbrev pub unsuspended : Suspension
-unsuspended = record { suspensions = 0; held_ticks = 0 }
+unsuspended = record { suspensions = 0; held_ticks = 0; sections = 0 }
 
 pub suspended_not : (s : State) → suspension_of s ≡ unsuspended → is_scheduler_suspended s ≡ false
 suspended_not s calm = let none : s.suspensions ≡ 0 = ap (λ (x : Suspension). x.suspensions) calm in rw none refl
 
-pub calm_where : (s : State) → is_scheduler_suspended s ≡ false → s.held_ticks ≡ 0 → suspension_of s ≡ unsuspended
-calm_where s not_so none =
+pub calm_where : (s : State) → is_scheduler_suspended s ≡ false → s.held_ticks ≡ 0
+    → s.sections ≡ 0 → suspension_of s ≡ unsuspended
+calm_where s not_so none closed =
     let most = ltb-false 0 s.suspensions not_so in
     let zero_ : s.suspensions ≡ 0 = omega arith in
-    ap₂ (λ (a b : ℕ). record { suspensions = a; held_ticks = b }) zero_ none
+    ap₂ (λ (a b : ℕ). record { suspensions = a; held_ticks = b; sections = s.sections }) zero_ none
+    ∙ ap (λ (n : ℕ). record { suspensions = 0; held_ticks = 0; sections = n }) closed
 
 -- while a call holds the scheduler
 pub calm_held : (app : Application) (s : State) → IsState app s → s.call_hold ≡ true → suspension_of s ≡ unsuspended
 calm_held app s h held =
     let not_so : is_scheduler_suspended s ≡ false =
     by_test (is_scheduler_suspended s) (λ t. let f = h.apart t in absurd (cc)) (λ t. t) in
-    calm_where s not_so (h.held not_so)
+    calm_where s not_so (h.held not_so) h.closed
 
 module _ (app : Application) (formed : IsWellFormed app) where
   -- the running task goes on in a phase that holds the scheduler
@@ -81,6 +83,7 @@ module _ (app : Application) (formed : IsWellFormed app) where
         locked = λ none. absurd (cc);
         apart = λ t. let f : is_scheduler_suspended s ≡ false = suspended_not s calm in absurd (cc);
         held = λ _. ap (λ (x : Suspension). x.held_ticks) calm;
+        closed = ap (λ (x : Suspension). x.sections) calm;
       }
 
   -- ---- Decide

@@ -1,14 +1,14 @@
 -- What is true of every state that a run comes to: of that at reset, and so of all.
-use Rattle.std.proofs.Common.{◌≡◌, ◌<◌, ◌≤◌, ◌+◌, ℕ, zero, suc, eqb, List, [], ◌∷◌, length, map, get_or, refl, ap, arith}
+use Rattle.std.proofs.Common.{◌≡◌, ◌<◌, ◌≤◌, ◌+◌, ℕ, zero, suc, eqb, List, [], ◌∷◌, length, map, get_or, refl, ap, arith, length-append, ◌∙◌}
 use Rattle.std.specs.List.{AllByRecursion, slice_get}
 use Rattle.std.specs.Option.{option_map, unwrap_or}
 use Rattle.std.proofs.lemmas.List.{length-map}
 use Rattle.model.specs.declared.object.ObjectKind.{ObjectKind}
 use Rattle.model.specs.declared.object.ObjectKind.TheVariants.{Queue, Semaphore, Mutex}
 use Rattle.model.specs.declared.plan.Injection.{Injection}
-use Rattle.model.specs.Application.{Application, Limits, Definition}
+use Rattle.model.specs.Application.{Application, Limits, Definition, Handler}
 use Rattle.model.specs.Scripts.{IsDefinition, IsObjectKind, IsWellFormed}
-use Rattle.model.specs.State.{State, no_task, no_object, for_each}
+use Rattle.model.specs.State.{State, no_task, no_object, no_source, for_each}
 use Rattle.model.specs.Switching.{make_ready, choice}
 use Rattle.model.specs.Step.{reset, nobody_ready, ready_at_reset, task_at_reset, object_at_reset, with_ops}
 use Rattle.model.specs.Run.{injected, state_after}
@@ -90,6 +90,9 @@ module _ (app : Application) (formed : IsWellFormed app) where
     progress = λ i. progress-reset app.start i app.tasks formed.tasks;
     calls = λ i. let at = call-reset app.start i app.tasks in call_none free app.start _ _ at.0 at.1;
     contents = λ o. contents-reset o app.objects formed.objects;
+    sources =
+        length-append (map (λ (handler : Handler). no_source) app.handlers) (no_source ∷ [])
+        ∙ ap (λ (n : ℕ). n + 1) (length-map app.handlers (λ (handler : Handler). no_source));
     priorities = λ i. priority-reset app.start i app.tasks formed.tasks;
     time = (omega arith, omega arith);
   }

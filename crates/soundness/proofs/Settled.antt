@@ -1,5 +1,6 @@
 -- Between two steps the running task is Ready, and idle runs only where no task is.
-use Rattle.std.proofs.Common.{◌≡◌, ℕ, zero, suc, true, false, not, List, [], ◌∷◌, Option, Some, None, refl, ap, sym, subst}
+use Rattle.std.proofs.Common.{◌≡◌, ℕ, zero, suc, true, false, not, ltb, ◌||◌, List, [], ◌∷◌, Option, Some, None, refl, ap, ap₂, sym}
+use Rattle.std.proofs.Common.{subst, ◌∙◌}
 use Rattle.std.specs.List.{AllByRecursion}
 use Rattle.std.specs.Prelude.{Bool, if◌then◌else◌}
 use Rattle.std.specs.Option.{IfSome, is_some, option_map}
@@ -8,7 +9,8 @@ use Rattle.model.specs.State.{State, Status, Ready, Awake, Waiting, Asleep, Wait
 use Rattle.model.specs.State.{task_at, for_one}
 use Rattle.model.specs.Order.{Key, Entry, key, first, task_of}
 use Rattle.model.specs.Switching.{ready_key, ready_list, is_ready, to_back, choice, is_same, choose, dispatch, yield_now}
-use Rattle.model.specs.Switching.{is_outranked, preempt, is_off, settle, is_held, unless_held}
+use Rattle.model.specs.Switching.{is_outranked, preempt, is_off, settle, is_held, is_scheduler_suspended, is_critical, unless_held}
+use Rattle.model.specs.Invariant.{Hold, hold_of, Suspension, suspension_of}
 use Rattle.model.specs.declared.plan.Injection.{Injection}
 use Rattle.model.specs.Step.{act_current, before_step, step, ready_at_reset, reset}
 use Rattle.model.specs.Run.{injected, state_after}
@@ -78,19 +80,42 @@ when_free deed s free = if_false (is_held s) s (deed s) free
 pub held_by_call : (s : State) → s.call_hold ≡ true → is_held s ≡ true
 held_by_call s held = rw held refl
 
--- Where no call does, and no `suspend_all` is in force, nothing holds it.
-pub held_by_none : (s : State) → s.call_hold ≡ false → s.suspensions ≡ 0 → is_held s ≡ false
-held_by_none s free none = rw (free, none) refl
+-- Where no call does, no `suspend_all` is in force, and no critical section is open, nothing holds it.
+pub held_by_none : (s : State) → s.call_hold ≡ false → s.suspensions ≡ 0 → s.sections ≡ 0 → is_held s ≡ false
+held_by_none s free none closed = rw (free, none, closed) refl
+
+-- whether it is held, by what holds it
+abbrev held_by : Hold → Suspension → Bool
+held_by hold x = (hold.held || ltb 0 x.suspensions) || ltb 0 x.sections
+
+-- Where the same holds it, it is held as it was.
+pub held_as_it_was : (s t : State) → hold_of t ≡ hold_of s → suspension_of t ≡ suspension_of s → is_held t ≡ is_held s
+held_as_it_was s t hold suspension = ap₂ held_by hold suspension
+
+-- Where it isn't held, no call holds it, no `suspend_all` is in force, and no section is open.
+pub nothing_holds : (s : State) → is_held s ≡ false
+    → (s.call_hold ≡ false) × (is_scheduler_suspended s ≡ false) × (is_critical s ≡ false)
+nothing_holds s = by_three s.call_hold (is_scheduler_suspended s) (is_critical s) where
+  by_three : (a b c : Bool) → ((a || b) || c) ≡ false → (a ≡ false) × (b ≡ false) × (c ≡ false)
+  by_three false false false e = (refl, refl, refl)
+  by_three false false true e = absurd (cc)
+  by_three false true c e = absurd (cc)
+  by_three true b c e = absurd (cc)
 
 -- where it isn't held
 pub settled-step : (app : Application) (limits : Limits) (handlers : List ℕ) (s : State)
     → is_held (step app limits handlers s) ≡ false → IsSettled (step app limits handlers s)
 unfolding step
 settled-step app limits handlers s free = by_test (is_held t)
-    (λ held. let same : is_held (unless_held settle t) ≡ is_held t = ap is_held (when_held settle t held) in absurd (cc))
+    (λ held.
+    let same : is_held (unless_held settle t) ≡ is_held t = ap is_held (when_held settle t held) in
+    apart (sym held ∙ sym same ∙ free))
     (λ none. subst IsSettled (sym (when_free settle t none)) (settled-settle t)) where
       t : State
       t = let r : State = before_step app handlers s in act_current app limits r.current r
+
+      apart : {A : Type 0} → true ≡ false → A
+      apart e = absurd (cc)
 
 pub settled-reset : (app : Application) → IsSettled (reset app)
 unfolding reset

@@ -17,7 +17,7 @@ use Rattle.model.specs.Application.{Application, script_of, op_at, op_count}
 use Rattle.model.specs.Answers.{holds}
 use Rattle.model.specs.Blocks.{edge_of, jump_from}
 use Rattle.model.specs.Scripts.{IsWellFormed}
-use Rattle.model.specs.State.{State, Task, Progress, Status, Wait, Ready, Awake, Waiting, Asleep, WaitingForBits, Suspended, Ended}
+use Rattle.model.specs.State.{State, Task, Source, Progress, Status, Wait, Ready, Awake, Waiting, Asleep, WaitingForBits, Suspended, Ended}
 use Rattle.model.specs.State.{ticket_if_ready, ticket_of, wake_time_of, no_call, task_at, progress_at, status_at, with_task}
 use Rattle.model.specs.State.{take_ticket, for_one, for_each, no_task}
 use Rattle.model.specs.Order.{Entry, tasks_of}
@@ -177,6 +177,7 @@ module _ (app : Application) (formed : IsWellFormed app) (hold : Hold) where
     progress = h.progress;
     calls = h.calls;
     contents = h.contents;
+    sources = h.sources;
     priorities = h.priorities;
     time = h.time;
   }
@@ -206,6 +207,7 @@ module _ (app : Application) (formed : IsWellFormed app) (hold : Hold) where
     progress = λ j. (kept-set s i t h k j).0;
     calls = λ j. (kept-set s i t h k j).1;
     contents = h.contents;
+    sources = h.sources;
     priorities = λ j. (kept-set s i t h k j).2;
     time = h.time;
   }
@@ -219,6 +221,7 @@ module _ (app : Application) (formed : IsWellFormed app) (hold : Hold) where
     progress = λ j. (kept-set s i (record (task_at s i) { status = f s.next_ticket }) h k j).0;
     calls = λ j. (kept-set s i (record (task_at s i) { status = f s.next_ticket }) h k j).1;
     contents = h.contents;
+    sources = h.sources;
     priorities = λ j. (kept-set s i (record (task_at s i) { status = f s.next_ticket }) h k j).2;
     time = h.time;
   }
@@ -253,6 +256,7 @@ module _ (app : Application) (formed : IsWellFormed app) (hold : Hold) where
     progress = h.progress;
     calls = h.calls;
     contents = h.contents;
+    sources = h.sources;
     priorities = h.priorities;
     time = h.time;
   }
@@ -307,6 +311,7 @@ module _ (app : Application) (formed : IsWellFormed app) (hold : Hold) where
         };
     calls = λ i. call_later n hold s.time (op_at app i (progress_at s i).op_index) (task_at s i) (h.calls i);
     contents = h.contents;
+    sources = h.sources;
     priorities = h.priorities;
     time = (omega arith, omega arith);
   }
@@ -321,6 +326,7 @@ module _ (app : Application) (formed : IsWellFormed app) (hold : Hold) where
     progress = h.progress;
     calls = h.calls;
     contents = h.contents;
+    sources = h.sources;
     priorities = h.priorities;
     time = (b, omega arith);
   }
@@ -343,6 +349,7 @@ module _ (app : Application) (formed : IsWellFormed app) (hold : Hold) where
         };
     calls = λ i. call_later 1 hold s.time (op_at app i (progress_at s i).op_index) (task_at s i) (h.calls i);
     contents = h.contents;
+    sources = h.sources;
     priorities = h.priorities;
     time = (omega arith, omega arith);
   }
@@ -357,6 +364,22 @@ module _ (app : Application) (formed : IsWellFormed app) (hold : Hold) where
     progress = h.progress;
     calls = h.calls;
     contents = h.contents;
+    sources = h.sources;
+    priorities = h.priorities;
+    time = h.time;
+  }
+
+  -- what is kept of the interrupt sources, of which there are as many
+  pub resourced : (s : State) (sources : List Source) → length sources ≡ length app.handlers + 1
+      → IsSound app hold s → IsSound app hold (record s { sources = sources })
+  resourced s sources many h = record {
+    table = record { tickets = h.table.tickets; few = h.table.few; current = h.table.current; holders = h.table.holders };
+    tasks = h.tasks;
+    objects = h.objects;
+    progress = h.progress;
+    calls = h.calls;
+    contents = h.contents;
+    sources = many;
     priorities = h.priorities;
     time = h.time;
   }

@@ -1,7 +1,9 @@
 -- What is true of every state that a run comes to is true after a step.
 use Rattle.std.proofs.Common.{ap₂, ◌≡◌, ◌≢◌, ◌<◌, ◌+◌, ◌-◌, ◌||◌, ◌&&◌, ◌⊎◌, inl, inr, ℕ, true, false, eqb, ltb, List, [], ◌∷◌}
-use Rattle.std.proofs.Common.{length, Option, Some, None, refl, ap, sym, subst, ◌∙◌, arith}
+use Rattle.std.proofs.Common.{length, map, slice_set, Option, Some, None, refl, ap, sym, subst, ◌∙◌, arith}
 use Rattle.std.specs.Prelude.{Bool}
+use Rattle.std.proofs.Math.ListN.{length-set}
+use Rattle.std.proofs.lemmas.List.{length-map}
 use Rattle.std.specs.Option.{IfSome, option_eq}
 use Rattle.std.proofs.lemmas.Bool.{ltb-true, lt-ltb}
 use Rattle.model.specs.declared.op.Op.{Op}
@@ -22,8 +24,8 @@ use Rattle.model.specs.declared.event.End as ending
 use Rattle.model.specs.declared.event.What.TheVariants as what
 use Rattle.model.specs.Application.{Application, Limits, script_of, op_at}
 use Rattle.model.specs.Scripts.{IsWellFormed, fits_object, is_wait}
-use Rattle.model.specs.State.{State, task_at, progress_at, status_at, call_at, bits_at, go_on, for_each}
-use Rattle.model.specs.Switching.{choose, is_ready, preempt, settle, is_scheduler_suspended, is_held, unless_held, write}
+use Rattle.model.specs.State.{State, Source, task_at, progress_at, status_at, call_at, bits_at, source_at, go_on, for_each}
+use Rattle.model.specs.Switching.{choose, is_ready, preempt, settle, is_scheduler_suspended, is_critical, is_held, unless_held, write}
 use Rattle.model.specs.Waiting.{set_deadline, end_hold, unlock}
 use Rattle.model.specs.Ops.{answer, use_up}
 use Rattle.model.specs.Objects.{list_for}
@@ -31,7 +33,7 @@ use Rattle.model.specs.Calls.{await, decide, leave_call}
 use Rattle.model.specs.Groups.{is_met, begin_set, set_bits, check, final_bits, wait_bits}
 use Rattle.model.specs.Suspension.{suspend_all, resume_all}
 use Rattle.model.specs.Daemon.{take_command, next_command, obeyed, obey, command_at}
-use Rattle.model.specs.Handlers.{handle, inject}
+use Rattle.model.specs.Handlers.{handle, serve, inject, pend, pending_of, none_pending, serve_pending}
 use Rattle.model.specs.Step.{is_ended, judge, misused, act, act_unless, may_switch, misuse, act_if, act_current, before_step, step}
 use Rattle.model.specs.Invariant.{Hold, hold_of, InOne, OnObject, ForBits, ToSetBits, course, list_of_op, IsPhaseOf, IsSound, holds}
 use Rattle.model.specs.Invariant.{IsStranded, IsRunning, RunsIn, Suspension, suspension_of, IsState}
@@ -39,14 +41,15 @@ use Rattle.model.proofs.Sorting.{by_test}
 use Rattle.model.proofs.Lists.{eqb-same}
 use Rattle.model.proofs.Statuses.{ready_free}
 use Rattle.soundness.proofs.Settled.{IsSettled, settled-settle, settled-preempt, when_held, when_free, held_by_call, held_by_none}
+use Rattle.soundness.proofs.Settled.{nothing_holds}
 use Rattle.soundness.proofs.InScripts.{script_formed, range_at, known_at}
 use Rattle.soundness.proofs.Frames.{keeps-settle, keeps-choose, keeps-answer, keeps-answer_bits, keeps-try, keeps-set_deadline}
 use Rattle.soundness.proofs.Frames.{keeps-use_up, keeps-preempt, keeps-take_command, keeps-obeyed, keeps-clear_by_daemon}
 use Rattle.soundness.proofs.Passing.{is_instant, lasts-act, lasts-leave_call, lasts-end_set, lasts-end_command, lasts-final_bits}
 use Rattle.soundness.proofs.Passing.{hold-idle, suspension-idle, hold-act, suspension-tick, suspensions-tick, suspends-all}
-use Rattle.soundness.proofs.Passing.{resumes-all}
+use Rattle.soundness.proofs.Passing.{resumes-all, sections-act}
 use Rattle.soundness.proofs.Sound.{runs, logged, settled, preempted, yielded, answered, used_up, expected, opened, closed, branched}
-use Rattle.soundness.proofs.Sound.{skipped, loop_left, stamped, since_stamped, plain, delayed, delayed_until}
+use Rattle.soundness.proofs.Sound.{resourced, skipped, loop_left, stamped, since_stamped, plain, delayed, delayed_until}
 use Rattle.soundness.proofs.Handled.{and_left, and_right, ticked, idled, handled_between}
 use Rattle.soundness.proofs.Trying.{tried, gave}
 use Rattle.soundness.proofs.Called.{done_now, dated, dated_at, phase_free, course_of_one}
@@ -68,8 +71,8 @@ module _ (app : Application) (formed : IsWellFormed app) where
 
   -- no call holds the scheduler, and nothing is locked
   rests : (s : State) → IsSound app free s → hold_of s ≡ free → IsOn s s.current
-      → (is_scheduler_suspended s ≡ false → s.held_ticks ≡ 0) → IsState app s
-  rests s h same on ticks =
+      → (is_scheduler_suspended s ≡ false → s.held_ticks ≡ 0) → s.sections ≡ 0 → IsState app s
+  rests s h same on ticks shut =
       let none : s.call_hold ≡ false = ap (λ (x : Hold). x.held) same in
       let unlocked_ : s.locked ≡ None = ap (λ (x : Hold). x.locked) same in
       let off : (j : ℕ) → holds (call_at s j).phase ≡ false = λ j. phase_free free _ (call_at s j).phase refl (h.calls j).phase in
@@ -80,10 +83,11 @@ module _ (app : Application) (formed : IsWellFormed app) where
         locked = λ _. unlocked_;
         apart = λ _. none;
         held = ticks;
+        closed = shut;
       } where
         by_current : (r : Option ℕ) → IsOn s r → s.call_hold ≡ false
             → ((j : ℕ) → holds (call_at s j).phase ≡ false) → RunsIn app s r
-        by_current None on none off = ap₂ (λ (a b : Bool). a || b) none on
+        by_current None on none off = rw (none, on, shut) refl
         by_current (Some i) on none off =
             record {
               holding = off i ∙ sym none;
@@ -94,25 +98,27 @@ module _ (app : Application) (formed : IsWellFormed app) where
 
   -- no `suspend_all` is in force, and the running task is Ready
   pub at_rest : (s : State) → IsSound app free s → hold_of s ≡ free → suspension_of s ≡ unsuspended → IsSettled s → IsState app s
-  at_rest s h same calm on = rests s h same (by_current s.current on) (λ _. ap (λ (x : Suspension). x.held_ticks) calm) where
-    by_current : (r : Option ℕ) → IfSome r (λ task. is_ready s task ≡ true) → IsOn s r
-    by_current None on = suspended_not s calm
-    by_current (Some i) on = inl on
+  at_rest s h same calm on = rests s h same (by_current s.current on)
+      (λ _. ap (λ (x : Suspension). x.held_ticks) calm) (ap (λ (x : Suspension). x.sections) calm) where
+        by_current : (r : Option ℕ) → IfSome r (λ task. is_ready s task ≡ true) → IsOn s r
+        by_current None on = suspended_not s calm
+        by_current (Some i) on = inl on
 
   settled_at_rest : (s : State) → IsSound app free s → hold_of s ≡ free
       → suspension_of s ≡ unsuspended → IsState app (unless_held settle s)
   settled_at_rest s h same calm =
       let none : is_held s ≡ false =
-      held_by_none s (ap (λ (x : Hold). x.held) same) (ap (λ (x : Suspension). x.suspensions) calm) in
+      held_by_none s (ap (λ (x : Hold). x.held) same) (ap (λ (x : Suspension). x.suspensions) calm)
+      (ap (λ (x : Suspension). x.sections) calm) in
       subst (IsState app) (sym (when_free settle s none)) (at_rest (settle s) (settled app formed free s h)
       ((keeps-settle s).hold ∙ same) ((keeps-settle s).suspension ∙ calm) (settled-settle s))
 
   -- a `suspend_all` is in force, and the running task goes on
   suspended_at_rest : (s : State) (i : ℕ) → IsSound app free s → hold_of s ≡ free → is_scheduler_suspended s ≡ true
-      → s.current ≡ Some i → GoesOn app i (task_at s i) → IsState app (unless_held settle s)
-  suspended_at_rest s i h same on runs_ goes =
+      → s.sections ≡ 0 → s.current ≡ Some i → GoesOn app i (task_at s i) → IsState app (unless_held settle s)
+  suspended_at_rest s i h same on shut runs_ goes =
       let stays : IsState app s =
-      rests s h same (subst (IsOn s) (sym runs_) (elim goes [ inl r ↦ inl r | inr e ↦ inr (on, e) ])) (λ off. absurd (cc)) in
+      rests s h same (subst (IsOn s) (sym runs_) (elim goes [ inl r ↦ inl r | inr e ↦ inr (on, e) ])) (λ off. absurd (cc)) shut in
       subst (IsState app) (sym (when_held settle s (suspended_held s on))) stays
 
   still_held : (s : State) → IsState app s → s.call_hold ≡ true → IsState app (unless_held settle s)
@@ -129,26 +135,21 @@ module _ (app : Application) (formed : IsWellFormed app) where
         locked = h.locked;
         apart = h.apart;
         held = h.held;
+        closed = h.closed;
       } where
         by_current : (r : Option ℕ) → RunsIn app s r → RunsIn app (record s { log = log; steps = steps; stopped = stopped }) r
         by_current None r = r
         by_current (Some i) r = record { holding = r.holding; ready = r.ready; setting = r.setting; placing = r.placing }
 
-  not_left : (a b : Bool) → (a || b) ≡ false → a ≡ false
-  not_left false b e = refl
-  not_left true b e = absurd (cc)
-
-  not_right : (a b : Bool) → (a || b) ≡ false → b ≡ false
-  not_right false b e = e
-  not_right true b e = absurd (cc)
-
   -- where nothing holds the scheduler
   module _ (s : State) (h : IsState app s) (none : is_held s ≡ false) where
     no_call_holds : s.call_hold ≡ false
-    no_call_holds = not_left s.call_hold _ none
+    no_call_holds = (nothing_holds s none).0
 
     calm_free : suspension_of s ≡ unsuspended
-    calm_free = let off : is_scheduler_suspended s ≡ false = not_right s.call_hold _ none in calm_where s off (h.held off)
+    calm_free =
+        let off : is_scheduler_suspended s ≡ false = (nothing_holds s none).1 in
+        calm_where s off (h.held off) h.closed
 
   hold_none : (s : State) → IsState app s → s.call_hold ≡ false → hold_of s ≡ free
   hold_none s h none =
@@ -238,7 +239,7 @@ module _ (app : Application) (formed : IsWellFormed app) where
     -- where nothing holds it
     module _ (none : s.call_hold ≡ false) (off : is_scheduler_suspended s ≡ false) where
       calm : suspension_of s ≡ unsuspended
-      calm = calm_where s off (h.held off)
+      calm = calm_where s off (h.held off) h.closed
 
       suspensions_none : s.suspensions ≡ 0
       suspensions_none = ap (λ (x : Suspension). x.suspensions) calm
@@ -269,7 +270,8 @@ module _ (app : Application) (formed : IsWellFormed app) where
           let more : is_scheduler_suspended (suspend_all app i s) ≡ true =
           lt-ltb 0 (suspend_all app i s).suspensions (omega arith) in
           suspended_at_rest _ i (acted s i SuspendAll (sound_free s h none) (h.locked none) there r is refl)
-          (hold-act app i SuspendAll s refl ∙ hold_none s h none) more (k.current ∙ on) k.goes
+          (hold-act app i SuspendAll s refl ∙ hold_none s h none) more
+          ((suspends-all app i s).sections ∙ h.closed) (k.current ∙ on) k.goes
 
       -- ---- a call on an object
 
@@ -544,7 +546,8 @@ module _ (app : Application) (formed : IsWellFormed app) where
       goes_on op is w still k =
           suspended_at_rest (act app i op s) i
           (acted s i op (sound_free s h none_holds) (h.locked none_holds) there (ready_at op none_holds is) is w)
-          (hold-act app i op s w ∙ hold_none s h none_holds) still (k.current ∙ on) k.goes
+          (hold-act app i op s w ∙ hold_none s h none_holds) still
+          (sections-act app i op s ∙ h.closed) (k.current ∙ on) k.goes
 
       still_used : (n : ℕ) → is_scheduler_suspended (use_up app i n s) ≡ true
       still_used n = ap (λ (x : Suspension). ltb 0 x.suspensions) (keeps-use_up app i n s).suspension ∙ sus
@@ -557,7 +560,9 @@ module _ (app : Application) (formed : IsWellFormed app) where
           let count = k.suspensions in
           let none_left : (resume_all app i s).suspensions ≡ 0 = omega arith in
           let calm_now : suspension_of (resume_all app i s) ≡ unsuspended =
-          ap₂ (λ (a b : ℕ). record { suspensions = a; held_ticks = b }) none_left (k.held was) in
+          ap₂ (λ (a b : ℕ). record { suspensions = a; held_ticks = b; sections = (resume_all app i s).sections })
+          none_left (k.held was)
+          ∙ ap (λ (n : ℕ). record { suspensions = 0; held_ticks = 0; sections = n }) (k.sections ∙ h.closed) in
           settled_at_rest _
           (acted s i ResumeAll (sound_free s h none_holds) (h.locked none_holds) there (ready_at ResumeAll none_holds is) is refl)
           (k.hold ∙ hold_none s h none_holds) calm_now
@@ -653,10 +658,10 @@ module _ (app : Application) (formed : IsWellFormed app) where
 
   -- ---- handlers before a step
 
-  -- an injected handler
-  pub injected_between : (handler : ℕ) (s : State) → IsState app s → IsState app (inject app handler s)
-  unfolding inject
-  injected_between handler s h = by_test (is_held t)
+  -- a handler that comes
+  pub served_between : (handler : ℕ) (s : State) → IsState app s → IsState app (serve app handler s)
+  unfolding serve
+  served_between handler s h = by_test (is_held t)
       (λ held. subst (IsState app) (sym (when_held preempt t held)) k)
       (λ none. subst (IsState app) (sym (when_free preempt t none)) (preempted_at_rest none)) where
         t : State
@@ -674,15 +679,65 @@ module _ (app : Application) (formed : IsWellFormed app) where
               by_current : (r : Option ℕ) → RunsIn app t r → t.call_hold ≡ false → IfSome r (λ task. is_ready t task ≡ true)
               by_current None r off = tt
               by_current (Some i) r off =
-                  elim (r.ready off) [ inl on ↦ on | inr x ↦ let f = x.0 in let g = not_right t.call_hold _ none in absurd (cc) ]
+                  elim (r.ready off) [ inl on ↦ on | inr x ↦ let f = x.0 in let g = (nothing_holds t none).1 in absurd (cc) ]
+
+  -- an injected handler
+  pub injected_between : (handler : ℕ) (s : State) → IsState app s → IsState app (inject app handler s)
+  unfolding inject
+  injected_between handler s h = served_between handler s h
+
+  all_served : (handlers : List ℕ) (s : State) → IsState app s → IsState app (for_each (serve app) handlers s)
+  all_served [] s h = h
+  all_served (handler ∷ handlers) s h = all_served handlers (serve app handler s) (served_between handler s h)
 
   all_injected : (handlers : List ℕ) (s : State) → IsState app s → IsState app (for_each (inject app) handlers s)
   all_injected [] s h = h
   all_injected (handler ∷ handlers) s h = all_injected handlers (inject app handler s) (injected_between handler s h)
 
+  -- ---- what is pending
+
+  -- What is pending doesn't matter, while there are as many sources.
+  raised : (s : State) (sources : List Source) → length sources ≡ length s.sources
+      → IsState app s → IsState app (record s { sources = sources })
+  raised s sources many h =
+      record {
+        sound = resourced app formed (hold_of s) s sources (many ∙ h.sound.sources) h.sound;
+        runs = by_current s.current h.runs;
+        alone = h.alone;
+        locked = h.locked;
+        apart = h.apart;
+        held = h.held;
+        closed = h.closed;
+      } where
+        by_current : (r : Option ℕ) → RunsIn app s r → RunsIn app (record s { sources = sources }) r
+        by_current None r = r
+        by_current (Some i) r = record { holding = r.holding; ready = r.ready; setting = r.setting; placing = r.placing }
+
+  -- a handler that becomes pending
+  pub pended_between : (handler : ℕ) (s : State) → IsState app s → IsState app (pend handler s)
+  pended_between handler s h =
+      raised s (slice_set s.sources handler (record (source_at s handler) { pending = true }))
+      (length-set s.sources handler (record (source_at s handler) { pending = true })) h
+
+  all_pended : (handlers : List ℕ) (s : State) → IsState app s → IsState app (for_each pend handlers s)
+  all_pended [] s h = h
+  all_pended (handler ∷ handlers) s h = all_pended handlers (pend handler s) (pended_between handler s h)
+
+  pub served_pending : (s : State) → IsState app s → IsState app (serve_pending app s)
+  unfolding serve_pending
+  served_pending s h =
+      all_served (pending_of s) (none_pending s)
+      (raised s (map (λ (x : Source). record x { pending = false }) s.sources)
+      (length-map s.sources (λ (x : Source). record x { pending = false })) h)
+
   pub reached_before_step : (handlers : List ℕ) (s : State) → IsState app s → IsState app (before_step app handlers s)
   unfolding before_step
-  reached_before_step handlers s h = all_injected handlers (record s { log = [] }) (told s [] s.steps s.stopped h)
+  reached_before_step handlers s h =
+      let r : State = record s { log = [] } in
+      let k : IsState app r = told s [] s.steps s.stopped h in
+      by_test (is_critical r)
+      (λ q. rw q (all_pended handlers r k))
+      (λ q. rw q (all_injected handlers (serve_pending app r) (served_pending r k)))
 
   pub reached_step : (limits : Limits) (handlers : List ℕ) (s : State) → IsState app s → IsState app (step app limits handlers s)
   unfolding step

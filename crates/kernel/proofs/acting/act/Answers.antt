@@ -8,6 +8,7 @@ use Rattle.model.specs.State.{Progress}
 use Rattle.machine.specs.StandsFor.{progress_in}
 use Rattle.kernel.specs.Bits.Begins.{Sets, Waits}
 use Rattle.kernel.specs.Can.{CanOp}
+use Rattle.sched.proofs.Standing.{none_suspends}
 use Rattle.kernel.proofs.Held.{misused_at, not_suspended}
 use Rattle.kernel.proofs.Acted.{all_within, any_by_form, does_by_form, one_within, room_for_one, room_for_two, two_within}
 use Rattle.machine.proofs.Either.{does_any, does_more, moves_any}
@@ -215,7 +216,7 @@ returns-in-ResumeAll-clause-does g c =
     rw c.in-ResumeAll.is (does_any 65 _ _ _ _ _ can.tick.advance.agrees (record {
       at = λ s h.
           misused_at c.args.app.now c.misuse.new.self _ s c.args.task ResumeAll NotSuspended
-          (not_suspended s c.args.task (sym h.stands.sched.suspensions ∙ c.requires.awake)) (c.misuse.ensures _ s h);
+          (not_suspended s c.args.task (none_suspends s (sym h.stands.sched.suspensions ∙ c.requires.awake))) (c.misuse.ensures _ s h);
       few = omega arith;
       before = refl;
     }))

@@ -4,6 +4,7 @@ use Rattle.std.proofs.Common.{◌∙◌, arith}
 use Rattle.kernel.proofs.Counting.{steps_still}
 use Rattle.machine.proofs.Either.{steps_are}
 use Rattle.kernel.proofs.Ending.{begun, handled_before, stepped}
+use Rattle.machine.proofs.Pending.{plain_by}
 use Rattle.kernel.proofs.steps.step_onto.Goals as goal
 
 pub inject_all-requires-clause-stands : goal.inject_all-requires-clause-stands
@@ -16,7 +17,7 @@ pub act_current-following-requires-clause-there : goal.act_current-following-req
 act_current-following-requires-clause-there g c =
     let going = c.requires.going in
     there_after c.args.app.now c.well_formed-2.ensures c.args.machine.now going c.args.handlers.now c.inject_all.new.machine
-    (handled_before c.args.app.now c.args.handlers.now _ c.inject_all.new.machine _
+    (handled_before c.args.app.now c.args.handlers.now _ (plain_by c.args.machine.now _ going.none going.stands) c.inject_all.new.machine _
     (c.inject_all.ensures.at _
     (begun c.args.machine.now (g.L.Log.logged c.args.log.now).told _ going.stands c.requires.begun))).stands
 
@@ -24,7 +25,7 @@ pub act_current-following-requires-clause-can : goal.act_current-following-requi
 act_current-following-requires-clause-can g c =
     let going = c.requires.going in
     can_act_after c.args.app.now c.well_formed-2.ensures c.args.machine.now going c.args.handlers.now c.inject_all.new.machine
-    (handled_before c.args.app.now c.args.handlers.now _ c.inject_all.new.machine _
+    (handled_before c.args.app.now c.args.handlers.now _ (plain_by c.args.machine.now _ going.none going.stands) c.inject_all.new.machine _
     (c.inject_all.ensures.at _
     (begun c.args.machine.now (g.L.Log.logged c.args.log.now).told _ going.stands c.requires.begun))).stands
 
@@ -32,7 +33,7 @@ pub overflow_add-machine : goal.overflow_add-machine
 overflow_add-machine g c =
     let going = c.requires.going in
     let a =
-    c.settle.ensures.at _ (c.act_current-following.ensures.at _ (handled_before c.args.app.now c.args.handlers.now going.state
+    c.settle.ensures.at _ (c.act_current-following.ensures.at _ (handled_before c.args.app.now c.args.handlers.now going.state (plain_by c.args.machine.now going.state going.none going.stands)
     c.inject_all.new.machine _
     (c.inject_all.ensures.at _
     (begun c.args.machine.now (g.L.Log.logged c.args.log.now).told going.state going.stands c.requires.begun)))) in
@@ -50,7 +51,7 @@ overflow_add-machine-2 g c =
     let going = c.requires.going in
     let a =
     c.settle-2.ensures.at _ (c.act_current-following.ensures.at _
-    (handled_before c.args.app.now c.args.handlers.now going.state c.inject_all.new.machine _
+    (handled_before c.args.app.now c.args.handlers.now going.state (plain_by c.args.machine.now going.state going.none going.stands) c.inject_all.new.machine _
     (c.inject_all.ensures.at _
     (begun c.args.machine.now (g.L.Log.logged c.args.log.now).told going.state going.stands c.requires.begun)))) in
     let still =
@@ -65,7 +66,7 @@ overflow_add-machine-2 g c =
 pub returns-then-eq-clause-stands : goal.returns-then-eq-clause-stands
 returns-then-eq-clause-stands g c = λ s h.
     let a =
-    c.settle.ensures.at _ (c.act_current-following.ensures.at _ (handled_before c.args.app.now c.args.handlers.now s
+    c.settle.ensures.at _ (c.act_current-following.ensures.at _ (handled_before c.args.app.now c.args.handlers.now s (plain_by c.args.machine.now s c.requires.going.none h)
     c.inject_all.new.machine _
     (c.inject_all.ensures.at _ (begun c.args.machine.now (g.L.Log.logged c.args.log.now).told s h c.requires.begun)))) in
     let still =
@@ -78,7 +79,7 @@ pub returns-clause-stands : goal.returns-clause-stands
 returns-clause-stands g c = λ s h.
     let a =
     c.settle-2.ensures.at _ (c.act_current-following.ensures.at _
-    (handled_before c.args.app.now c.args.handlers.now s c.inject_all.new.machine _
+    (handled_before c.args.app.now c.args.handlers.now s (plain_by c.args.machine.now s c.requires.going.none h) c.inject_all.new.machine _
     (c.inject_all.ensures.at _ (begun c.args.machine.now (g.L.Log.logged c.args.log.now).told s h c.requires.begun)))) in
     let still =
     steps_still c.args.app.now c.args.limits.now c.args.handlers.now s c.args.machine.now
@@ -91,7 +92,7 @@ unfolding step
 returns-then-eq-clause-told g c = λ s h.
     (c.settle.ensures.at _
     (c.act_current-following.ensures.at _
-    (handled_before c.args.app.now c.args.handlers.now s c.inject_all.new.machine _
+    (handled_before c.args.app.now c.args.handlers.now s (plain_by c.args.machine.now s c.requires.going.none h) c.inject_all.new.machine _
     (c.inject_all.ensures.at _ (begun c.args.machine.now (g.L.Log.logged c.args.log.now).told s h c.requires.begun))))).log
 
 pub returns-clause-told : goal.returns-clause-told
@@ -99,5 +100,5 @@ unfolding step
 returns-clause-told g c = λ s h.
     (c.settle-2.ensures.at _
     (c.act_current-following.ensures.at _
-    (handled_before c.args.app.now c.args.handlers.now s c.inject_all.new.machine _
+    (handled_before c.args.app.now c.args.handlers.now s (plain_by c.args.machine.now s c.requires.going.none h) c.inject_all.new.machine _
     (c.inject_all.ensures.at _ (begun c.args.machine.now (g.L.Log.logged c.args.log.now).told s h c.requires.begun))))).log

@@ -1,7 +1,12 @@
-use Rattle.std.proofs.Common.{[], ap, sym, subst, arith}
+use Rattle.std.proofs.Common.{◌≡◌, [], ap, refl, sym, subst, arith}
 use Rattle.clock.specs.Timeline.{Timeline}
 use Rattle.objects.specs.Objects.{Objects, HasRoom}
 use Rattle.machine.proofs.Acting.{agrees_after}
+use Rattle.model.specs.State.{State}
+use Rattle.model.specs.Ops.{use_up}
+use Rattle.model.specs.Invariant.{Suspension}
+use Rattle.soundness.proofs.Frames.{keeps-use_up}
+use Rattle.machine.specs.StandsFor.{At}
 use Rattle.kernel.proofs.suspended.work_on.Goals as goal
 
 pub held_tick_interrupt-requires-clause-agrees : goal.held_tick_interrupt-requires-clause-agrees
@@ -13,7 +18,20 @@ held_tick_interrupt-requires-clause-objects g c = λ o a fit.
     subst (λ (q : Objects). HasRoom q o a) (sym c.use_up.ensures.objects) (c.requires.can.objects o a fit)
 
 pub held_tick_interrupt-requires-clause-some : goal.held_tick_interrupt-requires-clause-some
-held_tick_interrupt-requires-clause-some g c = let e = c.use_up.ensures.suspensions in let l = c.requires.some in omega arith
+held_tick_interrupt-requires-clause-some g c =
+    let s : State = c.requires.can.agrees.0 in
+    let h = c.requires.can.agrees.1 in
+    let done : At c.use_up.new.machine s.log (use_up c.args.app.now c.args.task c.args.ticks s) =
+    c.use_up.ensures.does s.log s (record { stands = h; log = refl }) in
+    let kept : (use_up c.args.app.now c.args.task c.args.ticks s).sections ≡ s.sections =
+    ap (λ (x : Suspension). x.sections) (keeps-use_up c.args.app.now c.args.task c.args.ticks s).suspension in
+    let now : c.use_up.new.machine.sections ≡ (use_up c.args.app.now c.args.task c.args.ticks s).sections =
+    done.stands.rest.sections in
+    let before : c.args.machine.now.sections ≡ s.sections = h.rest.sections in
+    let shut = c.requires.can.closed in
+    let e = c.use_up.ensures.suspensions in
+    let l = c.requires.some in
+    omega arith
 
 pub held_tick_interrupt-requires-clause-few : goal.held_tick_interrupt-requires-clause-few
 held_tick_interrupt-requires-clause-few g c =

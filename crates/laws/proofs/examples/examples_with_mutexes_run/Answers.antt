@@ -2,7 +2,7 @@ use Rattle.std.proofs.Common.{[], refl}
 use Rattle.model.specs.Switching.{to_back, dispatch, choose, yield_now, preempt, slice, settle}
 use Rattle.model.specs.Waiting.{wait_in, set_deadline, wake_best, unlock}
 use Rattle.model.specs.Time.{wake_due, advance, increment_tick, sleep, set_previous_wake}
-use Rattle.model.specs.Handlers.{interrupt, tick_interrupt, idle}
+use Rattle.model.specs.Handlers.{interrupt, tick_interrupt, idle, serve_pending}
 use Rattle.model.specs.Ops.{go_to, answer, use_up, delay, delay_until, expect, open_loop, close_turn}
 use Rattle.model.specs.Objects.{fulfil, attempt}
 use Rattle.model.specs.Mutexes.{set_priority, inherit, after_timeout, disinherit, give_mutex}
@@ -17,7 +17,7 @@ pub returns : goal.returns
 unfolding to_back dispatch choose yield_now preempt slice settle wait_in set_deadline wake_best unlock
     wake_due advance increment_tick interrupt tick_interrupt idle sleep set_previous_wake go_to answer use_up
     delay delay_until expect open_loop close_turn fulfil attempt set_priority inherit after_timeout disinherit
-    give_mutex try decide leave_call do_now judge before_step step nobody_ready ready_at_reset reset
+    give_mutex try decide leave_call do_now judge serve_pending before_step step nobody_ready ready_at_reset reset
 returns c = (
   is_run inversion_cured.app [] inversion_cured.app.limits inversion_cured.run refl refl refl refl,
   (

@@ -3,6 +3,7 @@ use Rattle.model.specs.declared.event.Misuse.TheVariants.{NotHolder}
 use Rattle.model.specs.State.{State, object_at, with_object}
 use Rattle.objects.specs.Objects.{Objects}
 use Rattle.machine.specs.StandsFor.{At}
+use Rattle.sched.proofs.Standing.{none_suspends}
 use Rattle.ops.proofs.Ranking.{gave, gave_nothing}
 use Rattle.ops.proofs.Waits.{stored_at}
 use Rattle.ops.proofs.mutexes.give_mutex.Goals as goal
@@ -20,7 +21,7 @@ pub returns-in-Ok : goal.returns-in-Ok
 returns-in-Ok g c = record {
   at = λ s h.
       gave c.args.app.now c.let_go.new.machine _ s c.args.task c.args.object
-      (sym h.stands.sched.suspensions ∙ c.requires.can.tick.advance.awake) (c.in-Ok.ensures.allowed s None h.stands.rest.objects)
+      (none_suspends s (sym h.stands.sched.suspensions ∙ c.requires.can.tick.advance.awake)) (c.in-Ok.ensures.allowed s None h.stands.rest.objects)
       (c.let_go.ensures.at _ (stored_at c.args.machine.now _ s h c.args.object _
       c.give_mutex.new.self (c.in-Ok.ensures.stands s None h.stands.rest.objects)));
   few = c.let_go.ensures.few;
@@ -31,7 +32,7 @@ pub returns-in-Err : goal.returns-in-Err
 returns-in-Err g c = record {
   at = λ s h.
       gave_nothing c.args.app.now c.misuse.new.self _ s c.args.task c.args.object NotHolder
-      (sym h.stands.sched.suspensions ∙ c.requires.can.tick.advance.awake) (c.in-Err.ensures.misuse s None h.stands.rest.objects)
+      (none_suspends s (sym h.stands.sched.suspensions ∙ c.requires.can.tick.advance.awake)) (c.in-Err.ensures.misuse s None h.stands.rest.objects)
       (c.misuse.ensures _ s (subst
       (λ (q : Objects). At (record c.args.machine.now { objects = q }) (g.L.Log.logged c.args.log.now).told s)
       (sym c.in-Err.ensures.refused) h));

@@ -1,5 +1,6 @@
 use Rattle.std.proofs.Common.{ap, sym, ◌∙◌, arith, refl}
 use Rattle.clock.specs.Timeline.{Timeline}
+use Rattle.sched.proofs.Standing.{none_suspends}
 use Rattle.ops.proofs.Held.{released, applied_now}
 use Rattle.ops.proofs.suspension.apply_one.Goals as goal
 
@@ -21,7 +22,7 @@ pub returns-clause-does : goal.returns-clause-does
 returns-clause-does c = λ log s h.
     let some = c.requires.some in
     let e = h.stands.rest.clock.age in
-    applied_now c.advance.new.self log s (sym h.stands.sched.suspensions ∙ c.requires.can.awake) (omega arith)
+    applied_now c.advance.new.self log s (none_suspends s (sym h.stands.sched.suspensions ∙ c.requires.can.awake)) (omega arith)
     (c.advance.ensures.does log _
     (released c.args.machine.now log s h c.release.new.self (c.release.ensures.stands s h.stands.rest.clock)))
 

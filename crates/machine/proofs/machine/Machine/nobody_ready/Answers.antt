@@ -4,7 +4,7 @@ use Rattle.clock.specs.StandsFor.{tasks_at}
 use Rattle.model.specs.Step.{nobody_ready}
 use Rattle.soundness.proofs.Reached.{reached_nobody}
 use Rattle.machine.proofs.Booting.{none_ready, none_due, priority_at, base_priority_at, objects_at_reset, nobody_awake-reset}
-use Rattle.machine.proofs.Booting.{none_placing, ended_reset, nobody_suspended}
+use Rattle.machine.proofs.Booting.{none_placing, ended_reset, nobody_suspended, sources_at_reset}
 use Rattle.model.specs.Suspension.{can_resume}
 use Rattle.groups.specs.StandsFor.{bits_wait}
 use Rattle.machine.proofs.machine.Machine.nobody_ready.Goals as goal
@@ -42,6 +42,8 @@ returns-clause-stands c =
           delayed = λ m. ap (tasks_at m) c.new-2.ensures.nobody ∙ sym (none_due c.args.app.now m);
           table = table;
         };
+        sources = sources_at_reset c.args.app.now c.well_formed-2.ensures.few_handlers c.new-5.result c.new-5.ensures.none c.new-5.ensures.full;
+        sections = refl;
         steps = refl;
         stopped = refl;
         objects =

@@ -1,0 +1,134 @@
+-- Nothing is pending after a step before which no critical section is open. And a step into which nothing is injected, before which
+-- nothing is pending, begins with nothing.
+use Rattle.std.proofs.Common.{◌≡◌, ◌∙◌, ◌+◌, ℕ, zero, suc, Bool, true, false, List, [], ◌∷◌, ◌++◌, map, get_or, refl, ap, sym, subst}
+use Rattle.std.specs.List.{AllByRecursion, filter, range_with_len}
+use Rattle.std.specs.Prelude.{length}
+use Rattle.model.specs.declared.plan.Injection.{Injection}
+use Rattle.model.specs.Application.{Application, Handler, Limits}
+use Rattle.model.specs.Scripts.{IsWellFormed}
+use Rattle.model.specs.State.{State, Source, no_source, source_at, for_each}
+use Rattle.model.specs.Switching.{make_ready, settle, is_critical, unless_held, choice}
+use Rattle.model.specs.Handlers.{serve, inject, pending_of, none_pending, serve_pending}
+use Rattle.model.specs.Step.{act_current, before_step, step, reset, ready_at_reset, nobody_ready, with_ops}
+use Rattle.model.specs.Run.{injected, state_after}
+use Rattle.model.specs.Invariant.{IsNonePending}
+use Rattle.model.proofs.Sorting.{by_test}
+use Rattle.soundness.proofs.Frames.{keeps-serve, keeps-inject, keeps-unless_held, keeps-settle, keeps-all_ready}
+use Rattle.soundness.proofs.Passing.{sources-act_current}
+use Rattle.soundness.proofs.Reached.{reached_after}
+
+-- ---- lists of sources
+
+abbrev pub AreNonePending : List Source → Type 0
+AreNonePending xs = AllByRecursion (λ (x : Source). x.pending ≡ false) xs
+
+pub none_now : (xs : List Source) → AreNonePending (map (λ (x : Source). record x { pending = false }) xs)
+none_now [] = tt
+none_now (x ∷ xs) = (refl, none_now xs)
+
+same_sources : (xs : List Source) → AreNonePending xs → map (λ (x : Source). record x { pending = false }) xs ≡ xs
+same_sources [] h = refl
+same_sources (x ∷ xs) h =
+    ap (λ (b : Bool). record x { pending = b } ∷ map (λ (y : Source). record y { pending = false }) xs) (sym h.0)
+    ∙ ap (λ (ys : List Source). x ∷ ys) (same_sources xs h.1)
+
+pub not_pending : (xs : List Source) (i : ℕ) → AreNonePending xs → (get_or xs i no_source).pending ≡ false
+not_pending [] i h = refl
+not_pending (x ∷ xs) zero h = h.0
+not_pending (x ∷ xs) (suc i) h = not_pending xs i h.1
+
+none_left : (p : ℕ → Bool) (ks : List ℕ) → ((k : ℕ) → p k ≡ false) → filter p ks ≡ []
+none_left p [] off = refl
+none_left p (k ∷ ks) off = rw (off k) (none_left p ks off)
+
+-- ---- a step begins with nothing
+
+pub pending_none : (s : State) → IsNonePending s → pending_of s ≡ []
+pending_none s h =
+    none_left (λ source. (source_at s source).pending) (range_with_len 0 (length s.sources)) (λ i. not_pending s.sources i h)
+
+served_none : (app : Application) (s : State) → IsNonePending s → serve_pending app s ≡ s
+unfolding serve_pending
+served_none app s h =
+    ap (λ (handlers : List ℕ). for_each (serve app) handlers (none_pending s)) (pending_none s h)
+    ∙ ap (λ (xs : List Source). record s { sources = xs }) (same_sources s.sources h)
+
+pub begun_alone : (app : Application) (s : State) → IsNonePending s → before_step app [] s ≡ record s { log = [] }
+unfolding before_step
+begun_alone app s h =
+    let r : State = record s { log = [] } in
+    by_test (is_critical r) (λ t. rw t refl) (λ t. rw t (served_none app r h))
+
+-- With handlers, and where no critical section is open, they come.
+pub begun_with : (app : Application) (handlers : List ℕ) (s : State) → IsNonePending s → is_critical s ≡ false
+    → before_step app handlers s ≡ for_each (inject app) handlers (record s { log = [] })
+unfolding before_step
+begun_with app handlers s h open_ =
+    let r : State = record s { log = [] } in
+    rw open_ (ap (λ (x : State). for_each (inject app) handlers x) (served_none app r h))
+
+-- ---- nothing is pending after a step
+
+sources-served : (app : Application) (handlers : List ℕ) (s : State) → (for_each (serve app) handlers s).sources ≡ s.sources
+sources-served app [] s = refl
+sources-served app (handler ∷ handlers) s =
+    sources-served app handlers (serve app handler s) ∙ (keeps-serve app handler s).sources
+
+pub sources-injected : (app : Application) (handlers : List ℕ) (s : State) → (for_each (inject app) handlers s).sources ≡ s.sources
+sources-injected app [] s = refl
+sources-injected app (handler ∷ handlers) s =
+    sources-injected app handlers (inject app handler s) ∙ (keeps-inject app handler s).sources
+
+none_begun : (app : Application) (handlers : List ℕ) (s : State) → is_critical s ≡ false
+    → IsNonePending (before_step app handlers s)
+unfolding before_step serve_pending
+none_begun app handlers s open_ =
+    let r : State = none_pending (record s { log = [] }) in
+    let served : State = for_each (serve app) (pending_of s) r in
+    let t : State = for_each (inject app) handlers served in
+    let same : t.sources ≡ r.sources = sources-injected app handlers served ∙ sources-served app (pending_of s) r in
+    rw open_ (subst AreNonePending (sym same) (none_now s.sources))
+
+-- what a step does behind its handlers leaves the sources as they are
+sources-step : (app : Application) (limits : Limits) (handlers : List ℕ) (s : State)
+    → (step app limits handlers s).sources ≡ (before_step app handlers s).sources
+unfolding step
+sources-step app limits handlers s =
+    let begun : State = before_step app handlers s in
+    let acted : State = act_current app limits begun.current begun in
+    (keeps-unless_held settle acted keeps-settle).sources ∙ sources-act_current app limits begun.current begun
+
+pub none_after : (app : Application) (limits : Limits) (handlers : List ℕ) (s : State) → is_critical s ≡ false
+    → IsNonePending (step app limits handlers s)
+none_after app limits handlers s open_ =
+    subst AreNonePending (sym (sources-step app limits handlers s)) (none_begun app handlers s open_)
+
+-- Where nothing is pending, and nothing is injected, nothing is pending behind the step.
+pub none_still : (app : Application) (limits : Limits) (s : State) → IsNonePending s → IsNonePending (step app limits [] s)
+none_still app limits s h =
+    let same : (step app limits [] s).sources ≡ s.sources =
+    sources-step app limits [] s ∙ ap (λ (x : State). x.sources) (begun_alone app s h) in
+    subst AreNonePending (sym same) h
+
+-- ---- at reset
+
+pub none_listed : (handlers : List Handler) → AreNonePending (map (λ (handler : Handler). no_source) handlers ++ no_source ∷ [])
+none_listed [] = (refl, tt)
+none_listed (handler ∷ handlers) = (refl, none_listed handlers)
+
+none_ready : (app : Application) (is : List ℕ) (s : State) → IsNonePending s → IsNonePending (for_each make_ready is s)
+none_ready app is s h = subst AreNonePending (sym (keeps-all_ready is s).sources) h
+
+pub none_at_reset : (app : Application) → IsNonePending (reset app)
+unfolding reset ready_at_reset nobody_ready
+none_at_reset app = none_ready app (with_ops 0 app.tasks) (nobody_ready app) (none_listed app.handlers)
+
+-- ---- so in every state of a run, as long as no op opens a critical section
+
+pub none_reached : (app : Application) → IsWellFormed app → (limits : Limits) (plan : List Injection) (n : ℕ)
+    → IsNonePending (state_after app limits plan n)
+none_reached app formed limits plan zero = none_at_reset app
+none_reached app formed limits plan (suc n) =
+    let s : State = state_after app limits plan n in
+    let shut : s.sections ≡ 0 = (reached_after app formed limits plan n).closed in
+    none_after app limits (injected plan n) s (rw shut refl)
