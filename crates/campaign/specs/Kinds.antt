@@ -1,20 +1,13 @@
 -- The kinds of rows that a tally counts: the six ends, in their order, and the points that are not reached.
 use Rattle.std.specs.Prelude.{◌≡◌, ◌<◌, ℕ, ◌+◌, List, [], ◌∷◌, slice_index}
 use Rattle.model.specs.declared.event.End.{End}
-use Rattle.model.specs.declared.event.End.TheVariants.{Pass, Check, HandlerCheck, Misuse, Ticks, Steps, Stuck}
 use Rattle.model.specs.declared.totals.Totals.{Totals}
-use Rattle.model.specs.Campaign.{Row, totals_of}
+use Rattle.model.specs.Campaign.{Row, by_end, totals_of}
 use Rattle.deal.specs.Tallies.{Tallied, added_in}
 
 -- which kind an end is
 abbrev pub kind_of : End → ℕ
-kind_of Pass = 0
-kind_of (Check task op_index) = 1
-kind_of (HandlerCheck handler op_index) = 1
-kind_of (Misuse task op_index kind) = 2
-kind_of Ticks = 3
-kind_of Steps = 4
-kind_of Stuck = 5
+kind_of end = by_end 0 1 2 3 4 5 end
 
 -- how many there are of each kind
 abbrev pub kinds_of : Totals → List ℕ

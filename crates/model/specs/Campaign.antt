@@ -45,30 +45,33 @@ pub record AreRows (app : Application) (limits : Limits) (points : List (List In
 
 -- ---- the totals
 
+-- one of these, by the way in which a run ends
+abbrev pub by_end : {A : Type 0} → (pass check misuse ticks steps stuck : A) → End → A
+by_end pass check misuse ticks steps stuck Pass = pass
+by_end pass check misuse ticks steps stuck (Check task op_index) = check
+by_end pass check misuse ticks steps stuck (HandlerCheck handler op_index) = check
+by_end pass check misuse ticks steps stuck (Misuse task op_index kind) = misuse
+by_end pass check misuse ticks steps stuck Ticks = ticks
+by_end pass check misuse ticks steps stuck Steps = steps
+by_end pass check misuse ticks steps stuck Stuck = stuck
+
 abbrev pub is_pass : End → Bool
-is_pass Pass = true
-is_pass end = false
+is_pass end = by_end true false false false false false end
 
 abbrev pub is_check : End → Bool
-is_check (Check task op_index) = true
-is_check (HandlerCheck handler op_index) = true
-is_check end = false
+is_check end = by_end false true false false false false end
 
 abbrev pub is_misuse : End → Bool
-is_misuse (Misuse task op_index kind) = true
-is_misuse end = false
+is_misuse end = by_end false false true false false false end
 
 abbrev pub is_ticks : End → Bool
-is_ticks Ticks = true
-is_ticks end = false
+is_ticks end = by_end false false false true false false end
 
 abbrev pub is_steps : End → Bool
-is_steps Steps = true
-is_steps end = false
+is_steps end = by_end false false false false true false end
 
 abbrev pub is_stuck_end : End → Bool
-is_stuck_end Stuck = true
-is_stuck_end end = false
+is_stuck_end end = by_end false false false false false true end
 
 -- how many rows end in such a way, reached or not
 abbrev pub ended : (End → Bool) → List Row → ℕ

@@ -18,7 +18,7 @@ use Rattle.model.specs.Blocks.{Nests, edges_of, loops_in}
 use Rattle.model.specs.Scripts.{priorities}
 use Rattle.model.specs.State.{State, Task, Source, Progress, Object, Status, Wait, Waiting, Awake, Asleep, Suspended, Ended, wait_if_awake}
 use Rattle.model.specs.State.{ticket_of, task_at, status_at, progress_at, call_at, object_at}
-use Rattle.model.specs.Switching.{is_ready, is_held, is_scheduler_suspended}
+use Rattle.model.specs.Switching.{is_ready, is_held, is_held_by_task, is_scheduler_suspended}
 use Rattle.model.specs.Waiting.{is_locked}
 use Rattle.model.specs.Objects.{list_for}
 
@@ -192,9 +192,9 @@ abbrev pub IsPlacing : ℕ → Task → Option Wait → Type 0
 IsPlacing now t None = ⊥
 IsPlacing now t (Some w) = (w.priority ≡ t.priority) × IfSome w.deadline (λ deadline. now < deadline)
 
--- The task has come to the end of its script while a `suspend_all` is in force, and so it runs on.
+-- The task has come to the end of its script while a task holds the scheduler, and so it runs on.
 abbrev pub IsStranded : Application → State → ℕ → Type 0
-IsStranded app s task = (is_scheduler_suspended s ≡ true) × (op_at app task (progress_at s task).op_index ≡ None)
+IsStranded app s task = (is_held_by_task s ≡ true) × (op_at app task (progress_at s task).op_index ≡ None)
 
 -- A task runs: it holds the scheduler where a call does, and otherwise it is Ready, or stranded. In a set of bits it stays Ready.
 pub record IsRunning (app : Application) (s : State) (task : ℕ) : Type 0 where
@@ -216,12 +216,10 @@ pub record IsState (app : Application) (s : State) : Type 0 where
   pub alone : (task : ℕ) → holds (call_at s task).phase ≡ true → s.current ≡ Some task
   -- what is locked is locked by a call that holds the scheduler
   pub locked : s.call_hold ≡ false → s.locked ≡ None
-  -- while a `suspend_all` is in force no call holds the scheduler
-  pub apart : is_scheduler_suspended s ≡ true → s.call_hold ≡ false
+  -- while a task holds the scheduler no call does
+  pub apart : is_held_by_task s ≡ true → s.call_hold ≡ false
   -- ticks are held only then
   pub held : is_scheduler_suspended s ≡ false → s.held_ticks ≡ 0
-  -- no critical section is open: no op opens one
-  pub closed : s.sections ≡ 0
 
 -- No source is pending.
 abbrev pub IsNonePending : State → Type 0

@@ -78,6 +78,20 @@ stamp app task s = complete app task (record (progress_at s task) { stamp = s.ti
 unfoldable pub since : Application → ℕ → State → State
 since app task s = answer app task (Some (min (s.time - (progress_at s task).stamp) 4294967295)) s
 
+-- ---- critical sections
+
+-- So many critical sections are open, and the op is complete.
+unfoldable pub with_sections : Application → ℕ → ℕ → State → State
+with_sections app task n s = complete app task (progress_at s task) (record s { sections = n })
+
+-- One more is open (`taskENTER_CRITICAL`).
+abbrev pub enter_critical : Application → ℕ → State → State
+enter_critical app task s = with_sections app task (s.sections + 1) s
+
+-- One less is open (`taskEXIT_CRITICAL`). Where it was the last, what is pending comes before the next step.
+abbrev pub exit_critical : Application → ℕ → State → State
+exit_critical app task s = with_sections app task (s.sections - 1) s
+
 -- ---- ops of the script alone (profile)
 
 -- A check fails, which ends the run behind the step, unless one has failed in the step already.

@@ -1,24 +1,26 @@
 -- One step of the kernel: what the running task's op does, or idle, after the handlers that are injected.
 use Rattle.std.specs.Prelude.{ℕ, ◌+◌, ◌-◌, ◌&&◌, ◌==◌, Bool, true, false, List, [], ◌∷◌, Option, Some, None, if◌then◌else◌, map}
 use Rattle.std.specs.Prelude.{length, ◌++◌}
+use Rattle.std.specs.Option.{option_or}
 use Rattle.model.specs.declared.object.ObjectKind.{ObjectKind}
 use Rattle.model.specs.declared.object.ObjectKind.TheVariants.{Queue, Semaphore, Mutex}
 use Rattle.model.specs.declared.op.Op.{Op}
 use Rattle.model.specs.declared.op.Op.TheVariants.{Work, Delay, DelayUntil, Yield, Time, Mark, Expect, Repeat, End, If, Else, EndIf}
 use Rattle.model.specs.declared.op.Op.TheVariants.{Break, Stamp, Since, Await, Do, GiveMutex, MessagesWaiting, SpacesAvailable}
 use Rattle.model.specs.declared.op.Op.TheVariants.{SetBits, ClearBits, GetBits, WaitBits, Suspend, Resume, SuspendAll, ResumeAll}
-use Rattle.model.specs.declared.op.Op.TheVariants.{NextCommand, Obey}
+use Rattle.model.specs.declared.op.Op.TheVariants.{EnterCritical, ExitCritical, NextCommand, Obey}
 use Rattle.model.specs.declared.event.What.TheVariants as what
 use Rattle.model.specs.declared.event.End.TheVariants as end
 use Rattle.model.specs.declared.event.Misuse.{Misuse}
-use Rattle.model.specs.declared.event.Misuse.TheVariants.{WhileSuspended, NotSuspended, NotHolder, EndedSuspended}
+use Rattle.model.specs.declared.event.Misuse.TheVariants.{WhileSuspended, NotSuspended, NotHolder, EndedSuspended, WhileCritical}
+use Rattle.model.specs.declared.event.Misuse.TheVariants.{NotCritical, EndedCritical}
 use Rattle.model.specs.Application.{Application, Definition, Handler, Limits, op_at}
 use Rattle.model.specs.State.{State, Task, Object, Status, Ended, no_progress, no_object, no_source, status_at, progress_at, call_at}
-use Rattle.model.specs.State.{object_at, bits_at, for_each, printed}
+use Rattle.model.specs.State.{object_at, bits_at, for_one, for_each, printed}
 use Rattle.model.specs.Switching.{write, is_same, make_ready, choice, yield_now, settle, is_scheduler_suspended, is_critical}
 use Rattle.model.specs.Switching.{unless_held}
 use Rattle.model.specs.Ops.{complete, answer, use_up, delay, delay_until, expect, open_loop, close_turn, branch, skip_branch}
-use Rattle.model.specs.Ops.{leave_loop, stamp, since}
+use Rattle.model.specs.Ops.{leave_loop, stamp, since, enter_critical, exit_critical}
 use Rattle.model.specs.Calls.{await, do_now}
 use Rattle.model.specs.Mutexes.{give_mutex}
 use Rattle.model.specs.Groups.{set_bits, clear, wait_bits}
@@ -57,6 +59,8 @@ act app task (Suspend other) s = call_suspend app task other s
 act app task (Resume other) s = call_resume app task other s
 act app task SuspendAll s = suspend_all app task s
 act app task ResumeAll s = resume_all app task s
+act app task EnterCritical s = enter_critical app task s
+act app task ExitCritical s = exit_critical app task s
 act app task (NextCommand object) s = next_command app task object (call_at s task).phase s
 act app task Obey s = obey app task (command_at s task) (call_at s task).phase s
 
@@ -78,16 +82,27 @@ may_switch (NextCommand object) = true
 may_switch Obey = true
 may_switch _ = false
 
--- what the op asks of the state by itself: `resume_all` that a `suspend_all` is in force, `unlock` that the task is the holder
--- (profile: FreeRTOS asserts both)
+-- It has no place in a critical section either, in which nothing may switch or wait, no tick comes, and no other hold begins or ends.
+abbrev pub is_barred : Op → Bool
+is_barred (Work n) = true
+is_barred SuspendAll = true
+is_barred ResumeAll = true
+is_barred op = may_switch op
+
+-- what the op asks of the state by itself: `resume_all` that a `suspend_all` is in force, `unlock` that the task is the holder,
+-- `exit_critical` that a critical section is open (profile: FreeRTOS asserts the first two)
 abbrev pub own_misuse : State → ℕ → Op → Option Misuse
 own_misuse s task ResumeAll = if is_scheduler_suspended s then None else Some NotSuspended
 own_misuse s task (GiveMutex object) = if is_same (object_at s object).holder (Some task) then None else Some NotHolder
+own_misuse s task ExitCritical = if is_critical s then None else Some NotCritical
 own_misuse s task op = None
 
 -- which misuse the task's op is, if it is one; the first that fits
 abbrev pub misuse : State → ℕ → Op → Option Misuse
-misuse s task op = if is_scheduler_suspended s && may_switch op then Some WhileSuspended else own_misuse s task op
+misuse s task op =
+    if is_scheduler_suspended s && may_switch op
+    then Some WhileSuspended
+    else option_or (own_misuse s task op) (if is_critical s && is_barred op then Some WhileCritical else None)
 
 -- The task's op of this index is such a misuse, which ends the run.
 abbrev pub misused : ℕ → ℕ → Misuse → State → State
@@ -98,10 +113,14 @@ abbrev pub is_ended : Status → Bool
 is_ended Ended = true
 is_ended _ = false
 
--- A task that came to the end of its script with this op, while a `suspend_all` is in force, has misused the scheduler.
+-- which misuse it is to come to the end of a script in this state, if it is one
+abbrev pub end_misuse : State → Option Misuse
+end_misuse s =
+    if is_scheduler_suspended s then Some EndedSuspended else if is_critical s then Some EndedCritical else None
+
+-- A task that came to the end of its script with this op must hold the scheduler no more.
 unfoldable pub judge : ℕ → ℕ → State → State
-judge task op_index s =
-    if is_scheduler_suspended s && is_ended (status_at s task) then misused task op_index EndedSuspended s else s
+judge task op_index s = if is_ended (status_at s task) then for_one (misused task op_index) (end_misuse s) s else s
 
 -- The task does this op; but a misuse ends the run, and changes nothing else (profile).
 abbrev pub act_unless : Application → ℕ → Option Misuse → Op → State → State

@@ -110,7 +110,11 @@ holds_ticks s = s.call_hold || is_scheduler_suspended s
 abbrev pub is_critical : State → Bool
 is_critical s = nat_lt 0 s.sections
 
--- In any of them the scheduler is held.
+-- A task holds the scheduler, by a `suspend_all` or by a critical section.
+abbrev pub is_held_by_task : State → Bool
+is_held_by_task s = is_scheduler_suspended s || is_critical s
+
+-- The scheduler is held, by a call or by a task.
 abbrev pub is_held : State → Bool
 is_held s = holds_ticks s || is_critical s
 

@@ -53,6 +53,12 @@ pub enum Misuse {
     NotHolder,
     /// It comes to the end of its script while a `suspend_all` is in force.
     EndedSuspended,
+    /// While a critical section is open it does an op that may switch or wait, lets time pass, or suspends the scheduler.
+    WhileCritical,
+    /// It closes a critical section, and none is open.
+    NotCritical,
+    /// It comes to the end of its script while a critical section is open.
+    EndedCritical,
 }
 
 /// How a run ends (profile).

@@ -184,6 +184,10 @@ pub enum Op {
     SuspendAll,
     /// Takes one `suspend_all` back (`xTaskResumeAll`).
     ResumeAll,
+    /// Opens a critical section, once more (`taskENTER_CRITICAL`): until it is closed, no handler comes and nothing switches.
+    EnterCritical,
+    /// Closes one (`taskEXIT_CRITICAL`).
+    ExitCritical,
     /// Waits for the next command of this queue: an op of the daemon, which no file has.
     NextCommand(ObjectId),
     /// Does the command that was received: an op of the daemon, which no file has.
@@ -242,6 +246,8 @@ impl Op {
             Op::Resume(_) => "resume",
             Op::SuspendAll => "suspend_all",
             Op::ResumeAll => "resume_all",
+            Op::EnterCritical => "enter_critical",
+            Op::ExitCritical => "exit_critical",
             Op::NextCommand(_) | Op::Obey => "",
         }
     }

@@ -13,7 +13,8 @@ use Rattle.model.specs.declared.event.What.TheVariants as what
 use Rattle.model.specs.declared.event.End.{End}
 use Rattle.model.specs.declared.event.End.TheVariants as ending
 use Rattle.model.specs.declared.event.Misuse.{Misuse}
-use Rattle.model.specs.declared.event.Misuse.TheVariants.{WhileSuspended, NotSuspended, NotHolder, EndedSuspended}
+use Rattle.model.specs.declared.event.Misuse.TheVariants.{WhileSuspended, NotSuspended, NotHolder, EndedSuspended, WhileCritical}
+use Rattle.model.specs.declared.event.Misuse.TheVariants.{NotCritical, EndedCritical}
 use Rattle.model.specs.declared.plan.Injection.{Injection}
 use Rattle.model.specs.declared.totals.Totals.{Totals}
 use Rattle.report.specs.declared.title.Title.{Title}
@@ -70,6 +71,9 @@ code_of WhileSuspended = 1
 code_of NotSuspended = 2
 code_of NotHolder = 3
 code_of EndedSuspended = 4
+code_of WhileCritical = 5
+code_of NotCritical = 6
+code_of EndedCritical = 7
 
 -- the task and the index of the op that brought an end about
 abbrev pub op_text : Application → (task op_index : ℕ) → List ℕ

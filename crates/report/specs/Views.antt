@@ -1,9 +1,8 @@
 -- Views of a campaign's report: which rows are written, and what of them.
 use Rattle.std.specs.Prelude.{ℕ, ◌+◌, Bool, true, false, not, ◌&&◌, List, [], ◌∷◌, ◌++◌}
 use Rattle.model.specs.declared.event.End.{End}
-use Rattle.model.specs.declared.event.End.TheVariants.{Pass, Check, HandlerCheck, Misuse, Ticks, Steps, Stuck}
 use Rattle.model.specs.Application.{Application}
-use Rattle.model.specs.Campaign.{Row, totals_of}
+use Rattle.model.specs.Campaign.{Row, by_end, totals_of}
 use Rattle.report.specs.Text.{head_text, row_text, total_text}
 use Rattle.report.specs.declared.title.Title.TheVariants as title
 use Rattle.report.specs.declared.view.Ends.{Ends}
@@ -19,13 +18,7 @@ failing = record every_end { pass = false }
 
 -- The end is among these.
 abbrev pub has_end : Ends → End → Bool
-has_end ends Pass = ends.pass
-has_end ends (Check task op_index) = ends.check
-has_end ends (HandlerCheck handler op_index) = ends.check
-has_end ends (Misuse task op_index kind) = ends.misuse
-has_end ends Ticks = ends.ticks
-has_end ends Steps = ends.steps
-has_end ends Stuck = ends.stuck
+has_end ends end = by_end ends.pass ends.check ends.misuse ends.ticks ends.steps ends.stuck end
 
 -- every row, with its events
 abbrev pub plain : View
