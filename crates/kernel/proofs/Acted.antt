@@ -4,7 +4,7 @@ use Rattle.model.specs.declared.op.Op.{Op}
 use Rattle.model.specs.declared.op.Op.TheVariants.{SuspendAll}
 use Rattle.model.specs.Application.{Application}
 use Rattle.model.specs.Step.{act, act_unless, own_misuse, misuse}
-use Rattle.soundness.proofs.Passing.{acts_calm}
+use Rattle.soundness.proofs.Judging.{acts_calm}
 use Rattle.model.specs.State.{State}
 use Rattle.machine.specs.declared.machine.Machine.{Machine}
 use Rattle.machine.specs.StandsFor.{AtAny, Does, DoesAny, Moves}

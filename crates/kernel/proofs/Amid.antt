@@ -28,7 +28,7 @@ use Rattle.model.specs.Step.{act, act_current, act_if, before_step, is_ended, ow
 use Rattle.model.proofs.Lists.{eqb-same, eqb-refl}
 use Rattle.model.proofs.Sorting.{by_test}
 use Rattle.model.proofs.Tables.{each-set}
-use Rattle.soundness.proofs.Passing.{acts_calm}
+use Rattle.soundness.proofs.Judging.{acts_calm}
 use Rattle.sched.specs.Schedule.{Schedule, is_ready as is_ready_in}
 use Rattle.sched.proofs.Standing as on_sched
 use Rattle.machine.specs.declared.machine.Machine.{Machine}

@@ -14,7 +14,7 @@ use Rattle.model.specs.Step.{act_unless, misuse, act_if, act_current, step}
 use Rattle.model.specs.declared.plan.Injection.{Injection}
 use Rattle.model.specs.Run.{Run, IsRun, end_of, injected, state_after, events_after}
 use Rattle.model.proofs.Injected.{from_one_more, goes_on_with, no_fewer}
-use Rattle.soundness.proofs.Passing.{elapsed-reset, elapsed-step, most-step}
+use Rattle.soundness.proofs.Moving.{elapsed-reset, elapsed-step, most-step}
 use Rattle.machine.specs.declared.machine.Machine.{Machine}
 use Rattle.machine.specs.Logged.{Logged, all_of}
 use Rattle.machine.specs.StandsFor.{Stands, AtAny, DoesAny, progress_in}

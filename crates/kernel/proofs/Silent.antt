@@ -31,7 +31,8 @@ use Rattle.model.specs.Run.{are_all_ended, is_stuck}
 use Rattle.model.proofs.Sorting.{by_test}
 use Rattle.model.proofs.Tables.{each-set}
 use Rattle.soundness.proofs.Frames.{keeps-settle, keeps-unless_held}
-use Rattle.soundness.proofs.Passing.{acts_calm, lasts-await, lasts-begin_set}
+use Rattle.soundness.proofs.Passing.{lasts-await, lasts-begin_set}
+use Rattle.soundness.proofs.Judging.{acts_calm}
 use Rattle.ops.specs.InCall.{IsSilent}
 use Rattle.ops.proofs.Commanding.{same_after}
 use Rattle.kernel.specs.InCall.{IsCallOn}

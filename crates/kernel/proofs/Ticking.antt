@@ -24,7 +24,8 @@ use Rattle.model.specs.Run.{are_all_ended, end_of, is_interrupt_to_come, is_stuc
 use Rattle.model.proofs.Sorting.{by_test}
 use Rattle.model.proofs.Ticks.{filter-taken}
 use Rattle.soundness.proofs.Settled.{when_free}
-use Rattle.soundness.proofs.Passing.{acts_calm, idle_ticks}
+use Rattle.soundness.proofs.Passing.{idle_ticks}
+use Rattle.soundness.proofs.Judging.{acts_calm}
 use Rattle.lists.specs.Lists.{Each, first_of, has_node}
 use Rattle.lists.proofs.Entries.{Each-imp}
 use Rattle.sched.specs.Schedule.{is_steady, lined_up, is_ready as is_ready_in}

@@ -9,7 +9,8 @@ use Rattle.model.specs.Switching.{settle, unless_held}
 use Rattle.model.specs.Ops.{use_up}
 use Rattle.model.specs.Step.{act, act_unless, misuse, act_if, act_current, before_step, step}
 use Rattle.soundness.proofs.Frames.{keeps-use_up, keeps-before_step, keeps-settle, keeps-unless_held}
-use Rattle.soundness.proofs.Passing.{by_op, elapsed-tick, suspends-all, resumes-all, lasts-act, judged}
+use Rattle.soundness.proofs.Passing.{by_op, elapsed-tick, suspends-all, resumes-all, lasts-act}
+use Rattle.soundness.proofs.Judging.{judged}
 
 one-act : (app : Application) (i : ℕ) (op : Op) (s : State) → (act app i op s).elapsed ≤ s.elapsed + 1
 one-act app i op s = by_op (λ op. (act app i op s).elapsed ≤ s.elapsed + 1)

@@ -13,7 +13,7 @@ use Rattle.model.specs.declared.op.Op.TheVariants.{GiveMutex}
 use Rattle.model.specs.Application.{Application}
 use Rattle.model.specs.Ops.{answer}
 use Rattle.model.specs.Step.{act_unless, misuse, misused, own_misuse}
-use Rattle.soundness.proofs.Passing.{acts_calm}
+use Rattle.soundness.proofs.Judging.{acts_calm}
 use Rattle.model.specs.Waiting.{wake_best}
 use Rattle.std.proofs.lemmas.Bool.{lt-ltb, eq-eqb, ne_eqb}
 use Rattle.objects.specs.Objects.{Objects}

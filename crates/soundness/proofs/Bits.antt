@@ -161,7 +161,7 @@ module _ (i : ℕ) where
 module _ (app : Application) (formed : IsWellFormed app) (hold : Hold) where
   -- the bits of a group
   pub bits_put : (s : State) (group bits : ℕ) → IsSound app hold s → IsSound app hold (with_bits group bits s)
-  bits_put s group bits h = otherwise app formed hold s (with_bits group bits s).group_bits s.suspensions h
+  bits_put s group bits h = otherwise app formed hold s (with_bits group bits s).group_bits s.suspensions s.sections h
 
   answer_kept : (s : State) (i bits : ℕ) → IsSound app hold s → IsSound app hold (keep_answer i bits s)
   answer_kept s i bits h =

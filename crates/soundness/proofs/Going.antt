@@ -1,6 +1,6 @@
--- While a `suspend_all` is in force the running task goes on, also when its script is done.
-use Rattle.std.proofs.Common.{◌≡◌, ◌≢◌, ◌<◌, ◌+◌, ◌-◌, ◌||◌, ◌⊎◌, inl, inr, ℕ, zero, suc, Bool, true, false, eqb, leb, ltb, List}
-use Rattle.std.proofs.Common.{[], ◌∷◌, length, Option, Some, None, refl, ap, ap₂, sym, subst, ◌∙◌, arith, get_or-set_same}
+-- While a task holds the scheduler it goes on, also when its script is done.
+use Rattle.std.proofs.Common.{◌≡◌, ◌≢◌, ◌<◌, ◌+◌, ◌-◌, ◌||◌, ◌⊎◌, inl, inr, ℕ, zero, suc, Bool, true, false, eqb, leb, List}
+use Rattle.std.proofs.Common.{[], ◌∷◌, length, Option, Some, None, refl, ap, sym, subst, ◌∙◌, arith, get_or-set_same}
 use Rattle.std.proofs.Common.{get_or-set_other, drop}
 use Rattle.std.specs.List.{AllByRecursion, filter}
 use Rattle.std.specs.Option.{is_some, option_eq}
@@ -9,7 +9,7 @@ use Rattle.model.specs.declared.op.Op.{Op}
 use Rattle.model.specs.declared.op.Op.TheVariants.{Work, Delay, DelayUntil, Yield, Time, Mark, Expect, Repeat, End, If, Else, EndIf}
 use Rattle.model.specs.declared.op.Op.TheVariants.{Break, Stamp, Since, Await, Do, GiveMutex, MessagesWaiting, SpacesAvailable}
 use Rattle.model.specs.declared.op.Op.TheVariants.{SetBits, ClearBits, GetBits, WaitBits, Suspend, Resume, SuspendAll, ResumeAll}
-use Rattle.model.specs.declared.op.Op.TheVariants.{NextCommand, Obey}
+use Rattle.model.specs.declared.op.Op.TheVariants.{EnterCritical, ExitCritical, NextCommand, Obey}
 use Rattle.model.specs.declared.loops.Loop.{Loop}
 use Rattle.model.specs.declared.event.What.TheVariants as what
 use Rattle.model.specs.declared.answer.AnswerCondition.{AnswerCondition}
@@ -20,29 +20,28 @@ use Rattle.model.specs.State.{State, Task, Progress, Status, Ready, Awake, Waiti
 use Rattle.model.specs.State.{ticket_if_ready, wake_time_of, task_at, status_at, progress_at, object_at, bits_at, with_bits}
 use Rattle.model.specs.State.{for_each, printed, no_task}
 use Rattle.model.specs.Order.{Entry, tasks_of}
-use Rattle.model.specs.Switching.{make_ready, is_ready, slice, preempt, is_scheduler_suspended, is_critical, is_held, unless_held, write}
+use Rattle.model.specs.Switching.{make_ready, is_ready, slice, preempt, is_scheduler_suspended, is_critical, is_held, is_held_by_task}
+use Rattle.model.specs.Switching.{unless_held, write}
 use Rattle.model.specs.Time.{wake_due, due, is_due, delayed_list, advance, increment_tick, apply_one, apply_held}
 use Rattle.model.specs.Ops.{go_to, moved_to, answer, use_up, expect, open_loop, next_turn, turn, close_turn, branch, skip_branch}
-use Rattle.model.specs.Ops.{leave_loop, stamp, since}
+use Rattle.model.specs.Ops.{leave_loop, stamp, since, with_sections}
 use Rattle.model.specs.Groups.{bits_without, clear}
 use Rattle.model.specs.Suspension.{suspend_all, resume_scheduler, resume_all}
 use Rattle.model.specs.Handlers.{handle, interrupt, tick_interrupt}
 use Rattle.model.specs.Step.{act, may_switch}
-use Rattle.model.specs.Invariant.{Hold, Suspension}
 use Rattle.model.proofs.Unlocking.{current-all_ready}
 use Rattle.model.proofs.Sorting.{by_test}
 use Rattle.model.proofs.Lists.{eqb-same}
 use Rattle.soundness.proofs.Frames.{keeps-answer}
-use Rattle.soundness.proofs.Settled.{when_held, held_as_it_was}
-use Rattle.soundness.proofs.Passing.{held-told}
+use Rattle.soundness.proofs.Settled.{when_held, held_as_it_was, held_by_task}
+use Rattle.soundness.proofs.Passing.{is_instant, held-told}
 use Rattle.soundness.proofs.Handled.{Spares, spares, spares_both, spares-handle}
 
-pub suspended_held : (s : State) → is_scheduler_suspended s ≡ true → is_held s ≡ true
-suspended_held s on = either s.call_hold (is_scheduler_suspended s) (is_critical s) on where
-  either : (a b c : Bool) → b ≡ true → ((a || b) || c) ≡ true
-  either true b c e = refl
-  either false true c e = refl
-  either false false c e = absurd (cc)
+pub suspended_held : (s : State) → is_scheduler_suspended s ≡ true → is_held_by_task s ≡ true
+suspended_held s on = either (is_scheduler_suspended s) (is_critical s) on where
+  either : (b c : Bool) → b ≡ true → (b || c) ≡ true
+  either true c e = refl
+  either false c e = absurd (cc)
 
 -- an answer holds nothing, and lets go of nothing
 still_held : (app : Application) (i : ℕ) (a : Option ℕ) (s : State) → is_held (answer app i a s) ≡ is_held s
@@ -109,7 +108,7 @@ module _ (app : Application) (i : ℕ) where
       let same : increment_tick s ≡ come = rw on refl in
       let told : State = interrupt app come in
       let sp : Spares come told = spares-interrupt come in
-      let held : is_held (interrupt app (increment_tick s)) ≡ true = held-told app s ∙ suspended_held s on in
+      let held : is_held (interrupt app (increment_tick s)) ≡ true = held-told app s ∙ held_by_task s (suspended_held s on) in
       let stays : unless_held slice (interrupt app (increment_tick s)) ≡ told =
       when_held slice (interrupt app (increment_tick s)) held ∙ ap (interrupt app) same in
       subst (Continues app i s) (sym stays) (record { current = sp.current; goes = spared_on come told sp g })
@@ -127,7 +126,7 @@ module _ (app : Application) (i : ℕ) where
             ∙ r);
       }))
 
-  worked_on : (n : ℕ) (s : State) → is_scheduler_suspended s ≡ true → is_scheduler_suspended (use_up app i n s) ≡ true
+  pub worked_on : (n : ℕ) (s : State) → is_scheduler_suspended s ≡ true → is_scheduler_suspended (use_up app i n s) ≡ true
       → i < length s.tasks → is_ready s i ≡ true → Continues app i s (tick_interrupt app (use_up app i n s))
   worked_on n s on on1 l r =
       let u = used_on n s l r in
@@ -204,42 +203,49 @@ module _ (app : Application) (i : ℕ) where
       let k = answering_on (Some 0) (record s { suspensions = s.suspensions + 1 }) l r in
       record { current = k.current; goes = k.goes }
 
-  -- an op that doesn't switch, and doesn't take a `suspend_all` back
-  pub acted_on : (op : Op) (s : State) → may_switch op ≡ false → op ≢ ResumeAll
-      → is_scheduler_suspended s ≡ true → ((n : ℕ) → is_scheduler_suspended (use_up app i n s) ≡ true)
+  pub sectioned_on : (n : ℕ) (s : State) → i < length s.tasks → is_ready s i ≡ true → Continues app i s (with_sections app i n s)
+  unfolding with_sections
+  sectioned_on n s l r =
+      let k = gone_to ((progress_at s i).op_index + 1) (progress_at s i) (record s { sections = n }) l r in
+      record { current = k.current; goes = k.goes }
+
+  -- an op that doesn't switch, lets no tick pass, and holds nothing and lets go of nothing
+  pub acted_on : (op : Op) (s : State) → may_switch op ≡ false → is_instant op ≡ true
       → i < length s.tasks → is_ready s i ≡ true → Continues app i s (act app i op s)
-  acted_on (Work n) s q ne on used l r = worked_on n s on (used n) l r
-  acted_on (Delay n) s q ne on used l r = absurd (cc)
-  acted_on (DelayUntil n) s q ne on used l r = absurd (cc)
-  acted_on Yield s q ne on used l r = absurd (cc)
-  acted_on Time s q ne on used l r = answering_on (Some (printed s.time)) s l r
-  acted_on (Mark n) s q ne on used l r =
+  acted_on (Work n) s q t l r = absurd (cc)
+  acted_on (Delay n) s q t l r = absurd (cc)
+  acted_on (DelayUntil n) s q t l r = absurd (cc)
+  acted_on Yield s q t l r = absurd (cc)
+  acted_on Time s q t l r = answering_on (Some (printed s.time)) s l r
+  acted_on (Mark n) s q t l r =
       let k = gone_to ((progress_at s i).op_index + 1) (progress_at s i) (write (what.Mark i n) s) l r in
       record { current = k.current; goes = k.goes }
-  acted_on (Expect c) s q ne on used l r = expected_on c s l r
-  acted_on (Repeat n) s q ne on used l r = opened_on n s l r
-  acted_on End s q ne on used l r = closed_on s l r
-  acted_on (If c) s q ne on used l r = branched_on c s l r
-  acted_on Else s q ne on used l r = skipped_on s l r
-  acted_on EndIf s q ne on used l r = gone_to ((progress_at s i).op_index + 1) (progress_at s i) s l r
-  acted_on Break s q ne on used l r = left_on s l r
-  acted_on Stamp s q ne on used l r = stamped_on s l r
-  acted_on Since s q ne on used l r = since_on s l r
-  acted_on (Await o a ticks) s q ne on used l r = absurd (cc)
-  acted_on (Do o a) s q ne on used l r = absurd (cc)
-  acted_on (GiveMutex o) s q ne on used l r = absurd (cc)
-  acted_on (MessagesWaiting o) s q ne on used l r = answering_on (Some (length (object_at s o).items)) s l r
-  acted_on (SpacesAvailable o) s q ne on used l r = answering_on (Some ((object_at s o).size - length (object_at s o).items)) s l r
-  acted_on (SetBits g m) s q ne on used l r = absurd (cc)
-  acted_on (ClearBits g m) s q ne on used l r = cleared_on g m s l r
-  acted_on (GetBits g) s q ne on used l r = answering_on (Some (bits_at s g)) s l r
-  acted_on (WaitBits g c ticks) s q ne on used l r = absurd (cc)
-  acted_on (Suspend j) s q ne on used l r = absurd (cc)
-  acted_on (Resume j) s q ne on used l r = absurd (cc)
-  acted_on SuspendAll s q ne on used l r = suspended_on s l r
-  acted_on ResumeAll s q ne on used l r = absurd (ne refl)
-  acted_on (NextCommand o) s q ne on used l r = absurd (cc)
-  acted_on Obey s q ne on used l r = absurd (cc)
+  acted_on (Expect c) s q t l r = expected_on c s l r
+  acted_on (Repeat n) s q t l r = opened_on n s l r
+  acted_on End s q t l r = closed_on s l r
+  acted_on (If c) s q t l r = branched_on c s l r
+  acted_on Else s q t l r = skipped_on s l r
+  acted_on EndIf s q t l r = gone_to ((progress_at s i).op_index + 1) (progress_at s i) s l r
+  acted_on Break s q t l r = left_on s l r
+  acted_on Stamp s q t l r = stamped_on s l r
+  acted_on Since s q t l r = since_on s l r
+  acted_on (Await o a ticks) s q t l r = absurd (cc)
+  acted_on (Do o a) s q t l r = absurd (cc)
+  acted_on (GiveMutex o) s q t l r = absurd (cc)
+  acted_on (MessagesWaiting o) s q t l r = answering_on (Some (length (object_at s o).items)) s l r
+  acted_on (SpacesAvailable o) s q t l r = answering_on (Some ((object_at s o).size - length (object_at s o).items)) s l r
+  acted_on (SetBits g m) s q t l r = absurd (cc)
+  acted_on (ClearBits g m) s q t l r = cleared_on g m s l r
+  acted_on (GetBits g) s q t l r = answering_on (Some (bits_at s g)) s l r
+  acted_on (WaitBits g c ticks) s q t l r = absurd (cc)
+  acted_on (Suspend j) s q t l r = absurd (cc)
+  acted_on (Resume j) s q t l r = absurd (cc)
+  acted_on SuspendAll s q t l r = absurd (cc)
+  acted_on ResumeAll s q t l r = absurd (cc)
+  acted_on EnterCritical s q t l r = absurd (cc)
+  acted_on ExitCritical s q t l r = absurd (cc)
+  acted_on (NextCommand o) s q t l r = absurd (cc)
+  acted_on Obey s q t l r = absurd (cc)
 
 -- ---- a `suspend_all` taken back
 

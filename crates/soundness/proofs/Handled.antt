@@ -1,5 +1,5 @@
 -- What a handler keeps of a state, and what it spares.
-use Rattle.std.proofs.Common.{◌⊎◌, ◌≡◌, ◌<◌, ◌+◌, ◌&&◌, ◌||◌, ℕ, Bool, true, false, ltb, ap₂, inl, inr, get_or, set, List, [], ◌∷◌}
+use Rattle.std.proofs.Common.{◌⊎◌, ◌≡◌, ◌<◌, ◌+◌, ◌&&◌, ◌||◌, ℕ, Bool, true, false, ltb, inl, inr, get_or, set, List, [], ◌∷◌}
 use Rattle.std.proofs.Common.{Option, Some, None, refl, ap, sym, subst, ◌∙◌, suc, zero}
 use Rattle.std.specs.List.{AllByRecursion, slice_get}
 use Rattle.std.specs.Option.{IfSome, is_some, option_map, unwrap_or}
@@ -9,7 +9,7 @@ use Rattle.model.specs.declared.op.Op.{Op}
 use Rattle.model.specs.declared.op.Op.TheVariants.{Work, Delay, DelayUntil, Yield, Time, Mark, Expect, Repeat, End, If, Else, EndIf}
 use Rattle.model.specs.declared.op.Op.TheVariants.{Break, Stamp, Since, Await, Do, GiveMutex, MessagesWaiting, SpacesAvailable}
 use Rattle.model.specs.declared.op.Op.TheVariants.{SetBits, ClearBits, GetBits, WaitBits, Suspend, Resume, SuspendAll, ResumeAll}
-use Rattle.model.specs.declared.op.Op.TheVariants.{NextCommand, Obey}
+use Rattle.model.specs.declared.op.Op.TheVariants.{EnterCritical, ExitCritical, NextCommand, Obey}
 use Rattle.model.specs.declared.op.IsrOp.{IsrOp}
 use Rattle.model.specs.declared.op.IsrOp.TheVariants as isr_op
 use Rattle.model.specs.declared.op.Access.{Access}
@@ -29,7 +29,7 @@ use Rattle.model.specs.State.{with_object, with_progress, for_one, for_each, no_
 use Rattle.model.specs.Order.{Entry, first, task_of}
 use Rattle.model.specs.Ops.{one_if, fail}
 use Rattle.model.specs.Suspension.{can_resume, phase_resumed, resumed, resume}
-use Rattle.model.specs.Switching.{make_ready, is_ready, is_scheduler_suspended, is_held, slice, unless_held, write}
+use Rattle.model.specs.Switching.{make_ready, is_ready, is_scheduler_suspended, is_held, is_held_by_task, slice, unless_held, write}
 use Rattle.model.specs.Waiting.{waiters, awake_status, is_locked, wake_one, wake_best}
 use Rattle.model.specs.Time.{advance, increment_tick, jump}
 use Rattle.model.specs.Objects.{possible, answer_to, object_after, list_woken, list_for, fulfil, attempt}
@@ -530,6 +530,8 @@ place_locked hold (Some (Suspend j)) list p e = absurd p
 place_locked hold (Some (Resume j)) list p e = absurd p
 place_locked hold (Some SuspendAll) list p e = absurd p
 place_locked hold (Some ResumeAll) list p e = absurd p
+place_locked hold (Some EnterCritical) list p e = absurd p
+place_locked hold (Some ExitCritical) list p e = absurd p
 place_locked hold (Some (NextCommand o)) list p e =
     let same : list_for o Receive ≡ list = cc in
     let P : Option ℕ → WaitList → Type 0 = λ l x. is_locked l x ≡ true in
@@ -543,6 +545,9 @@ module _ (app : Application) (formed : IsWellFormed app) (s t : State)
 
   same_suspended : is_scheduler_suspended t ≡ is_scheduler_suspended s
   same_suspended = ap (λ (x : Suspension). ltb 0 x.suspensions) sp.kept.suspension
+
+  same_by_task : is_held_by_task t ≡ is_held_by_task s
+  same_by_task = ap (λ (x : Suspension). ltb 0 x.suspensions || ltb 0 x.sections) sp.kept.suspension
 
   waiting_unsuspended : (u : Status) (w : Wait) → wait_of u ≡ Some w → can_resume u ≡ false
   waiting_unsuspended (Ready n) w e = refl
@@ -576,7 +581,7 @@ module _ (app : Application) (formed : IsWellFormed app) (s t : State)
 
   -- who ran on its last op runs on
   stranded_still : (i : ℕ) → IsStranded app s i → IsStranded app t i
-  stranded_still i x = (same_suspended ∙ x.0, ap (op_at app i) (sp.op_index i) ∙ x.1)
+  stranded_still i x = (same_by_task ∙ x.0, ap (op_at app i) (sp.op_index i) ∙ x.1)
 
   ready_still : (i : ℕ) → is_ready s i ≡ true → is_ready t i ≡ true
   ready_still i was = subst (λ (u : Task). is_some (ticket_if_ready u.status) ≡ true) (sym (sp.ready i was)) was
@@ -597,9 +602,8 @@ module _ (app : Application) (formed : IsWellFormed app) (s t : State)
     runs = subst (RunsIn app t) (sym sp.current) (runs_still s.current h.runs);
     alone = λ i on. sp.current ∙ h.alone i (sym (sp.holding i) ∙ on);
     locked = λ none. ap (λ (x : Hold). x.locked) sp.kept.hold ∙ h.locked (sym same_held ∙ none);
-    apart = λ on. same_held ∙ h.apart (sym same_suspended ∙ on);
+    apart = λ on. same_held ∙ h.apart (sym same_by_task ∙ on);
     held = λ off. ap (λ (x : Suspension). x.held_ticks) sp.kept.suspension ∙ h.held (sym same_suspended ∙ off);
-    closed = ap (λ (x : Suspension). x.sections) sp.kept.suspension ∙ h.closed;
   }
 
 -- a handler that comes between two steps

@@ -12,7 +12,7 @@ use Rattle.model.specs.Switching.{choose, dispatch, yield_now, preempt, unless_h
 use Rattle.model.specs.Handlers.{handle, serve, inject, pend, pending_of, none_pending, serve_pending}
 use Rattle.model.specs.Step.{before_step}
 use Rattle.model.specs.Run.{will_wake, is_interrupt_to_come, is_stuck}
-use Rattle.model.specs.Invariant.{Hold, IsState, RunsIn, Suspension}
+use Rattle.model.specs.Invariant.{Hold, IsState, RunsIn}
 use Rattle.model.proofs.Sorting.{by_test, length-in_order}
 use Rattle.model.proofs.Lists.{HasKey, list_has}
 use Rattle.model.proofs.Chosen.{same_eq}

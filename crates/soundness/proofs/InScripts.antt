@@ -8,7 +8,7 @@ use Rattle.model.specs.declared.op.Op.{Op}
 use Rattle.model.specs.declared.op.Op.TheVariants.{Work, Delay, DelayUntil, Yield, Time, Mark, Expect, Repeat, End, If, Else, EndIf}
 use Rattle.model.specs.declared.op.Op.TheVariants.{Break, Stamp, Since, Await, Do, GiveMutex, MessagesWaiting, SpacesAvailable}
 use Rattle.model.specs.declared.op.Op.TheVariants.{SetBits, ClearBits, GetBits, WaitBits, Suspend, Resume, SuspendAll, ResumeAll}
-use Rattle.model.specs.declared.op.Op.TheVariants.{NextCommand, Obey}
+use Rattle.model.specs.declared.op.Op.TheVariants.{EnterCritical, ExitCritical, NextCommand, Obey}
 use Rattle.model.specs.declared.op.Access.TheVariants.{Receive}
 use Rattle.model.specs.declared.op.IsrOp.{IsrOp}
 use Rattle.model.specs.Application.{Application, Handler, Definition, of_file, commands_of, script_of, op_at, ops_of}
@@ -149,6 +149,8 @@ used_none zero ((Suspend j) ∷ ops) h = tt
 used_none zero ((Resume j) ∷ ops) h = tt
 used_none zero (SuspendAll ∷ ops) h = tt
 used_none zero (ResumeAll ∷ ops) h = tt
+used_none zero (EnterCritical ∷ ops) h = tt
+used_none zero (ExitCritical ∷ ops) h = tt
 used_none zero ((NextCommand o) ∷ ops) h = tt
 used_none zero (Obey ∷ ops) h = tt
 used_none (suc p) (o ∷ ops) h = used_none p ops h.1
@@ -207,6 +209,8 @@ known_if app i p (Suspend j) e = e
 known_if app i p (Resume j) e = e
 known_if app i p SuspendAll e = e
 known_if app i p ResumeAll e = e
+known_if app i p EnterCritical e = e
+known_if app i p ExitCritical e = e
 known_if app i p (NextCommand o) e = absurd (cc)
 known_if app i p Obey e = absurd (cc)
 

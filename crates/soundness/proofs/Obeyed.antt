@@ -1,11 +1,12 @@
 -- What the ops that suspend and resume keep.
 use Rattle.std.proofs.Common.{◌≡◌, ◌<◌, ℕ, true, length, Some, None, refl, ap, sym, subst, ◌∙◌}
+use Rattle.model.specs.declared.op.Op.{Op}
 use Rattle.model.specs.declared.op.Op.TheVariants.{Suspend, Resume, SuspendAll, ResumeAll}
 use Rattle.model.specs.Application.{Application, op_at}
 use Rattle.model.specs.Scripts.{IsWellFormed}
 use Rattle.model.specs.State.{State, Task, Suspended, task_at, status_at, progress_at, no_task}
 use Rattle.model.specs.Switching.{is_ready, preempt, is_held}
-use Rattle.model.specs.Ops.{answer}
+use Rattle.model.specs.Ops.{answer, with_sections}
 use Rattle.model.specs.Suspension.{can_suspend, suspend, resume, call_suspend, call_resume, suspend_all, resume_scheduler}
 use Rattle.model.specs.Suspension.{resume_all}
 use Rattle.model.specs.Invariant.{Hold, IsSound, wait_of}
@@ -13,7 +14,8 @@ use Rattle.model.proofs.Sorting.{by_test}
 use Rattle.model.proofs.Tables.{each-set}
 use Rattle.model.proofs.Statuses.{ready_free}
 use Rattle.soundness.proofs.Settled.{when_held, when_free}
-use Rattle.soundness.proofs.Sound.{preempted, answered, otherwise}
+use Rattle.soundness.proofs.InScripts.{nesting_past}
+use Rattle.soundness.proofs.Sound.{preempted, answered, otherwise, plain}
 use Rattle.soundness.proofs.Suspending.{suspended_task, resumed_task, resumed_scheduler}
 use Rattle.soundness.proofs.Handled.{spares-resume}
 use Rattle.soundness.proofs.Going.{resumed_apart}
@@ -55,8 +57,16 @@ module _ (app : Application) (formed : IsWellFormed app) (hold : Hold) where
     pub all_suspended : op_at app i (progress_at s i).op_index ≡ Some SuspendAll → IsSound app hold (suspend_all app i s)
     unfolding suspend_all
     all_suspended is =
-        answered app formed hold _ i SuspendAll (otherwise app formed hold s s.group_bits _ h)
+        answered app formed hold _ i SuspendAll (otherwise app formed hold s s.group_bits _ s.sections h)
         (ready_free (status_at s i) r) is (Some 0) refl
+
+    pub sections_put : (n : ℕ) (op : Op) → op_at app i (progress_at s i).op_index ≡ Some op
+        → nesting_past (length (progress_at s i).loops) op ≡ length (progress_at s i).loops
+        → IsSound app hold (with_sections app i n s)
+    unfolding with_sections
+    sections_put n op is nests =
+        plain app formed hold (record s { sections = n }) i (otherwise app formed hold s s.group_bits s.suspensions n h)
+        (ready_free (status_at s i) r) op is (progress_at s i).answer nests
 
     pub all_resumed : op_at app i (progress_at s i).op_index ≡ Some ResumeAll → IsSound app hold (resume_all app i s)
     unfolding resume_all

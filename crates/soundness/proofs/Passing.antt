@@ -1,13 +1,13 @@
 -- What each op makes of the ticks and of the suspension of the scheduler: most leave both as they were.
-use Rattle.std.proofs.Common.{ap₂, Bool, ap, ◌≡◌, ◌≢◌, ◌≤◌, ◌+◌, ◌-◌, ◌<◌, ◌||◌, ◌&&◌, ℕ, zero, suc, true, false, eqb, ltb, min}
-use Rattle.std.proofs.Common.{fold, List, [], ◌∷◌, ◌++◌, Option, Some, None, refl, ◌∙◌, arith, length}
+use Rattle.std.proofs.Common.{ap₂, Bool, ap, ◌≡◌, ◌≤◌, ◌+◌, ◌-◌, ◌<◌, ◌||◌, ◌&&◌, ℕ, zero, suc, true, false, eqb, ltb, min}
+use Rattle.std.proofs.Common.{sym, subst, fold, List, [], ◌∷◌, ◌++◌, Option, Some, None, refl, ◌∙◌, arith, length}
 use Rattle.std.specs.Prelude.{if◌then◌else◌}
-use Rattle.std.specs.Option.{option_eq}
+use Rattle.std.specs.Option.{option_eq, option_or}
 use Rattle.model.specs.declared.op.Op.{Op}
 use Rattle.model.specs.declared.op.Op.TheVariants.{Work, Delay, DelayUntil, Yield, Time, Mark, Expect, Repeat, End, If, Else, EndIf}
 use Rattle.model.specs.declared.op.Op.TheVariants.{Break, Stamp, Since, Await, Do, GiveMutex, MessagesWaiting, SpacesAvailable}
 use Rattle.model.specs.declared.op.Op.TheVariants.{SetBits, ClearBits, GetBits, WaitBits, Suspend, Resume, SuspendAll, ResumeAll}
-use Rattle.model.specs.declared.op.Op.TheVariants.{NextCommand, Obey}
+use Rattle.model.specs.declared.op.Op.TheVariants.{EnterCritical, ExitCritical, NextCommand, Obey}
 use Rattle.model.specs.declared.op.Access.{Access}
 use Rattle.model.specs.declared.op.Access.TheVariants.{Receive}
 use Rattle.model.specs.declared.op.Command.{Command}
@@ -16,28 +16,31 @@ use Rattle.model.specs.declared.call.Phase.{Phase}
 use Rattle.model.specs.declared.call.Phase.TheVariants.{Start, Try, Decide, Place, Unlock, Leave}
 use Rattle.model.specs.declared.call.WaitList.TheVariants.{ToReceive, ToSend}
 use Rattle.model.specs.declared.event.Misuse.{Misuse}
-use Rattle.model.specs.declared.event.Misuse.TheVariants.{NotSuspended}
+use Rattle.model.specs.declared.event.Misuse.TheVariants.{WhileSuspended, NotSuspended, EndedSuspended, WhileCritical, NotCritical}
+use Rattle.model.specs.declared.event.Misuse.TheVariants.{EndedCritical}
 use Rattle.model.specs.declared.event.What.TheVariants as what
 use Rattle.model.specs.declared.answer.AnswerCondition.{AnswerCondition}
 use Rattle.model.specs.Answers.{holds}
 use Rattle.model.specs.Application.{Application, Limits, op_at}
 use Rattle.model.specs.State.{State, status_at, progress_at, call_at, object_at, bits_at, for_one, printed}
 use Rattle.model.specs.Order.{tasks_of}
-use Rattle.model.specs.Switching.{choose, preempt, slice, settle, is_scheduler_suspended, is_held, unless_held, write}
+use Rattle.model.specs.Switching.{choose, preempt, slice, settle, is_scheduler_suspended, is_critical, is_held, is_held_by_task}
+use Rattle.model.specs.Switching.{unless_held, write}
 use Rattle.model.specs.Waiting.{awakened, wait_in, set_deadline, is_expired, end_hold, unlock_object, unlock}
 use Rattle.model.specs.Time.{advance, increment_tick, jump, apply_one, apply_held}
-use Rattle.model.specs.Ops.{answer, use_up, expect}
+use Rattle.model.specs.Ops.{answer, use_up, expect, with_sections}
 use Rattle.model.specs.Objects.{possible}
 use Rattle.model.specs.Calls.{decide, leave_call, await}
 use Rattle.model.specs.Groups.{is_met, begin_set, set_bits, wait_for_bits, begin_bits_wait, check, final_bits, wait_bits}
 use Rattle.model.specs.Suspension.{suspend_all, resume_scheduler, resume_all}
 use Rattle.model.specs.Daemon.{next_command, obeyed, end_set_by_daemon, obey, command_at}
 use Rattle.model.specs.Handlers.{interrupt, tick_interrupt, idle, ticks_ahead, ticks_to_wake, ticks_to_interrupt}
-use Rattle.model.specs.Step.{is_ended, judge, act, act_unless, own_misuse, misuse, act_if, act_current, before_step, step, reset}
+use Rattle.model.specs.Step.{is_ended, judge, misused, act, act_unless, may_switch, is_barred, own_misuse, misuse, act_if}
+use Rattle.model.specs.Step.{act_current, before_step, step, reset}
 use Rattle.model.specs.Step.{nobody_ready, ready_at_reset, with_ops}
-use Rattle.model.specs.Invariant.{Hold, hold_of, InOne, course, Suspension, suspension_of}
+use Rattle.model.specs.Invariant.{hold_of, InOne, course, Suspension, suspension_of}
 use Rattle.model.proofs.Sorting.{by_test}
-use Rattle.soundness.proofs.Settled.{held_as_it_was}
+use Rattle.soundness.proofs.Settled.{held_as_it_was, unlike, neither, by_section}
 use Rattle.soundness.proofs.Frames.{Keeps, keeps, keeps_both, keeps-choose, keeps-yield_now, keeps-preempt, keeps-slice}
 use Rattle.soundness.proofs.Frames.{keeps-settle, keeps-unless_held, keeps-all_ready, keeps-wake_due, keeps-go_to, keeps-answer}
 use Rattle.soundness.proofs.Frames.{keeps-use_up, keeps-delay, keeps-delay_until, keeps-open_loop, keeps-close_turn, keeps-branch}
@@ -330,13 +333,13 @@ suspension-idle app limits s none =
     (jumped app (ticks_ahead app limits s) s) (tick_interrupt app s)
     (keeps-jumped app (ticks_ahead app limits s) s).suspension (suspension-tick app s none)
 
-suspensions-idle : (app : Application) (limits : Limits) (s : State) → (idle app limits s).suspensions ≡ s.suspensions
+pub suspensions-idle : (app : Application) (limits : Limits) (s : State) → (idle app limits s).suspensions ≡ s.suspensions
 unfolding idle
 suspensions-idle app limits s =
     either_way (λ t. t.suspensions ≡ s.suspensions) app.tickless (jumped app (ticks_ahead app limits s) s) (tick_interrupt app s)
     (ap (λ (x : Suspension). x.suspensions) (keeps-jumped app (ticks_ahead app limits s) s).suspension) (suspensions-tick app s)
 
-sections-idle : (app : Application) (limits : Limits) (s : State) → (idle app limits s).sections ≡ s.sections
+pub sections-idle : (app : Application) (limits : Limits) (s : State) → (idle app limits s).sections ≡ s.sections
 unfolding idle
 sections-idle app limits s =
     either_way (λ t. t.sections ≡ s.sections) app.tickless (jumped app (ticks_ahead app limits s) s) (tick_interrupt app s)
@@ -348,7 +351,7 @@ sources-idle app limits s =
     either_way (λ t. t.sources ≡ s.sources) app.tickless (jumped app (ticks_ahead app limits s) s) (tick_interrupt app s)
     (keeps-jumped app (ticks_ahead app limits s) s).sources (sources-tick app s)
 
-held-idle : (app : Application) (limits : Limits) (s : State) → (idle app limits s).held_ticks ≤ s.held_ticks + 1
+pub held-idle : (app : Application) (limits : Limits) (s : State) → (idle app limits s).held_ticks ≤ s.held_ticks + 1
 unfolding idle
 held-idle app limits s =
     either_way (λ t. t.held_ticks ≤ s.held_ticks + 1) app.tickless (jumped app (ticks_ahead app limits s) s) (tick_interrupt app s)
@@ -475,48 +478,74 @@ suspends-all app i s =
       sources = k.sources;
     }
 
+-- So many critical sections are open, and nothing else that is counted changes.
+pub record Opens (n : ℕ) (old new : State) : Type 0 where
+  pub elapsed : new.elapsed ≡ old.elapsed
+  pub hold : hold_of new ≡ hold_of old
+  pub suspensions : new.suspensions ≡ old.suspensions
+  pub held : new.held_ticks ≡ old.held_ticks
+  pub sections : new.sections ≡ n
+  pub sources : new.sources ≡ old.sources
+
+pub opens : (app : Application) (i n : ℕ) (s : State) → Opens n s (with_sections app i n s)
+unfolding with_sections
+opens app i n s =
+    let k = keeps-go_to app i ((progress_at s i).op_index + 1) (progress_at s i) (record s { sections = n }) in
+    record {
+      elapsed = k.elapsed;
+      hold = k.hold;
+      suspensions = ap (λ (x : Suspension). x.suspensions) k.suspension;
+      held = ap (λ (x : Suspension). x.held_ticks) k.suspension;
+      sections = ap (λ (x : Suspension). x.sections) k.suspension;
+      sources = k.sources;
+    }
+
 -- ---- the ops
 
--- The op lets no tick pass, and doesn't suspend or resume the scheduler.
+-- The op lets no tick pass, and neither holds the scheduler for its task nor lets go of it.
 abbrev pub is_instant : Op → Bool
 is_instant (Work n) = false
 is_instant SuspendAll = false
 is_instant ResumeAll = false
+is_instant EnterCritical = false
+is_instant ExitCritical = false
 is_instant _ = true
 
--- what is true of those three, and of all others, is true of every op
-pub by_op : (P : Op → Type 0) → ((n : ℕ) → P (Work n)) → P SuspendAll
-    → P ResumeAll → ((op : Op) → is_instant op ≡ true → P op) → (op : Op) → P op
-by_op P w s r f (Work n) = w n
-by_op P w s r f (Delay n) = f (Delay n) refl
-by_op P w s r f (DelayUntil n) = f (DelayUntil n) refl
-by_op P w s r f Yield = f Yield refl
-by_op P w s r f Time = f Time refl
-by_op P w s r f (Mark n) = f (Mark n) refl
-by_op P w s r f (Expect c) = f (Expect c) refl
-by_op P w s r f (Repeat n) = f (Repeat n) refl
-by_op P w s r f End = f End refl
-by_op P w s r f (If c) = f (If c) refl
-by_op P w s r f Else = f Else refl
-by_op P w s r f EndIf = f EndIf refl
-by_op P w s r f Break = f Break refl
-by_op P w s r f Stamp = f Stamp refl
-by_op P w s r f Since = f Since refl
-by_op P w s r f (Await o a ticks) = f (Await o a ticks) refl
-by_op P w s r f (Do o a) = f (Do o a) refl
-by_op P w s r f (GiveMutex o) = f (GiveMutex o) refl
-by_op P w s r f (MessagesWaiting o) = f (MessagesWaiting o) refl
-by_op P w s r f (SpacesAvailable o) = f (SpacesAvailable o) refl
-by_op P w s r f (SetBits g m) = f (SetBits g m) refl
-by_op P w s r f (ClearBits g m) = f (ClearBits g m) refl
-by_op P w s r f (GetBits g) = f (GetBits g) refl
-by_op P w s r f (WaitBits g c ticks) = f (WaitBits g c ticks) refl
-by_op P w s r f (Suspend j) = f (Suspend j) refl
-by_op P w s r f (Resume j) = f (Resume j) refl
-by_op P w s r f SuspendAll = s
-by_op P w s r f ResumeAll = r
-by_op P w s r f (NextCommand o) = f (NextCommand o) refl
-by_op P w s r f Obey = f Obey refl
+-- what is true of those five, and of all others, is true of every op
+pub by_op : (P : Op → Type 0) → ((n : ℕ) → P (Work n)) → P SuspendAll → P ResumeAll
+    → P EnterCritical → P ExitCritical → ((op : Op) → is_instant op ≡ true → P op) → (op : Op) → P op
+by_op P w s r e x f (Work n) = w n
+by_op P w s r e x f (Delay n) = f (Delay n) refl
+by_op P w s r e x f (DelayUntil n) = f (DelayUntil n) refl
+by_op P w s r e x f Yield = f Yield refl
+by_op P w s r e x f Time = f Time refl
+by_op P w s r e x f (Mark n) = f (Mark n) refl
+by_op P w s r e x f (Expect c) = f (Expect c) refl
+by_op P w s r e x f (Repeat n) = f (Repeat n) refl
+by_op P w s r e x f End = f End refl
+by_op P w s r e x f (If c) = f (If c) refl
+by_op P w s r e x f Else = f Else refl
+by_op P w s r e x f EndIf = f EndIf refl
+by_op P w s r e x f Break = f Break refl
+by_op P w s r e x f Stamp = f Stamp refl
+by_op P w s r e x f Since = f Since refl
+by_op P w s r e x f (Await o a ticks) = f (Await o a ticks) refl
+by_op P w s r e x f (Do o a) = f (Do o a) refl
+by_op P w s r e x f (GiveMutex o) = f (GiveMutex o) refl
+by_op P w s r e x f (MessagesWaiting o) = f (MessagesWaiting o) refl
+by_op P w s r e x f (SpacesAvailable o) = f (SpacesAvailable o) refl
+by_op P w s r e x f (SetBits g m) = f (SetBits g m) refl
+by_op P w s r e x f (ClearBits g m) = f (ClearBits g m) refl
+by_op P w s r e x f (GetBits g) = f (GetBits g) refl
+by_op P w s r e x f (WaitBits g c ticks) = f (WaitBits g c ticks) refl
+by_op P w s r e x f (Suspend j) = f (Suspend j) refl
+by_op P w s r e x f (Resume j) = f (Resume j) refl
+by_op P w s r e x f SuspendAll = s
+by_op P w s r e x f ResumeAll = r
+by_op P w s r e x f EnterCritical = e
+by_op P w s r e x f ExitCritical = x
+by_op P w s r e x f (NextCommand o) = f (NextCommand o) refl
+by_op P w s r e x f Obey = f Obey refl
 
 -- an instant op in one phase
 ends-act : (app : Application) (i : ℕ) (op : Op) (s : State)
@@ -552,6 +581,8 @@ ends-act app i (Suspend j) s t w = ends s _ (keeps-call_suspend app i j s)
 ends-act app i (Resume j) s t w = ends s _ (keeps-call_resume app i j s)
 ends-act app i SuspendAll s t w = absurd (cc)
 ends-act app i ResumeAll s t w = absurd (cc)
+ends-act app i EnterCritical s t w = absurd (cc)
+ends-act app i ExitCritical s t w = absurd (cc)
 ends-act app i (NextCommand o) s t w = absurd (cc)
 ends-act app i Obey s t w = absurd (cc)
 
@@ -584,6 +615,8 @@ lasts-act app i (Suspend j) s t = (ends-act app i (Suspend j) s refl refl).lasts
 lasts-act app i (Resume j) s t = (ends-act app i (Resume j) s refl refl).lasts
 lasts-act app i SuspendAll s t = absurd (cc)
 lasts-act app i ResumeAll s t = absurd (cc)
+lasts-act app i EnterCritical s t = absurd (cc)
+lasts-act app i ExitCritical s t = absurd (cc)
 lasts-act app i (NextCommand o) s t = lasts-next_command app i o (call_at s i).phase s
 lasts-act app i Obey s t = lasts-obey app i (command_at s i) (call_at s i).phase s
 
@@ -593,13 +626,17 @@ hold-act app i op s = by_op (λ op. course (Some op) ≡ InOne → hold_of (act 
     (λ n w. hold-tick app (use_up app i n s) ∙ (keeps-use_up app i n s).hold)
     (λ w. (suspends-all app i s).hold)
     (λ w. (resumes-all app i s).hold)
+    (λ w. (opens app i (s.sections + 1) s).hold)
+    (λ w. (opens app i (s.sections - 1) s).hold)
     (λ op t w. (ends-act app i op s t w).hold) op
 
-elapsed-act : (app : Application) (i : ℕ) (op : Op) (s : State) → (act app i op s).elapsed ≤ s.elapsed + 1
+pub elapsed-act : (app : Application) (i : ℕ) (op : Op) (s : State) → (act app i op s).elapsed ≤ s.elapsed + 1
 elapsed-act app i op s = by_op (λ op. (act app i op s).elapsed ≤ s.elapsed + 1)
     (λ n. let e = elapsed-tick app (use_up app i n s) in let f = (keeps-use_up app i n s).elapsed in omega arith)
     (let e = (suspends-all app i s).elapsed in omega arith)
     (let e = (resumes-all app i s).elapsed in omega arith)
+    (let e = (opens app i (s.sections + 1) s).elapsed in omega arith)
+    (let e = (opens app i (s.sections - 1) s).elapsed in omega arith)
     (λ op t. let e = (lasts-act app i op s t).elapsed in omega arith) op
 
 -- how many `suspend_all` are in force after it
@@ -611,6 +648,8 @@ suspensions-act app i op s = by_op (λ op. (act app i op s).suspensions ≤ s.su
     omega arith)
     (let e = (suspends-all app i s).suspensions in omega arith)
     (let e = (resumes-all app i s).suspensions in omega arith)
+    (let e = (opens app i (s.sections + 1) s).suspensions in omega arith)
+    (let e = (opens app i (s.sections - 1) s).suspensions in omega arith)
     (λ op t.
     let e : (act app i op s).suspensions ≡ s.suspensions =
     ap (λ (x : Suspension). x.suspensions) (lasts-act app i op s t).suspension in
@@ -618,7 +657,7 @@ suspensions-act app i op s = by_op (λ op. (act app i op s).suspensions ≤ s.su
     op
 
 -- how many ticks are held after it
-held-act : (app : Application) (i : ℕ) (op : Op) (s : State) → (act app i op s).held_ticks ≤ s.held_ticks + 1
+pub held-act : (app : Application) (i : ℕ) (op : Op) (s : State) → (act app i op s).held_ticks ≤ s.held_ticks + 1
 held-act app i op s = by_op (λ op. (act app i op s).held_ticks ≤ s.held_ticks + 1)
     (λ n. let e = held-tick app (use_up app i n s) in
     let f : (use_up app i n s).held_ticks ≡ s.held_ticks =
@@ -626,19 +665,36 @@ held-act app i op s = by_op (λ op. (act app i op s).held_ticks ≤ s.held_ticks
     omega arith)
     (let e = (suspends-all app i s).held in omega arith)
     (let e = (resumes-all app i s).no_more in omega arith)
+    (let e = (opens app i (s.sections + 1) s).held in omega arith)
+    (let e = (opens app i (s.sections - 1) s).held in omega arith)
     (λ op t.
     let e : (act app i op s).held_ticks ≡ s.held_ticks =
     ap (λ (x : Suspension). x.held_ticks) (lasts-act app i op s t).suspension in
     omega arith)
     op
 
--- as many critical sections are open after it
-pub sections-act : (app : Application) (i : ℕ) (op : Op) (s : State) → (act app i op s).sections ≡ s.sections
-sections-act app i op s = by_op (λ op. (act app i op s).sections ≡ s.sections)
-    (λ n. sections-tick app (use_up app i n s) ∙ ap (λ (x : Suspension). x.sections) (keeps-use_up app i n s).suspension)
-    (suspends-all app i s).sections
-    (resumes-all app i s).sections
-    (λ op t. ap (λ (x : Suspension). x.sections) (lasts-act app i op s t).suspension)
+-- how often a task holds the scheduler, by `suspend_all` and by critical sections
+abbrev pub task_holds : State → ℕ
+task_holds s = s.suspensions + s.sections
+
+pub task_holds_by : (s t : State) → suspension_of t ≡ suspension_of s → task_holds t ≡ task_holds s
+task_holds_by s t same = ap (λ (x : Suspension). x.suspensions + x.sections) same
+
+-- and how often after it
+pub task_holds-act : (app : Application) (i : ℕ) (op : Op) (s : State) → task_holds (act app i op s) ≤ task_holds s + 1
+task_holds-act app i op s = by_op (λ op. task_holds (act app i op s) ≤ task_holds s + 1)
+    (λ n.
+    let e : (act app i (Work n) s).suspensions ≡ (use_up app i n s).suspensions = suspensions-tick app (use_up app i n s) in
+    let f : (act app i (Work n) s).sections ≡ (use_up app i n s).sections = sections-tick app (use_up app i n s) in
+    let g : task_holds (use_up app i n s) ≡ task_holds s = task_holds_by s (use_up app i n s) (keeps-use_up app i n s).suspension in
+    omega arith)
+    (let e = (suspends-all app i s).suspensions in let f = (suspends-all app i s).sections in omega arith)
+    (let e = (resumes-all app i s).suspensions in let f = (resumes-all app i s).sections in omega arith)
+    (let e = (opens app i (s.sections + 1) s).suspensions in let f = (opens app i (s.sections + 1) s).sections in omega arith)
+    (let e = (opens app i (s.sections - 1) s).suspensions in let f = (opens app i (s.sections - 1) s).sections in omega arith)
+    (λ op t.
+    let e : task_holds (act app i op s) ≡ task_holds s = task_holds_by s (act app i op s) (lasts-act app i op s t).suspension in
+    omega arith)
     op
 
 -- what is kept of the interrupt sources stays
@@ -647,173 +703,7 @@ sources-act app i op s = by_op (λ op. (act app i op s).sources ≡ s.sources)
     (λ n. sources-tick app (use_up app i n s) ∙ (keeps-use_up app i n s).sources)
     (suspends-all app i s).sources
     (resumes-all app i s).sources
+    (opens app i (s.sections + 1) s).sources
+    (opens app i (s.sections - 1) s).sources
     (λ op t. (lasts-act app i op s t).sources)
     op
-
--- a judgement
-pub judged : (i op_index : ℕ) (s : State) → Lasts s (judge i op_index s)
-unfolding judge
-judged i op_index s = by_test (is_scheduler_suspended s && is_ended (status_at s i))
-    (λ t. rw t (record { elapsed = refl; suspension = refl; sources = refl }))
-    (λ t. rw t (record { elapsed = refl; suspension = refl; sources = refl }))
-
--- ---- where no `suspend_all` is in force
-
-judged_calm : (i op_index : ℕ) (s : State) → s.suspensions ≡ 0 → judge i op_index s ≡ s
-unfolding judge
-judged_calm i op_index s none = rw none refl
-
-calm_still : (app : Application) (i : ℕ) (op : Op) (s : State) → s.suspensions ≡ 0
-    → own_misuse s i op ≡ None → op ≢ SuspendAll → (act app i op s).suspensions ≡ 0
-calm_still app i op s none = by_op (λ op. own_misuse s i op ≡ None → op ≢ SuspendAll → (act app i op s).suspensions ≡ 0)
-    (λ n m ne.
-    suspensions-tick app (use_up app i n s) ∙ ap (λ (x : Suspension). x.suspensions) (keeps-use_up app i n s).suspension ∙ none)
-    (λ m ne. absurd (ne refl))
-    (λ m ne. let f : Some NotSuspended ≡ None = rw none at m in absurd (cc))
-    (λ op t m ne. ap (λ (x : Suspension). x.suspensions) (lasts-act app i op s t).suspension ∙ none) op
-
--- Then an op does what it does, and is no misuse but by itself.
-pub misuse_calm : (s : State) (i : ℕ) (op : Op) → s.suspensions ≡ 0 → misuse s i op ≡ own_misuse s i op
-misuse_calm s i op none = rw none refl
-
-pub acts_calm : (app : Application) (i : ℕ) (op : Op) (s : State) → s.suspensions ≡ 0
-    → own_misuse s i op ≡ None → op ≢ SuspendAll → act_unless app i (misuse s i op) op s ≡ act app i op s
-acts_calm app i op s none fine ne =
-    ap (λ (kind : Option Misuse). act_unless app i kind op s) (misuse_calm s i op none ∙ fine)
-    ∙ judged_calm i (progress_at s i).op_index (act app i op s) (calm_still app i op s none fine ne)
-
--- no more than one tick passes, except where idle may jump, and then none past the limit; no more than one is held, and no more
--- than one `suspend_all` comes into force; as many critical sections are open
-pub record Moves (app : Application) (limits : Limits) (old new : State) : Type 0 where
-  pub elapsed : app.tickless ≡ false → new.elapsed ≤ old.elapsed + 1
-  pub most : old.elapsed < limits.ticks → new.elapsed ≤ limits.ticks
-  pub suspensions : new.suspensions ≤ old.suspensions + 1
-  pub held : new.held_ticks ≤ old.held_ticks + 1
-  pub sections : new.sections ≡ old.sections
-
-moves-act_unless : (app : Application) (limits : Limits) (i : ℕ) (kind : Option Misuse) (op : Op) (s : State)
-    → Moves app limits s (act_unless app i kind op s)
-moves-act_unless app limits i None op s =
-    let t : State = act app i op s in
-    let j = judged i (progress_at s i).op_index t in
-    let e = j.elapsed in
-    let f : (judge i (progress_at s i).op_index t).suspensions ≡ t.suspensions =
-    ap (λ (x : Suspension). x.suspensions) j.suspension in
-    let a = elapsed-act app i op s in
-    let g : (judge i (progress_at s i).op_index t).held_ticks ≡ t.held_ticks = ap (λ (x : Suspension). x.held_ticks) j.suspension in
-    let b = suspensions-act app i op s in
-    let h = held-act app i op s in
-    record {
-      elapsed = λ off. omega arith;
-      most = λ l. omega arith;
-      suspensions = omega arith;
-      held = omega arith;
-      sections = ap (λ (x : Suspension). x.sections) j.suspension ∙ sections-act app i op s;
-    }
-moves-act_unless app limits i (Some kind) op s =
-    record {
-      elapsed = λ off. omega arith;
-      most = λ l. omega arith;
-      suspensions = omega arith;
-      held = omega arith;
-      sections = refl;
-    }
-
-moves-act_if : (app : Application) (limits : Limits) (i : ℕ) (o : Option Op) (s : State) → Moves app limits s (act_if app i o s)
-moves-act_if app limits i None s =
-    record {
-      elapsed = λ off. omega arith;
-      most = λ l. omega arith;
-      suspensions = omega arith;
-      held = omega arith;
-      sections = refl;
-    }
-moves-act_if app limits i (Some op) s = moves-act_unless app limits i (misuse s i op) op s
-
-moves-act_current : (app : Application) (limits : Limits) (r : Option ℕ) (s : State)
-    → Moves app limits s (act_current app limits r s)
-moves-act_current app limits None s =
-    let f = suspensions-idle app limits s in
-    record {
-      elapsed = λ off. (let e = elapsed-idle app limits s off in omega arith);
-      most = λ l. most-idle app limits s l;
-      suspensions = omega arith;
-      held = held-idle app limits s;
-      sections = sections-idle app limits s;
-    }
-moves-act_current app limits (Some i) s = moves-act_if app limits i (op_at app i (progress_at s i).op_index) s
-
--- what is kept of the interrupt sources stays
-sources-act_unless : (app : Application) (i : ℕ) (kind : Option Misuse) (op : Op) (s : State)
-    → (act_unless app i kind op s).sources ≡ s.sources
-sources-act_unless app i None op s =
-    (judged i (progress_at s i).op_index (act app i op s)).sources ∙ sources-act app i op s
-sources-act_unless app i (Some kind) op s = refl
-
-sources-act_if : (app : Application) (i : ℕ) (o : Option Op) (s : State) → (act_if app i o s).sources ≡ s.sources
-sources-act_if app i None s = refl
-sources-act_if app i (Some op) s = sources-act_unless app i (misuse s i op) op s
-
-pub sources-act_current : (app : Application) (limits : Limits) (r : Option ℕ) (s : State)
-    → (act_current app limits r s).sources ≡ s.sources
-sources-act_current app limits None s = sources-idle app limits s
-sources-act_current app limits (Some i) s = sources-act_if app i (op_at app i (progress_at s i).op_index) s
-
--- ---- a step, and reset
-
-moves-step : (app : Application) (limits : Limits) (handlers : List ℕ) (s : State) → Moves app limits s (step app limits handlers s)
-unfolding step
-moves-step app limits handlers s =
-    let begun : State = before_step app handlers s in
-    let acted : State = act_current app limits begun.current begun in
-    let b = keeps-before_step app handlers s in
-    let k = keeps-unless_held settle acted keeps-settle in
-    let m = moves-act_current app limits begun.current begun in
-    let b1 : begun.elapsed ≡ s.elapsed = b.elapsed in
-    let b2 : begun.suspensions ≡ s.suspensions = ap (λ (x : Suspension). x.suspensions) b.suspension in
-    let k1 : (unless_held settle acted).elapsed ≡ acted.elapsed = k.elapsed in
-    let k2 : (unless_held settle acted).suspensions ≡ acted.suspensions = ap (λ (x : Suspension). x.suspensions) k.suspension in
-    let m2 : acted.suspensions ≤ begun.suspensions + 1 = m.suspensions in
-    let b3 : begun.held_ticks ≡ s.held_ticks = ap (λ (x : Suspension). x.held_ticks) b.suspension in
-    let k3 : (unless_held settle acted).held_ticks ≡ acted.held_ticks = ap (λ (x : Suspension). x.held_ticks) k.suspension in
-    let h : acted.held_ticks ≤ begun.held_ticks + 1 = m.held in
-    record {
-      elapsed = λ off. (let m1 : acted.elapsed ≤ begun.elapsed + 1 = m.elapsed off in omega arith);
-      most = λ l. (let m3 : acted.elapsed ≤ limits.ticks = m.most (omega arith) in omega arith);
-      suspensions = omega arith;
-      held = omega arith;
-      sections =
-          ap (λ (x : Suspension). x.sections) k.suspension ∙ m.sections ∙ ap (λ (x : Suspension). x.sections) b.suspension;
-    }
-
-pub elapsed-step : (app : Application) (limits : Limits) (handlers : List ℕ) (s : State)
-    → app.tickless ≡ false → (step app limits handlers s).elapsed ≤ s.elapsed + 1
-elapsed-step app limits handlers s = (moves-step app limits handlers s).elapsed
-
-pub most-step : (app : Application) (limits : Limits) (handlers : List ℕ) (s : State)
-    → s.elapsed < limits.ticks → (step app limits handlers s).elapsed ≤ limits.ticks
-most-step app limits handlers s = (moves-step app limits handlers s).most
-
-pub held-step : (app : Application) (limits : Limits) (handlers : List ℕ) (s : State)
-    → (step app limits handlers s).held_ticks ≤ s.held_ticks + 1
-held-step app limits handlers s = (moves-step app limits handlers s).held
-
-pub suspensions-step : (app : Application) (limits : Limits) (handlers : List ℕ) (s : State)
-    → (step app limits handlers s).suspensions ≤ s.suspensions + 1
-suspensions-step app limits handlers s = (moves-step app limits handlers s).suspensions
-
-elapsed-nobody : (app : Application) → (nobody_ready app).elapsed ≡ 0
-unfolding nobody_ready
-elapsed-nobody app = refl
-
-pub elapsed-reset : (app : Application) → (reset app).elapsed ≡ 0
-unfolding reset ready_at_reset
-elapsed-reset app = (keeps-all_ready (with_ops 0 app.tasks) (nobody_ready app)).elapsed ∙ elapsed-nobody app
-
-suspension-nobody : (app : Application) → suspension_of (nobody_ready app) ≡ record { suspensions = 0; held_ticks = 0; sections = 0 }
-unfolding nobody_ready
-suspension-nobody app = refl
-
-pub suspension-reset : (app : Application) → suspension_of (reset app) ≡ record { suspensions = 0; held_ticks = 0; sections = 0 }
-unfolding reset ready_at_reset
-suspension-reset app = (keeps-all_ready (with_ops 0 app.tasks) (nobody_ready app)).suspension ∙ suspension-nobody app

@@ -1,21 +1,19 @@
 -- Nothing is pending after a step before which no critical section is open. And a step into which nothing is injected, before which
 -- nothing is pending, begins with nothing.
-use Rattle.std.proofs.Common.{◌≡◌, ◌∙◌, ◌+◌, ℕ, zero, suc, Bool, true, false, List, [], ◌∷◌, ◌++◌, map, get_or, refl, ap, sym, subst}
+use Rattle.std.proofs.Common.{arith, ◌≡◌, ◌<◌, ◌∙◌, ℕ, zero, suc, Bool, false, List, [], ◌∷◌, ◌++◌, map, get_or, refl, ap, sym, subst}
 use Rattle.std.specs.List.{AllByRecursion, filter, range_with_len}
 use Rattle.std.specs.Prelude.{length}
 use Rattle.model.specs.declared.plan.Injection.{Injection}
 use Rattle.model.specs.Application.{Application, Handler, Limits}
-use Rattle.model.specs.Scripts.{IsWellFormed}
 use Rattle.model.specs.State.{State, Source, no_source, source_at, for_each}
-use Rattle.model.specs.Switching.{make_ready, settle, is_critical, unless_held, choice}
+use Rattle.model.specs.Switching.{make_ready, settle, is_critical}
 use Rattle.model.specs.Handlers.{serve, inject, pending_of, none_pending, serve_pending}
 use Rattle.model.specs.Step.{act_current, before_step, step, reset, ready_at_reset, nobody_ready, with_ops}
 use Rattle.model.specs.Run.{injected, state_after}
 use Rattle.model.specs.Invariant.{IsNonePending}
 use Rattle.model.proofs.Sorting.{by_test}
 use Rattle.soundness.proofs.Frames.{keeps-serve, keeps-inject, keeps-unless_held, keeps-settle, keeps-all_ready}
-use Rattle.soundness.proofs.Passing.{sources-act_current}
-use Rattle.soundness.proofs.Reached.{reached_after}
+use Rattle.soundness.proofs.Moving.{sources-act_current}
 
 -- ---- lists of sources
 
@@ -123,12 +121,13 @@ pub none_at_reset : (app : Application) → IsNonePending (reset app)
 unfolding reset ready_at_reset nobody_ready
 none_at_reset app = none_ready app (with_ops 0 app.tasks) (nobody_ready app) (none_listed app.handlers)
 
--- ---- so in every state of a run, as long as no op opens a critical section
+-- ---- so in every state of a run, up to the first injection
 
-pub none_reached : (app : Application) → IsWellFormed app → (limits : Limits) (plan : List Injection) (n : ℕ)
-    → IsNonePending (state_after app limits plan n)
-none_reached app formed limits plan zero = none_at_reset app
-none_reached app formed limits plan (suc n) =
+pub none_reached : (app : Application) (limits : Limits) (plan : List Injection) (n : ℕ)
+    → ((k : ℕ) → k < n → injected plan k ≡ []) → IsNonePending (state_after app limits plan n)
+none_reached app limits plan zero none = none_at_reset app
+none_reached app limits plan (suc n) none =
     let s : State = state_after app limits plan n in
-    let shut : s.sections ≡ 0 = (reached_after app formed limits plan n).closed in
-    none_after app limits (injected plan n) s (rw shut refl)
+    let before : IsNonePending s = none_reached app limits plan n (λ k l. none k (omega arith)) in
+    subst (λ (handlers : List ℕ). IsNonePending (step app limits handlers s)) (sym (none n (omega arith)))
+    (none_still app limits s before)

@@ -1,5 +1,5 @@
 -- What each phase of a call that waits makes of a state.
-use Rattle.std.proofs.Common.{ap₂, ◌≡◌, ◌≢◌, ◌<◌, ◌||◌, ℕ, true, false, leb, ltb-false, arith, length, Option, Some, None, refl, ap}
+use Rattle.std.proofs.Common.{ap₂, ◌≡◌, ◌≢◌, ◌<◌, ◌||◌, ℕ, true, false, leb, ltb, ltb-false, arith, length, Option, Some, None, refl, ap}
 use Rattle.std.proofs.Common.{sym, subst, ◌∙◌, get_or-set_same, get_or-set_other}
 use Rattle.std.specs.Prelude.{Bool}
 use Rattle.std.specs.Option.{IfSome, option_map, is_some, unwrap_or}
@@ -13,7 +13,7 @@ use Rattle.model.specs.Application.{Application, op_at}
 use Rattle.model.specs.Scripts.{IsWellFormed}
 use Rattle.model.specs.State.{State, Task, Progress, Wait, Waiting, ticket_if_ready, wait_if_awake, task_at, status_at, progress_at}
 use Rattle.model.specs.State.{call_at, with_task, go_on, for_each, for_one, no_task}
-use Rattle.model.specs.Switching.{is_ready, make_ready, is_scheduler_suspended}
+use Rattle.model.specs.Switching.{is_ready, make_ready, is_held_by_task}
 use Rattle.model.specs.Waiting.{is_locked, wait_in, is_expired, end_hold, unlock_object, unlock}
 use Rattle.model.specs.Objects.{list_for, possible}
 use Rattle.model.specs.Calls.{lock, decide, leave_call}
@@ -25,6 +25,7 @@ use Rattle.model.proofs.Tables.{ticket_at, each-set_but}
 use Rattle.model.proofs.Unlocking.{opened_by, none_left, still_at, current-all_ready, none_awake}
 use Rattle.soundness.proofs.Sound.{framed, all_made_ready, chosen, preempted}
 use Rattle.soundness.proofs.Frames.{Keeps, keeps-inherit, keeps-all_ready, keeps-choose, keeps-preempt}
+use Rattle.soundness.proofs.Settled.{neither, unlike}
 use Rattle.soundness.proofs.Unlocked.{opened_can, unlocked_by}
 use Rattle.soundness.proofs.Inheriting.{Reranks, reranks-inherit, inherited}
 use Rattle.soundness.proofs.Called.{went_on, began, phase_free, call_apart, rehung, reheld}
@@ -39,23 +40,24 @@ free = record { held = false; locked = None }
 abbrev pub unsuspended : Suspension
 unsuspended = record { suspensions = 0; held_ticks = 0; sections = 0 }
 
-pub suspended_not : (s : State) → suspension_of s ≡ unsuspended → is_scheduler_suspended s ≡ false
-suspended_not s calm = let none : s.suspensions ≡ 0 = ap (λ (x : Suspension). x.suspensions) calm in rw none refl
+-- then no task holds the scheduler
+pub calm_free : (s : State) → suspension_of s ≡ unsuspended → is_held_by_task s ≡ false
+calm_free s calm = ap (λ (x : Suspension). ltb 0 x.suspensions || ltb 0 x.sections) calm
 
-pub calm_where : (s : State) → is_scheduler_suspended s ≡ false → s.held_ticks ≡ 0
-    → s.sections ≡ 0 → suspension_of s ≡ unsuspended
-calm_where s not_so none closed =
-    let most = ltb-false 0 s.suspensions not_so in
-    let zero_ : s.suspensions ≡ 0 = omega arith in
-    ap₂ (λ (a b : ℕ). record { suspensions = a; held_ticks = b; sections = s.sections }) zero_ none
-    ∙ ap (λ (n : ℕ). record { suspensions = 0; held_ticks = 0; sections = n }) closed
+pub none_above : (n : ℕ) → ltb 0 n ≡ false → n ≡ 0
+none_above n e = let most = ltb-false 0 n e in omega arith
+
+pub calm_where : (s : State) → is_held_by_task s ≡ false → s.held_ticks ≡ 0 → suspension_of s ≡ unsuspended
+calm_where s free none =
+    let off = neither s free in
+    ap₂ (λ (a b : ℕ). record { suspensions = a; held_ticks = b; sections = s.sections }) (none_above s.suspensions off.0) none
+    ∙ ap (λ (n : ℕ). record { suspensions = 0; held_ticks = 0; sections = n }) (none_above s.sections off.1)
 
 -- while a call holds the scheduler
 pub calm_held : (app : Application) (s : State) → IsState app s → s.call_hold ≡ true → suspension_of s ≡ unsuspended
 calm_held app s h held =
-    let not_so : is_scheduler_suspended s ≡ false =
-    by_test (is_scheduler_suspended s) (λ t. let f = h.apart t in absurd (cc)) (λ t. t) in
-    calm_where s not_so (h.held not_so) h.closed
+    let off : is_held_by_task s ≡ false = by_test (is_held_by_task s) (λ t. unlike (sym held ∙ h.apart t)) (λ t. t) in
+    calm_where s off (h.held (neither s off).0)
 
 module _ (app : Application) (formed : IsWellFormed app) where
   -- the running task goes on in a phase that holds the scheduler
@@ -81,9 +83,8 @@ module _ (app : Application) (formed : IsWellFormed app) where
         });
         alone = each-set_but no_task P s.tasks i t l (λ _. runs) (λ j ne on. let off = others j ne in absurd (cc));
         locked = λ none. absurd (cc);
-        apart = λ t. let f : is_scheduler_suspended s ≡ false = suspended_not s calm in absurd (cc);
+        apart = λ t. unlike (sym t ∙ calm_free s calm);
         held = λ _. ap (λ (x : Suspension). x.held_ticks) calm;
-        closed = ap (λ (x : Suspension). x.sections) calm;
       }
 
   -- ---- Decide

@@ -19,8 +19,9 @@ use Rattle.model.proofs.Resets.{none_taken, call-reset, holders-reset}
 use Rattle.soundness.proofs.Settled.{settled-reset}
 use Rattle.soundness.proofs.InScripts.{used_none}
 use Rattle.soundness.proofs.Frames.{keeps-all_ready}
-use Rattle.soundness.proofs.Passing.{suspensions-step, held-step, suspension-reset}
-use Rattle.soundness.proofs.Sound.{CanBeReady, all_made_ready, runs, stamped, call_none}
+use Rattle.soundness.proofs.Passing.{task_holds}
+use Rattle.soundness.proofs.Moving.{suspensions-step, task_holds-step, held-step, suspension-reset}
+use Rattle.soundness.proofs.Sound.{CanBeReady, all_made_ready, runs, call_none}
 use Rattle.soundness.proofs.Phases.{free, unsuspended}
 use Rattle.soundness.proofs.Stepped.{at_rest, reached_step}
 
@@ -154,3 +155,13 @@ module _ (app : Application) (formed : IsWellFormed app) where
       let e = suspensions_after limits plan n in
       let one = suspensions-step app limits (injected plan n) (state_after app limits plan n) in
       omega arith
+
+  -- nor does a task hold the scheduler more often
+  pub task_holds_after : (limits : Limits) (plan : List Injection) (n : ℕ) → task_holds (state_after app limits plan n) ≤ n
+  task_holds_after limits plan zero =
+      let e : task_holds (reset app) ≡ 0 = ap (λ (x : Suspension). x.suspensions + x.sections) (suspension-reset app) in
+      omega (arith, e)
+  task_holds_after limits plan (suc n) =
+      let e : task_holds (state_after app limits plan n) ≤ n = task_holds_after limits plan n in
+      let one = task_holds-step app limits (injected plan n) (state_after app limits plan n) in
+      omega (arith, e, one)

@@ -9,7 +9,8 @@ use Rattle.model.specs.State.{State, Status, Ready, Awake, Waiting, Asleep, Wait
 use Rattle.model.specs.State.{task_at, for_one}
 use Rattle.model.specs.Order.{Key, Entry, key, first, task_of}
 use Rattle.model.specs.Switching.{ready_key, ready_list, is_ready, to_back, choice, is_same, choose, dispatch, yield_now}
-use Rattle.model.specs.Switching.{is_outranked, preempt, is_off, settle, is_held, is_scheduler_suspended, is_critical, unless_held}
+use Rattle.model.specs.Switching.{is_outranked, preempt, is_off, settle, is_held, is_held_by_task, unless_held}
+use Rattle.model.specs.Switching.{is_scheduler_suspended, is_critical}
 use Rattle.model.specs.Invariant.{Hold, hold_of, Suspension, suspension_of}
 use Rattle.model.specs.declared.plan.Injection.{Injection}
 use Rattle.model.specs.Step.{act_current, before_step, step, ready_at_reset, reset}
@@ -84,6 +85,9 @@ held_by_call s held = rw held refl
 pub held_by_none : (s : State) → s.call_hold ≡ false → s.suspensions ≡ 0 → s.sections ≡ 0 → is_held s ≡ false
 held_by_none s free none closed = rw (free, none, closed) refl
 
+pub unlike : {A : Type 0} → true ≡ false → A
+unlike e = absurd (cc)
+
 -- whether it is held, by what holds it
 abbrev held_by : Hold → Suspension → Bool
 held_by hold x = (hold.held || ltb 0 x.suspensions) || ltb 0 x.sections
@@ -102,6 +106,51 @@ nothing_holds s = by_three s.call_hold (is_scheduler_suspended s) (is_critical s
   by_three false true c e = absurd (cc)
   by_three true b c e = absurd (cc)
 
+-- A task that holds the scheduler holds it, and where none does, and no call, nothing holds it.
+pub held_by_task : (s : State) → is_held_by_task s ≡ true → is_held s ≡ true
+held_by_task s = by_three s.call_hold (is_scheduler_suspended s) (is_critical s) where
+  by_three : (a b c : Bool) → (b || c) ≡ true → ((a || b) || c) ≡ true
+  by_three true b c e = refl
+  by_three false true c e = refl
+  by_three false false c e = e
+
+pub held_by_neither : (s : State) → s.call_hold ≡ false → is_held_by_task s ≡ false → is_held s ≡ false
+held_by_neither s = by_three s.call_hold (is_scheduler_suspended s) (is_critical s) where
+  by_three : (a b c : Bool) → a ≡ false → (b || c) ≡ false → ((a || b) || c) ≡ false
+  by_three true b c e f = absurd (cc)
+  by_three false true c e f = absurd (cc)
+  by_three false false c e f = f
+
+pub no_task_holds : (s : State) → is_held s ≡ false → is_held_by_task s ≡ false
+no_task_holds s free = let none = nothing_holds s free in ap₂ (λ a b. a || b) none.1 none.2
+
+-- A task that doesn't hold the scheduler holds it by neither.
+pub neither : (s : State) → is_held_by_task s ≡ false → (is_scheduler_suspended s ≡ false) × (is_critical s ≡ false)
+neither s = by_two (is_scheduler_suspended s) (is_critical s) where
+  by_two : (a b : Bool) → (a || b) ≡ false → (a ≡ false) × (b ≡ false)
+  by_two true b e = absurd (cc)
+  by_two false b e = (refl, e)
+
+-- and one that does holds it by a `suspend_all`, where no critical section is open
+pub by_suspending : (s : State) → is_held_by_task s ≡ true → is_critical s ≡ false → is_scheduler_suspended s ≡ true
+by_suspending s = by_two (is_scheduler_suspended s) (is_critical s) where
+  by_two : (a b : Bool) → (a || b) ≡ true → b ≡ false → a ≡ true
+  by_two true b e f = refl
+  by_two false true e f = absurd (cc)
+  by_two false false e f = absurd (cc)
+
+pub section_holds : (s : State) → is_critical s ≡ true → is_held_by_task s ≡ true
+section_holds s = by_two (is_scheduler_suspended s) (is_critical s) where
+  by_two : (a b : Bool) → b ≡ true → (a || b) ≡ true
+  by_two true b e = refl
+  by_two false b e = e
+
+pub by_section : (s : State) → is_held_by_task s ≡ true → is_scheduler_suspended s ≡ false → is_critical s ≡ true
+by_section s = by_two (is_scheduler_suspended s) (is_critical s) where
+  by_two : (a b : Bool) → (a || b) ≡ true → a ≡ false → b ≡ true
+  by_two true b e f = absurd (cc)
+  by_two false b e f = e
+
 -- where it isn't held
 pub settled-step : (app : Application) (limits : Limits) (handlers : List ℕ) (s : State)
     → is_held (step app limits handlers s) ≡ false → IsSettled (step app limits handlers s)
@@ -109,13 +158,10 @@ unfolding step
 settled-step app limits handlers s free = by_test (is_held t)
     (λ held.
     let same : is_held (unless_held settle t) ≡ is_held t = ap is_held (when_held settle t held) in
-    apart (sym held ∙ sym same ∙ free))
+    unlike (sym held ∙ sym same ∙ free))
     (λ none. subst IsSettled (sym (when_free settle t none)) (settled-settle t)) where
       t : State
       t = let r : State = before_step app handlers s in act_current app limits r.current r
-
-      apart : {A : Type 0} → true ≡ false → A
-      apart e = absurd (cc)
 
 pub settled-reset : (app : Application) → IsSettled (reset app)
 unfolding reset

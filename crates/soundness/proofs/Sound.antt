@@ -355,9 +355,9 @@ module _ (app : Application) (formed : IsWellFormed app) (hold : Hold) where
   }
 
   -- the event groups, and how many `suspend_all` are in force
-  pub otherwise : (s : State) (bits : ℕ → ℕ) (suspensions : ℕ) → IsSound app hold s
-      → IsSound app hold (record s { group_bits = bits; suspensions = suspensions })
-  otherwise s bits suspensions h = record {
+  pub otherwise : (s : State) (bits : ℕ → ℕ) (suspensions sections : ℕ) → IsSound app hold s
+      → IsSound app hold (record s { group_bits = bits; suspensions = suspensions; sections = sections })
+  otherwise s bits suspensions sections h = record {
     table = record { tickets = h.table.tickets; few = h.table.few; current = h.table.current; holders = h.table.holders };
     tasks = h.tasks;
     objects = h.objects;

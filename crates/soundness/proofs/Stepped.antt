@@ -1,18 +1,17 @@
 -- What is true of every state that a run comes to is true after a step.
-use Rattle.std.proofs.Common.{ap₂, ◌≡◌, ◌≢◌, ◌<◌, ◌+◌, ◌-◌, ◌||◌, ◌&&◌, ◌⊎◌, inl, inr, ℕ, true, false, eqb, ltb, List, [], ◌∷◌}
+use Rattle.std.proofs.Common.{ap₂, ◌≡◌, ◌≢◌, ◌<◌, ◌+◌, ◌-◌, ◌||◌, ◌⊎◌, inl, inr, ℕ, true, false, eqb, ltb, List, [], ◌∷◌}
 use Rattle.std.proofs.Common.{length, map, slice_set, Option, Some, None, refl, ap, sym, subst, ◌∙◌, arith}
-use Rattle.std.specs.Prelude.{Bool}
 use Rattle.std.proofs.Math.ListN.{length-set}
 use Rattle.std.proofs.lemmas.List.{length-map}
 use Rattle.std.specs.Option.{IfSome, option_eq}
 use Rattle.std.proofs.lemmas.Bool.{ltb-true, lt-ltb}
 use Rattle.model.specs.declared.op.Op.{Op}
 use Rattle.model.specs.declared.event.Misuse.{Misuse}
-use Rattle.model.specs.declared.event.Misuse.TheVariants.{WhileSuspended, NotSuspended, EndedSuspended}
+use Rattle.model.specs.declared.event.Misuse.TheVariants.{NotSuspended, NotCritical}
 use Rattle.model.specs.declared.op.Op.TheVariants.{Work, Delay, DelayUntil, Yield, Time, Mark, Expect, Repeat, End, If, Else, EndIf}
 use Rattle.model.specs.declared.op.Op.TheVariants.{Break, Stamp, Since, Await, Do, GiveMutex, MessagesWaiting, SpacesAvailable}
 use Rattle.model.specs.declared.op.Op.TheVariants.{SetBits, ClearBits, GetBits, WaitBits, Suspend, Resume, SuspendAll, ResumeAll}
-use Rattle.model.specs.declared.op.Op.TheVariants.{NextCommand, Obey}
+use Rattle.model.specs.declared.op.Op.TheVariants.{EnterCritical, ExitCritical, NextCommand, Obey}
 use Rattle.model.specs.declared.op.Access.{Access}
 use Rattle.model.specs.declared.op.Access.TheVariants.{Receive}
 use Rattle.model.specs.declared.op.Command.{Command}
@@ -25,54 +24,59 @@ use Rattle.model.specs.declared.event.What.TheVariants as what
 use Rattle.model.specs.Application.{Application, Limits, script_of, op_at}
 use Rattle.model.specs.Scripts.{IsWellFormed, fits_object, is_wait}
 use Rattle.model.specs.State.{State, Source, task_at, progress_at, status_at, call_at, bits_at, source_at, go_on, for_each}
-use Rattle.model.specs.Switching.{choose, is_ready, preempt, settle, is_scheduler_suspended, is_critical, is_held, unless_held, write}
+use Rattle.model.specs.Switching.{choose, is_ready, preempt, settle, is_scheduler_suspended, is_critical, is_held, is_held_by_task}
+use Rattle.model.specs.Switching.{unless_held, write}
 use Rattle.model.specs.Waiting.{set_deadline, end_hold, unlock}
-use Rattle.model.specs.Ops.{answer, use_up}
+use Rattle.model.specs.Ops.{answer, use_up, with_sections}
 use Rattle.model.specs.Objects.{list_for}
 use Rattle.model.specs.Calls.{await, decide, leave_call}
 use Rattle.model.specs.Groups.{is_met, begin_set, set_bits, check, final_bits, wait_bits}
 use Rattle.model.specs.Suspension.{suspend_all, resume_all}
 use Rattle.model.specs.Daemon.{take_command, next_command, obeyed, obey, command_at}
 use Rattle.model.specs.Handlers.{handle, serve, inject, pend, pending_of, none_pending, serve_pending}
-use Rattle.model.specs.Step.{is_ended, judge, misused, act, act_unless, may_switch, misuse, act_if, act_current, before_step, step}
+use Rattle.model.specs.Step.{is_ended, judge, act, act_unless, may_switch, is_barred, misuse, act_if, act_current}
+use Rattle.model.specs.Step.{before_step, step}
 use Rattle.model.specs.Invariant.{Hold, hold_of, InOne, OnObject, ForBits, ToSetBits, course, list_of_op, IsPhaseOf, IsSound, holds}
 use Rattle.model.specs.Invariant.{IsStranded, IsRunning, RunsIn, Suspension, suspension_of, IsState}
 use Rattle.model.proofs.Sorting.{by_test}
 use Rattle.model.proofs.Lists.{eqb-same}
 use Rattle.model.proofs.Statuses.{ready_free}
 use Rattle.soundness.proofs.Settled.{IsSettled, settled-settle, settled-preempt, when_held, when_free, held_by_call, held_by_none}
-use Rattle.soundness.proofs.Settled.{nothing_holds}
+use Rattle.soundness.proofs.Settled.{nothing_holds, unlike, held_by_task, held_by_neither, no_task_holds, neither, by_suspending}
+use Rattle.soundness.proofs.Settled.{section_holds}
 use Rattle.soundness.proofs.InScripts.{script_formed, range_at, known_at}
 use Rattle.soundness.proofs.Frames.{keeps-settle, keeps-choose, keeps-answer, keeps-answer_bits, keeps-try, keeps-set_deadline}
 use Rattle.soundness.proofs.Frames.{keeps-use_up, keeps-preempt, keeps-take_command, keeps-obeyed, keeps-clear_by_daemon}
 use Rattle.soundness.proofs.Passing.{is_instant, lasts-act, lasts-leave_call, lasts-end_set, lasts-end_command, lasts-final_bits}
 use Rattle.soundness.proofs.Passing.{hold-idle, suspension-idle, hold-act, suspension-tick, suspensions-tick, suspends-all}
-use Rattle.soundness.proofs.Passing.{resumes-all, sections-act}
-use Rattle.soundness.proofs.Sound.{runs, logged, settled, preempted, yielded, answered, used_up, expected, opened, closed, branched}
+use Rattle.soundness.proofs.Passing.{resumes-all, Opens, opens}
+use Rattle.soundness.proofs.Judging.{judged_held, judged_calm, not_ended, misuse_calm, not_barred}
+use Rattle.soundness.proofs.Judging.{switches_not}
+use Rattle.soundness.proofs.Sound.{logged, settled, preempted, yielded, answered, used_up, expected, opened, closed, branched}
 use Rattle.soundness.proofs.Sound.{resourced, skipped, loop_left, stamped, since_stamped, plain, delayed, delayed_until}
 use Rattle.soundness.proofs.Handled.{and_left, and_right, ticked, idled, handled_between}
 use Rattle.soundness.proofs.Trying.{tried, gave}
 use Rattle.soundness.proofs.Called.{done_now, dated, dated_at, phase_free, course_of_one}
-use Rattle.soundness.proofs.Phases.{free, unsuspended, suspended_not, calm_where, calm_held, decided, decided_held, placed}
+use Rattle.soundness.proofs.Phases.{free, unsuspended, calm_free, none_above, calm_where, calm_held, decided, decided_held, placed}
 use Rattle.soundness.proofs.Phases.{unlocked, unlocked_held, left, left_hold}
 use Rattle.soundness.proofs.Bits.{cleared, answered_bits, final_done, set_begun, begun_held, wait_begun, waits_held, set_ended}
 use Rattle.soundness.proofs.Bits.{wait_left}
 use Rattle.soundness.proofs.Daemon.{command_taken, cleared_by_daemon, set_ended_by_daemon}
-use Rattle.soundness.proofs.Going.{GoesOn, Continues, suspended_held, suspended_on, acted_on, resumed_on}
-use Rattle.soundness.proofs.Obeyed.{call_suspended, call_resumed, all_suspended, all_resumed}
+use Rattle.soundness.proofs.Going.{GoesOn, Continues, suspended_held, suspended_on, worked_on, sectioned_on, acted_on, resumed_on}
+use Rattle.soundness.proofs.Obeyed.{call_suspended, call_resumed, all_suspended, all_resumed, sections_put}
 
 -- ---- a step that holds nothing at its end
 
 module _ (app : Application) (formed : IsWellFormed app) where
   -- what the running task is, where nothing is held
   abbrev IsOn : State → Option ℕ → Type 0
-  IsOn s None = is_scheduler_suspended s ≡ false
+  IsOn s None = is_held_by_task s ≡ false
   IsOn s (Some i) = (is_ready s i ≡ true) ⊎ IsStranded app s i
 
   -- no call holds the scheduler, and nothing is locked
   rests : (s : State) → IsSound app free s → hold_of s ≡ free → IsOn s s.current
-      → (is_scheduler_suspended s ≡ false → s.held_ticks ≡ 0) → s.sections ≡ 0 → IsState app s
-  rests s h same on ticks shut =
+      → (is_scheduler_suspended s ≡ false → s.held_ticks ≡ 0) → IsState app s
+  rests s h same on ticks =
       let none : s.call_hold ≡ false = ap (λ (x : Hold). x.held) same in
       let unlocked_ : s.locked ≡ None = ap (λ (x : Hold). x.locked) same in
       let off : (j : ℕ) → holds (call_at s j).phase ≡ false = λ j. phase_free free _ (call_at s j).phase refl (h.calls j).phase in
@@ -83,11 +87,10 @@ module _ (app : Application) (formed : IsWellFormed app) where
         locked = λ _. unlocked_;
         apart = λ _. none;
         held = ticks;
-        closed = shut;
       } where
         by_current : (r : Option ℕ) → IsOn s r → s.call_hold ≡ false
             → ((j : ℕ) → holds (call_at s j).phase ≡ false) → RunsIn app s r
-        by_current None on none off = rw (none, on, shut) refl
+        by_current None on none off = held_by_neither s none on
         by_current (Some i) on none off =
             record {
               holding = off i ∙ sym none;
@@ -96,12 +99,12 @@ module _ (app : Application) (formed : IsWellFormed app) where
               placing = λ e. let f : holds Place ≡ false = subst (λ phase. holds phase ≡ false) e (off i) in absurd (cc);
             }
 
-  -- no `suspend_all` is in force, and the running task is Ready
+  -- no task holds the scheduler, and the running one is Ready
   pub at_rest : (s : State) → IsSound app free s → hold_of s ≡ free → suspension_of s ≡ unsuspended → IsSettled s → IsState app s
   at_rest s h same calm on = rests s h same (by_current s.current on)
-      (λ _. ap (λ (x : Suspension). x.held_ticks) calm) (ap (λ (x : Suspension). x.sections) calm) where
+      (λ _. ap (λ (x : Suspension). x.held_ticks) calm) where
         by_current : (r : Option ℕ) → IfSome r (λ task. is_ready s task ≡ true) → IsOn s r
-        by_current None on = suspended_not s calm
+        by_current None on = calm_free s calm
         by_current (Some i) on = inl on
 
   settled_at_rest : (s : State) → IsSound app free s → hold_of s ≡ free
@@ -113,13 +116,14 @@ module _ (app : Application) (formed : IsWellFormed app) where
       subst (IsState app) (sym (when_free settle s none)) (at_rest (settle s) (settled app formed free s h)
       ((keeps-settle s).hold ∙ same) ((keeps-settle s).suspension ∙ calm) (settled-settle s))
 
-  -- a `suspend_all` is in force, and the running task goes on
-  suspended_at_rest : (s : State) (i : ℕ) → IsSound app free s → hold_of s ≡ free → is_scheduler_suspended s ≡ true
-      → s.sections ≡ 0 → s.current ≡ Some i → GoesOn app i (task_at s i) → IsState app (unless_held settle s)
-  suspended_at_rest s i h same on shut runs_ goes =
+  -- a task holds the scheduler, and the running one goes on
+  held_at_rest : (s : State) (i : ℕ) → IsSound app free s → hold_of s ≡ free → is_held_by_task s ≡ true
+      → (is_scheduler_suspended s ≡ false → s.held_ticks ≡ 0) → s.current ≡ Some i → GoesOn app i (task_at s i)
+      → IsState app (unless_held settle s)
+  held_at_rest s i h same on ticks runs_ goes =
       let stays : IsState app s =
-      rests s h same (subst (IsOn s) (sym runs_) (elim goes [ inl r ↦ inl r | inr e ↦ inr (on, e) ])) (λ off. absurd (cc)) shut in
-      subst (IsState app) (sym (when_held settle s (suspended_held s on))) stays
+      rests s h same (subst (IsOn s) (sym runs_) (elim goes [ inl r ↦ inl r | inr e ↦ inr (on, e) ])) ticks in
+      subst (IsState app) (sym (when_held settle s (held_by_task s on))) stays
 
   still_held : (s : State) → IsState app s → s.call_hold ≡ true → IsState app (unless_held settle s)
   still_held s h held = subst (IsState app) (sym (when_held settle s (held_by_call s held))) h
@@ -135,7 +139,6 @@ module _ (app : Application) (formed : IsWellFormed app) where
         locked = h.locked;
         apart = h.apart;
         held = h.held;
-        closed = h.closed;
       } where
         by_current : (r : Option ℕ) → RunsIn app s r → RunsIn app (record s { log = log; steps = steps; stopped = stopped }) r
         by_current None r = r
@@ -146,10 +149,8 @@ module _ (app : Application) (formed : IsWellFormed app) where
     no_call_holds : s.call_hold ≡ false
     no_call_holds = (nothing_holds s none).0
 
-    calm_free : suspension_of s ≡ unsuspended
-    calm_free =
-        let off : is_scheduler_suspended s ≡ false = (nothing_holds s none).1 in
-        calm_where s off (h.held off) h.closed
+    calm_now : suspension_of s ≡ unsuspended
+    calm_now = calm_where s (no_task_holds s none) (h.held (nothing_holds s none).1)
 
   hold_none : (s : State) → IsState app s → s.call_hold ≡ false → hold_of s ≡ free
   hold_none s h none =
@@ -167,17 +168,19 @@ module _ (app : Application) (formed : IsWellFormed app) where
       by_test (is_held s)
       (λ held. subst (IsState app) (sym (when_held settle t held)) k)
       (λ none.
-      settled_at_rest t (sound_free t k (no_call_holds t k none)) (hold_none t k (no_call_holds t k none)) (calm_free t k none))
+      settled_at_rest t (sound_free t k (no_call_holds t k none)) (hold_none t k (no_call_holds t k none)) (calm_now t k none))
 
   -- a judgement at the end of an op
   judged_done : (i op_index : ℕ) (t : State) → IsState app (unless_held settle t)
       → IsState app (unless_held settle (judge i op_index t))
-  unfolding judge
-  judged_done i op_index t h = by_test (is_scheduler_suspended t && is_ended (status_at t i))
-      (λ q. rw q (misused_ended (suspended_held t (and_left (is_scheduler_suspended t) (is_ended (status_at t i)) q))))
-      (λ q. rw q h) where
-        misused_ended : is_held t ≡ true → IsState app (unless_held settle (misused i op_index EndedSuspended t))
-        misused_ended held = ended_only t _ (subst (IsState app) (when_held settle t held) h)
+  judged_done i op_index t h = by_test (is_held_by_task t)
+      (λ held. by_test (is_ended (status_at t i))
+      (λ e. let j = judged_held i op_index t held e in
+      subst Done (sym j.1) (ended_only t _ (subst (IsState app) (when_held settle t (held_by_task t held)) h)))
+      (λ on. subst Done (sym (not_ended i op_index t on)) h))
+      (λ free. subst Done (sym (judged_calm i op_index t free)) h) where
+        Done : State → Type 0
+        Done x = IsState app (unless_held settle x)
 
   -- ---- the ops
 
@@ -222,6 +225,8 @@ module _ (app : Application) (formed : IsWellFormed app) where
   acted s i (Resume j) h u l r is w = call_resumed app formed free s i h l r j is
   acted s i SuspendAll h u l r is w = all_suspended app formed free s i h l r is
   acted s i ResumeAll h u l r is w = all_resumed app formed free s i h l r is
+  acted s i EnterCritical h u l r is w = sections_put app formed free s i h l r (s.sections + 1) EnterCritical is refl
+  acted s i ExitCritical h u l r is w = sections_put app formed free s i h l r (s.sections - 1) ExitCritical is refl
   acted s i (NextCommand o) h u l r is w = absurd (cc)
   acted s i Obey h u l r is w = absurd (cc)
 
@@ -237,9 +242,9 @@ module _ (app : Application) (formed : IsWellFormed app) where
     ready_at op none is = elim (running.ready none) [ inl r ↦ r | inr x ↦ let f = x.1 in absurd (cc) ]
 
     -- where nothing holds it
-    module _ (none : s.call_hold ≡ false) (off : is_scheduler_suspended s ≡ false) where
+    module _ (none : s.call_hold ≡ false) (off : is_held_by_task s ≡ false) where
       calm : suspension_of s ≡ unsuspended
-      calm = calm_where s off (h.held off) h.closed
+      calm = calm_where s off (h.held (neither s off).0)
 
       suspensions_none : s.suspensions ≡ 0
       suspensions_none = ap (λ (x : Suspension). x.suspensions) calm
@@ -269,9 +274,21 @@ module _ (app : Application) (formed : IsWellFormed app) where
           let e = (suspends-all app i s).suspensions in
           let more : is_scheduler_suspended (suspend_all app i s) ≡ true =
           lt-ltb 0 (suspend_all app i s).suspensions (omega arith) in
-          suspended_at_rest _ i (acted s i SuspendAll (sound_free s h none) (h.locked none) there r is refl)
-          (hold-act app i SuspendAll s refl ∙ hold_none s h none) more
-          ((suspends-all app i s).sections ∙ h.closed) (k.current ∙ on) k.goes
+          held_at_rest _ i (acted s i SuspendAll (sound_free s h none) (h.locked none) there r is refl)
+          (hold-act app i SuspendAll s refl ∙ hold_none s h none) (suspended_held (suspend_all app i s) more)
+          (λ no. unlike (sym more ∙ no)) (k.current ∙ on) k.goes
+
+      entered_first : op_at app i (progress_at s i).op_index ≡ Some EnterCritical
+          → IsState app (unless_held settle (act app i EnterCritical s))
+      entered_first is =
+          let r : is_ready s i ≡ true = ready_at EnterCritical none is in
+          let k = sectioned_on app i (s.sections + 1) s there r in
+          let one = opens app i (s.sections + 1) s in
+          held_at_rest _ i (acted s i EnterCritical (sound_free s h none) (h.locked none) there r is refl)
+          (hold-act app i EnterCritical s refl ∙ hold_none s h none)
+          (section_holds (act app i EnterCritical s)
+          (let e = one.sections in lt-ltb 0 (act app i EnterCritical s).sections (omega arith)))
+          (λ no. one.held ∙ h.held (neither s off).0) (k.current ∙ on) k.goes
 
       -- ---- a call on an object
 
@@ -394,7 +411,7 @@ module _ (app : Application) (formed : IsWellFormed app) where
         (subst (λ way. IsPhaseOf (hold_of s) way (call_at s i).phase) (ap course is ∙ w) (h.sound.calls i).phase))
         refl
 
-    module _ (off : is_scheduler_suspended s ≡ false) where
+    module _ (off : is_held_by_task s ≡ false) where
       -- a call on an object decides, and comes to the phases after that
       module _ (o : ℕ) (a : Access) (op : Op) (is : op_at app i (progress_at s i).op_index ≡ Some op)
           (way : course (Some op) ≡ OnObject o) where
@@ -499,7 +516,7 @@ module _ (app : Application) (formed : IsWellFormed app) where
       next_of_wait g c ticks is Place e = absurd (phase_of (WaitBits g c ticks) is Place e)
       next_of_wait g c ticks is Unlock e = absurd (phase_of (WaitBits g c ticks) is Unlock e)
 
-      -- no `suspend_all` is in force
+      -- no task holds the scheduler
       calm_done : (op : Op) → op_at app i (progress_at s i).op_index ≡ Some op
           → misuse s i op ≡ None → IsState app (unless_held settle (act app i op s))
       calm_done (Work n) is e = worked (start_only (Work n) refl is) off n is
@@ -531,30 +548,48 @@ module _ (app : Application) (formed : IsWellFormed app) where
       calm_done SuspendAll is e = suspended_first (start_only SuspendAll refl is) off is
       calm_done (NextCommand o) is e = next_of_command o is (call_at s i).phase refl
       calm_done Obey is e = next_of_obey (command_at s i) is (call_at s i).phase refl
-      calm_done ResumeAll is e = let f : Some NotSuspended ≡ None = (rw off at e) in absurd (cc)
+      calm_done ResumeAll is e =
+          let f : Some NotSuspended ≡ None = sym (misuse_calm s i ResumeAll off ∙ rw (neither s off).0 refl) ∙ e in absurd (cc)
+      calm_done EnterCritical is e = entered_first (start_only EnterCritical refl is) off is
+      calm_done ExitCritical is e =
+          let f : Some NotCritical ≡ None = sym (misuse_calm s i ExitCritical off ∙ rw (neither s off).1 refl) ∙ e in absurd (cc)
 
-    -- ---- while a `suspend_all` is in force
+    -- ---- while the task holds the scheduler
 
-    module _ (sus : is_scheduler_suspended s ≡ true) where
+    module _ (held : is_held_by_task s ≡ true) where
       none_holds : s.call_hold ≡ false
-      none_holds = h.apart sus
+      none_holds = h.apart held
 
-      -- one more or less, or as many
+      -- it still does
       goes_on : (op : Op) → op_at app i (progress_at s i).op_index ≡ Some op
+          → course (Some op) ≡ InOne → is_held_by_task (act app i op s) ≡ true
+          → (is_scheduler_suspended (act app i op s) ≡ false → (act app i op s).held_ticks ≡ 0)
+          → Continues app i s (act app i op s) → IsState app (unless_held settle (act app i op s))
+      goes_on op is w still ticks k =
+          held_at_rest (act app i op s) i
+          (acted s i op (sound_free s h none_holds) (h.locked none_holds) there (ready_at op none_holds is) is w)
+          (hold-act app i op s w ∙ hold_none s h none_holds) still ticks (k.current ∙ on) k.goes
+
+      -- by a `suspend_all`
+      suspended_on_ : (op : Op) → op_at app i (progress_at s i).op_index ≡ Some op
           → course (Some op) ≡ InOne → is_scheduler_suspended (act app i op s) ≡ true
           → Continues app i s (act app i op s) → IsState app (unless_held settle (act app i op s))
-      goes_on op is w still k =
-          suspended_at_rest (act app i op s) i
+      suspended_on_ op is w still k = goes_on op is w (suspended_held (act app i op s) still) (λ no. unlike (sym still ∙ no)) k
+
+      -- it does no more
+      lets_go : (op : Op) → op_at app i (progress_at s i).op_index ≡ Some op → course (Some op) ≡ InOne
+          → suspension_of (act app i op s) ≡ unsuspended → IsState app (unless_held settle (act app i op s))
+      lets_go op is w calm =
+          settled_at_rest (act app i op s)
           (acted s i op (sound_free s h none_holds) (h.locked none_holds) there (ready_at op none_holds is) is w)
-          (hold-act app i op s w ∙ hold_none s h none_holds) still
-          (sections-act app i op s ∙ h.closed) (k.current ∙ on) k.goes
+          (hold-act app i op s w ∙ hold_none s h none_holds) calm
 
-      still_used : (n : ℕ) → is_scheduler_suspended (use_up app i n s) ≡ true
-      still_used n = ap (λ (x : Suspension). ltb 0 x.suspensions) (keeps-use_up app i n s).suspension ∙ sus
+      still_used : (n : ℕ) → is_scheduler_suspended s ≡ true → is_scheduler_suspended (use_up app i n s) ≡ true
+      still_used n sus = ap (λ (x : Suspension). ltb 0 x.suspensions) (keeps-use_up app i n s).suspension ∙ sus
 
-      resumed_last : op_at app i (progress_at s i).op_index ≡ Some ResumeAll
+      resumed_last : is_critical s ≡ false → op_at app i (progress_at s i).op_index ≡ Some ResumeAll
           → eqb s.suspensions 1 ≡ true → IsState app (unless_held settle (resume_all app i s))
-      resumed_last is one =
+      resumed_last shut is one =
           let k = resumes-all app i s in
           let was : s.suspensions ≡ 1 = eqb-same s.suspensions 1 one in
           let count = k.suspensions in
@@ -562,14 +597,12 @@ module _ (app : Application) (formed : IsWellFormed app) where
           let calm_now : suspension_of (resume_all app i s) ≡ unsuspended =
           ap₂ (λ (a b : ℕ). record { suspensions = a; held_ticks = b; sections = (resume_all app i s).sections })
           none_left (k.held was)
-          ∙ ap (λ (n : ℕ). record { suspensions = 0; held_ticks = 0; sections = n }) (k.sections ∙ h.closed) in
-          settled_at_rest _
-          (acted s i ResumeAll (sound_free s h none_holds) (h.locked none_holds) there (ready_at ResumeAll none_holds is) is refl)
-          (k.hold ∙ hold_none s h none_holds) calm_now
+          ∙ ap (λ (n : ℕ). record { suspensions = 0; held_ticks = 0; sections = n }) (k.sections ∙ none_above s.sections shut) in
+          lets_go ResumeAll is refl calm_now
 
-      resumed_more : op_at app i (progress_at s i).op_index ≡ Some ResumeAll
+      resumed_more : is_scheduler_suspended s ≡ true → op_at app i (progress_at s i).op_index ≡ Some ResumeAll
           → eqb s.suspensions 1 ≡ false → IsState app (unless_held settle (resume_all app i s))
-      resumed_more is more =
+      resumed_more sus is more =
           let count = (resumes-all app i s).suspensions in
           let some : 0 < s.suspensions = ltb-true 0 s.suspensions sus in
           let apart : s.suspensions ≢ 1 = (λ e. let u : eqb s.suspensions 1 ≡ true = rw e refl in absurd (cc)) in
@@ -577,64 +610,84 @@ module _ (app : Application) (formed : IsWellFormed app) where
           lt-ltb 0 (s.suspensions - 1) (omega arith) in
           let still : is_scheduler_suspended (resume_all app i s) ≡ true =
           lt-ltb 0 (resume_all app i s).suspensions (omega arith) in
-          goes_on ResumeAll is refl still (resumed_on app i s more
-          (suspended_held (record s { suspensions = s.suspensions - 1 }) left_over) there (ready_at ResumeAll none_holds is))
+          let held_then : is_held (record s { suspensions = s.suspensions - 1 }) ≡ true =
+          held_by_task (record s { suspensions = s.suspensions - 1 })
+          (suspended_held (record s { suspensions = s.suspensions - 1 }) left_over) in
+          suspended_on_ ResumeAll is refl still (resumed_on app i s more held_then there (ready_at ResumeAll none_holds is))
 
-      still_on : (op : Op) → is_instant op ≡ true → is_scheduler_suspended (act app i op s) ≡ true
-      still_on op t = ap (λ (x : Suspension). ltb 0 x.suspensions) (lasts-act app i op s t).suspension ∙ sus
+      -- a section more or less
+      sectioned : (n : ℕ) (op : Op) → (act app i op s ≡ with_sections app i n s) → op_at app i (progress_at s i).op_index ≡ Some op
+          → course (Some op) ≡ InOne → IsState app (unless_held settle (act app i op s))
+      sectioned n op same is w = by_test (is_held_by_task (act app i op s))
+          (λ still. goes_on op is w still ticks
+          (subst (Continues app i s) (sym same) (sectioned_on app i n s there (ready_at op none_holds is))))
+          (λ free. lets_go op is w (calm_where (act app i op s) free (ticks (neither (act app i op s) free).0))) where
+            one : Opens n s (act app i op s)
+            one = subst (Opens n s) (sym same) (opens app i n s)
+
+            ticks : is_scheduler_suspended (act app i op s) ≡ false → (act app i op s).held_ticks ≡ 0
+            ticks off = one.held ∙ h.held (ap (λ (x : ℕ). ltb 0 x) (sym one.suspensions) ∙ off)
 
       continued : (op : Op) → op_at app i (progress_at s i).op_index ≡ Some op → course (Some op) ≡ InOne
-          → may_switch op ≡ false → is_instant op ≡ true → op ≢ ResumeAll → IsState app (unless_held settle (act app i op s))
-      continued op is w q t ne =
-          goes_on op is w (still_on op t) (acted_on app i op s q ne sus still_used there (ready_at op none_holds is))
+          → may_switch op ≡ false → is_instant op ≡ true → IsState app (unless_held settle (act app i op s))
+      continued op is w q t =
+          let same = (lasts-act app i op s t).suspension in
+          goes_on op is w (ap (λ (x : Suspension). ltb 0 x.suspensions || ltb 0 x.sections) same ∙ held)
+          (λ off.
+          ap (λ (x : Suspension). x.held_ticks) same ∙ h.held (ap (λ (x : Suspension). ltb 0 x.suspensions) (sym same) ∙ off))
+          (acted_on app i op s q t there (ready_at op none_holds is))
 
-      switches_not : (op : Op) → misuse s i op ≡ None → may_switch op ≡ false
-      switches_not op n = by_test (may_switch op)
-          (λ t. let f : Some WhileSuspended ≡ None = (rw (sus, t) at n) in absurd (cc))
-          (λ t. t)
+      -- what has no place in a section is done in none
+      barred_apart : (op : Op) → is_barred op ≡ true → misuse s i op ≡ None → is_critical s ≡ false
+      barred_apart op b n = by_test (is_critical s) (λ t. unlike (sym b ∙ not_barred s i op t n)) (λ t. t)
 
-      suspended_done : (op : Op) → op_at app i (progress_at s i).op_index ≡ Some op
-          → may_switch op ≡ false → IsState app (unless_held settle (act app i op s))
-      suspended_done (Work n) is q =
-          goes_on (Work n) is refl (ap (λ (x : ℕ). ltb 0 x) (suspensions-tick app (use_up app i n s)) ∙ still_used n)
-          (acted_on app i (Work n) s refl (λ e. absurd (cc)) sus still_used there (ready_at (Work n) none_holds is))
-      suspended_done (Delay n) is q = absurd (cc)
-      suspended_done (DelayUntil n) is q = absurd (cc)
-      suspended_done Yield is q = absurd (cc)
-      suspended_done Time is q = continued Time is refl refl refl (λ e. absurd (cc))
-      suspended_done (Mark n) is q = continued (Mark n) is refl refl refl (λ e. absurd (cc))
-      suspended_done (Expect c) is q = continued (Expect c) is refl refl refl (λ e. absurd (cc))
-      suspended_done (Repeat n) is q = continued (Repeat n) is refl refl refl (λ e. absurd (cc))
-      suspended_done End is q = continued End is refl refl refl (λ e. absurd (cc))
-      suspended_done (If c) is q = continued (If c) is refl refl refl (λ e. absurd (cc))
-      suspended_done Else is q = continued Else is refl refl refl (λ e. absurd (cc))
-      suspended_done EndIf is q = continued EndIf is refl refl refl (λ e. absurd (cc))
-      suspended_done Break is q = continued Break is refl refl refl (λ e. absurd (cc))
-      suspended_done Stamp is q = continued Stamp is refl refl refl (λ e. absurd (cc))
-      suspended_done Since is q = continued Since is refl refl refl (λ e. absurd (cc))
-      suspended_done (Await o a ticks) is q = absurd (cc)
-      suspended_done (Do o a) is q = absurd (cc)
-      suspended_done (GiveMutex o) is q = absurd (cc)
-      suspended_done (MessagesWaiting o) is q = continued (MessagesWaiting o) is refl refl refl (λ e. absurd (cc))
-      suspended_done (SpacesAvailable o) is q = continued (SpacesAvailable o) is refl refl refl (λ e. absurd (cc))
-      suspended_done (SetBits g m) is q = absurd (cc)
-      suspended_done (ClearBits g m) is q = continued (ClearBits g m) is refl refl refl (λ e. absurd (cc))
-      suspended_done (GetBits g) is q = continued (GetBits g) is refl refl refl (λ e. absurd (cc))
-      suspended_done (WaitBits g c ticks) is q = absurd (cc)
-      suspended_done (Suspend j) is q = absurd (cc)
-      suspended_done (Resume j) is q = absurd (cc)
-      suspended_done SuspendAll is q =
-          goes_on SuspendAll is refl
+      held_done : (op : Op) → op_at app i (progress_at s i).op_index ≡ Some op
+          → misuse s i op ≡ None → may_switch op ≡ false → IsState app (unless_held settle (act app i op s))
+      held_done (Work n) is fine q =
+          let sus : is_scheduler_suspended s ≡ true = by_suspending s held (barred_apart (Work n) refl fine) in
+          suspended_on_ (Work n) is refl (ap (λ (x : ℕ). ltb 0 x) (suspensions-tick app (use_up app i n s)) ∙ still_used n sus)
+          (worked_on app i n s sus (still_used n sus) there (ready_at (Work n) none_holds is))
+      held_done (Delay n) is fine q = absurd (cc)
+      held_done (DelayUntil n) is fine q = absurd (cc)
+      held_done Yield is fine q = absurd (cc)
+      held_done Time is fine q = continued Time is refl refl refl
+      held_done (Mark n) is fine q = continued (Mark n) is refl refl refl
+      held_done (Expect c) is fine q = continued (Expect c) is refl refl refl
+      held_done (Repeat n) is fine q = continued (Repeat n) is refl refl refl
+      held_done End is fine q = continued End is refl refl refl
+      held_done (If c) is fine q = continued (If c) is refl refl refl
+      held_done Else is fine q = continued Else is refl refl refl
+      held_done EndIf is fine q = continued EndIf is refl refl refl
+      held_done Break is fine q = continued Break is refl refl refl
+      held_done Stamp is fine q = continued Stamp is refl refl refl
+      held_done Since is fine q = continued Since is refl refl refl
+      held_done (Await o a ticks) is fine q = absurd (cc)
+      held_done (Do o a) is fine q = absurd (cc)
+      held_done (GiveMutex o) is fine q = absurd (cc)
+      held_done (MessagesWaiting o) is fine q = continued (MessagesWaiting o) is refl refl refl
+      held_done (SpacesAvailable o) is fine q = continued (SpacesAvailable o) is refl refl refl
+      held_done (SetBits g m) is fine q = absurd (cc)
+      held_done (ClearBits g m) is fine q = continued (ClearBits g m) is refl refl refl
+      held_done (GetBits g) is fine q = continued (GetBits g) is refl refl refl
+      held_done (WaitBits g c ticks) is fine q = absurd (cc)
+      held_done (Suspend j) is fine q = absurd (cc)
+      held_done (Resume j) is fine q = absurd (cc)
+      held_done SuspendAll is fine q =
+          suspended_on_ SuspendAll is refl
           (let e = (suspends-all app i s).suspensions in lt-ltb 0 (suspend_all app i s).suspensions (omega arith))
           (suspended_on app i s there (ready_at SuspendAll none_holds is))
-      suspended_done (NextCommand o) is q = absurd (cc)
-      suspended_done Obey is q = absurd (cc)
-      suspended_done ResumeAll is q = by_test (eqb s.suspensions 1) (resumed_last is) (resumed_more is)
+      held_done EnterCritical is fine q = sectioned (s.sections + 1) EnterCritical refl is refl
+      held_done ExitCritical is fine q = sectioned (s.sections - 1) ExitCritical refl is refl
+      held_done (NextCommand o) is fine q = absurd (cc)
+      held_done Obey is fine q = absurd (cc)
+      held_done ResumeAll is fine q =
+          let shut : is_critical s ≡ false = barred_apart ResumeAll refl fine in
+          by_test (eqb s.suspensions 1) (resumed_last shut is) (resumed_more (by_suspending s held shut) is)
 
     act_done : (op : Op) → op_at app i (progress_at s i).op_index ≡ Some op
         → misuse s i op ≡ None → IsState app (unless_held settle (act app i op s))
-    act_done op is n = by_test (is_scheduler_suspended s)
-        (λ sus. suspended_done sus op is (switches_not sus op n))
+    act_done op is n = by_test (is_held_by_task s)
+        (λ held. held_done held op is n (switches_not s i op held n))
         (λ off. calm_done off op is n)
 
     act_if_done : (op : Option Op) → op_at app i (progress_at s i).op_index ≡ op
@@ -653,7 +706,7 @@ module _ (app : Application) (formed : IsWellFormed app) where
       let off : s.call_hold ≡ false = no_call_holds s h none in
       settled_at_rest _ (idled app formed free limits s (sound_free s h off) (h.locked off))
       (hold-idle app limits s ∙ hold_none s h off)
-      (suspension-idle app limits s (ap (λ (x : Suspension). x.suspensions) (calm_free s h none)) ∙ calm_free s h none)
+      (suspension-idle app limits s (ap (λ (x : Suspension). x.suspensions) (calm_now s h none)) ∙ calm_now s h none)
   current_done limits s (Some i) h on = act_if_done s i h on (op_at app i (progress_at s i).op_index) refl
 
   -- ---- handlers before a step
@@ -675,11 +728,11 @@ module _ (app : Application) (formed : IsWellFormed app) where
             let off : t.call_hold ≡ false = no_call_holds t k none in
             let same : hold_of t ≡ free = hold_none t k off in
             at_rest (preempt t) (preempted app formed free t (sound_free t k off)) ((keeps-preempt t).hold ∙ same)
-            ((keeps-preempt t).suspension ∙ calm_free t k none) (settled-preempt t (by_current t.current k.runs off)) where
+            ((keeps-preempt t).suspension ∙ calm_now t k none) (settled-preempt t (by_current t.current k.runs off)) where
               by_current : (r : Option ℕ) → RunsIn app t r → t.call_hold ≡ false → IfSome r (λ task. is_ready t task ≡ true)
               by_current None r off = tt
               by_current (Some i) r off =
-                  elim (r.ready off) [ inl on ↦ on | inr x ↦ let f = x.0 in let g = (nothing_holds t none).1 in absurd (cc) ]
+                  elim (r.ready off) [ inl on ↦ on | inr x ↦ unlike (sym x.0 ∙ no_task_holds t none) ]
 
   -- an injected handler
   pub injected_between : (handler : ℕ) (s : State) → IsState app s → IsState app (inject app handler s)
@@ -707,7 +760,6 @@ module _ (app : Application) (formed : IsWellFormed app) where
         locked = h.locked;
         apart = h.apart;
         held = h.held;
-        closed = h.closed;
       } where
         by_current : (r : Option ℕ) → RunsIn app s r → RunsIn app (record s { sources = sources }) r
         by_current None r = r

@@ -138,7 +138,7 @@ module _ (app : Application) (formed : IsWellFormed app) (hold : Hold) where
   unfolding resume_scheduler
   resumed_scheduler s h =
       let t : State = record s { suspensions = s.suspensions - 1 } in
-      let less : IsSound app hold t = otherwise app formed hold s s.group_bits (s.suspensions - 1) h in
+      let less : IsSound app hold t = otherwise app formed hold s s.group_bits (s.suspensions - 1) s.sections h in
       by_test (eqb s.suspensions 1)
       (λ q. rw q (all_applied s.held_ticks t less (omega arith)))
       (λ q. rw q less)

@@ -2,7 +2,7 @@ use Rattle.std.proofs.Common.{◌≤◌, ℕ, List, arith}
 use Rattle.model.specs.Application.{Application, Limits}
 use Rattle.model.specs.State.{State}
 use Rattle.model.specs.Step.{step}
-use Rattle.soundness.proofs.Passing.{suspensions-step}
+use Rattle.soundness.proofs.Moving.{suspensions-step}
 use Rattle.soundness.proofs.Stepped.{reached_step}
 use Rattle.laws.proofs.states.steps_keep_states_sound.Goals as goal
 

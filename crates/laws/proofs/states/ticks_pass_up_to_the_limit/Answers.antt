@@ -1,4 +1,4 @@
-use Rattle.soundness.proofs.Passing.{elapsed-step, most-step}
+use Rattle.soundness.proofs.Moving.{elapsed-step, most-step}
 use Rattle.laws.proofs.Working.{one_by_task}
 use Rattle.laws.proofs.states.ticks_pass_up_to_the_limit.Goals as goal
 

@@ -1,0 +1,179 @@
+-- When an op is a misuse, and when the end of a script is: only while a task holds the scheduler, or by the op itself.
+use Rattle.std.proofs.Common.{ap₂, Bool, ap, ◌≡◌, ◌≤◌, ◌+◌, ◌-◌, ◌<◌, ◌||◌, ◌&&◌, ℕ, zero, suc, true, false, eqb, ltb, min}
+use Rattle.std.proofs.Common.{sym, subst, fold, List, [], ◌∷◌, ◌++◌, Option, Some, None, refl, ◌∙◌, arith, length}
+use Rattle.std.specs.Prelude.{if◌then◌else◌}
+use Rattle.std.specs.Option.{option_eq, option_or}
+use Rattle.model.specs.declared.op.Op.{Op}
+use Rattle.model.specs.declared.op.Op.TheVariants.{Work, Delay, DelayUntil, Yield, Time, Mark, Expect, Repeat, End, If, Else, EndIf}
+use Rattle.model.specs.declared.op.Op.TheVariants.{Break, Stamp, Since, Await, Do, GiveMutex, MessagesWaiting, SpacesAvailable}
+use Rattle.model.specs.declared.op.Op.TheVariants.{SetBits, ClearBits, GetBits, WaitBits, Suspend, Resume, SuspendAll, ResumeAll}
+use Rattle.model.specs.declared.op.Op.TheVariants.{EnterCritical, ExitCritical, NextCommand, Obey}
+use Rattle.model.specs.declared.op.Access.{Access}
+use Rattle.model.specs.declared.op.Access.TheVariants.{Receive}
+use Rattle.model.specs.declared.op.Command.{Command}
+use Rattle.model.specs.declared.call.Condition.{Condition}
+use Rattle.model.specs.declared.call.Phase.{Phase}
+use Rattle.model.specs.declared.call.Phase.TheVariants.{Start, Try, Decide, Place, Unlock, Leave}
+use Rattle.model.specs.declared.call.WaitList.TheVariants.{ToReceive, ToSend}
+use Rattle.model.specs.declared.event.Misuse.{Misuse}
+use Rattle.model.specs.declared.event.Misuse.TheVariants.{WhileSuspended, NotSuspended, EndedSuspended, WhileCritical, NotCritical}
+use Rattle.model.specs.declared.event.Misuse.TheVariants.{EndedCritical}
+use Rattle.model.specs.declared.event.What.TheVariants as what
+use Rattle.model.specs.declared.answer.AnswerCondition.{AnswerCondition}
+use Rattle.model.specs.Answers.{holds}
+use Rattle.model.specs.Application.{Application, Limits, op_at}
+use Rattle.model.specs.State.{State, status_at, progress_at, call_at, object_at, bits_at, for_one, printed}
+use Rattle.model.specs.Order.{tasks_of}
+use Rattle.model.specs.Switching.{choose, preempt, slice, settle, is_scheduler_suspended, is_critical, is_held, is_held_by_task}
+use Rattle.model.specs.Switching.{unless_held, write}
+use Rattle.model.specs.Waiting.{awakened, wait_in, set_deadline, is_expired, end_hold, unlock_object, unlock}
+use Rattle.model.specs.Time.{advance, increment_tick, jump, apply_one, apply_held}
+use Rattle.model.specs.Ops.{answer, use_up, expect, with_sections}
+use Rattle.model.specs.Objects.{possible}
+use Rattle.model.specs.Calls.{decide, leave_call, await}
+use Rattle.model.specs.Groups.{is_met, begin_set, set_bits, wait_for_bits, begin_bits_wait, check, final_bits, wait_bits}
+use Rattle.model.specs.Suspension.{suspend_all, resume_scheduler, resume_all}
+use Rattle.model.specs.Daemon.{next_command, obeyed, end_set_by_daemon, obey, command_at}
+use Rattle.model.specs.Handlers.{interrupt, tick_interrupt, idle, ticks_ahead, ticks_to_wake, ticks_to_interrupt}
+use Rattle.model.specs.Step.{is_ended, judge, misused, act, act_unless, may_switch, is_barred, own_misuse, misuse, act_if}
+use Rattle.model.specs.Step.{act_current, before_step, step, reset}
+use Rattle.model.specs.Step.{nobody_ready, ready_at_reset, with_ops}
+use Rattle.model.specs.Invariant.{hold_of, InOne, course, Suspension, suspension_of}
+use Rattle.model.proofs.Sorting.{by_test}
+use Rattle.soundness.proofs.Settled.{held_as_it_was, unlike, neither, by_section}
+use Rattle.soundness.proofs.Frames.{Keeps, keeps, keeps_both, keeps-choose, keeps-yield_now, keeps-preempt, keeps-slice}
+use Rattle.soundness.proofs.Frames.{keeps-settle, keeps-unless_held, keeps-all_ready, keeps-wake_due, keeps-go_to, keeps-answer}
+use Rattle.soundness.proofs.Frames.{keeps-use_up, keeps-delay, keeps-delay_until, keeps-open_loop, keeps-close_turn, keeps-branch}
+use Rattle.soundness.proofs.Frames.{keeps-skip_branch, keeps-leave_loop, keeps-stamp, keeps-since, keeps-set_deadline}
+use Rattle.soundness.proofs.Frames.{keeps-inherit, keeps-give_mutex, keeps-try, keeps-do_now, keeps-set, keeps-clear}
+use Rattle.soundness.proofs.Frames.{keeps-answer_bits, keeps-call_suspend, keeps-call_resume, keeps-take_command, keeps-obeyed}
+use Rattle.soundness.proofs.Frames.{keeps-clear_by_daemon, keeps-interrupt, keeps-before_step}
+use Rattle.soundness.proofs.Passing.{Lasts, by_op, lasts-act, sections-tick, suspensions-tick}
+
+-- ---- a judgement
+
+-- It leaves everything as it is where no task holds the scheduler, or the task isn't at its end.
+pub not_ended : (i op_index : ℕ) (s : State) → is_ended (status_at s i) ≡ false → judge i op_index s ≡ s
+unfolding judge
+not_ended i op_index s on = rw on refl
+
+pub judged_calm : (i op_index : ℕ) (s : State) → is_held_by_task s ≡ false → judge i op_index s ≡ s
+unfolding judge
+judged_calm i op_index s free =
+    let off = neither s free in
+    by_test (is_ended (status_at s i)) (λ t. rw (t, off.0, off.1) refl) (λ t. rw t refl)
+
+-- Otherwise it is a misuse.
+pub judged_held : (i op_index : ℕ) (s : State) → is_held_by_task s ≡ true → is_ended (status_at s i) ≡ true
+    → (kind : Misuse) × (judge i op_index s ≡ misused i op_index kind s)
+unfolding judge
+judged_held i op_index s held t = by_test (is_scheduler_suspended s)
+    (λ sus. (EndedSuspended, rw (t, sus) refl))
+    (λ off. (EndedCritical, rw (t, off, by_section s held off) refl))
+
+pub judged : (i op_index : ℕ) (s : State) → Lasts s (judge i op_index s)
+judged i op_index s = by_test (is_held_by_task s)
+    (λ held. by_test (is_ended (status_at s i))
+    (λ t.
+    let j = judged_held i op_index s held t in
+    subst (Lasts s) (sym j.1) (record { elapsed = refl; suspension = refl; sources = refl }))
+    (λ on. as_it_is (not_ended i op_index s on)))
+    (λ free. as_it_is (judged_calm i op_index s free)) where
+      as_it_is : judge i op_index s ≡ s → Lasts s (judge i op_index s)
+      as_it_is same = subst (Lasts s) (sym same) (record { elapsed = refl; suspension = refl; sources = refl })
+
+-- ---- where no task holds the scheduler
+
+-- The op has its task hold it.
+abbrev pub takes_hold : Op → Bool
+takes_hold SuspendAll = true
+takes_hold EnterCritical = true
+takes_hold _ = false
+
+calm_still : (app : Application) (i : ℕ) (op : Op) (s : State) → is_held_by_task s ≡ false
+    → own_misuse s i op ≡ None → takes_hold op ≡ false → is_held_by_task (act app i op s) ≡ false
+calm_still app i op s free = by_op
+    (λ op. own_misuse s i op ≡ None → takes_hold op ≡ false → is_held_by_task (act app i op s) ≡ false)
+    (λ n m ne.
+    let u : State = use_up app i n s in
+    let k : is_held_by_task u ≡ false = by_suspension s u (keeps-use_up app i n s).suspension ∙ free in
+    ap₂ (λ a b. ltb 0 a || ltb 0 b) (suspensions-tick app u) (sections-tick app u) ∙ k)
+    (λ m ne. unlike ne)
+    (λ m ne. let f : Some NotSuspended ≡ None = rw off.0 at m in absurd (cc))
+    (λ m ne. unlike ne)
+    (λ m ne. let f : Some NotCritical ≡ None = rw off.1 at m in absurd (cc))
+    (λ op t m ne. by_suspension s (act app i op s) (lasts-act app i op s t).suspension ∙ free)
+    op where
+      off : (is_scheduler_suspended s ≡ false) × (is_critical s ≡ false)
+      off = neither s free
+
+      by_suspension : (s t : State) → suspension_of t ≡ suspension_of s → is_held_by_task t ≡ is_held_by_task s
+      by_suspension s t same = ap (λ (x : Suspension). ltb 0 x.suspensions || ltb 0 x.sections) same
+
+or_none : {A : Type 0} (o : Option A) → option_or o None ≡ o
+or_none None = refl
+or_none (Some x) = refl
+
+-- Then an op does what it does, and is no misuse but by itself.
+pub misuse_calm : (s : State) (i : ℕ) (op : Op) → is_held_by_task s ≡ false → misuse s i op ≡ own_misuse s i op
+misuse_calm s i op free = let off = neither s free in rw (off.0, off.1) (or_none (own_misuse s i op))
+
+pub acts_calm : (app : Application) (i : ℕ) (op : Op) (s : State) → is_held_by_task s ≡ false
+    → own_misuse s i op ≡ None → takes_hold op ≡ false → act_unless app i (misuse s i op) op s ≡ act app i op s
+acts_calm app i op s free fine ne =
+    ap (λ (kind : Option Misuse). act_unless app i kind op s) (misuse_calm s i op free ∙ fine)
+    ∙ judged_calm i (progress_at s i).op_index (act app i op s) (calm_still app i op s free fine ne)
+
+-- ---- which ops are no misuse while a task holds the scheduler
+
+switching_barred : (op : Op) → may_switch op ≡ true → is_barred op ≡ true
+switching_barred (Work n) t = refl
+switching_barred (Delay n) t = refl
+switching_barred (DelayUntil n) t = refl
+switching_barred Yield t = refl
+switching_barred Time t = absurd (cc)
+switching_barred (Mark n) t = absurd (cc)
+switching_barred (Expect c) t = absurd (cc)
+switching_barred (Repeat n) t = absurd (cc)
+switching_barred End t = absurd (cc)
+switching_barred (If c) t = absurd (cc)
+switching_barred Else t = absurd (cc)
+switching_barred EndIf t = absurd (cc)
+switching_barred Break t = absurd (cc)
+switching_barred Stamp t = absurd (cc)
+switching_barred Since t = absurd (cc)
+switching_barred (Await o a ticks) t = refl
+switching_barred (Do o a) t = refl
+switching_barred (GiveMutex o) t = refl
+switching_barred (MessagesWaiting o) t = absurd (cc)
+switching_barred (SpacesAvailable o) t = absurd (cc)
+switching_barred (SetBits g m) t = refl
+switching_barred (ClearBits g m) t = absurd (cc)
+switching_barred (GetBits g) t = absurd (cc)
+switching_barred (WaitBits g c ticks) t = refl
+switching_barred (Suspend j) t = refl
+switching_barred (Resume j) t = refl
+switching_barred SuspendAll t = refl
+switching_barred ResumeAll t = refl
+switching_barred EnterCritical t = absurd (cc)
+switching_barred ExitCritical t = absurd (cc)
+switching_barred (NextCommand o) t = refl
+switching_barred Obey t = refl
+
+never : {A : Type 0} (b : Bool) (x y : A) (o : Option A) → (if b then Some x else option_or o (Some y)) ≡ None → ⊥
+never true x y o e = absurd (cc)
+never false x y None e = absurd (cc)
+never false x y (Some z) e = absurd (cc)
+
+pub not_barred : (s : State) (i : ℕ) (op : Op) → is_critical s ≡ true → misuse s i op ≡ None → is_barred op ≡ false
+not_barred s i op open_ n = by_test (is_barred op)
+    (λ t.
+    absurd (never (is_scheduler_suspended s && may_switch op) WhileSuspended WhileCritical (own_misuse s i op) (rw (open_, t) at n)))
+    (λ t. t)
+
+pub switches_not : (s : State) (i : ℕ) (op : Op) → is_held_by_task s ≡ true → misuse s i op ≡ None → may_switch op ≡ false
+switches_not s i op held n = by_test (may_switch op)
+    (λ t. by_test (is_scheduler_suspended s)
+    (λ sus. let f : Some WhileSuspended ≡ None = (rw (sus, t) at n) in absurd (cc))
+    (λ off. unlike (sym (switching_barred op t) ∙ not_barred s i op (by_section s held off) n)))
+    (λ t. t)

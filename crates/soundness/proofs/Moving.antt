@@ -1,0 +1,201 @@
+-- How far a step moves the ticks, and how often a task holds the scheduler after it.
+use Rattle.std.proofs.Common.{ap₂, Bool, ap, ◌≡◌, ◌≤◌, ◌+◌, ◌-◌, ◌<◌, ◌||◌, ◌&&◌, ℕ, zero, suc, true, false, eqb, ltb, min}
+use Rattle.std.proofs.Common.{sym, subst, fold, List, [], ◌∷◌, ◌++◌, Option, Some, None, refl, ◌∙◌, arith, length}
+use Rattle.std.specs.Prelude.{if◌then◌else◌}
+use Rattle.std.specs.Option.{option_eq, option_or}
+use Rattle.model.specs.declared.op.Op.{Op}
+use Rattle.model.specs.declared.op.Op.TheVariants.{Work, Delay, DelayUntil, Yield, Time, Mark, Expect, Repeat, End, If, Else, EndIf}
+use Rattle.model.specs.declared.op.Op.TheVariants.{Break, Stamp, Since, Await, Do, GiveMutex, MessagesWaiting, SpacesAvailable}
+use Rattle.model.specs.declared.op.Op.TheVariants.{SetBits, ClearBits, GetBits, WaitBits, Suspend, Resume, SuspendAll, ResumeAll}
+use Rattle.model.specs.declared.op.Op.TheVariants.{EnterCritical, ExitCritical, NextCommand, Obey}
+use Rattle.model.specs.declared.op.Access.{Access}
+use Rattle.model.specs.declared.op.Access.TheVariants.{Receive}
+use Rattle.model.specs.declared.op.Command.{Command}
+use Rattle.model.specs.declared.call.Condition.{Condition}
+use Rattle.model.specs.declared.call.Phase.{Phase}
+use Rattle.model.specs.declared.call.Phase.TheVariants.{Start, Try, Decide, Place, Unlock, Leave}
+use Rattle.model.specs.declared.call.WaitList.TheVariants.{ToReceive, ToSend}
+use Rattle.model.specs.declared.event.Misuse.{Misuse}
+use Rattle.model.specs.declared.event.Misuse.TheVariants.{WhileSuspended, NotSuspended, EndedSuspended, WhileCritical, NotCritical}
+use Rattle.model.specs.declared.event.Misuse.TheVariants.{EndedCritical}
+use Rattle.model.specs.declared.event.What.TheVariants as what
+use Rattle.model.specs.declared.answer.AnswerCondition.{AnswerCondition}
+use Rattle.model.specs.Answers.{holds}
+use Rattle.model.specs.Application.{Application, Limits, op_at}
+use Rattle.model.specs.State.{State, status_at, progress_at, call_at, object_at, bits_at, for_one, printed}
+use Rattle.model.specs.Order.{tasks_of}
+use Rattle.model.specs.Switching.{choose, preempt, slice, settle, is_scheduler_suspended, is_critical, is_held, is_held_by_task}
+use Rattle.model.specs.Switching.{unless_held, write}
+use Rattle.model.specs.Waiting.{awakened, wait_in, set_deadline, is_expired, end_hold, unlock_object, unlock}
+use Rattle.model.specs.Time.{advance, increment_tick, jump, apply_one, apply_held}
+use Rattle.model.specs.Ops.{answer, use_up, expect, with_sections}
+use Rattle.model.specs.Objects.{possible}
+use Rattle.model.specs.Calls.{decide, leave_call, await}
+use Rattle.model.specs.Groups.{is_met, begin_set, set_bits, wait_for_bits, begin_bits_wait, check, final_bits, wait_bits}
+use Rattle.model.specs.Suspension.{suspend_all, resume_scheduler, resume_all}
+use Rattle.model.specs.Daemon.{next_command, obeyed, end_set_by_daemon, obey, command_at}
+use Rattle.model.specs.Handlers.{interrupt, tick_interrupt, idle, ticks_ahead, ticks_to_wake, ticks_to_interrupt}
+use Rattle.model.specs.Step.{is_ended, judge, misused, act, act_unless, may_switch, is_barred, own_misuse, misuse, act_if}
+use Rattle.model.specs.Step.{act_current, before_step, step, reset}
+use Rattle.model.specs.Step.{nobody_ready, ready_at_reset, with_ops}
+use Rattle.model.specs.Invariant.{hold_of, InOne, course, Suspension, suspension_of}
+use Rattle.model.proofs.Sorting.{by_test}
+use Rattle.soundness.proofs.Settled.{held_as_it_was, unlike, neither, by_section}
+use Rattle.soundness.proofs.Frames.{Keeps, keeps, keeps_both, keeps-choose, keeps-yield_now, keeps-preempt, keeps-slice}
+use Rattle.soundness.proofs.Frames.{keeps-settle, keeps-unless_held, keeps-all_ready, keeps-wake_due, keeps-go_to, keeps-answer}
+use Rattle.soundness.proofs.Frames.{keeps-use_up, keeps-delay, keeps-delay_until, keeps-open_loop, keeps-close_turn, keeps-branch}
+use Rattle.soundness.proofs.Frames.{keeps-skip_branch, keeps-leave_loop, keeps-stamp, keeps-since, keeps-set_deadline}
+use Rattle.soundness.proofs.Frames.{keeps-inherit, keeps-give_mutex, keeps-try, keeps-do_now, keeps-set, keeps-clear}
+use Rattle.soundness.proofs.Frames.{keeps-answer_bits, keeps-call_suspend, keeps-call_resume, keeps-take_command, keeps-obeyed}
+use Rattle.soundness.proofs.Frames.{keeps-clear_by_daemon, keeps-interrupt, keeps-before_step}
+use Rattle.soundness.proofs.Passing.{elapsed-act, elapsed-idle, held-act, held-idle, most-idle, sections-idle, sources-act, sources-idle, suspensions-act, suspensions-idle, task_holds, task_holds-act, task_holds_by}
+use Rattle.soundness.proofs.Judging.{judged}
+
+-- ---- an op, or idle
+
+-- no more than one tick passes, except where idle may jump, and then none past the limit; no more than one is held, and no more
+-- than one `suspend_all` comes into force, or critical section is opened
+pub record Moves (app : Application) (limits : Limits) (old new : State) : Type 0 where
+  pub elapsed : app.tickless ≡ false → new.elapsed ≤ old.elapsed + 1
+  pub most : old.elapsed < limits.ticks → new.elapsed ≤ limits.ticks
+  pub suspensions : new.suspensions ≤ old.suspensions + 1
+  pub held : new.held_ticks ≤ old.held_ticks + 1
+  pub by_tasks : task_holds new ≤ task_holds old + 1
+
+moves-act_unless : (app : Application) (limits : Limits) (i : ℕ) (kind : Option Misuse) (op : Op) (s : State)
+    → Moves app limits s (act_unless app i kind op s)
+moves-act_unless app limits i None op s =
+    let t : State = act app i op s in
+    let j = judged i (progress_at s i).op_index t in
+    let e = j.elapsed in
+    let f : (judge i (progress_at s i).op_index t).suspensions ≡ t.suspensions =
+    ap (λ (x : Suspension). x.suspensions) j.suspension in
+    let a = elapsed-act app i op s in
+    let g : (judge i (progress_at s i).op_index t).held_ticks ≡ t.held_ticks = ap (λ (x : Suspension). x.held_ticks) j.suspension in
+    let b = suspensions-act app i op s in
+    let h = held-act app i op s in
+    let c : task_holds (judge i (progress_at s i).op_index t) ≡ task_holds t =
+    task_holds_by t (judge i (progress_at s i).op_index t) j.suspension in
+    let d : task_holds t ≤ task_holds s + 1 = task_holds-act app i op s in
+    record {
+      elapsed = λ off. omega arith;
+      most = λ l. omega arith;
+      suspensions = omega arith;
+      held = omega arith;
+      by_tasks = omega (arith, c, d);
+    }
+moves-act_unless app limits i (Some kind) op s =
+    record {
+      elapsed = λ off. omega arith;
+      most = λ l. omega arith;
+      suspensions = omega arith;
+      held = omega arith;
+      by_tasks = omega arith;
+    }
+
+moves-act_if : (app : Application) (limits : Limits) (i : ℕ) (o : Option Op) (s : State) → Moves app limits s (act_if app i o s)
+moves-act_if app limits i None s =
+    record {
+      elapsed = λ off. omega arith;
+      most = λ l. omega arith;
+      suspensions = omega arith;
+      held = omega arith;
+      by_tasks = omega arith;
+    }
+moves-act_if app limits i (Some op) s = moves-act_unless app limits i (misuse s i op) op s
+
+moves-act_current : (app : Application) (limits : Limits) (r : Option ℕ) (s : State)
+    → Moves app limits s (act_current app limits r s)
+moves-act_current app limits None s =
+    let f = suspensions-idle app limits s in
+    record {
+      elapsed = λ off. (let e = elapsed-idle app limits s off in omega arith);
+      most = λ l. most-idle app limits s l;
+      suspensions = omega arith;
+      held = held-idle app limits s;
+      by_tasks = (let g = sections-idle app limits s in omega arith);
+    }
+moves-act_current app limits (Some i) s = moves-act_if app limits i (op_at app i (progress_at s i).op_index) s
+
+-- what is kept of the interrupt sources stays
+sources-act_unless : (app : Application) (i : ℕ) (kind : Option Misuse) (op : Op) (s : State)
+    → (act_unless app i kind op s).sources ≡ s.sources
+sources-act_unless app i None op s =
+    (judged i (progress_at s i).op_index (act app i op s)).sources ∙ sources-act app i op s
+sources-act_unless app i (Some kind) op s = refl
+
+sources-act_if : (app : Application) (i : ℕ) (o : Option Op) (s : State) → (act_if app i o s).sources ≡ s.sources
+sources-act_if app i None s = refl
+sources-act_if app i (Some op) s = sources-act_unless app i (misuse s i op) op s
+
+pub sources-act_current : (app : Application) (limits : Limits) (r : Option ℕ) (s : State)
+    → (act_current app limits r s).sources ≡ s.sources
+sources-act_current app limits None s = sources-idle app limits s
+sources-act_current app limits (Some i) s = sources-act_if app i (op_at app i (progress_at s i).op_index) s
+
+-- ---- a step, and reset
+
+moves-step : (app : Application) (limits : Limits) (handlers : List ℕ) (s : State) → Moves app limits s (step app limits handlers s)
+unfolding step
+moves-step app limits handlers s =
+    let begun : State = before_step app handlers s in
+    let acted : State = act_current app limits begun.current begun in
+    let b = keeps-before_step app handlers s in
+    let k = keeps-unless_held settle acted keeps-settle in
+    let m = moves-act_current app limits begun.current begun in
+    let b1 : begun.elapsed ≡ s.elapsed = b.elapsed in
+    let b2 : begun.suspensions ≡ s.suspensions = ap (λ (x : Suspension). x.suspensions) b.suspension in
+    let k1 : (unless_held settle acted).elapsed ≡ acted.elapsed = k.elapsed in
+    let k2 : (unless_held settle acted).suspensions ≡ acted.suspensions = ap (λ (x : Suspension). x.suspensions) k.suspension in
+    let m2 : acted.suspensions ≤ begun.suspensions + 1 = m.suspensions in
+    let b3 : begun.held_ticks ≡ s.held_ticks = ap (λ (x : Suspension). x.held_ticks) b.suspension in
+    let k3 : (unless_held settle acted).held_ticks ≡ acted.held_ticks = ap (λ (x : Suspension). x.held_ticks) k.suspension in
+    let h : acted.held_ticks ≤ begun.held_ticks + 1 = m.held in
+    record {
+      elapsed = λ off. (let m1 : acted.elapsed ≤ begun.elapsed + 1 = m.elapsed off in omega arith);
+      most = λ l. (let m3 : acted.elapsed ≤ limits.ticks = m.most (omega arith) in omega arith);
+      suspensions = omega arith;
+      held = omega arith;
+      by_tasks =
+          (let b4 : task_holds begun ≡ task_holds s = task_holds_by s begun b.suspension in
+          let k4 : task_holds (unless_held settle acted) ≡ task_holds acted =
+          task_holds_by acted (unless_held settle acted) k.suspension in
+          let m4 : task_holds acted ≤ task_holds begun + 1 = m.by_tasks in
+          omega (arith, b4, k4, m4));
+    }
+
+pub elapsed-step : (app : Application) (limits : Limits) (handlers : List ℕ) (s : State)
+    → app.tickless ≡ false → (step app limits handlers s).elapsed ≤ s.elapsed + 1
+elapsed-step app limits handlers s = (moves-step app limits handlers s).elapsed
+
+pub most-step : (app : Application) (limits : Limits) (handlers : List ℕ) (s : State)
+    → s.elapsed < limits.ticks → (step app limits handlers s).elapsed ≤ limits.ticks
+most-step app limits handlers s = (moves-step app limits handlers s).most
+
+pub held-step : (app : Application) (limits : Limits) (handlers : List ℕ) (s : State)
+    → (step app limits handlers s).held_ticks ≤ s.held_ticks + 1
+held-step app limits handlers s = (moves-step app limits handlers s).held
+
+pub suspensions-step : (app : Application) (limits : Limits) (handlers : List ℕ) (s : State)
+    → (step app limits handlers s).suspensions ≤ s.suspensions + 1
+suspensions-step app limits handlers s = (moves-step app limits handlers s).suspensions
+
+pub task_holds-step : (app : Application) (limits : Limits) (handlers : List ℕ) (s : State)
+    → task_holds (step app limits handlers s) ≤ task_holds s + 1
+task_holds-step app limits handlers s = (moves-step app limits handlers s).by_tasks
+
+elapsed-nobody : (app : Application) → (nobody_ready app).elapsed ≡ 0
+unfolding nobody_ready
+elapsed-nobody app = refl
+
+pub elapsed-reset : (app : Application) → (reset app).elapsed ≡ 0
+unfolding reset ready_at_reset
+elapsed-reset app = (keeps-all_ready (with_ops 0 app.tasks) (nobody_ready app)).elapsed ∙ elapsed-nobody app
+
+suspension-nobody : (app : Application) → suspension_of (nobody_ready app) ≡ record { suspensions = 0; held_ticks = 0; sections = 0 }
+unfolding nobody_ready
+suspension-nobody app = refl
+
+pub suspension-reset : (app : Application) → suspension_of (reset app) ≡ record { suspensions = 0; held_ticks = 0; sections = 0 }
+unfolding reset ready_at_reset
+suspension-reset app = (keeps-all_ready (with_ops 0 app.tasks) (nobody_ready app)).suspension ∙ suspension-nobody app
