@@ -1,5 +1,7 @@
 pub mod Frames
 pub mod Passing
+pub mod Judging
+pub mod Moving
 pub mod InScripts
 pub mod Jumping
 pub mod Settled

@@ -1,53 +1,18 @@
 -- How far a step moves the ticks, and how often a task holds the scheduler after it.
-use Rattle.std.proofs.Common.{ap₂, Bool, ap, ◌≡◌, ◌≤◌, ◌+◌, ◌-◌, ◌<◌, ◌||◌, ◌&&◌, ℕ, zero, suc, true, false, eqb, ltb, min}
-use Rattle.std.proofs.Common.{sym, subst, fold, List, [], ◌∷◌, ◌++◌, Option, Some, None, refl, ◌∙◌, arith, length}
-use Rattle.std.specs.Prelude.{if◌then◌else◌}
-use Rattle.std.specs.Option.{option_eq, option_or}
+use Rattle.std.proofs.Common.{ap, ◌≡◌, ◌≤◌, ◌+◌, ◌<◌, ℕ, false}
+use Rattle.std.proofs.Common.{List, Option, Some, None, refl, ◌∙◌, arith}
 use Rattle.model.specs.declared.op.Op.{Op}
-use Rattle.model.specs.declared.op.Op.TheVariants.{Work, Delay, DelayUntil, Yield, Time, Mark, Expect, Repeat, End, If, Else, EndIf}
-use Rattle.model.specs.declared.op.Op.TheVariants.{Break, Stamp, Since, Await, Do, GiveMutex, MessagesWaiting, SpacesAvailable}
-use Rattle.model.specs.declared.op.Op.TheVariants.{SetBits, ClearBits, GetBits, WaitBits, Suspend, Resume, SuspendAll, ResumeAll}
-use Rattle.model.specs.declared.op.Op.TheVariants.{EnterCritical, ExitCritical, NextCommand, Obey}
-use Rattle.model.specs.declared.op.Access.{Access}
-use Rattle.model.specs.declared.op.Access.TheVariants.{Receive}
-use Rattle.model.specs.declared.op.Command.{Command}
-use Rattle.model.specs.declared.call.Condition.{Condition}
-use Rattle.model.specs.declared.call.Phase.{Phase}
-use Rattle.model.specs.declared.call.Phase.TheVariants.{Start, Try, Decide, Place, Unlock, Leave}
-use Rattle.model.specs.declared.call.WaitList.TheVariants.{ToReceive, ToSend}
 use Rattle.model.specs.declared.event.Misuse.{Misuse}
-use Rattle.model.specs.declared.event.Misuse.TheVariants.{WhileSuspended, NotSuspended, EndedSuspended, WhileCritical, NotCritical}
-use Rattle.model.specs.declared.event.Misuse.TheVariants.{EndedCritical}
-use Rattle.model.specs.declared.event.What.TheVariants as what
-use Rattle.model.specs.declared.answer.AnswerCondition.{AnswerCondition}
-use Rattle.model.specs.Answers.{holds}
 use Rattle.model.specs.Application.{Application, Limits, op_at}
-use Rattle.model.specs.State.{State, status_at, progress_at, call_at, object_at, bits_at, for_one, printed}
-use Rattle.model.specs.Order.{tasks_of}
-use Rattle.model.specs.Switching.{choose, preempt, slice, settle, is_scheduler_suspended, is_critical, is_held, is_held_by_task}
-use Rattle.model.specs.Switching.{unless_held, write}
-use Rattle.model.specs.Waiting.{awakened, wait_in, set_deadline, is_expired, end_hold, unlock_object, unlock}
-use Rattle.model.specs.Time.{advance, increment_tick, jump, apply_one, apply_held}
-use Rattle.model.specs.Ops.{answer, use_up, expect, with_sections}
-use Rattle.model.specs.Objects.{possible}
-use Rattle.model.specs.Calls.{decide, leave_call, await}
-use Rattle.model.specs.Groups.{is_met, begin_set, set_bits, wait_for_bits, begin_bits_wait, check, final_bits, wait_bits}
-use Rattle.model.specs.Suspension.{suspend_all, resume_scheduler, resume_all}
-use Rattle.model.specs.Daemon.{next_command, obeyed, end_set_by_daemon, obey, command_at}
-use Rattle.model.specs.Handlers.{interrupt, tick_interrupt, idle, ticks_ahead, ticks_to_wake, ticks_to_interrupt}
-use Rattle.model.specs.Step.{is_ended, judge, misused, act, act_unless, may_switch, is_barred, own_misuse, misuse, act_if}
+use Rattle.model.specs.State.{State, progress_at}
+use Rattle.model.specs.Switching.{settle}
+use Rattle.model.specs.Switching.{unless_held}
+use Rattle.model.specs.Step.{judge, act, act_unless, misuse, act_if}
 use Rattle.model.specs.Step.{act_current, before_step, step, reset}
 use Rattle.model.specs.Step.{nobody_ready, ready_at_reset, with_ops}
-use Rattle.model.specs.Invariant.{hold_of, InOne, course, Suspension, suspension_of}
-use Rattle.model.proofs.Sorting.{by_test}
-use Rattle.soundness.proofs.Settled.{held_as_it_was, unlike, neither, by_section}
-use Rattle.soundness.proofs.Frames.{Keeps, keeps, keeps_both, keeps-choose, keeps-yield_now, keeps-preempt, keeps-slice}
-use Rattle.soundness.proofs.Frames.{keeps-settle, keeps-unless_held, keeps-all_ready, keeps-wake_due, keeps-go_to, keeps-answer}
-use Rattle.soundness.proofs.Frames.{keeps-use_up, keeps-delay, keeps-delay_until, keeps-open_loop, keeps-close_turn, keeps-branch}
-use Rattle.soundness.proofs.Frames.{keeps-skip_branch, keeps-leave_loop, keeps-stamp, keeps-since, keeps-set_deadline}
-use Rattle.soundness.proofs.Frames.{keeps-inherit, keeps-give_mutex, keeps-try, keeps-do_now, keeps-set, keeps-clear}
-use Rattle.soundness.proofs.Frames.{keeps-answer_bits, keeps-call_suspend, keeps-call_resume, keeps-take_command, keeps-obeyed}
-use Rattle.soundness.proofs.Frames.{keeps-clear_by_daemon, keeps-interrupt, keeps-before_step}
+use Rattle.model.specs.Invariant.{Suspension, suspension_of}
+use Rattle.soundness.proofs.Frames.{keeps-settle, keeps-unless_held, keeps-all_ready}
+use Rattle.soundness.proofs.Frames.{keeps-before_step}
 use Rattle.soundness.proofs.Passing.{elapsed-act, elapsed-idle, held-act, held-idle, most-idle, sections-idle, sources-act, sources-idle, suspensions-act, suspensions-idle, task_holds, task_holds-act, task_holds_by}
 use Rattle.soundness.proofs.Judging.{judged}
 
