@@ -4,12 +4,13 @@ use Rattle.std.proofs.Common.{◌∷◌, drop, Option, Some, None, refl, ap, sym
 use Rattle.std.specs.Prelude.{if◌then◌else◌}
 use Rattle.std.specs.List.{slice_get}
 use Rattle.std.proofs.lemmas.List.{drop-map, length-map, map-append}
+use Rattle.std.specs.Option.{option_or}
 use Rattle.model.specs.declared.answer.AnswerCondition.{AnswerCondition}
 use Rattle.model.specs.declared.block.Block.{Block}
 use Rattle.model.specs.declared.block.Block.TheVariants as block
 use Rattle.model.specs.declared.block.Edge.{Edge}
 use Rattle.model.specs.declared.block.Edge.TheVariants.{OpensLoop, EndsLoop, OpensIf, OpensElse, EndsIf, Breaks, Inside}
-use Rattle.model.specs.declared.event.Misuse.TheVariants.{WhileSuspended}
+use Rattle.model.specs.declared.event.Misuse.TheVariants.{WhileSuspended, WhileCritical}
 use Rattle.model.specs.declared.loops.Loop.{Loop}
 use Rattle.model.specs.declared.op.Op.{Op}
 use Rattle.model.specs.declared.op.Op.TheVariants.{Repeat, End, If, Else, EndIf, Break}
@@ -19,7 +20,7 @@ use Rattle.model.specs.Blocks.{edge_of, edges_of, jump_from, jumped_over, loops_
 use Rattle.model.specs.Ops.{branch, close_turn, go_to, leave_loop, moved_to, next_turn, open_loop, skip_branch, turn}
 use Rattle.model.specs.State.{State, Task, Progress, no_call, no_task, progress_at, task_at}
 use Rattle.model.specs.Step.{act, misuse}
-use Rattle.model.specs.Switching.{is_scheduler_suspended}
+use Rattle.model.specs.Switching.{is_scheduler_suspended, is_critical}
 use Rattle.model.proofs.Lists.{eqb-same}
 use Rattle.model.proofs.Sorting.{by_test}
 use Rattle.soundness.proofs.InScripts.{edges_at}
@@ -331,16 +332,20 @@ module _ (app : Application) (i : ℕ) (s : State) (l : i < length s.tasks) wher
       quiet-go_to (jump_from (script_of app i) p.op_index) (record p { loops = drop 1 p.loops }) refl
   quiet-act op t = absurd (cc)
 
--- no op that may not be done while the scheduler is suspended
-pub fits_held : (suspended : Bool) → (if suspended && false then Some WhileSuspended else None) ≡ None
-fits_held false = refl
-fits_held true = refl
+-- no op that may not be done while a task holds the scheduler
+pub fits_held : (suspended critical : Bool)
+    → (if suspended && false then Some WhileSuspended else option_or None (if critical && false then Some WhileCritical else None))
+    ≡ None
+fits_held false false = refl
+fits_held false true = refl
+fits_held true false = refl
+fits_held true true = refl
 
 pub allowed_held : (s : State) (i : ℕ) (op : Op) → is_of_blocks (edge_of op) ≡ true → misuse s i op ≡ None
-allowed_held s i (Repeat turns) t = fits_held (is_scheduler_suspended s)
-allowed_held s i End t = fits_held (is_scheduler_suspended s)
-allowed_held s i (If c) t = fits_held (is_scheduler_suspended s)
-allowed_held s i Else t = fits_held (is_scheduler_suspended s)
-allowed_held s i EndIf t = fits_held (is_scheduler_suspended s)
-allowed_held s i Break t = fits_held (is_scheduler_suspended s)
+allowed_held s i (Repeat turns) t = fits_held (is_scheduler_suspended s) (is_critical s)
+allowed_held s i End t = fits_held (is_scheduler_suspended s) (is_critical s)
+allowed_held s i (If c) t = fits_held (is_scheduler_suspended s) (is_critical s)
+allowed_held s i Else t = fits_held (is_scheduler_suspended s) (is_critical s)
+allowed_held s i EndIf t = fits_held (is_scheduler_suspended s) (is_critical s)
+allowed_held s i Break t = fits_held (is_scheduler_suspended s) (is_critical s)
 allowed_held s i op t = absurd (cc)

@@ -11,7 +11,7 @@ use Rattle.model.specs.declared.op.Op.{Op}
 use Rattle.model.specs.declared.op.Op.TheVariants.{Work, Delay, DelayUntil, Yield, Time, Mark, Expect, Repeat, End, If, Else, EndIf}
 use Rattle.model.specs.declared.op.Op.TheVariants.{Break, Stamp, Since, Await, Do, GiveMutex, MessagesWaiting, SpacesAvailable}
 use Rattle.model.specs.declared.op.Op.TheVariants.{SetBits, ClearBits, GetBits, WaitBits, Suspend, Resume, SuspendAll, ResumeAll}
-use Rattle.model.specs.declared.op.Op.TheVariants.{NextCommand, Obey}
+use Rattle.model.specs.declared.op.Op.TheVariants.{EnterCritical, ExitCritical, NextCommand, Obey}
 use Rattle.model.specs.declared.op.Access.{Access}
 use Rattle.model.specs.declared.op.Access.TheVariants.{Send, Receive}
 use Rattle.model.specs.declared.op.Command.{Command}
@@ -50,7 +50,7 @@ use Rattle.model.specs.Handlers.{isr_told, isr, isr_answer, isr_jump, is_failed,
 use Rattle.model.specs.Handlers.{pend, pending_of, none_pending, serve_pending}
 use Rattle.model.specs.Handlers.{tick_interrupt, idle, ticks_ahead}
 use Rattle.model.specs.Ops.{one_if, go_to, called, answer, use_up, delay, delay_until, expect, open_loop, next_turn, turn}
-use Rattle.model.specs.Ops.{close_turn, branch, skip_branch, leave_loop, stamp, since, fail}
+use Rattle.model.specs.Ops.{close_turn, branch, skip_branch, leave_loop, stamp, since, with_sections, fail}
 use Rattle.model.specs.declared.call.Condition.{Condition}
 use Rattle.model.specs.Groups.{is_met, met_by, keep_answer, want, wake_with_bits, bits_set, set as set_in_group, left_by, wake_all}
 use Rattle.model.specs.Groups.{begin_set, set_bits, clear, answer_bits, wait_for_bits, begin_bits_wait, check, final_bits}
@@ -63,6 +63,7 @@ use Rattle.model.specs.Step.{is_ended, judge, act, misuse, act_unless, act_if, a
 use Rattle.model.specs.Step.{ready_at_reset, reset, task_at_reset, with_ops}
 use Rattle.model.specs.Run.{injected, state_after}
 use Rattle.model.proofs.Sorting.{by_test}
+use Rattle.soundness.proofs.Judging.{by_judgement}
 use Rattle.soundness.proofs.Settled.{when_held, when_free}
 use Rattle.soundness.proofs.Passing.{either_way, jumped}
 use Rattle.soundness.proofs.Frames.{keeps-answer, keeps-inherit}
@@ -732,10 +733,13 @@ module _ (P : State → Type 0)
       (λ q. rw q less)
 
   kept-judge : (i op_index : ℕ) (s : State) → P s → P (judge i op_index s)
-  unfolding judge
-  kept-judge i op_index s h = by_test (is_scheduler_suspended s && is_ended (status_at s i))
-      (λ t. rw t (framed s _ refl refl refl (inr (inr refl)) h))
-      (λ t. rw t h)
+  kept-judge i op_index s h = by_judgement P i op_index s h (λ kind. framed s _ refl refl refl (inr (inr refl)) h)
+
+  kept-sections : (app : Application) (i n : ℕ) (s : State) → P s → P (with_sections app i n s)
+  unfolding with_sections
+  kept-sections app i n s h =
+      let t : State = record s { sections = n } in
+      kept-go_to app i ((progress_at s i).op_index + 1) (progress_at s i) t (λ _. refl) (framed s t refl refl refl (inl refl) h)
 
   -- ---- a step, and a run
 
@@ -781,6 +785,8 @@ module _ (P : State → Type 0)
       kept-answer app i (Some 0) t (framed s t refl refl refl (inl refl) h)
   kept-act app i ResumeAll s may h =
       kept-unless_held preempt kept-preempt _ (kept-answer app i (Some 0) (resume_scheduler s) (kept-resume_scheduler s h))
+  kept-act app i EnterCritical s may h = kept-sections app i (s.sections + 1) s h
+  kept-act app i ExitCritical s may h = kept-sections app i (s.sections - 1) s h
 
   kept-act_unless : (app : Application) (i : ℕ) (kind : Option Misuse) (op : Op) (s : State)
       → MayStamp i (Some op) → P s → P (act_unless app i kind op s)

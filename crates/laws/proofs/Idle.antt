@@ -8,7 +8,7 @@ use Rattle.model.specs.declared.op.Op.{Op}
 use Rattle.model.specs.declared.op.Op.TheVariants.{Work, Delay, DelayUntil, Yield, Time, Mark, Expect, Repeat, End, If, Else, EndIf}
 use Rattle.model.specs.declared.op.Op.TheVariants.{Break, Stamp, Since, Await, Do, GiveMutex, MessagesWaiting, SpacesAvailable}
 use Rattle.model.specs.declared.op.Op.TheVariants.{SetBits, ClearBits, GetBits, WaitBits, Suspend, Resume, SuspendAll, ResumeAll}
-use Rattle.model.specs.declared.op.Op.TheVariants.{NextCommand, Obey}
+use Rattle.model.specs.declared.op.Op.TheVariants.{EnterCritical, ExitCritical, NextCommand, Obey}
 use Rattle.model.specs.declared.op.Access.{Access}
 use Rattle.model.specs.declared.op.Access.TheVariants.{Receive}
 use Rattle.model.specs.declared.op.Command.{Command}
@@ -32,7 +32,7 @@ use Rattle.model.specs.declared.plan.Injection.{Injection}
 use Rattle.model.specs.Handlers.{handle, interrupt, tick_interrupt, idle, ticks_ahead}
 use Rattle.model.specs.Time.{advance, due, increment_tick, jump, sleep, set_previous_wake, wake_due}
 use Rattle.model.specs.Ops.{go_to, answer, use_up, delay, delay_until, expect, open_loop, next_turn, turn, close_turn, branch}
-use Rattle.model.specs.Ops.{skip_branch, leave_loop, stamp, since}
+use Rattle.model.specs.Ops.{skip_branch, leave_loop, stamp, since, with_sections}
 use Rattle.model.specs.Groups.{is_met, begin_set, set_bits, clear, answer_bits, wait_for_bits, begin_bits_wait, check, final_bits}
 use Rattle.model.specs.Groups.{wait_bits}
 use Rattle.model.specs.Suspension.{call_suspend, call_resume, suspend_all, resume_scheduler, resume_all}
@@ -43,6 +43,7 @@ use Rattle.model.specs.Run.{injected, state_after}
 use Rattle.model.proofs.Sorting.{by_test, Falls, Falls-in_order, IsAfter}
 use Rattle.model.proofs.Lists.{HasKey, list_has}
 use Rattle.model.proofs.Chosen.{same_eq}
+use Rattle.soundness.proofs.Judging.{by_judgement}
 use Rattle.soundness.proofs.Settled.{when_held, when_free, held_as_it_was}
 use Rattle.soundness.proofs.Passing.{held-told, either_way, jumped, jump_come}
 use Rattle.soundness.proofs.Bits.{stays-set}
@@ -334,11 +335,10 @@ idle-resume_all app i s r =
     (λ q. subst IdleAlone (sym (when_free preempt t q)) (idle-preempt t))
 
 idle-judge : (i op_index : ℕ) (s : State) → IdleAlone s → IdleAlone (judge i op_index s)
-unfolding judge
-idle-judge i op_index s h = by_test (is_scheduler_suspended s && is_ended (status_at s i)) (λ t. rw t h) (λ t. rw t h)
+idle-judge i op_index s h = by_judgement IdleAlone i op_index s h (λ kind. h)
 
 idle-act : (app : Application) (i : ℕ) (op : Op) (s : State) → s.current ≡ Some i → IdleAlone (act app i op s)
-unfolding answer go_to open_loop close_turn skip_branch leave_loop stamp since clear call_suspend call_resume suspend_all
+unfolding answer go_to open_loop close_turn skip_branch leave_loop stamp since clear call_suspend call_resume suspend_all with_sections
 idle-act app i (Work n) s r = idle-work app i (use_up app i n s) (current-use_up app i n s ∙ r)
 idle-act app i (Delay n) s r = idle-delay app i n s r
 idle-act app i (DelayUntil n) s r =
@@ -371,6 +371,8 @@ idle-act app i (NextCommand o) s r = idle-next_command app i o (call_at s i).pha
 idle-act app i Obey s r = idle-obey app i (command_at s i) (call_at s i).phase s r
 idle-act app i SuspendAll s r = still_runs i s (act app i SuspendAll s) r refl
 idle-act app i ResumeAll s r = idle-resume_all app i s r
+idle-act app i EnterCritical s r = still_runs i s (act app i EnterCritical s) r refl
+idle-act app i ExitCritical s r = still_runs i s (act app i ExitCritical s) r refl
 
 idle-act_unless : (app : Application) (i : ℕ) (kind : Option Misuse) (op : Op) (s : State)
     → s.current ≡ Some i → IdleAlone (act_unless app i kind op s)

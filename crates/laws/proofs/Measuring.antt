@@ -10,7 +10,7 @@ use Rattle.model.specs.Order.{tasks_of}
 use Rattle.model.specs.State.{State, Task, Progress, Status, Ready, no_task, for_each, progress_at, status_at, task_at, take_ticket}
 use Rattle.model.specs.State.{with_task}
 use Rattle.model.specs.Step.{before_step, misuse, nobody_ready, ready_at_reset, reset, step, task_at_reset, with_ops}
-use Rattle.model.specs.Switching.{is_scheduler_suspended, make_ready, write}
+use Rattle.model.specs.Switching.{is_critical, is_scheduler_suspended, make_ready, write}
 use Rattle.model.specs.Time.{due, wake_due}
 use Rattle.model.proofs.Lists.{eqb-refl, eqb-same}
 use Rattle.model.proofs.Sorting.{by_test}
@@ -48,7 +48,7 @@ unfolding since answer go_to
 since_takes_no_time app i s = (refl, refl, refl)
 
 pub both_allowed : (s : State) (i : ℕ) → (misuse s i Stamp ≡ None) × (misuse s i Since ≡ None)
-both_allowed s i = (fits_held (is_scheduler_suspended s), fits_held (is_scheduler_suspended s))
+both_allowed s i = (fits_held (is_scheduler_suspended s) (is_critical s), fits_held (is_scheduler_suspended s) (is_critical s))
 
 -- ---- at reset
 

@@ -1,5 +1,5 @@
 -- A step in which a task runs lets one tick pass at most: only idle sleeps.
-use Rattle.std.proofs.Common.{◌≡◌, ◌≤◌, ◌+◌, ℕ, true, List, Option, Some, None, arith}
+use Rattle.std.proofs.Common.{◌≡◌, ◌≤◌, ◌+◌, ◌-◌, ℕ, true, List, Option, Some, None, arith}
 use Rattle.std.specs.Option.{is_some}
 use Rattle.model.specs.declared.op.Op.{Op}
 use Rattle.model.specs.declared.event.Misuse.{Misuse}
@@ -9,7 +9,7 @@ use Rattle.model.specs.Switching.{settle, unless_held}
 use Rattle.model.specs.Ops.{use_up}
 use Rattle.model.specs.Step.{act, act_unless, misuse, act_if, act_current, before_step, step}
 use Rattle.soundness.proofs.Frames.{keeps-use_up, keeps-before_step, keeps-settle, keeps-unless_held}
-use Rattle.soundness.proofs.Passing.{by_op, elapsed-tick, suspends-all, resumes-all, lasts-act}
+use Rattle.soundness.proofs.Passing.{by_op, elapsed-tick, suspends-all, resumes-all, opens, lasts-act}
 use Rattle.soundness.proofs.Judging.{judged}
 
 one-act : (app : Application) (i : ℕ) (op : Op) (s : State) → (act app i op s).elapsed ≤ s.elapsed + 1
@@ -17,6 +17,8 @@ one-act app i op s = by_op (λ op. (act app i op s).elapsed ≤ s.elapsed + 1)
     (λ n. let e = elapsed-tick app (use_up app i n s) in let f = (keeps-use_up app i n s).elapsed in omega arith)
     (let e = (suspends-all app i s).elapsed in omega arith)
     (let e = (resumes-all app i s).elapsed in omega arith)
+    (let e = (opens app i (s.sections + 1) s).elapsed in omega arith)
+    (let e = (opens app i (s.sections - 1) s).elapsed in omega arith)
     (λ op t. let e = (lasts-act app i op s t).elapsed in omega arith) op
 
 one-act_unless : (app : Application) (i : ℕ) (kind : Option Misuse) (op : Op) (s : State)

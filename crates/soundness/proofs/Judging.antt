@@ -43,16 +43,19 @@ judged_held i op_index s held t = by_test (is_scheduler_suspended s)
     (λ sus. (EndedSuspended, rw (t, sus) refl))
     (λ off. (EndedCritical, rw (t, off, by_section s held off) refl))
 
-pub judged : (i op_index : ℕ) (s : State) → Lasts s (judge i op_index s)
-judged i op_index s = by_test (is_held_by_task s)
+-- So what is true of the state, and of each misuse in it, is true after it.
+pub by_judgement : (P : State → Type 0) (i op_index : ℕ) (s : State) → P s → ((kind : Misuse) → P (misused i op_index kind s))
+    → P (judge i op_index s)
+by_judgement P i op_index s h m = by_test (is_held_by_task s)
     (λ held. by_test (is_ended (status_at s i))
-    (λ t.
-    let j = judged_held i op_index s held t in
-    subst (Lasts s) (sym j.1) (record { elapsed = refl; suspension = refl; sources = refl }))
-    (λ on. as_it_is (not_ended i op_index s on)))
-    (λ free. as_it_is (judged_calm i op_index s free)) where
-      as_it_is : judge i op_index s ≡ s → Lasts s (judge i op_index s)
-      as_it_is same = subst (Lasts s) (sym same) (record { elapsed = refl; suspension = refl; sources = refl })
+    (λ t. let j = judged_held i op_index s held t in subst P (sym j.1) (m j.0))
+    (λ on. subst P (sym (not_ended i op_index s on)) h))
+    (λ free. subst P (sym (judged_calm i op_index s free)) h)
+
+pub judged : (i op_index : ℕ) (s : State) → Lasts s (judge i op_index s)
+judged i op_index s =
+    let same : Lasts s s = record { elapsed = refl; suspension = refl; sources = refl } in
+    by_judgement (Lasts s) i op_index s same (λ kind. record { elapsed = refl; suspension = refl; sources = refl })
 
 -- ---- where no task holds the scheduler
 
