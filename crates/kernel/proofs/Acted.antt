@@ -1,30 +1,29 @@
 -- What an op did, whether or not a task is still to be placed.
 use Rattle.std.proofs.Common.{◌≡◌, ◌≢◌, ◌∙◌, ◌≤◌, ℕ, Bool, true, false, None, ap, sym, subst, true≢false, [], arith}
 use Rattle.model.specs.declared.op.Op.{Op}
-use Rattle.model.specs.declared.op.Op.TheVariants.{SuspendAll}
 use Rattle.model.specs.Application.{Application}
 use Rattle.model.specs.Step.{act, act_unless, own_misuse, misuse}
-use Rattle.soundness.proofs.Judging.{acts_calm}
+use Rattle.soundness.proofs.Judging.{acts_calm, takes_hold}
 use Rattle.model.specs.State.{State}
 use Rattle.machine.specs.declared.machine.Machine.{Machine}
 use Rattle.machine.specs.StandsFor.{AtAny, Does, DoesAny, Moves}
 use Rattle.machine.specs.Logged.{Logged}
 use Rattle.machine.specs.Can.{Agrees}
-use Rattle.machine.proofs.Either.{none_in_force, does_any, does_more}
+use Rattle.machine.proofs.Either.{not_by_task, does_any, does_more}
 use Rattle.clock.specs.Timeline.{Timeline}
 use Rattle.objects.specs.Objects.{Objects, HasRoom}
 use Rattle.ops.specs.Can.{CanTick}
 use Rattle.machine.proofs.Acting.{agrees_after}
 
--- Where no `suspend_all` is in force, an op that is no misuse does what it does.
+-- Where no task holds the scheduler, an op that is no misuse does what it does.
 pub freely : (app : Application) (old new : Machine) (old_log new_log : Logged) (task : ℕ) (op : Op)
-    → old.sched.suspensions ≡ 0 → ((s : State) → own_misuse s task op ≡ None) → op ≢ SuspendAll
+    → old.sched.suspensions ≡ 0 → ((s : State) → own_misuse s task op ≡ None) → takes_hold op ≡ false
     → DoesAny 65 old old_log new new_log (act app task op)
     → DoesAny 65 old old_log new new_log (λ s. act_unless app task (misuse s task op) op s)
 freely app old new old_log new_log task op none fine ne d = record {
   at = λ s h.
       subst (AtAny new new_log.told)
-      (sym (acts_calm app task op s (none_in_force old s h.stands none) (fine s) ne)) (d.at s h);
+      (sym (acts_calm app task op s (not_by_task old s h.stands none) (fine s) ne)) (d.at s h);
   few = d.few;
   before = d.before;
 }
@@ -46,23 +45,16 @@ room_for_one room enough = omega arith
 pub room_for_two : (room : ℕ) → 65 ≤ room → 2 ≤ room
 room_for_two room enough = omega arith
 
--- Only one op holds what other tasks do back.
-abbrev pub is_suspend_all : Op → Bool
-is_suspend_all SuspendAll = true
-is_suspend_all op = false
-
-other_op : (op : Op) → is_suspend_all op ≡ false → op ≢ SuspendAll
-other_op op other e = true≢false (ap is_suspend_all (sym e) ∙ other)
 
 -- the same of an op that is known by its form
 module _ (app : Application) (old new : Machine) (old_log new_log : Logged) (task : ℕ) (op form : Op) (is : op ≡ form)
     (none : old.sched.suspensions ≡ 0) (fine : (s : State) → own_misuse s task form ≡ None)
-    (other : is_suspend_all form ≡ false) where
+    (other : takes_hold form ≡ false) where
   pub any_by_form : (count : ℕ) → count ≤ 65 → DoesAny count old old_log new new_log (act app task form)
       → DoesAny 65 old old_log new new_log (λ s. act_unless app task (misuse s task op) op s)
   any_by_form count within d =
       subst (λ (o : Op). DoesAny 65 old old_log new new_log (λ s. act_unless app task (misuse s task o) o s)) (sym is)
-      (freely app old new old_log new_log task form none fine (other_op form other)
+      (freely app old new old_log new_log task form none fine other
       (does_more count 65 old new old_log new_log (act app task form) within d))
 
   pub does_by_form : (count : ℕ) → count ≤ 65 → Agrees old → Does count old old_log new new_log (act app task form)

@@ -11,9 +11,11 @@ use Rattle.model.specs.Invariant.{IsState}
 use Rattle.model.specs.Run.{end_of, events_after, injected, state_after}
 use Rattle.model.proofs.Injected.{from_here}
 use Rattle.soundness.proofs.Reached.{reached_after}
+use Rattle.soundness.proofs.Pending.{none_between}
 use Rattle.machine.specs.declared.machine.Machine.{Machine}
 use Rattle.machine.specs.StandsFor.{Stands}
-use Rattle.machine.specs.Can.{IsUnderWay}
+use Rattle.machine.specs.Can.{IsUnderWay, NonePends}
+use Rattle.machine.proofs.Pending.{none_by, none_pends}
 use Rattle.kernel.specs.Along.{IsFree, GoesTo, GoesOn, NoneIsOver, IsGoing, GoesFurther}
 use Rattle.kernel.specs.Over.{is_over}
 use Rattle.kernel.specs.Rows.{events_from}
@@ -22,12 +24,21 @@ use Rattle.kernel.proofs.Running.{free_before, goes_on, more_events, more_from, 
 
 -- ---- which runs
 
+-- Nothing has become pending on the way.
+none_further : {app : Application} {limits : Limits} {until : ℕ} {old new : Machine} {plan : List Injection}
+    → IsFree app limits until old plan → IsUnderWay app plan limits new → old.steps ≤ new.steps → new.steps < until → NonePends new
+none_further {app} {limits} {until} {old} {new} {plan} f way on short =
+    none_pends new (state_after app limits plan new.steps) way.stands
+    (none_between app limits plan old.steps new.steps on (λ n from below. f.alone n from (omega arith))
+    (none_by old (state_after app limits plan old.steps) (f.none (omega arith)) f.way.stands))
+
 -- Where the kernel has gone on, those that were so still are.
 pub free_next : {app : Application} {limits : Limits} {until : ℕ} {old new : Machine} {plan : List Injection}
     → GoesTo app limits until old new → IsFree app limits until old plan → IsFree app limits until new plan
 free_next {app} {limits} {until} {old} {new} {plan} g f = record {
   way = g.way plan f;
   alone = λ n from below. let on = g.on in f.alone n (omega arith) below;
+  none = λ short. let on = g.on in none_further f (g.way plan f) on short;
   free = λ n from below going. let on = g.on in f.free n (omega arith) below going;
 }
 
@@ -37,6 +48,7 @@ pub free_sooner : {app : Application} {limits : Limits} {until : ℕ} {k : Machi
 free_sooner {app} {limits} {until} {k} {plan} sooner within f = record {
   way = f.way;
   alone = λ n from below. f.alone n from (within n from below);
+  none = λ short. f.none (within k.steps (omega arith) short);
   free = λ n from below going. f.free n from (within n from below) going;
 }
 
@@ -45,10 +57,11 @@ pub free_of_limits : (app : Application) (limits : Limits) (until : ℕ) (k : Ma
     → IsUnderWay app plan limits k
     → ((n : ℕ) → k.steps ≤ n → n < until → injected plan n ≡ [])
     → (app.tickless ≡ false → k.steps < until → k.clock.age + k.clock.held + until ≤ limits.ticks + k.steps)
-    → (k.steps < until → until ≤ limits.steps) → IsFree app limits until k plan
-free_of_limits app limits until k plan way alone ticks steps = record {
+    → (k.steps < until → until ≤ limits.steps) → NonePends k → IsFree app limits until k plan
+free_of_limits app limits until k plan way alone ticks steps none = record {
   way = way;
   alone = alone;
+  none = λ _. none;
   free = free_before app plan limits k until way ticks steps;
 }
 
@@ -203,6 +216,7 @@ pub still_free : {app : Application} {limits : Limits} {until : ℕ}
 still_free {app} {limits} {until} {old} {new} {before} {after} {plan} h g = record {
   way = h.way plan g;
   alone = λ n from below. let on = h.on in g.free.alone n (omega arith) below;
+  none = λ short. let on = h.on in none_further g.free (h.way plan g) on short;
   free = λ n from below on. let rises = h.on in g.free.free n (omega arith) below on;
 }
 

@@ -7,7 +7,7 @@ use Rattle.model.specs.declared.op.Op.{Op}
 use Rattle.model.specs.declared.op.Op.TheVariants.{Work, Delay, DelayUntil, Yield, Time, Mark, Expect, Repeat, End as EndLoop, If}
 use Rattle.model.specs.declared.op.Op.TheVariants.{Else, EndIf, Break, Stamp, Since, Await, Do, GiveMutex, MessagesWaiting}
 use Rattle.model.specs.declared.op.Op.TheVariants.{SpacesAvailable, SetBits, ClearBits, GetBits, WaitBits, Suspend, Resume}
-use Rattle.model.specs.declared.op.Op.TheVariants.{SuspendAll, ResumeAll, NextCommand, Obey}
+use Rattle.model.specs.declared.op.Op.TheVariants.{SuspendAll, ResumeAll, EnterCritical, ExitCritical, NextCommand, Obey}
 use Rattle.model.specs.declared.event.Event.{Event}
 use Rattle.model.specs.declared.loops.Loop.{Loop}
 use Rattle.model.specs.declared.call.CallProgress.{CallProgress}
@@ -28,13 +28,13 @@ use Rattle.model.specs.Step.{act, act_current, act_if, before_step, is_ended, ow
 use Rattle.model.proofs.Lists.{eqb-same, eqb-refl}
 use Rattle.model.proofs.Sorting.{by_test}
 use Rattle.model.proofs.Tables.{each-set}
-use Rattle.soundness.proofs.Judging.{acts_calm}
+use Rattle.soundness.proofs.Judging.{acts_calm, takes_hold}
 use Rattle.sched.specs.Schedule.{Schedule, is_ready as is_ready_in}
 use Rattle.sched.proofs.Standing as on_sched
 use Rattle.machine.specs.declared.machine.Machine.{Machine}
 use Rattle.machine.specs.StandsFor.{AtAny, DoesAny, IsPlaced, Stands}
 use Rattle.machine.specs.Logged.{Logged, all_of}
-use Rattle.machine.proofs.Either.{any, current_is, either, elapsed_is, progress_is, steps_are, stopped_is, none_in_force}
+use Rattle.machine.proofs.Either.{any, current_is, either, elapsed_is, progress_is, steps_are, stopped_is, not_by_task}
 use Rattle.machine.proofs.Switches.{settled_before, settled_either, settled_on}
 use Rattle.machine.specs.Can.{Runs}
 use Rattle.machine.specs.StandsFor.Stands.{Placed, Placing}
@@ -43,11 +43,11 @@ use Rattle.kernel.specs.declared.acting.Following.{Following}
 use Rattle.kernel.specs.declared.acting.Following.TheVariants.{NextOp, Answered, LettingGo}
 use Rattle.kernel.specs.InScript.{IsAt, is_amid, may_stay_amid}
 use Rattle.kernel.specs.Over.{is_over}
-use Rattle.kernel.proofs.Ending.{begun, handled_before, stepped}
+use Rattle.kernel.proofs.Ending.{begun, begun_with_none, stepped}
 use Rattle.kernel.proofs.Left.{on_if_ready}
 use Rattle.kernel.proofs.Running.{told_after}
 use Rattle.kernel.proofs.Silent.{not_over_by, on-choose}
-use Rattle.machine.proofs.Pending.{plain_by}
+use Rattle.machine.proofs.Pending.{none_by}
 use Rattle.machine.specs.Can.{NonePends}
 
 -- Such an op is no misuse.
@@ -80,11 +80,44 @@ no_misuse (Suspend j) t s task = absurd (cc)
 no_misuse (Resume j) t s task = absurd (cc)
 no_misuse SuspendAll t s task = absurd (cc)
 no_misuse ResumeAll t s task = absurd (cc)
+no_misuse EnterCritical t s task = absurd (cc)
+no_misuse ExitCritical t s task = absurd (cc)
 no_misuse (NextCommand o) t s task = absurd (cc)
 no_misuse Obey t s task = absurd (cc)
 
-no_suspension : (op : Op) → may_stay_amid op ≡ true → op ≢ SuspendAll
-no_suspension op t e = let f : may_stay_amid SuspendAll ≡ true = subst (λ (o : Op). may_stay_amid o ≡ true) e t in absurd (cc)
+takes_none : (op : Op) → may_stay_amid op ≡ true → takes_hold op ≡ false
+takes_none (Work n) t = refl
+takes_none (Delay n) t = refl
+takes_none (DelayUntil n) t = refl
+takes_none Yield t = refl
+takes_none Time t = refl
+takes_none (Mark n) t = refl
+takes_none (Expect c) t = refl
+takes_none (Repeat n) t = refl
+takes_none EndLoop t = refl
+takes_none (If c) t = refl
+takes_none Else t = refl
+takes_none EndIf t = refl
+takes_none Break t = refl
+takes_none Stamp t = refl
+takes_none Since t = refl
+takes_none (Await o a w) t = refl
+takes_none (Do o a) t = refl
+takes_none (GiveMutex o) t = refl
+takes_none (MessagesWaiting o) t = refl
+takes_none (SpacesAvailable o) t = refl
+takes_none (SetBits g m) t = refl
+takes_none (ClearBits g m) t = refl
+takes_none (GetBits g) t = refl
+takes_none (WaitBits g c w) t = refl
+takes_none (Suspend j) t = refl
+takes_none (Resume j) t = refl
+takes_none SuspendAll t = absurd (cc)
+takes_none ResumeAll t = refl
+takes_none EnterCritical t = absurd (cc)
+takes_none ExitCritical t = refl
+takes_none (NextCommand o) t = refl
+takes_none Obey t = refl
 
 -- ---- it ends no other task
 
@@ -191,6 +224,8 @@ other-act app i (Suspend j) s t = absurd (cc)
 other-act app i (Resume j) s t = absurd (cc)
 other-act app i SuspendAll s t = absurd (cc)
 other-act app i ResumeAll s t = absurd (cc)
+other-act app i EnterCritical s t = absurd (cc)
+other-act app i ExitCritical s t = absurd (cc)
 other-act app i (NextCommand o) s t = absurd (cc)
 other-act app i Obey s t = absurd (cc)
 
@@ -259,7 +294,7 @@ module _ (app : Application) (limits : Limits) (k new : Machine) (task : ℕ) (o
 
   module _ (s : State) (h : Stands k s) where
     came : AtAny new told (unless_held settle (act_current app limits (before_step app [] s).current (before_step app [] s)))
-    came = settled _ (does (before_step app [] s) (handled_before app [] s (plain_by k s calm h) k [] (begun k [] s h refl)))
+    came = settled _ (does (before_step app [] s) (begun_with_none app s (none_by k s calm h) k [] (begun k [] s h refl)))
 
     same_steps : new.steps ≡ s.steps
     same_steps = ap (λ (x : Machine). x.steps) placed.1 ∙ steps_are k s h
@@ -291,7 +326,7 @@ module _ (app : Application) (limits : Limits) (k new : Machine) (task : ℕ) (o
         ap (λ (c : Option ℕ). act_current app limits c r) (sym (current_is k s h) ∙ at.current)
         ∙ ap (λ (o : Option Op). act_if app task o r)
         (ap (λ (p : Progress). op_at app task p.op_index) (sym (progress_is k s h task)) ∙ at.at)
-        ∙ acts_calm app task op r (none_in_force k s h at.awake) (no_misuse op stays r task) (no_suspension op stays)
+        ∙ acts_calm app task op r (not_by_task k s h at.awake) (no_misuse op stays r task) (takes_none op stays)
 
     ends_nobody : (j : ℕ) → is_ended (status_at s j) ≡ false → is_ended (status_at done j) ≡ false
     unfolding begun_now
@@ -307,7 +342,7 @@ module _ (app : Application) (limits : Limits) (k new : Machine) (task : ℕ) (o
     pub on_amid : is_over app limits s ≡ false → is_over app limits (step app limits [] s) ≡ false
     unfolding done begun_now
     on_amid going =
-        not_over_by app limits task s (plain_by k s calm h) (act_current app limits s.current (record s { log = [] })) refl ends_nobody
+        not_over_by app limits task s (none_by k s calm h) (act_current app limits s.current (record s { log = [] })) refl ends_nobody
         (sym (stopped_is new done at_done.stands) ∙ ap (λ (x : Machine). x.stopped) placed.1 ∙ stopped_is k s h)
         (sym (elapsed_is new done at_done.stands) ∙ ap (λ (x : Machine). x.clock.age + x.clock.held) placed.1 ∙ elapsed_is k s h)
         (sym (current_is (record new { steps = new.steps + 1 }) (step app limits [] s) stands_amid) ∙ still_runs)

@@ -3,7 +3,7 @@ use Rattle.std.proofs.Common.{◌≡◌, ◌≢◌, ◌<◌, ◌≤◌, ◌+◌,
 use Rattle.std.proofs.Common.{Option, Some, None, refl, ap, sym, subst, ◌∙◌, arith, ltb}
 use Rattle.std.specs.Prelude.{if◌then◌else◌}
 use Rattle.std.proofs.lemmas.Bool.{ltb-true, lt-ltb}
-use Rattle.model.specs.Switching.{is_ready, is_held, is_scheduler_suspended}
+use Rattle.model.specs.Switching.{is_ready, is_held, is_held_by_task, is_scheduler_suspended}
 use Rattle.std.proofs.lemmas.Bool.Decides.{nat_tests}
 use Rattle.std.proofs.lemmas.Option.{same_Some, slice_get_within}
 use Rattle.std.specs.Option.{IfSome, option_or}
@@ -19,7 +19,7 @@ use Rattle.model.specs.declared.op.Op.{Op}
 use Rattle.model.specs.declared.op.Op.TheVariants.{Work, Delay, DelayUntil, Yield, Time, Mark, Expect, Repeat, End as EndLoop, If}
 use Rattle.model.specs.declared.op.Op.TheVariants.{Else, EndIf, Break, Stamp, Since, Await, Do, GiveMutex, MessagesWaiting}
 use Rattle.model.specs.declared.op.Op.TheVariants.{SpacesAvailable, SetBits, ClearBits, GetBits, WaitBits, Suspend, Resume}
-use Rattle.model.specs.declared.op.Op.TheVariants.{SuspendAll, ResumeAll, NextCommand, Obey}
+use Rattle.model.specs.declared.op.Op.TheVariants.{SuspendAll, ResumeAll, EnterCritical, ExitCritical, NextCommand, Obey}
 use Rattle.model.specs.Application.{Application, Limits, script_of, op_at}
 use Rattle.model.specs.declared.block.Block.{Block}
 use Rattle.model.specs.Blocks.{edge_of, loops_in, may_stand}
@@ -48,7 +48,8 @@ use Rattle.ops.specs.Can.{CanSetBits, CanWaitBits, CanHold}
 use Rattle.kernel.specs.Can.{CanOp, CanAct, CanIdle, CanStep}
 use Rattle.machine.proofs.Either.{elapsed_is, held_is, now_is, current_is, progress_is, sections_are, suspensions_are}
 use Rattle.sched.specs.StandsFor.{depth_of, task_holds_of}
-use Rattle.soundness.proofs.Settled.{nothing_holds}
+use Rattle.soundness.proofs.Settled.{nothing_holds, section_holds}
+use Rattle.soundness.proofs.Going.{suspended_held}
 
 leb-less : (a b : ℕ) → leb a b ≡ false → b < a
 leb-less a b e = grind (arith, nat_tests)
@@ -149,6 +150,8 @@ known_object app i p (Suspend j) brief t k room = tt
 known_object app i p (Resume j) brief t k room = tt
 known_object app i p SuspendAll brief t k room = tt
 known_object app i p ResumeAll brief t k room = tt
+known_object app i p EnterCritical brief t k room = tt
+known_object app i p ExitCritical brief t k room = tt
 known_object app i p (NextCommand o) brief t k room = absurd (cc)
 known_object app i p Obey brief t k room = absurd (cc)
 
@@ -167,6 +170,12 @@ none_held n false depth e z t = omega (arith, e, z)
 unheld : (n : ℕ) (b : Bool) → b ≡ false → n + (if b then 1 else 0) ≡ n
 unheld n true t = absurd (cc)
 unheld n false t = omega arith
+
+-- A task that has come to hold the scheduler holds it.
+holds_by_some : (s : State) → 0 < task_holds_of s → is_held_by_task s ≡ true
+holds_by_some s some = by_test (is_scheduler_suspended s)
+    (λ t. suspended_held s t)
+    (λ t. section_holds s (let most = ltb-false 0 s.suspensions t in lt-ltb 0 s.sections (omega arith)))
 
 once_held : (n : ℕ) (b : Bool) (depth : ℕ) → depth ≡ n + (if b then 1 else 0) → n ≡ 0 → b ≡ true → depth ≡ 1
 once_held n true depth e z t = omega (arith, e, z)
@@ -462,6 +471,8 @@ module _ (app : Application) (formed : IsWellFormed app) (k : Machine) (state : 
     can_op awake (Resume j) is = brief_can (Resume j) is awake refl
     can_op awake SuspendAll is = brief_can SuspendAll is awake refl
     can_op awake ResumeAll is = brief_can ResumeAll is awake refl
+    can_op awake EnterCritical is = brief_can EnterCritical is awake refl
+    can_op awake ExitCritical is = brief_can ExitCritical is awake refl
     can_op awake (NextCommand o) is =
         subst (λ (p : Progress). CanGoOn k task o Receive None p.call.phase) (sym same)
         (goes_on o Receive None (NextCommand o) is refl (known (NextCommand o) is).2 refl awake (call_at state task).phase refl)
@@ -469,13 +480,12 @@ module _ (app : Application) (formed : IsWellFormed app) (k : Machine) (state : 
         subst (λ (p : Progress). CanSetBits k task p.call.phase) (sym same)
         (sets Obey is refl awake (call_at state task).phase refl)
 
-    -- a `suspend_all` is in force
-    can_hold : 0 < k.sched.suspensions → state.suspensions < 1000000 → (op : Op)
+    -- a task holds the scheduler
+    can_hold : 0 < k.sched.suspensions → task_holds_of state < 1000000 → (op : Op)
         → op_at app task (progress_in k.progress task).op_index ≡ Some op → CanHold app k task op
     can_hold some few op is =
         let free : state.call_hold ≡ false =
-        reached.apart (lt-ltb 0 state.suspensions
-        (let all = suspensions_are k state stands in let shut = reached.closed in omega arith)) in
+        reached.apart (holds_by_some state (let all = suspensions_are k state stands in omega arith)) in
         let h = placed free in
         let elapsed = elapsed_is k state stands in
         record {
@@ -484,9 +494,8 @@ module _ (app : Application) (formed : IsWellFormed app) (k : Machine) (state : 
           free = no_lock free;
           age = let l = early in omega arith;
           held = let l = little in let e = held_is k state stands in omega arith;
-          suspensions =
-              let e = suspensions_are k state stands in let l = few in let shut = reached.closed in omega arith;
-          closed = sections_are k state stands ∙ reached.closed;
+          suspensions = let e = suspensions_are k state stands in let l = few in omega arith;
+          sections = let e = suspensions_are k state stands in let f = sections_are k state stands in omega arith;
           depth = depth_in ∙ unheld (task_holds_of state) state.call_hold free ∙ sym (suspensions_are k state stands);
           objects = rooms;
           used = used op is;
@@ -504,7 +513,7 @@ module _ (app : Application) (formed : IsWellFormed app) (k : Machine) (state : 
   idle_awake : k.sched.current ≡ None → k.sched.suspensions ≡ 0
   idle_awake idle =
       let most = ltb-false 0 state.suspensions (nothing_holds state (idle_held idle)).1 in
-      let shut = reached.closed in
+      let shut = ltb-false 0 state.sections (nothing_holds state (idle_held idle)).2 in
       suspensions_are k state stands ∙ (let none : task_holds_of state ≡ 0 = omega arith in none)
 
   can_idle : (limits : Limits) → state.elapsed < limits.ticks
@@ -516,7 +525,7 @@ module _ (app : Application) (formed : IsWellFormed app) (k : Machine) (state : 
   }
 
   pub can_act : (limits : Limits) → state.elapsed < limits.ticks
-      → (state.current ≡ None → is_stuck app state ≡ false) → state.suspensions < 1000000 → CanAct app limits k
+      → (state.current ≡ None → is_stuck app state ≡ false) → task_holds_of state < 1000000 → CanAct app limits k
   can_act limits below moves few =
       record {
         idle = can_idle limits below moves;
@@ -554,13 +563,13 @@ module _ (app : Application) (formed : IsWellFormed app) {limits : Limits} (k : 
       let k = keeps-before_step app handlers now in
       let b = below_limits app limits now c.goes_on in
       let age : (before_step app handlers now).elapsed ≡ now.elapsed = k.elapsed in
-      let count : (before_step app handlers now).suspensions ≡ now.suspensions =
-      ap (λ (x : Suspension). x.suspensions) k.suspension in
+      let count : task_holds_of (before_step app handlers now) ≡ task_holds_of now =
+      ap (λ (x : Suspension). x.suspensions + x.sections) k.suspension in
       let held : (before_step app handlers now).held_ticks ≡ now.held_ticks = ap (λ (x : Suspension). x.held_ticks) k.suspension in
       let low : (before_step app handlers now).elapsed < 281474976710656 = (let l = early_now in omega arith) in
       let below : (before_step app handlers now).elapsed < limits.ticks = (let l = b.0 in omega arith) in
       let little : (before_step app handlers now).held_ticks < 1000000 = (let l = little_now in omega arith) in
-      let few : (before_step app handlers now).suspensions < 1000000 =
+      let few : task_holds_of (before_step app handlers now) < 1000000 =
       (let n = c.suspended in let l = b.1 in let o = c.are.3 in omega arith) in
       can_act app formed new (before_step app handlers now)
       (reached_before_step app formed handlers now c.sound) h low little limits below

@@ -6,7 +6,7 @@ use Rattle.model.specs.declared.op.Op.{Op}
 use Rattle.model.specs.declared.op.Op.TheVariants.{Work, Delay, DelayUntil, Yield, Time, Mark, Expect, Repeat, End, If, Else, EndIf}
 use Rattle.model.specs.declared.op.Op.TheVariants.{Break, Stamp, Since, Await, Do, GiveMutex, MessagesWaiting, SpacesAvailable}
 use Rattle.model.specs.declared.op.Op.TheVariants.{SetBits, ClearBits, GetBits, WaitBits, Suspend, Resume, SuspendAll, ResumeAll}
-use Rattle.model.specs.declared.op.Op.TheVariants.{NextCommand, Obey}
+use Rattle.model.specs.declared.op.Op.TheVariants.{EnterCritical, ExitCritical, NextCommand, Obey}
 use Rattle.model.specs.declared.op.Access.{Access}
 use Rattle.model.specs.declared.op.Access.TheVariants.{Receive}
 use Rattle.model.specs.declared.op.Command.{Command}
@@ -199,6 +199,7 @@ steps-suspends_all app i s = (keeps-answer app i (Some 0) (record s { suspension
 -- ---- the ops
 
 steps-act : (app : Application) (i : ℕ) (op : Op) (s : State) → (act app i op s).steps ≡ s.steps
+unfolding with_sections
 steps-act app i (Work n) s = steps-tick app (use_up app i n s) ∙ (keeps-use_up app i n s).steps
 steps-act app i (Delay n) s = (keeps-delay app i n s).steps
 steps-act app i (DelayUntil n) s = (keeps-delay_until app i ((progress_at s i).previous_wake + n) s).steps
@@ -227,6 +228,8 @@ steps-act app i (Suspend j) s = (keeps-call_suspend app i j s).steps
 steps-act app i (Resume j) s = (keeps-call_resume app i j s).steps
 steps-act app i SuspendAll s = steps-suspends_all app i s
 steps-act app i ResumeAll s = steps-resumes_all app i s
+steps-act app i EnterCritical s = (keeps-go_to app i ((progress_at s i).op_index + 1) (progress_at s i) (record s { sections = s.sections + 1 })).steps
+steps-act app i ExitCritical s = (keeps-go_to app i ((progress_at s i).op_index + 1) (progress_at s i) (record s { sections = s.sections - 1 })).steps
 steps-act app i (NextCommand o) s = steps-next_command app i o (call_at s i).phase s
 steps-act app i Obey s = steps-obey app i (command_at s i) (call_at s i).phase s
 

@@ -14,13 +14,13 @@ use Rattle.model.specs.Application.{Application, Definition, Limits, is_any_awai
 use Rattle.model.specs.State.{State, Task, Progress, Status, Ready, Awake, Waiting, Asleep, WaitingForBits, Suspended, Ended}
 use Rattle.model.specs.State.{ticket_if_ready, wake_time_of, task_at, status_at, no_task, for_each}
 use Rattle.model.specs.Order.{Key, Entry, key, keyed, list_by, in_order, tasks_of}
-use Rattle.model.specs.Switching.{is_held, is_ready, is_scheduler_suspended, ready_key, settle, unless_held}
+use Rattle.model.specs.Switching.{is_held, is_ready, ready_key, settle, unless_held}
 use Rattle.model.specs.declared.call.Phase.TheVariants.{Decide}
 use Rattle.model.specs.declared.call.WaitList.{WaitList}
 use Rattle.model.specs.Waiting.{same_list, wait_key}
 use Rattle.model.specs.Time.{delayed_key}
 use Rattle.model.specs.Handlers.{inject}
-use Rattle.model.specs.Step.{is_ended, act_current, before_step, step}
+use Rattle.model.specs.Step.{is_ended, act_current, before_step, come_before, step}
 use Rattle.model.specs.Run.{are_all_ended, is_interrupt_to_come, is_stuck, end_of}
 use Rattle.model.specs.Invariant.{IsRunning, IsState, RunsIn, holds, wait_of}
 use Rattle.model.proofs.Sorting.{length-in_order, by_test}
@@ -44,12 +44,11 @@ use Rattle.model.specs.Suspension.{can_resume}
 use Rattle.machine.specs.declared.machine.Machine.{Machine}
 use Rattle.machine.specs.StandsFor.{StandsFor, StandsBefore, Stands, AtAny, decider, progress_in}
 use Rattle.machine.specs.StandsFor.Stands.{Placed, Placing}
-use Rattle.machine.proofs.Either.{current_is, progress_is, steps_are, stopped_is, none_in_force}
+use Rattle.machine.proofs.Either.{current_is, progress_is, steps_are, stopped_is, not_by_task}
 use Rattle.machine.proofs.Renewed.{renewed}
-use Rattle.soundness.proofs.Settled.{nothing_holds}
+use Rattle.soundness.proofs.Settled.{nothing_holds, no_task_holds, held_by_neither, unlike}
 use Rattle.sched.specs.StandsFor.{task_holds_of}
-use Rattle.machine.proofs.Pending.{IsPlain}
-use Rattle.soundness.proofs.Pending.{begun_with}
+use Rattle.soundness.proofs.Pending.{begun_alone}
 
 pub leb-yes : (a b : ℕ) → a ≤ b → leb a b ≡ true
 leb-yes a b e = grind (arith, nat_tests)
@@ -439,7 +438,7 @@ on_unheld app s task awaited is runs free =
     let ready : is_ready s task ≡ true =
     elim (running.ready none.0) [
       | inl r ↦ r
-      | inr x ↦ let t : is_scheduler_suspended s ≡ true = x.0 in let f = none.1 in absurd (cc)
+      | inr x ↦ unlike (sym x.0 ∙ no_task_holds s free)
     ] in
     not_passed app s (not_all_but app.tasks s.tasks task awaited (ready_on (status_at s task) ready)) where
       neither : (a b : Bool) → a || b ≡ false → (a ≡ false) × (b ≡ false)
@@ -507,9 +506,7 @@ not_over_undecided app limits k s task h is runs decides none on more early =
     let running : IsRunning app s task = subst (RunsIn app s) current is.runs in
     let no_call : s.call_hold ≡ false =
     sym running.holding ∙ ap (λ (p : Progress). holds p.call.phase) (sym (progress_is k s h task)) ∙ ap holds decides in
-    let awake : s.suspensions ≡ 0 = none_in_force k s h none in
-    let shut : s.sections ≡ 0 = is.closed in
-    let free : is_held s ≡ false = rw (no_call, awake, shut) refl in
+    let free : is_held s ≡ false = held_by_neither s no_call (not_by_task k s h none) in
     none_of (is_some s.stopped) (are_all_ended app s) (is_at_tick_limit app limits s) (is_stuck app s)
     (ap (λ (o : Option End). is_some o) (sym (stopped_is k s h)) ∙ on)
     (sym (and_true_not (is_endless app task) (are_all_ended app s) (λ e. on_unheld app s task e is current free)) ∙ more)
@@ -586,9 +583,16 @@ module _ (app : Application) (limits : Limits) (s : State) where
 pub begun : (k : Machine) (log : List Event) (s : State) → Stands k s → log ≡ [] → AtAny k log (record s { log = [] })
 begun k log s h e = record { stands = renewed k s h [] s.steps k.steps (steps_are k s h); log = e }
 
-pub handled_before : (app : Application) (handlers : List ℕ) (s : State) → IsPlain s → (k : Machine) (log : List Event)
-    → AtAny k log (for_each (inject app) handlers (record s { log = [] })) → AtAny k log (before_step app handlers s)
-handled_before app handlers s plain k log h = subst (AtAny k log) (sym (begun_with app handlers s plain.0 plain.1)) h
+-- Before it comes what comes before a step.
+pub begun_with : (app : Application) (handlers : List ℕ) (s : State) (k : Machine) (log : List Event)
+    → AtAny k log (come_before app handlers (record s { log = [] })) → AtAny k log (before_step app handlers s)
+unfolding before_step
+begun_with app handlers s k log h = h
+
+-- Where nothing is pending, and no handler is injected, that is nothing.
+pub begun_with_none : (app : Application) (s : State) → IsNonePending s → (k : Machine) (log : List Event)
+    → AtAny k log (record s { log = [] }) → AtAny k log (before_step app [] s)
+begun_with_none app s none k log h = subst (AtAny k log) (sym (begun_alone app s none)) h
 
 pub stepped : (app : Application) (limits : Limits) (handlers : List ℕ) (s : State) (k : Machine) (log : List Event) (n : ℕ)
     → n ≡ s.steps

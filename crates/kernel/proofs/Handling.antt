@@ -21,7 +21,7 @@ use Rattle.model.specs.Switching.{is_held, preempt, write}
 use Rattle.soundness.proofs.Settled.{when_free, when_held, held_by_call}
 use Rattle.model.specs.Objects.{answer_to, attempt}
 use Rattle.model.specs.declared.event.End.TheVariants.{HandlerCheck}
-use Rattle.model.specs.Handlers.{isr_told, isr, isr_answer, isr_jump, is_failed, isr_each, handle, serve, inject}
+use Rattle.model.specs.Handlers.{isr_told, isr, isr_answer, isr_jump, is_failed, isr_each, handle, serve}
 use Rattle.model.proofs.Chosen.{each-end}
 use Rattle.soundness.proofs.InScripts.{isr_known}
 use Rattle.machine.specs.declared.machine.Machine.{Machine}
@@ -272,27 +272,27 @@ one_more {A} deed P xs s i x l e h =
 pub room_after : (app : Application) (old new : Machine) → HasObjects app old → Leaves old new → HasObjects app new
 room_after app old new room h o a fit = h.objects o a (room o a fit)
 
--- ---- a higher task may run after an injected handler, unless the scheduler is held
+-- ---- a higher task may run after a handler that comes, unless the scheduler is held
 
 module _ (app : Application) (handler : ℕ) (s : State) (mid : Machine) where
   abbrev t : State
   t = handle app handler s
 
-  pub injected_free : (new : Machine) (log new_log : List Event)
+  pub served_free : (new : Machine) (log new_log : List Event)
       → (Stands mid (handle app handler s) → is_held (handle app handler s) ≡ false) → AtAny mid log (handle app handler s)
       → (At mid log (handle app handler s) → At new new_log (preempt (handle app handler s)))
-      → AtAny new new_log (inject app handler s)
-  unfolding inject serve
-  injected_free new log new_log free h goes =
+      → AtAny new new_log (serve app handler s)
+  unfolding serve
+  served_free new log new_log free h goes =
       let off : is_held t ≡ false = free h.stands in
       either mid log t h
       (λ p. subst (AtAny new new_log) (sym (when_free preempt t off)) (any new new_log (preempt t) (goes p)))
       (λ task list b. let on : is_held t ≡ true = held_by_call t b.held in absurd (cc))
 
-  pub injected_held : (log : List Event) → (Stands mid (handle app handler s) → is_held (handle app handler s) ≡ true)
-      → AtAny mid log (handle app handler s) → AtAny mid log (inject app handler s)
-  unfolding inject serve
-  injected_held log held h = let on : is_held t ≡ true = held h.stands in subst (AtAny mid log) (sym (when_held preempt t on)) h
+  pub served_held : (log : List Event) → (Stands mid (handle app handler s) → is_held (handle app handler s) ≡ true)
+      → AtAny mid log (handle app handler s) → AtAny mid log (serve app handler s)
+  unfolding serve
+  served_held log held h = let on : is_held t ≡ true = held h.stands in subst (AtAny mid log) (sym (when_held preempt t on)) h
 
 -- an element of what a function makes of each
 pub mapped_at : {A B : Type 0} (f : A → B) (xs : List A) (i : ℕ) (x : A)

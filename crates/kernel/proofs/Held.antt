@@ -1,4 +1,4 @@
--- While a `suspend_all` is in force: what a tick that is held, the end of a script and a misuse make of the states that the kernel
+-- While a task holds the scheduler: what a tick that is held, the end of a script and a misuse make of the states that the kernel
 -- represents.
 use Rattle.std.proofs.Common.{◌≡◌, ◌≢◌, ◌<◌, ◌≤◌, ◌+◌, ℕ, zero, suc, true, false, List, Option, Some, None, refl, sym, subst, ◌∙◌}
 use Rattle.std.proofs.Common.{arith}
@@ -7,20 +7,20 @@ use Rattle.model.specs.declared.event.Event.{Event}
 use Rattle.model.specs.declared.answer.AnswerCondition.{AnswerCondition}
 use Rattle.model.specs.declared.event.End.TheVariants as ending
 use Rattle.model.specs.declared.event.Misuse.{Misuse}
-use Rattle.model.specs.declared.event.Misuse.TheVariants.{WhileSuspended, NotSuspended, EndedSuspended}
+use Rattle.model.specs.declared.event.Misuse.TheVariants.{NotSuspended, NotCritical}
 use Rattle.model.specs.declared.op.Op.{Op}
 use Rattle.model.specs.declared.op.Op.TheVariants.{Work, Delay, DelayUntil, Yield, Time, Mark, Expect, Repeat, End as EndLoop, If}
 use Rattle.model.specs.declared.op.Op.TheVariants.{Else, EndIf, Break, Stamp, Since, Await, Do, GiveMutex, MessagesWaiting}
 use Rattle.model.specs.declared.op.Op.TheVariants.{SpacesAvailable, SetBits, ClearBits, GetBits, WaitBits, Suspend, Resume}
-use Rattle.model.specs.declared.op.Op.TheVariants.{SuspendAll, ResumeAll, NextCommand, Obey}
+use Rattle.model.specs.declared.op.Op.TheVariants.{SuspendAll, ResumeAll, EnterCritical, ExitCritical, NextCommand, Obey}
 use Rattle.model.specs.Application.{Application}
 use Rattle.model.specs.State.{State, status_at, progress_at}
-use Rattle.model.specs.Switching.{is_held, is_scheduler_suspended, slice}
+use Rattle.model.specs.Switching.{is_held, is_held_by_task, is_scheduler_suspended, slice}
 use Rattle.model.specs.Time.{increment_tick}
 use Rattle.model.specs.Handlers.{interrupt, tick_interrupt}
-use Rattle.model.specs.Step.{act, act_unless, is_ended, judge, may_switch, misuse, misused}
-use Rattle.model.proofs.Sorting.{by_test}
-use Rattle.soundness.proofs.Settled.{when_held}
+use Rattle.model.specs.Step.{act, act_unless, end_misuse, is_ended, judge, may_switch, misuse, misused}
+use Rattle.soundness.proofs.Settled.{when_held, neither}
+use Rattle.soundness.proofs.Judging.{misuse_calm, takes_hold}
 use Rattle.sched.specs.StandsFor as sched
 use Rattle.sched.specs.StandsFor.{depth_of, task_holds_of}
 use Rattle.sched.specs.Schedule.{Schedule}
@@ -53,24 +53,18 @@ module _ (k : Machine) (log : List Event) (s : State) (h : At k log s) where
 -- ---- who came to its end
 
 module _ (k : Machine) (log : List Event) (s : State) (h : At k log s) (i op_index : ℕ) where
-  pub judged : k.sections < k.sched.suspensions → is_ended (status_at s i) ≡ true
-      → At (record k { stopped = Some (ending.Misuse i op_index EndedSuspended) }) log (judge i op_index s)
+  pub judged : (kind : Misuse) → is_ended (status_at s i) ≡ true → end_misuse s ≡ Some kind
+      → At (record k { stopped = Some (ending.Misuse i op_index kind) }) log (judge i op_index s)
   unfolding judge
-  judged some t =
-      let is : is_scheduler_suspended s ≡ true = suspended_by k log s h some in
-      rw (is, t) (stopped_at k log s h (ending.Misuse i op_index EndedSuspended) (ending.Misuse i op_index EndedSuspended) refl)
+  judged kind t e = rw (t, e) (stopped_at k log s h (ending.Misuse i op_index kind) (ending.Misuse i op_index kind) refl)
 
   pub passed : is_ended (status_at s i) ≡ false → At k log (judge i op_index s)
   unfolding judge
-  passed t = by_test (is_scheduler_suspended s) (λ u. rw (u, t) h) (λ u. rw u h)
+  passed t = rw t h
 
-  pub passed_free : k.sched.suspensions ≤ k.sections → At k log (judge i op_index s)
+  pub passed_free : is_ended (status_at s i) ≡ true → end_misuse s ≡ None → At k log (judge i op_index s)
   unfolding judge
-  passed_free none =
-      let all : k.sched.suspensions ≡ task_holds_of s = h.stands.sched.suspensions in
-      let open_ : k.sections ≡ s.sections = h.stands.rest.sections in
-      let is : is_scheduler_suspended s ≡ false = le-ltb 0 s.suspensions (omega arith) in
-      rw is h
+  passed_free t e = rw (t, e) h
 
 -- ---- the tick interrupt, while the tick is held
 
@@ -84,147 +78,91 @@ pub interrupted_held : (app : Application) (new : Machine) (log : List Event) (s
 unfolding tick_interrupt
 interrupted_held app new log s held h = subst (At new log) (sym (when_held slice (interrupt app (increment_tick s)) held)) h
 
--- ---- an op while a `suspend_all` is in force
-
--- one that may switch is a misuse
-pub switches : (s : State) (i : ℕ) (op : Op) → is_scheduler_suspended s ≡ true
-    → may_switch op ≡ true → misuse s i op ≡ Some WhileSuspended
-switches s i op is t = rw (is, t) refl
-
--- and no other
-pub goes_on : (s : State) (i : ℕ) (op : Op) → is_scheduler_suspended s ≡ true → may_switch op ≡ false → misuse s i op ≡ None
-goes_on s i (Work n) is t = rw is refl
-goes_on s i (Delay n) is t = absurd (cc)
-goes_on s i (DelayUntil n) is t = absurd (cc)
-goes_on s i Yield is t = absurd (cc)
-goes_on s i Time is t = rw is refl
-goes_on s i (Mark n) is t = rw is refl
-goes_on s i (Expect a) is t = rw is refl
-goes_on s i (Repeat n) is t = rw is refl
-goes_on s i EndLoop is t = rw is refl
-goes_on s i (If c) is t = rw is refl
-goes_on s i Else is t = rw is refl
-goes_on s i EndIf is t = rw is refl
-goes_on s i Break is t = rw is refl
-goes_on s i Stamp is t = rw is refl
-goes_on s i Since is t = rw is refl
-goes_on s i (Await o a w) is t = absurd (cc)
-goes_on s i (Do o a) is t = absurd (cc)
-goes_on s i (GiveMutex o) is t = absurd (cc)
-goes_on s i (MessagesWaiting o) is t = rw is refl
-goes_on s i (SpacesAvailable o) is t = rw is refl
-goes_on s i (SetBits g m) is t = absurd (cc)
-goes_on s i (ClearBits g m) is t = rw is refl
-goes_on s i (GetBits g) is t = rw is refl
-goes_on s i (WaitBits g c w) is t = absurd (cc)
-goes_on s i (Suspend j) is t = absurd (cc)
-goes_on s i (Resume j) is t = absurd (cc)
-goes_on s i SuspendAll is t = rw is refl
-goes_on s i ResumeAll is t = rw is refl
-goes_on s i (NextCommand o) is t = absurd (cc)
-goes_on s i Obey is t = absurd (cc)
+-- ---- an op while a task holds the scheduler
 
 -- every other op may switch
 pub no_other : {X : Type 0} (op : Op) → may_switch op ≡ false → ((n : ℕ) → op ≢ Work n) → (op ≢ Time)
     → ((n : ℕ) → op ≢ Mark n) → ((c : AnswerCondition) → op ≢ Expect c) → ((n : Option ℕ) → op ≢ Repeat n) → (op ≢ EndLoop)
     → ((c : AnswerCondition) → op ≢ If c) → (op ≢ Else) → (op ≢ EndIf) → (op ≢ Break) → (op ≢ Stamp) → (op ≢ Since)
     → ((o : ℕ) → op ≢ MessagesWaiting o) → ((o : ℕ) → op ≢ SpacesAvailable o) → ((group mask : ℕ) → op ≢ ClearBits group mask)
-    → ((group : ℕ) → op ≢ GetBits group) → (op ≢ SuspendAll) → (op ≢ ResumeAll) → X
-no_other (Work n) t work time mark expect repeat end_ if_ else_ end_if
-    break_ stamp_ since_ messages spaces clear get suspend_ resume_ =
+    → ((group : ℕ) → op ≢ GetBits group) → (op ≢ SuspendAll) → (op ≢ ResumeAll) → (op ≢ EnterCritical) → (op ≢ ExitCritical) → X
+no_other (Work n) t work time mark expect repeat end_ if_ else_ end_if break_ stamp_ since_ messages spaces clear get suspend_ resume_ enter exit =
     absurd (work n refl)
-no_other (Delay n) t work time mark expect repeat end_ if_ else_ end_if
-    break_ stamp_ since_ messages spaces clear get suspend_ resume_ =
+no_other (Delay n) t work time mark expect repeat end_ if_ else_ end_if break_ stamp_ since_ messages spaces clear get suspend_ resume_ enter exit =
     absurd (cc)
-no_other (DelayUntil n) t work time mark expect repeat end_ if_ else_ end_if
-    break_ stamp_ since_ messages spaces clear get suspend_ resume_ =
+no_other (DelayUntil n) t work time mark expect repeat end_ if_ else_ end_if break_ stamp_ since_ messages spaces clear get suspend_ resume_ enter exit =
     absurd (cc)
-no_other Yield t work time mark expect repeat end_ if_ else_ end_if
-    break_ stamp_ since_ messages spaces clear get suspend_ resume_ =
+no_other Yield t work time mark expect repeat end_ if_ else_ end_if break_ stamp_ since_ messages spaces clear get suspend_ resume_ enter exit =
     absurd (cc)
-no_other Time t work time mark expect repeat end_ if_ else_ end_if break_ stamp_ since_ messages spaces clear get suspend_ resume_ =
+no_other Time t work time mark expect repeat end_ if_ else_ end_if break_ stamp_ since_ messages spaces clear get suspend_ resume_ enter exit =
     absurd (time refl)
-no_other (Mark n) t work time mark expect repeat end_ if_ else_ end_if
-    break_ stamp_ since_ messages spaces clear get suspend_ resume_ =
+no_other (Mark n) t work time mark expect repeat end_ if_ else_ end_if break_ stamp_ since_ messages spaces clear get suspend_ resume_ enter exit =
     absurd (mark n refl)
-no_other (Expect a) t work time mark expect repeat end_ if_ else_ end_if
-    break_ stamp_ since_ messages spaces clear get suspend_ resume_ =
+no_other (Expect a) t work time mark expect repeat end_ if_ else_ end_if break_ stamp_ since_ messages spaces clear get suspend_ resume_ enter exit =
     absurd (expect a refl)
-no_other (Repeat n) t work time mark expect repeat end_ if_ else_ end_if
-    break_ stamp_ since_ messages spaces clear get suspend_ resume_ =
+no_other (Repeat n) t work time mark expect repeat end_ if_ else_ end_if break_ stamp_ since_ messages spaces clear get suspend_ resume_ enter exit =
     absurd (repeat n refl)
-no_other EndLoop t work time mark expect repeat end_ if_ else_ end_if
-    break_ stamp_ since_ messages spaces clear get suspend_ resume_ =
+no_other EndLoop t work time mark expect repeat end_ if_ else_ end_if break_ stamp_ since_ messages spaces clear get suspend_ resume_ enter exit =
     absurd (end_ refl)
-no_other (If c) t work time mark expect repeat end_ if_ else_ end_if
-    break_ stamp_ since_ messages spaces clear get suspend_ resume_ =
+no_other (If c) t work time mark expect repeat end_ if_ else_ end_if break_ stamp_ since_ messages spaces clear get suspend_ resume_ enter exit =
     absurd (if_ c refl)
-no_other Else t work time mark expect repeat end_ if_ else_ end_if break_ stamp_ since_ messages spaces clear get suspend_ resume_ =
+no_other Else t work time mark expect repeat end_ if_ else_ end_if break_ stamp_ since_ messages spaces clear get suspend_ resume_ enter exit =
     absurd (else_ refl)
-no_other EndIf t work time mark expect repeat end_ if_ else_ end_if
-    break_ stamp_ since_ messages spaces clear get suspend_ resume_ =
+no_other EndIf t work time mark expect repeat end_ if_ else_ end_if break_ stamp_ since_ messages spaces clear get suspend_ resume_ enter exit =
     absurd (end_if refl)
-no_other Break t work time mark expect repeat end_ if_ else_ end_if
-    break_ stamp_ since_ messages spaces clear get suspend_ resume_ =
+no_other Break t work time mark expect repeat end_ if_ else_ end_if break_ stamp_ since_ messages spaces clear get suspend_ resume_ enter exit =
     absurd (break_ refl)
-no_other Stamp t work time mark expect repeat end_ if_ else_ end_if
-    break_ stamp_ since_ messages spaces clear get suspend_ resume_ =
+no_other Stamp t work time mark expect repeat end_ if_ else_ end_if break_ stamp_ since_ messages spaces clear get suspend_ resume_ enter exit =
     absurd (stamp_ refl)
-no_other Since t work time mark expect repeat end_ if_ else_ end_if
-    break_ stamp_ since_ messages spaces clear get suspend_ resume_ =
+no_other Since t work time mark expect repeat end_ if_ else_ end_if break_ stamp_ since_ messages spaces clear get suspend_ resume_ enter exit =
     absurd (since_ refl)
-no_other (Await o a w) t work time mark expect repeat end_ if_ else_ end_if
-    break_ stamp_ since_ messages spaces clear get suspend_ resume_ =
+no_other (Await o a w) t work time mark expect repeat end_ if_ else_ end_if break_ stamp_ since_ messages spaces clear get suspend_ resume_ enter exit =
     absurd (cc)
-no_other (Do o a) t work time mark expect repeat end_ if_ else_ end_if
-    break_ stamp_ since_ messages spaces clear get suspend_ resume_ =
+no_other (Do o a) t work time mark expect repeat end_ if_ else_ end_if break_ stamp_ since_ messages spaces clear get suspend_ resume_ enter exit =
     absurd (cc)
-no_other (GiveMutex o) t work time mark expect repeat end_ if_ else_ end_if
-    break_ stamp_ since_ messages spaces clear get suspend_ resume_ =
+no_other (GiveMutex o) t work time mark expect repeat end_ if_ else_ end_if break_ stamp_ since_ messages spaces clear get suspend_ resume_ enter exit =
     absurd (cc)
-no_other (MessagesWaiting o) t work time mark expect repeat end_ if_ else_
-    end_if break_ stamp_ since_ messages spaces clear get suspend_ resume_ =
+no_other (MessagesWaiting o) t work time mark expect repeat end_ if_ else_ end_if break_ stamp_ since_ messages spaces clear get suspend_ resume_ enter exit =
     absurd (messages o refl)
-no_other (SpacesAvailable o) t work time mark expect repeat end_ if_ else_
-    end_if break_ stamp_ since_ messages spaces clear get suspend_ resume_ =
+no_other (SpacesAvailable o) t work time mark expect repeat end_ if_ else_ end_if break_ stamp_ since_ messages spaces clear get suspend_ resume_ enter exit =
     absurd (spaces o refl)
-no_other (SetBits g m) t work time mark expect repeat end_ if_ else_ end_if
-    break_ stamp_ since_ messages spaces clear get suspend_ resume_ =
+no_other (SetBits g m) t work time mark expect repeat end_ if_ else_ end_if break_ stamp_ since_ messages spaces clear get suspend_ resume_ enter exit =
     absurd (cc)
-no_other (ClearBits g m) t work time mark expect repeat end_ if_ else_
-    end_if break_ stamp_ since_ messages spaces clear get suspend_ resume_ =
+no_other (ClearBits g m) t work time mark expect repeat end_ if_ else_ end_if break_ stamp_ since_ messages spaces clear get suspend_ resume_ enter exit =
     absurd (clear g m refl)
-no_other (GetBits g) t work time mark expect repeat end_ if_ else_ end_if
-    break_ stamp_ since_ messages spaces clear get suspend_ resume_ =
+no_other (GetBits g) t work time mark expect repeat end_ if_ else_ end_if break_ stamp_ since_ messages spaces clear get suspend_ resume_ enter exit =
     absurd (get g refl)
-no_other (WaitBits g c w) t work time mark expect repeat end_ if_ else_
-    end_if break_ stamp_ since_ messages spaces clear get suspend_ resume_ =
+no_other (WaitBits g c w) t work time mark expect repeat end_ if_ else_ end_if break_ stamp_ since_ messages spaces clear get suspend_ resume_ enter exit =
     absurd (cc)
-no_other (Suspend j) t work time mark expect repeat end_ if_ else_ end_if
-    break_ stamp_ since_ messages spaces clear get suspend_ resume_ =
+no_other (Suspend j) t work time mark expect repeat end_ if_ else_ end_if break_ stamp_ since_ messages spaces clear get suspend_ resume_ enter exit =
     absurd (cc)
-no_other (Resume j) t work time mark expect repeat end_ if_ else_ end_if
-    break_ stamp_ since_ messages spaces clear get suspend_ resume_ =
+no_other (Resume j) t work time mark expect repeat end_ if_ else_ end_if break_ stamp_ since_ messages spaces clear get suspend_ resume_ enter exit =
     absurd (cc)
-no_other SuspendAll t work time mark expect repeat end_ if_ else_ end_if
-    break_ stamp_ since_ messages spaces clear get suspend_ resume_ =
+no_other SuspendAll t work time mark expect repeat end_ if_ else_ end_if break_ stamp_ since_ messages spaces clear get suspend_ resume_ enter exit =
     absurd (suspend_ refl)
-no_other ResumeAll t work time mark expect repeat end_ if_ else_ end_if
-    break_ stamp_ since_ messages spaces clear get suspend_ resume_ =
+no_other ResumeAll t work time mark expect repeat end_ if_ else_ end_if break_ stamp_ since_ messages spaces clear get suspend_ resume_ enter exit =
     absurd (resume_ refl)
-no_other (NextCommand o) t work time mark expect repeat end_ if_ else_
-    end_if break_ stamp_ since_ messages spaces clear get suspend_ resume_ =
+no_other EnterCritical t work time mark expect repeat end_ if_ else_ end_if break_ stamp_ since_ messages spaces clear get suspend_ resume_ enter exit =
+    absurd (enter refl)
+no_other ExitCritical t work time mark expect repeat end_ if_ else_ end_if break_ stamp_ since_ messages spaces clear get suspend_ resume_ enter exit =
+    absurd (exit refl)
+no_other (NextCommand o) t work time mark expect repeat end_ if_ else_ end_if break_ stamp_ since_ messages spaces clear get suspend_ resume_ enter exit =
     absurd (cc)
-no_other Obey t work time mark expect repeat end_ if_ else_ end_if break_ stamp_ since_ messages spaces clear get suspend_ resume_ =
+no_other Obey t work time mark expect repeat end_ if_ else_ end_if break_ stamp_ since_ messages spaces clear get suspend_ resume_ enter exit =
     absurd (cc)
 
--- `suspend_all` is none in any case
-pub no_misuse : (s : State) (i : ℕ) → misuse s i SuspendAll ≡ None
-no_misuse s i = by_test (is_scheduler_suspended s) (λ t. rw t refl) (λ t. rw t refl)
+-- ---- ops that begin or end a hold, where no task holds the scheduler
 
--- `resume_all` where none is in force is one
-pub not_suspended : (s : State) (i : ℕ) → s.suspensions ≡ 0 → misuse s i ResumeAll ≡ Some NotSuspended
-not_suspended s i none = rw none refl
+pub no_misuse : (s : State) (i : ℕ) (op : Op) → is_held_by_task s ≡ false → takes_hold op ≡ true → misuse s i op ≡ None
+no_misuse s i SuspendAll free t = misuse_calm s i SuspendAll free
+no_misuse s i EnterCritical free t = misuse_calm s i EnterCritical free
+no_misuse s i op free t = absurd (cc)
+
+pub not_suspended : (s : State) (i : ℕ) → is_held_by_task s ≡ false → misuse s i ResumeAll ≡ Some NotSuspended
+not_suspended s i free = misuse_calm s i ResumeAll free ∙ rw (neither s free).0 refl
+
+pub not_critical : (s : State) (i : ℕ) → is_held_by_task s ≡ false → misuse s i ExitCritical ≡ Some NotCritical
+not_critical s i free = misuse_calm s i ExitCritical free ∙ rw (neither s free).1 refl
 
 module _ (app : Application) (new : Machine) (log : List Event) (s : State) (i : ℕ) (op : Op) where
   pub misused_at : (kind : Misuse) → misuse s i op ≡ Some kind

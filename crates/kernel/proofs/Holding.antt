@@ -8,14 +8,14 @@ use Rattle.model.specs.declared.event.Event.{Event}
 use Rattle.model.specs.declared.op.Op.{Op}
 use Rattle.model.specs.Application.{Application, Limits, op_at}
 use Rattle.model.specs.State.{State, Progress, call_at, progress_at}
-use Rattle.model.specs.Switching.{is_held, settle, unless_held}
+use Rattle.model.specs.Switching.{is_held, is_held_by_task, settle, unless_held}
 use Rattle.model.specs.Step.{act_current, before_step, step}
 use Rattle.sched.specs.StandsFor as sched
 use Rattle.sched.specs.Schedule.{Schedule}
 use Rattle.sched.proofs.Standing.{held_by_depth}
 use Rattle.machine.specs.declared.machine.Machine.{Machine}
 use Rattle.machine.specs.StandsFor.{AtAny, Stands, progress_in}
-use Rattle.machine.proofs.Either.{all_placed, any, current_is, either, progress_is, steps_are, none_in_force}
+use Rattle.machine.proofs.Either.{all_placed, any, current_is, either, progress_is, steps_are, not_by_task}
 use Rattle.machine.proofs.Switches.{settled_before, settled_held}
 use Rattle.ops.specs.InCall.{Remains}
 use Rattle.kernel.specs.Bits.{Begins, HasTakenHold, IsLettingGo, is_for_bits}
@@ -23,9 +23,9 @@ use Rattle.kernel.specs.Bits.Begins.{Sets, Waits}
 use Rattle.kernel.specs.InScript.{IsAt}
 use Rattle.kernel.specs.Over.{is_over}
 use Rattle.kernel.proofs.Counting.{steps_still}
-use Rattle.kernel.proofs.Ending.{begun, handled_before, stepped}
+use Rattle.kernel.proofs.Ending.{begun, begun_with_none, stepped}
 use Rattle.kernel.proofs.Silent.{not_over_set, not_over_wait}
-use Rattle.machine.proofs.Pending.{plain_by}
+use Rattle.machine.proofs.Pending.{none_by}
 use Rattle.machine.specs.Can.{NonePends}
 
 held_by : (v : Schedule) (s : State) → sched.StandsFor v s → 0 < v.depth → is_held s ≡ true
@@ -41,7 +41,7 @@ module _ (app : Application) (limits : Limits) (k new : Machine) (calm : NonePen
     (does : (s : State) → AtAny k [] s → AtAny new told (act_current app limits s.current s))
     (held : 0 < new.sched.depth) (s : State) (h : Stands k s) where
   came : AtAny new told (unless_held settle (act_current app limits (before_step app [] s).current (before_step app [] s)))
-  came = still_held new told _ held (does (before_step app [] s) (handled_before app [] s (plain_by k s calm h) k [] (begun k [] s h refl)))
+  came = still_held new told _ held (does (before_step app [] s) (begun_with_none app s (none_by k s calm h) k [] (begun k [] s h refl)))
 
   pub steps_held : new.steps ≡ k.steps
   steps_held = steps_still app limits [] s k new told h came
@@ -94,8 +94,8 @@ module _ (app : Application) (limits : Limits) (k new : Machine) (task : ℕ) (o
     reached : (call_at s task).phase ≡ Start
     reached = ap (λ (p : Progress). p.call.phase) (sym now) ∙ w.start
 
-    none : s.suspensions ≡ 0
-    none = none_in_force k s h at.awake
+    none : is_held_by_task s ≡ false
+    none = not_by_task k s h at.awake
 
     still : (step app limits [] s).current ≡ Some task
     still =
@@ -105,7 +105,7 @@ module _ (app : Application) (limits : Limits) (k new : Machine) (task : ℕ) (o
         ∙ at.current
 
     by_form : Begins k op → is_over app limits s ≡ false → is_over app limits (step app limits [] s) ≡ false
-    by_form (Sets group mask same) = not_over_set app limits task op s (plain_by k s calm h) runs is reached none group mask same still
+    by_form (Sets group mask same) = not_over_set app limits task op s (none_by k s calm h) runs is reached none group mask same still
     by_form (Waits group condition ticks same unmet) =
-        not_over_wait app limits task op s (plain_by k s calm h) runs is reached none group condition ticks same
+        not_over_wait app limits task op s (none_by k s calm h) runs is reached none group condition ticks same
         (unmet (record s { log = [] }) (all_placed k w.takes.agrees [] _ (begun k [] s h refl)).stands) still

@@ -23,7 +23,7 @@ use Rattle.ops.specs.InCall.{IsSilent, Remains}
 use Rattle.kernel.specs.InCall.{IsCallOn, IsInPhase, IsLeaving}
 use Rattle.kernel.specs.InCall.IsCallOn.{Awaits, Receives}
 use Rattle.kernel.specs.Over.{is_over}
-use Rattle.machine.proofs.Either.{current_is, does_any, does_more, progress_is, none_in_force}
+use Rattle.machine.proofs.Either.{current_is, does_any, does_more, progress_is, not_by_task}
 use Rattle.kernel.proofs.Acted.{any_by_form, two_within}
 use Rattle.ops.proofs.Commanding.{receive_in_phase}
 use Rattle.ops.proofs.Calling.{in_phase}
@@ -31,7 +31,7 @@ use Rattle.kernel.proofs.Running.{acts}
 use Rattle.kernel.proofs.Holding as holding
 use Rattle.kernel.proofs.Silent.{not_over_silently}
 use Rattle.machine.specs.Can.{NonePends}
-use Rattle.machine.proofs.Pending.{plain_by}
+use Rattle.machine.proofs.Pending.{none_by}
 
 -- A call reports nothing in three phases: in all but the first the scheduler is held before it too.
 pub holds_silently : (phase : Phase) → IsSilent phase → phase ≢ Decide → holds phase ≡ true
@@ -135,11 +135,11 @@ module _ (app : Application) (limits : Limits) (k : Machine) (task object : ℕ)
       not_over_after silent same =
           let now : Progress = progress_at s task in
           let is : progress_in k.progress task ≡ now = progress_is k s h task in
-          not_over_silently app limits task object access c.ticks phase silent c.op c.on s (plain_by k s calm h)
+          not_over_silently app limits task object access c.ticks phase silent c.op c.on s (none_by k s calm h)
           (sym (current_is k s h) ∙ c.current)
           (ap (λ (p : Progress). op_at app task p.op_index) (sym is) ∙ c.at)
           (ap (λ (p : Progress). p.call.phase) (sym is) ∙ c.reached)
-          (none_in_force k s h c.awake)
+          (not_by_task k s h c.awake)
           (sym (current_is (record new { steps = new.steps + 1 }) (step app limits [] s) stepped_held) ∙ same ∙ c.current)
 
 -- So it is where the call lets go of the scheduler.

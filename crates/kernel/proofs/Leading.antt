@@ -62,9 +62,9 @@ module _ (app : Application) (limits : Limits) where
   module _ (until : ℕ) (old new : Machine) (before after : List Event)
       (ticks : app.tickless ≡ false → old.steps < until → old.clock.age + old.clock.held + until ≤ limits.ticks + old.steps)
       (steps : old.steps < until → until ≤ limits.steps)
-      (goes : GoesOn app limits until old new before after) where
+      (goes : GoesOn app limits until old new before after) (none : NonePends old) where
     free_past : (plan : List Injection) → IsPast app limits old plan → IsFree app limits until old plan
-    free_past plan is = free_of_limits app limits until old plan is.way (λ n from below. is.past n from) ticks steps
+    free_past plan is = free_of_limits app limits until old plan is.way (λ n from below. is.past n from) ticks steps none
 
     pub led_on : (plan : List Injection) → IsPast app limits old plan → IsLed app limits old new before after
     led_on plan is =

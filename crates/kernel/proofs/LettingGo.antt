@@ -7,7 +7,7 @@ use Rattle.model.specs.declared.op.Op.{Op}
 use Rattle.model.specs.declared.op.Op.TheVariants.{Work, Delay, DelayUntil, Yield, Time, Mark, Expect, Repeat, End, If, Else, EndIf}
 use Rattle.model.specs.declared.op.Op.TheVariants.{Break, Stamp, Since, Await, Do, GiveMutex, MessagesWaiting, SpacesAvailable}
 use Rattle.model.specs.declared.op.Op.TheVariants.{SetBits, ClearBits, GetBits, WaitBits, Suspend, Resume, SuspendAll, ResumeAll}
-use Rattle.model.specs.declared.op.Op.TheVariants.{NextCommand, Obey}
+use Rattle.model.specs.declared.op.Op.TheVariants.{EnterCritical, ExitCritical, NextCommand, Obey}
 use Rattle.model.specs.declared.call.Condition.{Condition}
 use Rattle.model.specs.declared.call.Phase.TheVariants.{Start, Leave, Try}
 use Rattle.model.specs.Application.{Application, Limits}
@@ -99,6 +99,8 @@ no_other (Suspend j) e sets waits obeys = absurd (cc)
 no_other (Resume j) e sets waits obeys = absurd (cc)
 no_other SuspendAll e sets waits obeys = absurd (cc)
 no_other ResumeAll e sets waits obeys = absurd (cc)
+no_other EnterCritical e sets waits obeys = absurd (cc)
+no_other ExitCritical e sets waits obeys = absurd (cc)
 no_other (NextCommand o) e sets waits obeys = absurd (cc)
 no_other Obey e sets waits obeys = obeys refl
 no_other (SetBits group mask) e sets waits obeys = sets group mask refl

@@ -23,13 +23,10 @@ use Rattle.machine.specs.Can.{IsUnderWay}
 use Rattle.kernel.specs.Rows.{Extends, events_from}
 use Rattle.kernel.specs.Over.{is_over}
 use Rattle.machine.proofs.Either.{steps_are, elapsed_is, current_is, progress_is}
-use Rattle.soundness.proofs.Reached.{held_after, reached_after, suspensions_after}
+use Rattle.soundness.proofs.Reached.{held_after, reached_after, task_holds_after}
 use Rattle.kernel.proofs.Bounds.{below_limits}
 use Rattle.machine.proofs.Booting.{steps-reset}
 use Rattle.kernel.proofs.Ending.{before_tick_limit, goes_if_not_over, leb-less, not_over_if_going}
-use Rattle.machine.specs.Can.{NonePends}
-use Rattle.machine.proofs.Pending.{none_pends}
-use Rattle.soundness.proofs.Pending.{none_reached}
 
 leb-le : (a b : ℕ) → leb a b ≡ true → a ≤ b
 leb-le a b e = grind (arith, nat_tests)
@@ -81,13 +78,6 @@ pub events_from_reset : (app : Application) (limits : Limits) (plan : List Injec
     → log.before ≡ [] → log.told ≡ [] → all_of log ++ events_from app limits plan first next ≡ events_after app limits plan next
 events_from_reset app limits plan first next z log before told = rw (before, told, z) refl
 
--- Where a run is under way, nothing is pending: no op opens a critical section.
-pub none_on_way : (app : Application) → IsWellFormed app → (plan : List Injection) (limits : Limits) (k : Machine)
-    → IsUnderWay app plan limits k → NonePends k
-none_on_way app formed plan limits k h =
-    none_pends k (state_after app limits plan k.steps) h.stands (none_reached app formed limits plan k.steps)
-    (reached_after app formed limits plan k.steps).closed
-
 module _ (app : Application) (formed : IsWellFormed app) (plan : List Injection) (limits : Limits)
     (are : AreLimits limits.ticks limits.steps) (k : Machine) (h : IsUnderWay app plan limits k)
     (on : end_of app limits (state_after app limits plan k.steps) ≡ None) where
@@ -97,9 +87,8 @@ module _ (app : Application) (formed : IsWellFormed app) (plan : List Injection)
     stands = h.stands;
     sound = reached_after app formed limits plan k.steps;
     suspended =
-        (let few = suspensions_after app formed limits plan k.steps in let e = steps_after app limits plan k.steps in omega arith);
+        (let few = task_holds_after app formed limits plan k.steps in let e = steps_after app limits plan k.steps in omega arith);
     held = (let few = held_after app formed limits plan k.steps in let e = steps_after app limits plan k.steps in omega arith);
-    none = none_on_way app formed plan limits k h;
     are = are;
     goes_on = on;
   }

@@ -12,7 +12,7 @@ use Rattle.model.specs.Step.{act_current, step}
 use Rattle.machine.specs.declared.machine.Machine.{Machine}
 use Rattle.machine.specs.Logged.{Logged}
 use Rattle.machine.specs.StandsFor.{AtAny, DoesAny, Moves, Stands, progress_in}
-use Rattle.machine.proofs.Either.{current_is, moves_any, progress_is, none_in_force}
+use Rattle.machine.proofs.Either.{current_is, moves_any, progress_is, not_by_task}
 use Rattle.ops.specs.Can.{CanDecide, CanSetBits}
 use Rattle.ops.proofs.Commanding.{obey_in_phase, obey_set}
 use Rattle.ops.specs.InCall.{Remains}
@@ -25,7 +25,7 @@ use Rattle.kernel.proofs.Holding.{letting, stands_held, steps_held, told_held}
 use Rattle.kernel.proofs.Running.{acts}
 use Rattle.kernel.proofs.Silent.{not_over_setting}
 use Rattle.machine.specs.Can.{NonePends}
-use Rattle.machine.proofs.Pending.{plain_by}
+use Rattle.machine.proofs.Pending.{none_by}
 
 module _ (app : Application) (k : Machine) (task : ℕ) (command : Command) (t : IsToSet app k task command) where
   pub can_begin : CanOp app k task Obey → CanDecide k task
@@ -46,11 +46,11 @@ module _ (app : Application) (k : Machine) (task : ℕ) (command : Command) (t :
   not_over_begun calm limits new s h after going running still =
       let is : progress_in k.progress task ≡ progress_at s task = progress_is k s h task in
       let same : command ≡ command_at s task = t.received ∙ ap (λ (p : Progress). command_of (unwrap_or p.answer 0)) is in
-      not_over_setting app limits task s (plain_by k s calm h)
+      not_over_setting app limits task s (none_by k s calm h)
       (sym (current_is k s h) ∙ t.current)
       (ap (λ (p : Progress). op_at app task p.op_index) (sym is) ∙ t.at)
       (ap (λ (p : Progress). p.call.phase) (sym is) ∙ t.reached)
-      (none_in_force k s h t.awake)
+      (not_by_task k s h t.awake)
       (ap (λ (c : Command). c.clear) (sym same) ∙ t.sets)
       running (sym (current_is new (step app limits [] s) after) ∙ still) going
 

@@ -7,7 +7,7 @@ use Rattle.model.specs.declared.op.Access.{Access}
 use Rattle.std.specs.Prelude.{Bool, if◌then◌else◌}
 use Rattle.model.specs.declared.op.Command.{Command}
 use Rattle.model.specs.declared.op.Op.{Op}
-use Rattle.model.specs.declared.op.Op.TheVariants.{Obey, SetBits, SuspendAll, WaitBits}
+use Rattle.model.specs.declared.op.Op.TheVariants.{Obey, SetBits, WaitBits}
 use Rattle.model.specs.declared.call.CallProgress.{CallProgress}
 use Rattle.model.specs.declared.call.Condition.{Condition}
 use Rattle.model.specs.declared.call.Phase.{Phase}
@@ -18,7 +18,7 @@ use Rattle.model.specs.State.{State, Task, Waiting, task_at, status_at, progress
 use Rattle.model.specs.State.{with_call, for_one, for_each, no_task}
 use Rattle.model.specs.Order.{tasks_of}
 use Rattle.model.specs.Switching.{is_ready, is_same, is_off, choice, make_ready, to_back, dispatch, choose, settle, is_held}
-use Rattle.model.specs.Switching.{unless_held}
+use Rattle.model.specs.Switching.{is_held_by_task, unless_held}
 use Rattle.model.specs.Waiting.{awakened, is_expired, set_deadline, wait_in, unlock_object, unlock}
 use Rattle.model.specs.Objects.{list_for, possible}
 use Rattle.model.specs.Mutexes.{set_priority, raise, inherits, inherit_from, inherit}
@@ -32,7 +32,7 @@ use Rattle.model.proofs.Sorting.{by_test}
 use Rattle.model.proofs.Tables.{each-set}
 use Rattle.soundness.proofs.Frames.{keeps-settle, keeps-unless_held}
 use Rattle.soundness.proofs.Passing.{lasts-await, lasts-begin_set}
-use Rattle.soundness.proofs.Judging.{acts_calm}
+use Rattle.soundness.proofs.Judging.{acts_calm, takes_hold}
 use Rattle.ops.specs.InCall.{IsSilent}
 use Rattle.ops.proofs.Commanding.{same_after}
 use Rattle.kernel.specs.InCall.{IsCallOn}
@@ -40,7 +40,6 @@ use Rattle.kernel.specs.InCall.IsCallOn.{Awaits, Receives}
 use Rattle.kernel.specs.Over.{is_at_tick_limit, is_over}
 use Rattle.kernel.proofs.Unstopped.{stopped-all_ready, stopped-inherit, stopped-set, stopped-settled}
 use Rattle.kernel.proofs.Ending.{each_of, none_of, not_all_but, not_passed, runs_on, some_left}
-use Rattle.machine.proofs.Pending.{IsPlain}
 use Rattle.soundness.proofs.Pending.{begun_alone}
 
 -- Whoever wasn't Ended isn't.
@@ -201,7 +200,7 @@ on-begin_bits_wait s i group c ticks j on =
 
 -- Where what is done in a step ends nobody and stops nothing, and lets no tick pass,
 -- a run that isn't over before it isn't over after it.
-module _ (app : Application) (limits : Limits) (task : ℕ) (s : State) (plain : IsPlain s) (done : State)
+module _ (app : Application) (limits : Limits) (task : ℕ) (s : State) (plain : IsNonePending s) (done : State)
     (does : act_current app limits s.current (record s { log = [] }) ≡ done)
     (ends_nobody : EndsNobody s done) (stops_not : done.stopped ≡ s.stopped) (lasts_not : done.elapsed ≡ s.elapsed) where
   pub not_over_by : (step app limits [] s).current ≡ Some task
@@ -209,7 +208,7 @@ module _ (app : Application) (limits : Limits) (task : ℕ) (s : State) (plain :
   unfolding step
   not_over_by still going =
       let begun : State = before_step app [] s in
-      let alone : begun ≡ record s { log = [] } = begun_alone app s plain.0 in
+      let alone : begun ≡ record s { log = [] } = begun_alone app s plain in
       let acted : State = act_current app limits begun.current begun in
       let ended : State = step app limits [] s in
       let does : acted ≡ done = ap (λ (x : State). act_current app limits x.current x) alone ∙ does in
@@ -246,14 +245,14 @@ module _ (app : Application) (task object : ℕ) (access : Access) (ticks : Opti
       ∙ ap (λ x. await app task object x None phase s) (sym a)
       ∙ ap (λ x. await app task object access x phase s) (sym t)
 
-  call_allowed : (op : Op) → IsCallOn op object access ticks → (own_misuse s task op ≡ None) × (op ≢ SuspendAll)
-  call_allowed op (Awaits e) = (ap (own_misuse s task) e, λ x. let y = sym e ∙ x in absurd (cc))
-  call_allowed op (Receives e a t) = (ap (own_misuse s task) e, λ x. let y = sym e ∙ x in absurd (cc))
+  call_allowed : (op : Op) → IsCallOn op object access ticks → (own_misuse s task op ≡ None) × (takes_hold op ≡ false)
+  call_allowed op (Awaits e) = (ap (own_misuse s task) e, ap takes_hold e)
+  call_allowed op (Receives e a t) = (ap (own_misuse s task) e, ap takes_hold e)
 
 module _ (app : Application) (limits : Limits) (task object : ℕ) (access : Access) (ticks : Option ℕ)
     (phase : Phase) (silent : IsSilent phase) (op : Op) (on : IsCallOn op object access ticks) where
   acts_silently : (s : State) → s.current ≡ Some task → op_at app task (progress_at s task).op_index ≡ Some op
-      → (call_at s task).phase ≡ phase → s.suspensions ≡ 0
+      → (call_at s task).phase ≡ phase → is_held_by_task s ≡ false
       → act_current app limits s.current s ≡ await app task object access ticks phase s
   acts_silently s runs is reached none =
       let allowed = call_allowed app task object access ticks phase silent s reached op on in
@@ -263,8 +262,8 @@ module _ (app : Application) (limits : Limits) (task object : ℕ) (access : Acc
       ∙ call_acts app task object access ticks phase silent s reached op on
 
   -- a run that isn't over before such a step isn't over after it
-  pub not_over_silently : (s : State) → IsPlain s → s.current ≡ Some task
-      → op_at app task (progress_at s task).op_index ≡ Some op → (call_at s task).phase ≡ phase → s.suspensions ≡ 0
+  pub not_over_silently : (s : State) → IsNonePending s → s.current ≡ Some task
+      → op_at app task (progress_at s task).op_index ≡ Some op → (call_at s task).phase ≡ phase → is_held_by_task s ≡ false
       → (step app limits [] s).current ≡ Some task → is_over app limits s ≡ false
       → is_over app limits (step app limits [] s) ≡ false
   not_over_silently s plain runs is reached none still going =
@@ -275,9 +274,9 @@ module _ (app : Application) (limits : Limits) (task object : ℕ) (access : Acc
       still going
 
 -- So it is where the daemon begins to set the bits of a command.
-module _ (app : Application) (limits : Limits) (task : ℕ) (s : State) (plain : IsPlain s) (runs : s.current ≡ Some task)
+module _ (app : Application) (limits : Limits) (task : ℕ) (s : State) (plain : IsNonePending s) (runs : s.current ≡ Some task)
     (is : op_at app task (progress_at s task).op_index ≡ Some Obey) (reached : (call_at s task).phase ≡ Start)
-    (none : s.suspensions ≡ 0) (sets : (command_at s task).clear ≡ false) where
+    (none : is_held_by_task s ≡ false) (sets : (command_at s task).clear ≡ false) where
   begun : State
   begun = record s { log = [] }
 
@@ -289,7 +288,7 @@ module _ (app : Application) (limits : Limits) (task : ℕ) (s : State) (plain :
   begins_set =
       ap (λ c. act_current app limits c begun) runs
       ∙ ap (λ o. act_if app task o begun) is
-      ∙ acts_calm app task Obey begun none refl (λ e. absurd (cc))
+      ∙ acts_calm app task Obey begun none refl refl
       ∙ ap (λ p. obey app task command p begun) reached
       ∙ ap (λ (b : Bool).
       if b then clear_by_daemon app task command.group command.mask begun else begin_set task command.group command.mask begun)
@@ -305,13 +304,13 @@ module _ (app : Application) (limits : Limits) (task : ℕ) (s : State) (plain :
       still going
 
 -- So it is where a call of a task on an event group begins.
-module _ (app : Application) (limits : Limits) (task : ℕ) (op : Op) (s : State) (plain : IsPlain s) (runs : s.current ≡ Some task)
+module _ (app : Application) (limits : Limits) (task : ℕ) (op : Op) (s : State) (plain : IsNonePending s) (runs : s.current ≡ Some task)
     (is : op_at app task (progress_at s task).op_index ≡ Some op) (reached : (call_at s task).phase ≡ Start)
-    (none : s.suspensions ≡ 0) where
+    (none : is_held_by_task s ≡ false) where
   anew : State
   anew = record s { log = [] }
 
-  acts_as : (form : Op) → op ≡ form → own_misuse anew task form ≡ None → form ≢ SuspendAll
+  acts_as : (form : Op) → op ≡ form → own_misuse anew task form ≡ None → takes_hold form ≡ false
       → act_current app limits s.current anew ≡ act app task form anew
   unfolding anew
   acts_as form same allowed apart =
@@ -323,7 +322,7 @@ module _ (app : Application) (limits : Limits) (task : ℕ) (op : Op) (s : State
     sets : act_current app limits s.current anew ≡ begin_set task group mask anew
     unfolding anew
     sets =
-        acts_as (SetBits group mask) same refl (λ e. absurd (cc))
+        acts_as (SetBits group mask) same refl refl
         ∙ ap (λ p. set_bits app task group mask p anew) reached
 
     pub not_over_set : (step app limits [] s).current ≡ Some task
@@ -339,7 +338,7 @@ module _ (app : Application) (limits : Limits) (task : ℕ) (op : Op) (s : State
     waits : act_current app limits s.current anew ≡ begin_bits_wait task group condition ticks anew
     unfolding anew check
     waits =
-        acts_as (WaitBits group condition ticks) same refl (λ e. absurd (cc))
+        acts_as (WaitBits group condition ticks) same refl refl
         ∙ ap (λ p. wait_bits app task group condition ticks p anew) reached
         ∙ ap (λ (b : Bool).
         if b then answer_bits app task group condition anew else begin_bits_wait task group condition ticks anew)

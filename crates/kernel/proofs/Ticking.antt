@@ -15,7 +15,7 @@ use Rattle.model.specs.declared.op.Op.TheVariants.{Work}
 use Rattle.model.specs.Application.{Application, Definition, Interrupt, Limits, is_any_awaited, op_at, interrupts_at}
 use Rattle.model.specs.Coming.{AreComing}
 use Rattle.model.specs.State.{State, Task, Progress, no_progress, progress_at}
-use Rattle.model.specs.Switching.{is_ready, slice, settle, unless_held}
+use Rattle.model.specs.Switching.{is_held_by_task, is_ready, slice, settle, unless_held}
 use Rattle.model.specs.Time.{increment_tick}
 use Rattle.model.specs.Ops.{use_up}
 use Rattle.model.specs.Handlers.{interrupt, tick_interrupt}
@@ -38,12 +38,12 @@ use Rattle.machine.specs.StandsFor.Stands.{Placed, Placing}
 use Rattle.kernel.specs.Quiet.{IsQuiet, Passes, WorksOn, used_by}
 use Rattle.ops.proofs.Working.{used_more}
 use Rattle.machine.proofs.Acting.{within}
-use Rattle.machine.proofs.Either.{any, current_is, elapsed_is, steps_are, stopped_is}
+use Rattle.machine.proofs.Either.{any, current_is, elapsed_is, steps_are, stopped_is, not_by_task}
 use Rattle.kernel.proofs.Ending.{all_meant, begun, ends_not, is_everybody_ended, not_over_by, not_passed, on_by, stepped, stuck_by}
 use Rattle.kernel.proofs.Left.{any_left}
 use Rattle.machine.proofs.Switches.{settled_either, settled_idle, settled_on, unheld_by}
 use Rattle.machine.proofs.Waking.{groups-jumped, objects-jumped, sched-jumped, woken}
-use Rattle.machine.proofs.Pending.{plain_by}
+use Rattle.machine.proofs.Pending.{none_by}
 use Rattle.soundness.proofs.Pending.{begun_alone}
 use Rattle.sched.specs.StandsFor.{task_holds_of}
 use Rattle.sched.proofs.Standing.{none_suspends}
@@ -62,6 +62,11 @@ placed_by k s z (Placing task list b) =
 
 none_suspended : (k : Machine) (s : State) → k.sched.depth ≡ 0 → StandsFor k s → s.suspensions ≡ 0
 none_suspended k s z h = none_suspends s (zero_left (task_holds_of s) (if s.call_hold then 1 else 0) (sym h.sched.depth ∙ z))
+
+no_task_suspends : (k : Machine) (s : State) → k.sched.depth ≡ 0 → StandsFor k s → is_held_by_task s ≡ false
+no_task_suspends k s z h =
+    not_by_task k s (Placed h)
+    (h.sched.suspensions ∙ zero_left (task_holds_of s) (if s.call_hold then 1 else 0) (sym h.sched.depth ∙ z))
 
 -- ---- no base interrupt comes
 
@@ -169,13 +174,13 @@ module _ (app : Application) (k : Machine) (z : k.sched.depth ≡ 0) (calm : k.s
 -- ---- the step
 
 -- a `work` goes on
-works_on : (app : Application) (limits : Limits) (s : State) (task n : ℕ) → s.suspensions ≡ 0
+works_on : (app : Application) (limits : Limits) (s : State) (task n : ℕ) → is_held_by_task s ≡ false
     → s.current ≡ Some task → op_at app task (progress_at s task).op_index ≡ Some (Work n)
     → act_current app limits s.current s ≡ tick_interrupt app (use_up app task n s)
 works_on app limits s task n free runs is =
     ap (λ (c : Option ℕ). act_current app limits c s) runs
     ∙ ap (λ (o : Option Op). act_if app task o s) is
-    ∙ acts_calm app task (Work n) s free refl (λ e. cc)
+    ∙ acts_calm app task (Work n) s free refl refl
 
 module _ (app : Application) (limits : Limits) (count : ℕ) (k : Machine)
     (q : IsQuiet app limits (suc count) k) (clock : Timeline) (a : Advances k.clock clock []) where
@@ -215,7 +220,7 @@ module _ (app : Application) (limits : Limits) (count : ℕ) (k : Machine)
       let op : op_at app task (progress_at r task).op_index ≡ Some (Work n) =
       subst (λ (x : Progress). op_at app task x.op_index ≡ Some (Work n)) same w.3 in
       let is : act_current app limits r.current r ≡ t =
-      works_on app limits r task n (none_suspended k r q.depth h.stands) (sym h.stands.sched.current ∙ e) op in
+      works_on app limits r task n (no_task_suspends k r q.depth h.stands) (sym h.stands.sched.current ∙ e) op in
       subst (λ (x : State). At (record mid { clock = clock }) [] (unless_held settle x)) (sym is) end
 
   came : (s : State) → Stands k s
@@ -225,7 +230,7 @@ module _ (app : Application) (limits : Limits) (count : ℕ) (k : Machine)
       let b : AtAny k [] r = begun k [] s h refl in
       let end : At after [] (unless_held settle (act_current app limits r.current r)) =
       acted r (record { stands = placed_by k r q.depth b.stands; log = b.log }) k.sched.current refl q.works in
-      subst (λ (x : State). At after [] (unless_held settle (act_current app limits x.current x))) (sym (begun_alone app s (plain_by k s q.none h).0)) end
+      subst (λ (x : State). At after [] (unless_held settle (act_current app limits x.current x))) (sym (begun_alone app s (none_by k s q.none h))) end
 
   passed : (s : State) → Stands k s → Stands (record after { steps = k.steps + 1 }) (step app limits [] s)
   passed s h =
@@ -277,7 +282,7 @@ module _ (app : Application) (limits : Limits) (count : ℕ) (k : Machine)
       let steps = q.steps in
       record {
         stopped = q.stopped;
-        none = record { pending = q.none.pending; closed = q.none.closed };
+        none = q.none;
         depth = q.depth;
         pending = q.pending;
         steady = q.steady;

@@ -6,15 +6,16 @@ use Rattle.model.specs.declared.plan.Injection.{Injection}
 use Rattle.model.specs.Application.{Application, Limits}
 use Rattle.model.specs.Run.{end_of, injected, state_after}
 use Rattle.machine.specs.declared.machine.Machine.{Machine}
-use Rattle.machine.specs.Can.{IsUnderWay}
+use Rattle.machine.specs.Can.{IsUnderWay, NonePends}
 use Rattle.kernel.specs.Over.{is_over}
 use Rattle.kernel.specs.Rows.{events_from}
 
--- The run with this plan is under way at the kernel. Before this step the plan has no more injections, and the run ends only where
--- it is over.
+-- The run with this plan is under way at the kernel. Before this step the plan has no more injections, nothing is pending, and the run
+-- ends only where it is over.
 pub record IsFree (app : Application) (limits : Limits) (until : ℕ) (k : Machine) (plan : List Injection) : Type 0 where
   pub way : IsUnderWay app plan limits k
   pub alone : (n : ℕ) → k.steps ≤ n → n < until → injected plan n ≡ []
+  pub none : k.steps < until → NonePends k
   pub free : (n : ℕ) → k.steps ≤ n → n < until → is_over app limits (state_after app limits plan n) ≡ false
       → end_of app limits (state_after app limits plan n) ≡ None
 

@@ -11,7 +11,6 @@ use Rattle.model.specs.Run.{end_of, is_stuck}
 use Rattle.model.specs.Invariant.{IsState}
 use Rattle.machine.specs.declared.machine.Machine.{Machine}
 use Rattle.machine.specs.StandsFor.{Stands, StandsFor, progress_in}
-use Rattle.machine.specs.Can.{NonePends}
 use Rattle.ops.specs.Can.{CanTick, Can, CanGoOn, CanSetBits, CanWaitBits, CanHold}
 
 -- The running task can do what its op is to do next.
@@ -41,12 +40,10 @@ pub record CanStep (app : Application) (limits : Limits) (k : Machine) : Type 0 
   pub state : State
   pub stands : Stands k state
   pub sound : IsState app state
-  -- each step has brought one `suspend_all` at most into force
-  pub suspended : state.suspensions ≤ state.steps
+  -- in each step a task has come to hold the scheduler once more at most
+  pub suspended : state.suspensions + state.sections ≤ state.steps
   -- and one tick at most that is held
   pub held : state.held_ticks ≤ state.steps
-  -- nothing is pending
-  pub none : NonePends k
   pub are : AreLimits limits.ticks limits.steps
   pub goes_on : end_of app limits state ≡ None
 

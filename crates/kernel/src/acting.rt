@@ -12,7 +12,7 @@ ghost use Rattle.machine.specs.Can.{Runs};
 ghost use Rattle.ops.specs.Can.{Can};
 
 use crate::handlers::tick_interrupt;
-use crate::suspended::call_suspend_all;
+use crate::suspended::{call_enter_critical, call_suspend_all};
 use machine::{Log, Machine};
 use model::{App, Misuse, Op, TaskId};
 use ops::calls::go_on_waiting;
@@ -40,7 +40,7 @@ pub(crate) enum Following {
     Answered,
     /// The one in which its call on an event group, which has taken hold of the scheduler, lets go of it.
     LettingGo,
-    /// Those that come while a `suspend_all` is in force.
+    /// Those that come while a `suspend_all` is in force that has just begun.
     Suspended,
 }
 
@@ -155,7 +155,7 @@ fn work<L: Log>(
     Following::steps_if(left > 2)
 }
 
-/// What the running task's op does, where no `suspend_all` is in force; a misuse ends the run, and does nothing else. It answers what
+/// What the running task's op does, if no task holds the scheduler; a misuse ends the run, and does nothing else. It answers what
 /// may come behind it.
 #[inline(always)]
 pub(crate) fn act<L: Log>(
@@ -224,6 +224,8 @@ pub(crate) fn act<L: Log>(
             return Following::Suspended;
         }
         Op::ResumeAll => machine.misuse(task, Misuse::NotSuspended),
+        Op::EnterCritical => call_enter_critical(machine, app, task),
+        Op::ExitCritical => machine.misuse(task, Misuse::NotCritical),
         Op::NextCommand(queue) => {
             return Following::command_if(next_command(machine, app, task, queue, log));
         }

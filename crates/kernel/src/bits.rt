@@ -7,6 +7,7 @@ ghost use Rattle.model.specs.Step.{act_current, step};
 ghost use Rattle.machine.specs.Logged.{all_of};
 ghost use Rattle.machine.specs.StandsFor.{DoesAny, Stands};
 ghost use Rattle.kernel.specs.Bits.{IsLettingGo};
+ghost use Rattle.machine.specs.Can.{NonePends};
 ghost use Rattle.kernel.specs.Can.{CanOp, CanStepUnderSome};
 ghost use Rattle.kernel.specs.Along.{IsGoing, GoesFurther};
 
@@ -45,6 +46,7 @@ fn let_go<L: Log>(machine: &mut Machine, app: &App, task: TaskId, op: &Op, log: 
 #[inline(always)]
 fn step_letting_go<L: Log>(machine: &mut Machine, app: &App, task: TaskId, op: &Op, log: &mut L)
     requires going { CanStepUnderSome app.now machine.old }
+    requires none { NonePends machine.old }
     requires letting { IsLettingGo app.now machine.old task op.now }
     requires begun { (L.logged log.old).told ≡ [] }
     requires room { 128 ≤ (L.logged log.old).room }

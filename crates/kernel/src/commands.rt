@@ -9,6 +9,7 @@ ghost use Rattle.model.specs.Step.{step};
 ghost use Rattle.model.specs.Run.{state_after};
 ghost use Rattle.machine.specs.Logged.{all_of};
 ghost use Rattle.machine.specs.StandsFor.{Stands};
+ghost use Rattle.machine.specs.Can.{NonePends};
 ghost use Rattle.kernel.specs.Can.{CanStepUnderSome};
 ghost use Rattle.kernel.specs.Bits.{IsLettingGo};
 ghost use Rattle.kernel.specs.Commands.{IsToSet};
@@ -52,6 +53,7 @@ fn set_received(machine: &Machine, app: &App, task: TaskId) -> Option<Command>
 #[inline(always)]
 fn step_setting(machine: &mut Machine, app: &App, task: TaskId, command: &Command)
     requires going { CanStepUnderSome app.now machine.old }
+    requires none { NonePends machine.old }
     requires sets { IsToSet app.now machine.old task command.now }
     ensures stands { (limits : Limits) (s : State) → Stands machine.old s → Stands machine.new (step app.now limits [] s) }
     ensures silent { (limits : Limits) (s : State) → Stands machine.old s → (step app.now limits [] s).log ≡ [] }

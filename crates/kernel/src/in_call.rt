@@ -10,6 +10,7 @@ ghost use Rattle.model.specs.Step.{step};
 ghost use Rattle.model.specs.Run.{state_after};
 ghost use Rattle.machine.specs.Logged.{all_of};
 ghost use Rattle.machine.specs.StandsFor.{Stands, progress_in};
+ghost use Rattle.machine.specs.Can.{NonePends};
 ghost use Rattle.kernel.specs.Can.{CanStepUnderSome};
 ghost use Rattle.ops.specs.InCall.{IsSilent};
 ghost use Rattle.kernel.specs.InCall.{IsCallOn, IsInPhase, IsLeaving};
@@ -67,6 +68,7 @@ fn step_in_call(
 )
     requires silent { IsSilent phase }
     requires going { CanStepUnderSome app.now machine.old }
+    requires none { NonePends machine.old }
     requires call { IsInPhase app.now machine.old task object access phase }
     ensures stands { (limits : Limits) (s : State) → Stands machine.old s → Stands machine.new (step app.now limits [] s) }
     ensures silent { (limits : Limits) (s : State) → Stands machine.old s → (step app.now limits [] s).log ≡ [] }
@@ -84,6 +86,7 @@ fn step_in_call(
 #[inline(always)]
 fn step_leaving<L: Log>(machine: &mut Machine, app: &App, task: TaskId, log: &mut L)
     requires going { CanStepUnderSome app.now machine.old }
+    requires none { NonePends machine.old }
     requires leaving { IsLeaving app.now machine.old task }
     requires begun { (L.logged log.old).told ≡ [] }
     requires room { 128 ≤ (L.logged log.old).room }

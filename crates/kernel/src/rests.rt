@@ -10,7 +10,7 @@ ghost use Rattle.kernel.specs.Leads.{IsEnd, IsLed};
 use crate::kernel::Kernel;
 use crate::over::ended;
 use crate::quiet::free_until;
-use crate::steps::go_on;
+use crate::steps::{go_on, step_along};
 use machine::{StepLog, Trail};
 use model::{App, End, Injection, Limits, Memory, Meter};
 
@@ -77,7 +77,11 @@ pub fn go_far(
         if machine.steps == until {
             return Ok(None);
         }
-        let stop = free_until(machine, app, until, limits);
-        go_on(machine, app, injections, stop, limits, meter, log, trail)?;
+        if machine.sources.any_pending() {
+            step_along(machine, app, &[], limits, meter, log, trail)?;
+        } else {
+            let stop = free_until(machine, app, until, limits);
+            go_on(machine, app, injections, stop, limits, meter, log, trail)?;
+        }
     }
 }

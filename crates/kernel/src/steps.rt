@@ -13,7 +13,7 @@ ghost use Rattle.model.specs.Run.{end_of, injected, IsRun, state_after, events_a
 ghost use Rattle.machine.specs.Logged.{all_of};
 ghost use Rattle.machine.specs.StandsFor.{Stands, DoesAny};
 ghost use Rattle.kernel.specs.Over.{is_over};
-ghost use Rattle.machine.specs.Can.{IsUnderWay};
+ghost use Rattle.machine.specs.Can.{IsUnderWay, NonePends};
 ghost use Rattle.kernel.specs.Can.{CanAct, CanStep};
 ghost use Rattle.kernel.specs.InScript.{IsAt, IsAtNone, is_amid};
 ghost use Rattle.kernel.specs.Bits.{IsLettingGo};
@@ -23,7 +23,7 @@ ghost use Rattle.kernel.specs.Rows.{events_from, Extends};
 
 use crate::acting::{Following, act};
 use crate::bits::pass_held;
-use crate::handlers::inject_all;
+use crate::handlers::come_before;
 use crate::idle::idle;
 use crate::kernel::Kernel;
 use crate::over::{ended, is_at_tick_limit, is_left_alone, is_over};
@@ -50,7 +50,7 @@ pub(crate) fn op_of(app: &App, task: TaskId, op_index: u16) -> Option<&Op>
     definition.ops().get(op_index as usize)
 }
 
-/// The op that the running task is at, where no `suspend_all` is in force; `None` also where idle runs.
+/// The op that the running task is at, if no task holds the scheduler; `None` also if idle runs.
 #[inline(always)]
 fn current_op<'a>(machine: &Machine, app: &'a App) -> Option<(TaskId, &'a Op)>
     requires there { IfSome machine.now.sched.current (λ task. task < length app.now.tasks) }
@@ -69,7 +69,7 @@ fn current_op<'a>(machine: &Machine, app: &'a App) -> Option<(TaskId, &'a Op)>
     }
 }
 
-/// What a step does in which the running task has no op, or a `suspend_all` is in force, or idle runs. It answers what may come behind it
+/// What a step does in which the running task has no op, or holds the scheduler, or idle runs. It answers what may come behind it
 /// (`pass_more`).
 #[inline(always)]
 fn act_otherwise<L: Log>(
@@ -111,27 +111,50 @@ fn act_current<L: Log>(machine: &mut Machine, app: &App, limits: &Limits, log: &
     }
 }
 
-/// One step of the run, before which these handlers come, whose events go to a log that has none of this step yet. It answers what may
-/// come behind it (`pass_more`).
+/// One step of the run, with these handlers, and with what is pending. Its events go to a log that has none of this step yet.
+#[cold]
 #[inline(never)]
-fn step_onto<L: Log>(
+fn step_with_handlers<L: Log>(
     machine: &mut Machine,
     app: &App,
     handlers: &[HandlerId],
     limits: &Limits,
     log: &mut L,
-) -> Following
+)
     requires few { length handlers.now ≤ 3 }
     requires going { CanStep app.now limits.now machine.old }
     requires begun { (L.logged log.old).told ≡ [] }
-    requires room { 128 ≤ (L.logged log.old).room }
+    requires room { 405 ≤ (L.logged log.old).room }
     ensures stands { (s : State) → Stands machine.old s → Stands machine.new (step app.now limits.now handlers.now s) }
     ensures told { (s : State) → Stands machine.old s
         → (L.logged log.new).told ≡ (step app.now limits.now handlers.now s).log }
     ensures before { (L.logged log.new).before ≡ (L.logged log.old).before }
 {
     app.well_formed();
-    inject_all(machine, app, handlers, log);
+    come_before(machine, app, handlers, log);
+    act_current(machine, app, limits, log);
+    machine.settle(log);
+    machine.steps += 1;
+}
+
+/// One step of the run, without handlers and with nothing pending. Its events go to a log that has none of this step yet. It answers what
+/// may come behind it (`pass_more`).
+#[inline(never)]
+fn step_alone<L: Log>(
+    machine: &mut Machine,
+    app: &App,
+    limits: &Limits,
+    log: &mut L,
+) -> Following
+    requires going { CanStep app.now limits.now machine.old }
+    requires none { NonePends machine.old }
+    requires begun { (L.logged log.old).told ≡ [] }
+    requires room { 128 ≤ (L.logged log.old).room }
+    ensures stands { (s : State) → Stands machine.old s → Stands machine.new (step app.now limits.now [] s) }
+    ensures told { (s : State) → Stands machine.old s → (L.logged log.new).told ≡ (step app.now limits.now [] s).log }
+    ensures before { (L.logged log.new).before ≡ (L.logged log.old).before }
+{
+    app.well_formed();
     // The end of the step is here twice, so that nothing is asked behind an op that nothing may follow.
     let following = act_current(machine, app, limits, log);
     if following == Following::Nothing {
@@ -144,8 +167,8 @@ fn step_onto<L: Log>(
     following
 }
 
-/// One step of the run without handlers, in which the running task does this op. Its events go to a log that has none of this step yet. It
-/// answers what may come behind it (`pass_more`).
+/// One step of the run without handlers and with nothing pending, in which the running task does this op. Its events go to a log that has
+/// none of this step yet. It answers what may come behind it (`pass_more`).
 #[inline(always)]
 fn step_at<L: Log>(
     machine: &mut Machine,
@@ -156,6 +179,7 @@ fn step_at<L: Log>(
     log: &mut L,
 ) -> Following
     requires going { CanStep app.now limits.now machine.old }
+    requires none { NonePends machine.old }
     requires at { IsAt app.now machine.old task op.now }
     requires begun { (L.logged log.old).told ≡ [] }
     requires room { 128 ≤ (L.logged log.old).room }
@@ -199,8 +223,8 @@ fn step_at<L: Log>(
     following
 }
 
-/// One step of the run without handlers, where something holds the scheduler or idle runs. Its events go to a log that has none of this step
-/// yet. It answers what may come behind it (`pass_more`).
+/// One step of the run without handlers and with nothing pending, where something holds the scheduler or idle runs. Its events go to a log
+/// that has none of this step yet. It answers what may come behind it (`pass_more`).
 #[inline(always)]
 fn step_otherwise<L: Log>(
     machine: &mut Machine,
@@ -209,6 +233,7 @@ fn step_otherwise<L: Log>(
     log: &mut L,
 ) -> Following
     requires going { CanStep app.now limits.now machine.old }
+    requires none { NonePends machine.old }
     requires begun { (L.logged log.old).told ≡ [] }
     requires room { 128 ≤ (L.logged log.old).room }
     ensures stands { (s : State) → Stands machine.old s → Stands machine.new (step app.now limits.now [] s) }
@@ -217,7 +242,7 @@ fn step_otherwise<L: Log>(
 {
     app.well_formed();
     if machine.sched.suspensions() == 0 && machine.sched.current().is_some() {
-        return step_onto(machine, app, &[], limits, log);
+        return step_alone(machine, app, limits, log);
     }
     let following = act_otherwise(machine, app, limits, log);
     machine.settle(log);
@@ -225,7 +250,8 @@ fn step_otherwise<L: Log>(
     following
 }
 
-/// One step of the run: these handlers, three at most, and then the running task's op, or a tick of idle (profile). The
+/// One step of the run: these handlers, three at most, and then the running task's op, or a tick of idle (profile). While a critical
+/// section is open the handlers become pending; what is pending comes before the first step before which none is open. The
 /// events that it reports are then in the log, in order, and nothing else. It takes no memory.
 ///
 /// The kernel is of this application, and its run has not ended under some limits. The meter, which rises by 1, is
@@ -247,7 +273,7 @@ pub(crate) fn step(
     ensures meter { meter.new ≡ meter.old + 1 }
 {
     log.clear();
-    step_onto(machine, app, handlers, limits, log);
+    step_with_handlers(machine, app, handlers, limits, log);
     meter.count();
 }
 
@@ -291,8 +317,8 @@ fn op_if_going<'a>(
 }
 
 /// One step of the run, whose events go to this log first, in place of what it has: memory is taken only for those that the step
-/// reports. So it is done where the trail has less room than a step may need, and where handlers come before it, as they do before
-/// few. `Err(Memory)` is answered only where the trail had less room for them and that growth was refused. The step is done all the
+/// reports. So it is done where the trail has less room than a step may need, and where handlers come before it, or what is pending, as
+/// they do before few. `Err(Memory)` is answered only where the trail had less room for them and that growth was refused. The step is done all the
 /// same.
 #[cold]
 #[inline(never)]
@@ -319,7 +345,7 @@ fn step_apart(
         → trail.old.room < length (step app.now limits.now handlers.now s).log) }
 {
     log.clear();
-    step_onto(kernel, app, handlers, limits, log);
+    step_with_handlers(kernel, app, handlers, limits, log);
     meter.count();
     trail.append(log.as_slice())
 }
@@ -348,8 +374,8 @@ pub(crate) fn step_along(
         → 0 < length (step app.now limits.now handlers.now s).log) }
 {
     let is_roomy = trail.begin().is_ok();
-    if is_roomy && handlers.is_empty() {
-        step_onto(kernel, app, handlers, limits, trail);
+    if is_roomy && handlers.is_empty() && !kernel.sources.any_pending() {
+        step_alone(kernel, app, limits, trail);
         meter.count();
         return Ok(());
     }
@@ -467,7 +493,7 @@ fn step_along_script(
     }
 }
 
-/// Does a step where something holds the scheduler or idle runs, and those that come while a `suspend_all` is in force. It does none from
+/// Does a step where something holds the scheduler or idle runs, and those that come while a task holds it. It does none from
 /// the step before `until` on. The run is under way, and isn't over; the trail has no event of this step yet. It answers what may come
 /// behind the last of them (`pass_more`).
 // Most steps are none of these, and are the faster without them.
@@ -643,8 +669,10 @@ pub(crate) fn go_to_step(
             return Ok(None);
         }
         left = step_by_plan(kernel, app, left, limits, meter, log, trail)?;
-        let until = free_until(kernel, app, next_injection(left).min(step), limits);
-        go_on(kernel, app, injections, until, limits, meter, log, trail)?;
+        if !kernel.sources.any_pending() {
+            let until = free_until(kernel, app, next_injection(left).min(step), limits);
+            go_on(kernel, app, injections, until, limits, meter, log, trail)?;
+        }
     }
 }
 

@@ -1,13 +1,14 @@
-//! What is done while a `suspend_all` is in force.
-ghost use Rattle.std.specs.Prelude.{◌≡◌, ◌<◌, ◌≤◌, false, length, [], IfSome, Some};
+//! What is done while a task holds the scheduler: by `suspend_all`, or in a critical section.
+ghost use Rattle.std.specs.Prelude.{◌≡◌, ◌<◌, ◌≤◌, length, [], IfSome, None, Some};
 ghost use Rattle.model.specs.declared.op.Op.{Op};
 ghost use Rattle.model.specs.declared.op.Op.TheVariants as op;
 ghost use Rattle.model.specs.Application.{Limits, op_at};
-ghost use Rattle.model.specs.State.{State, status_at};
+ghost use Rattle.model.specs.State.{State, object_at, status_at};
 ghost use Rattle.model.specs.Handlers.{tick_interrupt};
-ghost use Rattle.model.specs.Step.{act, act_current, act_unless, is_ended, judge, may_switch, misuse, step};
+ghost use Rattle.model.specs.Step.{act, act_current, act_unless, end_misuse, is_barred, is_ended, judge, may_switch, misuse, own_misuse, step};
+ghost use Rattle.model.specs.Switching.{is_same, is_scheduler_suspended};
 ghost use Rattle.machine.specs.StandsFor.{Does, DoesAny, Moves, Stands, progress_in};
-ghost use Rattle.machine.specs.Can.{Agrees};
+ghost use Rattle.machine.specs.Can.{Agrees, NonePends};
 ghost use Rattle.machine.specs.Logged.{all_of};
 ghost use Rattle.ops.specs.Can.{Can, CanHold, HasObjects};
 ghost use Rattle.kernel.specs.Along.{IsFree, GoesOn};
@@ -17,7 +18,8 @@ use crate::handlers::interrupt;
 use crate::over::is_over_running;
 use crate::steps::op_of;
 use machine::{Log, Machine, Trail};
-use model::{App, End, Injection, Limits, Misuse, Op, TaskId};
+use model::{App, End, Injection, Limits, Misuse, ObjectId, Op, TaskId};
+use ops::critical::{enter_critical, exit_critical};
 use ops::event_groups::{clear_bits, get_bits};
 use ops::queues::{messages_waiting, spaces_available};
 use ops::script::{branch, close_turn, end_if, expect, leave_loop, mark, open_loop, skip_branch};
@@ -45,6 +47,13 @@ fn may_switch(op: &Op) -> bool
     )
 }
 
+/// Whether an op has no place in a critical section.
+fn is_barred(op: &Op) -> bool
+    ensures { result ≡ is_barred op.now }
+{
+    matches!(op, Op::Work(_) | Op::SuspendAll | Op::ResumeAll) || may_switch(op)
+}
+
 /// Whether a task's script is done: it is in no list, and isn't suspended.
 pub(crate) fn is_ended(machine: &Machine, task: TaskId) -> bool
     ensures { (s : State) → Stands machine.now s → result ≡ is_ended (status_at s task) }
@@ -64,17 +73,41 @@ pub(crate) fn is_ended(machine: &Machine, task: TaskId) -> bool
     !machine.sched.is_suspended(task)
 }
 
-/// A task that came to the end of its script with the op of this index, while a `suspend_all` is in force, has misused the
-/// scheduler.
+/// Whether a `suspend_all` is in force: tasks hold the scheduler more often than by critical sections.
+#[inline(always)]
+fn is_scheduler_suspended(machine: &Machine) -> bool
+    ensures { (s : State) → Stands machine.now s → result ≡ is_scheduler_suspended s }
+{
+    machine.sched.suspensions() > machine.sections
+}
+
+/// Which misuse it is to come to the end of a script now, if it is one.
+#[inline(always)]
+fn end_misuse(machine: &Machine) -> Option<Misuse>
+    ensures { (s : State) → Stands machine.now s → result ≡ end_misuse s }
+{
+    if is_scheduler_suspended(machine) {
+        return Some(Misuse::EndedSuspended);
+    }
+    if machine.sections > 0 {
+        return Some(Misuse::EndedCritical);
+    }
+    None
+}
+
+/// A task that came to the end of its script with the op of this index must hold the scheduler no more.
 fn judge(machine: &mut Machine, task: TaskId, op_index: u16)
     ensures { Moves machine.old machine.new (judge task op_index) }
 {
-    if machine.sched.suspensions() > machine.sections && is_ended(machine, task) {
-        machine.stopped = Some(End::Misuse(task, op_index, Misuse::EndedSuspended));
+    if !is_ended(machine, task) {
+        return;
+    }
+    if let Some(misuse) = end_misuse(machine) {
+        machine.stopped = Some(End::Misuse(task, op_index, misuse));
     }
 }
 
-/// `suspend_all` where none is in force, at the end of which the task is judged.
+/// `suspend_all` where no task holds the scheduler, at the end of which the task is judged.
 #[cold]
 pub(crate) fn call_suspend_all<L: Log>(machine: &mut Machine, app: &App, task: TaskId, log: &mut L)
     requires room { 1 ≤ (L.logged log.old).room }
@@ -84,6 +117,17 @@ pub(crate) fn call_suspend_all<L: Log>(machine: &mut Machine, app: &App, task: T
 {
     let op_index = machine.progress(task).op_index;
     suspend_all(machine, app, task, log);
+    judge(machine, task, op_index);
+}
+
+/// `enter_critical` where no task holds the scheduler, at the end of which the task is judged.
+#[inline(never)]
+pub(crate) fn call_enter_critical(machine: &mut Machine, app: &App, task: TaskId)
+    requires { Can app.now machine.old task op.EnterCritical }
+    ensures { Moves machine.old machine.new (λ s. act_unless app.now task (misuse s task op.EnterCritical) op.EnterCritical s) }
+{
+    let op_index = machine.progress(task).op_index;
+    enter_critical(machine, app, task);
     judge(machine, task, op_index);
 }
 
@@ -107,6 +151,7 @@ fn work_on<L: Log>(machine: &mut Machine, app: &App, task: TaskId, ticks: u32, l
     requires room { 64 ≤ (L.logged log.old).room }
     requires can { CanHold app.now machine.old task (op.Work ticks) }
     requires some { 0 < machine.old.sched.suspensions }
+    requires closed { machine.old.sections ≡ 0 }
     ensures { Does 64 machine.old (L.logged log.old) machine.new (L.logged log.new)
         (act app.now task (op.Work ticks)) }
 {
@@ -114,13 +159,13 @@ fn work_on<L: Log>(machine: &mut Machine, app: &App, task: TaskId, ticks: u32, l
     held_tick_interrupt(machine, app, log);
 }
 
-/// What an op that doesn't switch does while a `suspend_all` is in force.
+/// What an op does that is no misuse while a task holds the scheduler.
 #[inline(always)]
 fn act_on<L: Log>(machine: &mut Machine, app: &App, task: TaskId, op: &Op, log: &mut L)
     requires room { 64 ≤ (L.logged log.old).room }
     requires can { CanHold app.now machine.old task op.now }
     requires some { 0 < machine.old.sched.suspensions }
-    requires stays { may_switch op.now ≡ false }
+    requires fine { (s : State) → Stands machine.old s → misuse s task op.now ≡ None }
     ensures { Does 64 machine.old (L.logged log.old) machine.new (L.logged log.new)
         (act app.now task op.now) }
 {
@@ -171,14 +216,70 @@ fn act_on<L: Log>(machine: &mut Machine, app: &App, task: TaskId, op: &Op, log: 
         }
         Op::SuspendAll => suspend_all(machine, app, task, log),
         Op::ResumeAll => resume_all(machine, app, task, log),
+        Op::EnterCritical => enter_critical(machine, app, task),
+        Op::ExitCritical => exit_critical(machine, app, task),
         // Every other may switch.
         _ => {}
     }
 }
 
-/// What an op does while a `suspend_all` is in force: one that may switch is a misuse.
+/// Whether the task holds this mutex.
+fn is_holder(machine: &Machine, task: TaskId, object: ObjectId) -> bool
+    ensures { (s : State) → Stands machine.now s → result ≡ is_same (object_at s object).holder (Some task) }
+{
+    machine.objects.holder(object) == Some(task)
+}
+
+/// Which misuse an op is by itself, if it is one.
+fn own_misuse(machine: &Machine, task: TaskId, op: &Op) -> Option<Misuse>
+    ensures { (s : State) → Stands machine.now s → result ≡ own_misuse s task op.now }
+{
+    match *op {
+        Op::ResumeAll => {
+            if is_scheduler_suspended(machine) {
+                None
+            } else {
+                Some(Misuse::NotSuspended)
+            }
+        }
+        Op::GiveMutex(object) => {
+            if is_holder(machine, task, object) {
+                None
+            } else {
+                Some(Misuse::NotHolder)
+            }
+        }
+        Op::ExitCritical => {
+            if machine.sections > 0 {
+                None
+            } else {
+                Some(Misuse::NotCritical)
+            }
+        }
+        _ => None,
+    }
+}
+
+/// Which misuse an op is, if it is one.
 #[inline(always)]
-fn act_unless_it_switches<L: Log>(
+fn misuse(machine: &Machine, task: TaskId, op: &Op) -> Option<Misuse>
+    ensures { (s : State) → Stands machine.now s → result ≡ misuse s task op.now }
+{
+    if is_scheduler_suspended(machine) && may_switch(op) {
+        return Some(Misuse::WhileSuspended);
+    }
+    if let Some(misuse) = own_misuse(machine, task, op) {
+        return Some(misuse);
+    }
+    if machine.sections > 0 && is_barred(op) {
+        return Some(Misuse::WhileCritical);
+    }
+    None
+}
+
+/// What an op does while a task holds the scheduler, unless it is a misuse.
+#[inline(always)]
+fn act_unless_misuse<L: Log>(
     machine: &mut Machine,
     app: &App,
     task: TaskId,
@@ -191,8 +292,8 @@ fn act_unless_it_switches<L: Log>(
     ensures { Does 64 machine.old (L.logged log.old) machine.new (L.logged log.new)
         (λ s. act_unless app.now task (misuse s task op.now) op.now s) }
 {
-    if may_switch(op) {
-        machine.misuse(task, Misuse::WhileSuspended);
+    if let Some(misuse) = misuse(machine, task, op) {
+        machine.misuse(task, misuse);
         return;
     }
     let op_index = machine.progress(task).op_index;
@@ -200,7 +301,7 @@ fn act_unless_it_switches<L: Log>(
     judge(machine, task, op_index);
 }
 
-/// What the running task does while a `suspend_all` is in force: its op, if it has one.
+/// What the running task does while it holds the scheduler: its op, if it has one.
 // It finds the op by itself, so that the usual path needs it nowhere in memory.
 #[inline(always)]
 pub(crate) fn act_while_suspended<L: Log>(
@@ -220,11 +321,11 @@ pub(crate) fn act_while_suspended<L: Log>(
 {
     let op_index = machine.progress(task).op_index;
     if let Some(op) = op_of(app, task, op_index) {
-        act_unless_it_switches(machine, app, task, op, log);
+        act_unless_misuse(machine, app, task, op, log);
     }
 }
 
-/// The running task, where a `suspend_all` is in force.
+/// The running task, if it holds the scheduler.
 #[inline(always)]
 fn running_while_suspended(machine: &Machine) -> Option<TaskId>
     ensures runs { IfSome result (λ task. machine.now.sched.current ≡ Some task) }
@@ -236,8 +337,8 @@ fn running_while_suspended(machine: &Machine) -> Option<TaskId>
     machine.sched.current()
 }
 
-/// One step of the run without handlers, in which this task runs while a `suspend_all` is in force. Its events go to a log that has none
-/// of this step yet.
+/// One step of the run without handlers and with nothing pending, in which this task runs while it holds the scheduler. Its events go to a
+/// log that has none of this step yet.
 #[inline(always)]
 fn step_while_suspended<L: Log>(
     machine: &mut Machine,
@@ -247,6 +348,7 @@ fn step_while_suspended<L: Log>(
     log: &mut L,
 )
     requires going { CanStep app.now limits.now machine.old }
+    requires none { NonePends machine.old }
     requires runs { machine.old.sched.current ≡ Some task }
     requires some { 0 < machine.old.sched.suspensions }
     requires begun { (L.logged log.old).told ≡ [] }
@@ -262,7 +364,7 @@ fn step_while_suspended<L: Log>(
     machine.steps += 1;
 }
 
-/// Goes on along a run that is under way, while a `suspend_all` is in force and the run isn't over. It does no step from the one before
+/// Goes on along a run that is under way, while a task holds the scheduler and the run isn't over. It does no step from the one before
 /// `until` on, since the plan may have an injection at `until`, or a limit may be reached there.
 // Each of these steps asks for less than any other does.
 #[inline(never)]

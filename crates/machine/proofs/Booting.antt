@@ -34,6 +34,7 @@ use Rattle.model.proofs.Tables.{table-make_ready}
 use Rattle.soundness.proofs.Reached.{with_ops_within}
 use Rattle.machine.specs.declared.machine.Machine.{Machine}
 use Rattle.soundness.proofs.Pending.{none_listed, not_pending}
+use Rattle.machine.specs.Sources.{Sources, is_pending}
 use Rattle.machine.specs.StandsFor.{progress_in, AreSources, StandsFor, Stands}
 use Rattle.machine.specs.Boot.{priorities_in, HasNoneFrom}
 use Rattle.machine.proofs.Parts.{clock-same, ready_alike, rest_with_clock}
@@ -370,15 +371,16 @@ booted app formed k v w h ready chooses =
 
 -- ---- no source is pending
 
-pub sources_at_reset : (app : Application) → length app.handlers ≤ 16 → (pending : List Bool)
-    → ((source : ℕ) → get_or pending source false ≡ false) → length pending ≡ 17
-    → AreSources pending (map (λ (handler : Handler). no_source) app.handlers ++ no_source ∷ [])
-sources_at_reset app few pending none full =
+pub sources_at_reset : (app : Application) → length app.handlers ≤ 16 → (kept : Sources)
+    → kept.number ≡ length app.handlers + 1 → ((source : ℕ) → is_pending kept source ≡ false) → length kept.pending ≡ 17
+    → AreSources kept (map (λ (handler : Handler). no_source) app.handlers ++ no_source ∷ [])
+sources_at_reset app few kept number none full =
     let sources : List Source = map (λ (handler : Handler). no_source) app.handlers ++ no_source ∷ [] in
     let many : length sources ≡ length app.handlers + 1 =
     length-append (map (λ (handler : Handler). no_source) app.handlers) (no_source ∷ [])
     ∙ ap (λ (n : ℕ). n + 1) (length-map app.handlers (λ (handler : Handler). no_source)) in
     record {
+      number = number ∙ sym many;
       pending = λ source. none source ∙ sym (not_pending sources source (none_listed app.handlers));
       full = full;
       few = omega arith;

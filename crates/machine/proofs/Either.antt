@@ -1,8 +1,9 @@
 -- What holds of a kernel whether or not a task is still to be placed.
-use Rattle.std.proofs.Common.{◌+◌, ◌≡◌, ◌∙◌, ◌≤◌, ℕ, List, refl, ap, sym, arith}
+use Rattle.std.proofs.Common.{false, ◌+◌, ◌≡◌, ◌∙◌, ◌≤◌, ℕ, List, refl, ap, sym, arith}
 use Rattle.model.specs.declared.call.WaitList.{WaitList}
 use Rattle.model.specs.declared.event.Event.{Event}
 use Rattle.model.specs.State.{State, Progress, progress_at}
+use Rattle.model.specs.Switching.{is_held_by_task}
 use Rattle.machine.specs.declared.machine.Machine.{Machine}
 use Rattle.sched.specs.StandsFor.{task_holds_of}
 use Rattle.sched.proofs.Standing as on_sched
@@ -52,6 +53,10 @@ module _ (k : Machine) (s : State) where
   -- and no critical section is open
   pub none_open : Stands k s → k.sched.suspensions ≡ 0 → s.sections ≡ 0
   none_open h none = on_sched.none_open s (sym (suspensions_are h) ∙ none)
+
+  -- so none holds it in the state
+  pub not_by_task : Stands k s → k.sched.suspensions ≡ 0 → is_held_by_task s ≡ false
+  not_by_task h none = rw (none_in_force h none, none_open h none) refl
 
   pub sections_are : Stands k s → k.sections ≡ s.sections
   sections_are (Placed h) = h.rest.sections

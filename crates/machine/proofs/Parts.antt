@@ -227,9 +227,9 @@ abbrev pub seen : State → Seen
 seen s = (s.tasks, s.time, ticks_of s, s.objects, s.group_bits, s.locked, s.sources)
 
 -- Nothing changes that they see.
-pub rest_unseen : {k : Machine} {s new : State} {v : Schedule} {n : ℕ} {e : Option End} → RestStandsFor k s
-    → IsTable new → seen new ≡ seen s → new.sections ≡ s.sections → n ≡ new.steps → e ≡ new.stopped
-    → RestStandsFor (record k { sched = v; steps = n; stopped = e }) new
+pub rest_unseen : {k : Machine} {s new : State} {v : Schedule} {m n : ℕ} {e : Option End} → RestStandsFor k s
+    → IsTable new → seen new ≡ seen s → m ≡ new.sections → n ≡ new.steps → e ≡ new.stopped
+    → RestStandsFor (record k { sched = v; sections = m; steps = n; stopped = e }) new
 rest_unseen {k} {s} {new} h table same sections steps stopped =
     let tasks = ap (λ (x : Seen). x.0) same in
     let waits = same_parts s new tasks (ap (λ (x : Seen). x.3) same) (ap (λ (x : Seen). x.5) same) in
@@ -241,7 +241,7 @@ rest_unseen {k} {s} {new} h table same sections steps stopped =
       groups = on_groups.stands_same k.groups s new h.groups (bits_kept.same_parts s new tasks (ap (λ (x : Seen). x.4) same)) table;
       awake = at_locked_same None s new waits h.awake;
       sources = subst (AreSources k.sources) (sym (ap (λ (x : Seen). x.6) same)) h.sources;
-      sections = h.sections ∙ sym sections;
+      sections = sections;
       steps = steps;
       stopped = stopped;
       placed = h.placed;
@@ -257,7 +257,7 @@ stands-unseen k s h log steps n stopped end same same_end =
     let table : IsTable new = record { tickets = old.tickets; few = old.few; current = old.current; holders = old.holders } in
     record {
       sched = sched-same h.sched table refl refl refl;
-      rest = rest_unseen h.rest table refl refl same same_end;
+      rest = rest_unseen h.rest table refl h.rest.sections same same_end;
     }
 
 -- other events alone

@@ -93,7 +93,7 @@ unfolding choose dispatch
 rest-choose k s h table = by_test (is_same (choice s) s.current)
     (λ t. rw t h)
     (λ t. let ordered : IsTable (write (what.Run (choice s)) (record s { current = choice s })) = rw t at table in
-    rw t (rest_unseen h ordered refl refl h.steps h.stopped))
+    rw t (rest_unseen h ordered refl h.sections h.steps h.stopped))
 
 rest-back : (k : Machine) (s : State) (r : Option ℕ) → StandsFor k s
     → IfSome r (λ i. i < length s.tasks) → RestStandsFor k (for_one to_back r s)

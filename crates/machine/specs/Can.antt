@@ -1,5 +1,5 @@
 -- What a deed of the kernel asks of it: that the numbers of the code suffice, and that the parts agree.
-use Rattle.std.specs.Prelude.{◌≡◌, ◌≢◌, ◌<◌, ◌≤◌, ℕ, ◌+◌, ◌^◌, true, false, slice_index_or, List, [], ◌∷◌, Option, Some, None, IfSome, length}
+use Rattle.std.specs.Prelude.{◌≡◌, ◌≢◌, ◌<◌, ◌≤◌, ℕ, ◌+◌, ◌^◌, true, false, List, [], ◌∷◌, Option, Some, None, IfSome, length}
 use Rattle.std.specs.List.{AllByRecursion}
 use Rattle.model.specs.declared.op.Access.{Access}
 use Rattle.model.specs.declared.plan.Injection.{Injection}
@@ -11,6 +11,7 @@ use Rattle.lists.specs.Lists.{Each}
 use Rattle.sched.specs.Schedule.{Schedule, is_ready}
 use Rattle.objects.specs.Objects as objects
 use Rattle.machine.specs.declared.machine.Machine.{Machine}
+use Rattle.machine.specs.Sources.{is_pending}
 use Rattle.machine.specs.StandsFor.{StandsFor, Stands, progress_in}
 
 -- The parts of the kernel agree: it represents some state, in which each task is in its lists.
@@ -43,10 +44,9 @@ pub record CanJump (ticks : ℕ) (k : Machine) : Type 0 where
   pub advance : CanAdvance k
   pub soon : Each (λ e. k.clock.now + ticks ≤ e.1) k.clock.delayed_list
 
--- No interrupt is pending, and none becomes so: no critical section is open.
-pub record NonePends (k : Machine) : Type 0 where
-  pub pending : (source : ℕ) → slice_index_or k.sources source false ≡ false
-  pub closed : k.sections ≡ 0
+-- No interrupt is pending.
+abbrev pub NonePends : Machine → Type 0
+NonePends k = (source : ℕ) → is_pending k.sources source ≡ false
 
 -- The task is the running one, and each task is in its lists.
 pub record IsInCall (k : Machine) (task : ℕ) : Type 0 where

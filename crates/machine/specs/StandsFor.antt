@@ -1,5 +1,5 @@
 -- What a kernel represents: a state of the definitions, whose tickets it doesn't have.
-use Rattle.std.specs.Prelude.{◌≡◌, ◌≢◌, ℕ, ◌+◌, ◌≤◌, Bool, false, true, List, [], ◌∷◌, Option, Some, None, length, slice_index_or, slice_set}
+use Rattle.std.specs.Prelude.{◌≡◌, ◌≢◌, ℕ, ◌+◌, ◌≤◌, false, true, List, [], ◌∷◌, Option, Some, None, length, slice_index_or, slice_set}
 use Rattle.std.specs.Prelude.{if◌then◌else◌}
 use Rattle.model.specs.declared.call.Phase.TheVariants.{Place}
 use Rattle.model.specs.declared.call.WaitList.{WaitList}
@@ -14,6 +14,7 @@ use Rattle.objects.specs.Objects as objects
 use Rattle.groups.specs.StandsFor as groups
 use Rattle.machine.specs.declared.machine.Machine.{Machine}
 use Rattle.machine.specs.Logged.{Logged}
+use Rattle.machine.specs.Sources.{Sources, is_pending}
 
 -- the progress that the kernel keeps of this task
 abbrev pub progress_in : List Progress → ℕ → Progress
@@ -24,9 +25,10 @@ abbrev pub AreBlankFrom : ℕ → List Progress → Type 0
 AreBlankFrom tasks ps = (task : ℕ) → tasks ≤ task → progress_in ps task ≡ no_progress
 
 -- The code keeps in 17 places which of these sources are pending.
-pub record AreSources (kept : List Bool) (sources : List Source) : Type 0 where
-  pub pending : (source : ℕ) → slice_index_or kept source false ≡ (slice_index_or sources source no_source).pending
-  pub full : length kept ≡ 17
+pub record AreSources (kept : Sources) (sources : List Source) : Type 0 where
+  pub number : kept.number ≡ length sources
+  pub pending : (source : ℕ) → is_pending kept source ≡ (slice_index_or sources source no_source).pending
+  pub full : length kept.pending ≡ 17
   pub few : length sources ≤ 17
 
 -- all but the scheduler, where no task has begun to wait without being in its lists yet

@@ -109,7 +109,7 @@ impl Machine {
             clock: Clock::new(app.start()),
             objects: Objects::new(app.objects()),
             groups: Groups::new(),
-            sources: Sources::new(),
+            sources: Sources::new(app.handlers().len()),
             sections: 0,
             wait_list: NO_WAIT_LIST,
             next_interrupt: 0,

@@ -6,6 +6,7 @@ mod boot;
 mod deadlines;
 mod front;
 mod hint;
+mod interrupts;
 mod log;
 mod loops;
 mod machine;

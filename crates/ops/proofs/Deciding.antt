@@ -399,7 +399,7 @@ hold_at b k log s h v on =
       stands =
           record {
             sched = on;
-            rest = rest_unseen h.stands.rest on.table refl refl h.stands.rest.steps h.stands.rest.stopped;
+            rest = rest_unseen h.stands.rest on.table refl h.stands.rest.sections h.stands.rest.steps h.stands.rest.stopped;
           };
       log = h.log;
     }

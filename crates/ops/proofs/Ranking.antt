@@ -13,7 +13,7 @@ use Rattle.model.specs.declared.op.Op.TheVariants.{GiveMutex}
 use Rattle.model.specs.Application.{Application}
 use Rattle.model.specs.Ops.{answer}
 use Rattle.model.specs.Step.{act_unless, misuse, misused, own_misuse}
-use Rattle.soundness.proofs.Judging.{acts_calm}
+use Rattle.soundness.proofs.Judging.{acts_calm, misuse_calm}
 use Rattle.model.specs.Waiting.{wake_best}
 use Rattle.std.proofs.lemmas.Bool.{lt-ltb, eq-eqb, ne_eqb}
 use Rattle.objects.specs.Objects.{Objects}
@@ -139,19 +139,18 @@ module _ (P : State → Type 0) (s : State) where
 
 -- ---- a mutex is given back
 
--- an unlock by the holder, where no `suspend_all` is in force
+-- an unlock by the holder, where no task holds the scheduler
 pub gave : (app : Application) (new : Machine) (log : List Event) (s : State) (i o : ℕ)
-    → s.suspensions ≡ 0 → own_misuse s i (GiveMutex o) ≡ None
+    → is_held_by_task s ≡ false → own_misuse s i (GiveMutex o) ≡ None
     → At new log (preempt (answer app i (Some 1)
     (wake_best (ToReceive o) (disinherit i (with_object o (record (object_at s o) { holder = None }) s)))))
     → At new log (act_unless app i (misuse s i (GiveMutex o)) (GiveMutex o) s)
 unfolding give_mutex
-gave app new log s i o calm is h = subst (At new log) (sym (acts_calm app i (GiveMutex o) s calm is (λ e. absurd (cc)))) h
+gave app new log s i o calm is h = subst (At new log) (sym (acts_calm app i (GiveMutex o) s calm is refl)) h
 
 -- or by another
 pub gave_nothing : (app : Application) (new : Machine) (log : List Event) (s : State) (i o : ℕ) (kind : Misuse)
-    → s.suspensions ≡ 0 → own_misuse s i (GiveMutex o) ≡ Some kind → At new log (misused i (progress_at s i).op_index kind s)
+    → is_held_by_task s ≡ false → own_misuse s i (GiveMutex o) ≡ Some kind → At new log (misused i (progress_at s i).op_index kind s)
     → At new log (act_unless app i (misuse s i (GiveMutex o)) (GiveMutex o) s)
 gave_nothing app new log s i o kind calm is h =
-    let one : misuse s i (GiveMutex o) ≡ own_misuse s i (GiveMutex o) = rw calm refl in
-    rw (one ∙ is) h
+    rw (misuse_calm s i (GiveMutex o) calm ∙ is) h

@@ -121,8 +121,8 @@ CanWaitBits k task ticks Start = CanDecide k task × IsShort ticks × (k.clock.n
 CanWaitBits k task ticks Leave = CanLeave k task
 CanWaitBits k task ticks _ = CanDecide k task
 
--- While a `suspend_all` is in force, and no call holds the scheduler: the task runs and can do this op, and one more of both
--- `suspend_all` and held ticks can be counted.
+-- While a task holds the scheduler, by `suspend_all` or in a critical section, and no call does: the task runs and can do this op, and
+-- one more of each of these and of the held ticks can be counted.
 pub record CanHold (app : Application) (k : Machine) (task : ℕ) (op : Op) : Type 0 where
   pub runs : Runs k task
   pub agrees : Agrees k
@@ -131,8 +131,8 @@ pub record CanHold (app : Application) (k : Machine) (task : ℕ) (op : Op) : Ty
   pub held : k.clock.held < 4294967295
   pub suspensions : k.sched.suspensions < 4294967295
   pub depth : k.sched.depth ≡ k.sched.suspensions
-  -- no critical section is open
-  pub closed : k.sections ≡ 0
+  -- the critical sections that are open are among what holds it
+  pub sections : k.sections ≤ k.sched.suspensions
   pub objects : HasObjects app k
   pub used : IsUsedBy (progress_in k.progress task).used (Some op)
   pub nesting : HasLoopRoom op (length (progress_in k.progress task).loops)

@@ -5,6 +5,7 @@
 #![tactic(auto)]
 
 pub mod calls;
+pub mod critical;
 pub mod daemon;
 pub mod event_groups;
 pub mod mutexes;

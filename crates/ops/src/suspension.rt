@@ -134,6 +134,7 @@ fn apply_held(machine: &mut Machine)
 fn resume_scheduler(machine: &mut Machine, app: &App, task: TaskId)
     requires can { CanHold app.now machine.old task op.ResumeAll }
     requires some { 0 < machine.old.sched.suspensions }
+    requires closed { machine.old.sections ≡ 0 }
     ensures does { Moves machine.old machine.new definitions.resume_scheduler }
     ensures depth { machine.new.sched.suspensions ≡ 0 → machine.new.sched.depth ≡ 0 }
 {
@@ -143,11 +144,13 @@ fn resume_scheduler(machine: &mut Machine, app: &App, task: TaskId)
     }
 }
 
-/// `resume_all`: one less is in force; after the last the held ticks are applied, and a higher task may run.
+/// `resume_all` where no critical section is open: one less is in force; after the last the held ticks are applied, and a higher task
+/// may run.
 pub fn resume_all<L: Log>(machine: &mut Machine, app: &App, task: TaskId, log: &mut L)
     requires room { 2 ≤ (L.logged log.old).room }
     requires can { CanHold app.now machine.old task op.ResumeAll }
     requires some { 0 < machine.old.sched.suspensions }
+    requires closed { machine.old.sections ≡ 0 }
     ensures { Does 2 machine.old (L.logged log.old) machine.new (L.logged log.new)
         (definitions.resume_all app.now task) }
 {

@@ -1,6 +1,6 @@
 -- Nothing is pending after a step before which no critical section is open. And a step into which nothing is injected, before which
 -- nothing is pending, begins with nothing.
-use Rattle.std.proofs.Common.{arith, ◌≡◌, ◌<◌, ◌∙◌, ℕ, zero, suc, Bool, false, List, [], ◌∷◌, ◌++◌, map, get_or, refl, ap, sym, subst}
+use Rattle.std.proofs.Common.{arith, true, eqb, ◌≡◌, ◌≢◌, ◌<◌, ◌≤◌, ◌∙◌, ℕ, zero, suc, Bool, false, List, [], ◌∷◌, ◌++◌, map, get_or, refl, ap, sym, subst}
 use Rattle.std.specs.List.{AllByRecursion, filter, range_with_len}
 use Rattle.std.specs.Prelude.{length}
 use Rattle.model.specs.declared.plan.Injection.{Injection}
@@ -12,6 +12,7 @@ use Rattle.model.specs.Step.{act_current, before_step, step, reset, ready_at_res
 use Rattle.model.specs.Run.{injected, state_after}
 use Rattle.model.specs.Invariant.{IsNonePending}
 use Rattle.model.proofs.Sorting.{by_test}
+use Rattle.model.proofs.Lists.{eqb-refl, eqb-same}
 use Rattle.soundness.proofs.Frames.{keeps-serve, keeps-inject, keeps-unless_held, keeps-settle, keeps-all_ready}
 use Rattle.soundness.proofs.Moving.{sources-act_current}
 
@@ -121,13 +122,18 @@ pub none_at_reset : (app : Application) → IsNonePending (reset app)
 unfolding reset ready_at_reset nobody_ready
 none_at_reset app = none_ready app (with_ops 0 app.tasks) (nobody_ready app) (none_listed app.handlers)
 
--- ---- so in every state of a run, up to the first injection
+-- ---- nor between two steps of a run, where nothing is injected in between
 
-pub none_reached : (app : Application) (limits : Limits) (plan : List Injection) (n : ℕ)
-    → ((k : ℕ) → k < n → injected plan k ≡ []) → IsNonePending (state_after app limits plan n)
-none_reached app limits plan zero none = none_at_reset app
-none_reached app limits plan (suc n) none =
-    let s : State = state_after app limits plan n in
-    let before : IsNonePending s = none_reached app limits plan n (λ k l. none k (omega arith)) in
-    subst (λ (handlers : List ℕ). IsNonePending (step app limits handlers s)) (sym (none n (omega arith)))
-    (none_still app limits s before)
+pub none_between : (app : Application) (limits : Limits) (plan : List Injection) (n m : ℕ) → n ≤ m
+    → ((k : ℕ) → n ≤ k → k < m → injected plan k ≡ []) → IsNonePending (state_after app limits plan n)
+    → IsNonePending (state_after app limits plan m)
+none_between app limits plan n zero le none before =
+    let z : n ≡ 0 = omega arith in subst (λ (k : ℕ). IsNonePending (state_after app limits plan k)) z before
+none_between app limits plan n (suc m) le none before = by_test (eqb n (suc m))
+    (λ t. subst (λ (k : ℕ). IsNonePending (state_after app limits plan k)) (eqb-same n (suc m) t) before)
+    (λ t.
+    let apart : n ≢ suc m = (λ q. let w : eqb n (suc m) ≡ true = rw q (eqb-refl (suc m)) in absurd (cc)) in
+    let s : State = state_after app limits plan m in
+    let at : IsNonePending s = none_between app limits plan n m (omega arith) (λ k from l. none k from (omega arith)) before in
+    subst (λ (handlers : List ℕ). IsNonePending (step app limits handlers s)) (sym (none m (omega arith) (omega arith)))
+    (none_still app limits s at))

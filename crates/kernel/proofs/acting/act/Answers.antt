@@ -2,16 +2,16 @@ use Rattle.std.proofs.Common.{◌∙◌, ◌<◌, ap, arith, refl, subst, sym}
 use Rattle.model.specs.declared.op.Op.TheVariants.{Work, Delay, DelayUntil, Yield, Time, Mark, Expect, Repeat, End as EndLoop, If}
 use Rattle.model.specs.declared.op.Op.TheVariants.{Else, EndIf, Break, Stamp, Since, Await, Do, MessagesWaiting, SpacesAvailable}
 use Rattle.model.specs.declared.op.Op.TheVariants.{SetBits, ClearBits, GetBits, WaitBits, Suspend, Resume, ResumeAll, NextCommand}
-use Rattle.model.specs.declared.op.Op.TheVariants.{Obey}
-use Rattle.model.specs.declared.event.Misuse.TheVariants.{NotSuspended}
+use Rattle.model.specs.declared.op.Op.TheVariants.{EnterCritical, ExitCritical, Obey}
+use Rattle.model.specs.declared.event.Misuse.TheVariants.{NotSuspended, NotCritical}
 use Rattle.model.specs.State.{Progress}
 use Rattle.machine.specs.StandsFor.{progress_in}
 use Rattle.kernel.specs.Bits.Begins.{Sets, Waits}
 use Rattle.kernel.specs.Can.{CanOp}
-use Rattle.sched.proofs.Standing.{none_suspends}
-use Rattle.kernel.proofs.Held.{misused_at, not_suspended}
+use Rattle.machine.specs.StandsFor.Stands.{Placed}
+use Rattle.kernel.proofs.Held.{misused_at, not_suspended, not_critical}
 use Rattle.kernel.proofs.Acted.{all_within, any_by_form, does_by_form, one_within, room_for_one, room_for_two, two_within}
-use Rattle.machine.proofs.Either.{does_any, does_more, moves_any}
+use Rattle.machine.proofs.Either.{does_any, does_more, moves_any, not_by_task}
 use Rattle.kernel.proofs.acting.act.Goals as goal
 
 pub returns-in-Work-clause-does : goal.returns-in-Work-clause-does
@@ -216,10 +216,30 @@ returns-in-ResumeAll-clause-does g c =
     rw c.in-ResumeAll.is (does_any 65 _ _ _ _ _ can.tick.advance.agrees (record {
       at = λ s h.
           misused_at c.args.app.now c.misuse.new.self _ s c.args.task ResumeAll NotSuspended
-          (not_suspended s c.args.task (none_suspends s (sym h.stands.sched.suspensions ∙ c.requires.awake))) (c.misuse.ensures _ s h);
+          (not_suspended s c.args.task (not_by_task c.args.machine.now s (Placed h.stands) c.requires.awake)) (c.misuse.ensures _ s h);
       few = omega arith;
       before = refl;
     }))
+
+pub returns-in-EnterCritical-clause-does : goal.returns-in-EnterCritical-clause-does
+returns-in-EnterCritical-clause-does g c =
+    let can = rw c.in-EnterCritical.is at c.requires.can in
+    rw c.in-EnterCritical.is
+    (moves_any 65 _ _ (g.L.Log.logged c.args.log.now) _ can.tick.advance.agrees c.call_enter_critical.ensures)
+
+pub returns-in-ExitCritical-clause-does : goal.returns-in-ExitCritical-clause-does
+returns-in-ExitCritical-clause-does g c =
+    let can = rw c.in-ExitCritical.is at c.requires.can in
+    rw c.in-ExitCritical.is (does_any 65 _ _ _ _ _ can.tick.advance.agrees (record {
+      at = λ s h.
+          misused_at c.args.app.now c.misuse.new.self _ s c.args.task ExitCritical NotCritical
+          (not_critical s c.args.task (not_by_task c.args.machine.now s (Placed h.stands) c.requires.awake)) (c.misuse.ensures _ s h);
+      few = omega arith;
+      before = refl;
+    }))
+
+pub call_enter_critical-requires : goal.call_enter_critical-requires
+call_enter_critical-requires g c = subst (CanOp c.args.app.now c.args.machine.now c.args.task) c.in-EnterCritical.is c.requires.can
 
 pub delay-requires : goal.delay-requires
 delay-requires g c =

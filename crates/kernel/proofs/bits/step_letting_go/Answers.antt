@@ -3,8 +3,8 @@ use Rattle.model.specs.Step.{step}
 use Rattle.machine.proofs.Either.{steps_are}
 use Rattle.kernel.proofs.Bounds.{below_limits, can_do}
 use Rattle.kernel.proofs.Counting.{steps_still}
-use Rattle.kernel.proofs.Ending.{begun, handled_before, stepped}
-use Rattle.machine.proofs.Pending.{plain_by}
+use Rattle.kernel.proofs.Ending.{begun, begun_with_none, stepped}
+use Rattle.machine.proofs.Pending.{none_by}
 use Rattle.kernel.proofs.bits.step_letting_go.Goals as goal
 
 pub let_go-requires-clause-can : goal.let_go-requires-clause-can
@@ -18,7 +18,7 @@ overflow_add-machine g c =
     let limits = c.requires.going.0 in
     let going = c.requires.going.1 in
     let a =
-    c.settle.ensures.at _ ((c.let_go.ensures limits).at _ (handled_before c.args.app.now [] going.state (plain_by c.args.machine.now going.state going.none going.stands) c.args.machine.now
+    c.settle.ensures.at _ ((c.let_go.ensures limits).at _ (begun_with_none c.args.app.now going.state (none_by c.args.machine.now going.state c.requires.none going.stands) c.args.machine.now
     _ (begun c.args.machine.now (g.L.Log.logged c.args.log.now).told going.state going.stands c.requires.begun))) in
     let still =
     steps_still c.args.app.now limits [] going.state c.args.machine.now
@@ -32,7 +32,7 @@ overflow_add-machine g c =
 pub returns-clause-stands : goal.returns-clause-stands
 returns-clause-stands g c = λ limits s h.
     let a =
-    c.settle.ensures.at _ ((c.let_go.ensures limits).at _ (handled_before c.args.app.now [] s (plain_by c.args.machine.now s c.requires.going.1.none h) c.args.machine.now
+    c.settle.ensures.at _ ((c.let_go.ensures limits).at _ (begun_with_none c.args.app.now s (none_by c.args.machine.now s c.requires.none h) c.args.machine.now
     _ (begun c.args.machine.now (g.L.Log.logged c.args.log.now).told s h c.requires.begun))) in
     let still =
     steps_still c.args.app.now limits [] s c.args.machine.now c.settle.new.self (g.L.Log.logged c.settle.new.log).told h a in
@@ -44,7 +44,7 @@ unfolding step
 returns-clause-told g c = λ limits s h.
     (c.settle.ensures.at _
     ((c.let_go.ensures limits).at _
-    (handled_before c.args.app.now [] s (plain_by c.args.machine.now s c.requires.going.1.none h) c.args.machine.now _
+    (begun_with_none c.args.app.now s (none_by c.args.machine.now s c.requires.none h) c.args.machine.now _
     (begun c.args.machine.now (g.L.Log.logged c.args.log.now).told s h c.requires.begun)))).log
 
 pub settle-requires : goal.settle-requires

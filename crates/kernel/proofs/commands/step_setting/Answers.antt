@@ -20,7 +20,7 @@ overflow_add-machine c =
     (can_begin c.args.app.now c.args.machine.now c.args.task c.args.command.now c.requires.sets
     (can_do c.args.app.now c.well_formed-2.ensures c.args.machine.now c.requires.going.1
     c.args.task c.requires.sets.current c.requires.sets.awake Obey c.requires.sets.at))
-    c.begin_set.ensures.does c.begin_set.ensures.held going.none going.state going.stands in
+    c.begin_set.ensures.does c.begin_set.ensures.held c.requires.none going.state going.stands in
     let is = steps_are c.args.machine.now going.state going.stands in
     let low = below_limits c.args.app.now limits going.state going.goes_on in
     let few = low.1 in
@@ -33,7 +33,7 @@ returns-clause-stands c = λ limits s h.
     (can_begin c.args.app.now c.args.machine.now c.args.task c.args.command.now c.requires.sets
     (can_do c.args.app.now c.well_formed-2.ensures c.args.machine.now c.requires.going.1
     c.args.task c.requires.sets.current c.requires.sets.awake Obey c.requires.sets.at))
-    c.begin_set.ensures.does c.begin_set.ensures.held c.requires.going.1.none s h
+    c.begin_set.ensures.does c.begin_set.ensures.held c.requires.none s h
 
 pub returns-clause-silent : goal.returns-clause-silent
 returns-clause-silent c = λ limits s h.
@@ -41,7 +41,7 @@ returns-clause-silent c = λ limits s h.
     (can_begin c.args.app.now c.args.machine.now c.args.task c.args.command.now c.requires.sets
     (can_do c.args.app.now c.well_formed-2.ensures c.args.machine.now c.requires.going.1
     c.args.task c.requires.sets.current c.requires.sets.awake Obey c.requires.sets.at))
-    c.begin_set.ensures.does c.begin_set.ensures.held c.requires.going.1.none s h
+    c.begin_set.ensures.does c.begin_set.ensures.held c.requires.none s h
 
 pub returns-clause-on : goal.returns-clause-on
 returns-clause-on c = λ limits s h.
@@ -49,7 +49,7 @@ returns-clause-on c = λ limits s h.
     (can_begin c.args.app.now c.args.machine.now c.args.task c.args.command.now c.requires.sets
     (can_do c.args.app.now c.well_formed-2.ensures c.args.machine.now c.requires.going.1
     c.args.task c.requires.sets.current c.requires.sets.awake Obey c.requires.sets.at))
-    c.begin_set.ensures.does c.begin_set.ensures.held c.requires.going.1.none s h c.begin_set.ensures.remains
+    c.begin_set.ensures.does c.begin_set.ensures.held c.requires.none s h c.begin_set.ensures.remains
 
 pub returns-clause-letting : goal.returns-clause-letting
 returns-clause-letting c =

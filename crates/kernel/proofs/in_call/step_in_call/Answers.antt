@@ -30,7 +30,7 @@ overflow_add-machine c =
     steps_held c.args.app.now limits c.args.machine.now c.args.task c.args.object c.args.access c.args.phase
     c.requires.call (past_silent c.args.phase c.requires.silent) c.go_on_silently.new.machine
     (λ log s h. c.go_on_silently.ensures.does c.args.app.now c.requires.call.ticks log s h)
-    going.none (omega arith) going.state going.stands in
+    c.requires.none (omega arith) going.state going.stands in
     let is = steps_are c.args.machine.now going.state going.stands in
     let low = below_limits c.args.app.now limits going.state going.goes_on in
     let few = low.1 in
@@ -42,14 +42,14 @@ returns-clause-stands c = λ limits s h.
     let held = c.go_on_silently.ensures.held in
     stepped_held c.args.app.now limits c.args.machine.now c.args.task c.args.object c.args.access c.args.phase
     c.requires.call (past_silent c.args.phase c.requires.silent) c.go_on_silently.new.machine
-    (λ log s h. c.go_on_silently.ensures.does c.args.app.now c.requires.call.ticks log s h) c.requires.going.1.none (omega arith) s h
+    (λ log s h. c.go_on_silently.ensures.does c.args.app.now c.requires.call.ticks log s h) c.requires.none (omega arith) s h
 
 pub returns-clause-silent : goal.returns-clause-silent
 returns-clause-silent c = λ limits s h.
     let held = c.go_on_silently.ensures.held in
     told_nothing c.args.app.now limits c.args.machine.now c.args.task c.args.object c.args.access c.args.phase
     c.requires.call (past_silent c.args.phase c.requires.silent) c.go_on_silently.new.machine
-    (λ log s h. c.go_on_silently.ensures.does c.args.app.now c.requires.call.ticks log s h) c.requires.going.1.none (omega arith) s h
+    (λ log s h. c.go_on_silently.ensures.does c.args.app.now c.requires.call.ticks log s h) c.requires.none (omega arith) s h
 
 pub returns-clause-on : goal.returns-clause-on
 returns-clause-on c = λ limits s h.
@@ -57,7 +57,7 @@ returns-clause-on c = λ limits s h.
     not_over_after c.args.app.now limits c.args.machine.now c.args.task c.args.object c.args.access
     c.args.phase c.requires.call (past_silent c.args.phase c.requires.silent) c.go_on_silently.new.machine
     (λ log s h. c.go_on_silently.ensures.does c.args.app.now c.requires.call.ticks log s h)
-    c.requires.going.1.none (omega arith) s h c.requires.silent c.go_on_silently.ensures.remains.current
+    c.requires.none (omega arith) s h c.requires.silent c.go_on_silently.ensures.remains.current
 
 pub returns-clause-call : goal.returns-clause-call
 returns-clause-call c = λ next e.

@@ -4,9 +4,9 @@ use Rattle.model.specs.declared.call.Phase.TheVariants.{Leave}
 use Rattle.kernel.proofs.Bounds.{below_limits, can_do}
 use Rattle.kernel.proofs.Counting.{steps_still}
 use Rattle.machine.proofs.Either.{steps_are}
-use Rattle.kernel.proofs.Ending.{begun, handled_before, stepped}
+use Rattle.kernel.proofs.Ending.{begun, begun_with_none, stepped}
 use Rattle.kernel.proofs.InCall.{can_in_phase, leaves}
-use Rattle.machine.proofs.Pending.{plain_by}
+use Rattle.machine.proofs.Pending.{none_by}
 use Rattle.kernel.proofs.in_call.step_leaving.Goals as goal
 
 pub leave_call-requires-clause-can : goal.leave_call-requires-clause-can
@@ -31,7 +31,7 @@ overflow_add-machine g c =
     leaves c.args.app.now limits c.args.machine.now c.leave_call.new.machine c.args.task c.requires.leaving
     can (g.L.Log.logged c.args.log.now) (g.L.Log.logged c.leave_call.new.log) c.leave_call.ensures in
     let a =
-    c.settle.ensures.at _ (does.at _ (handled_before c.args.app.now [] going.state (plain_by c.args.machine.now going.state going.none going.stands) c.args.machine.now _
+    c.settle.ensures.at _ (does.at _ (begun_with_none c.args.app.now going.state (none_by c.args.machine.now going.state c.requires.none going.stands) c.args.machine.now _
     (begun c.args.machine.now (g.L.Log.logged c.args.log.now).told going.state going.stands c.requires.begun))) in
     let still =
     steps_still c.args.app.now limits [] going.state c.args.machine.now
@@ -54,7 +54,7 @@ returns-clause-stands g c = λ limits s h.
     leaves c.args.app.now limits c.args.machine.now c.leave_call.new.machine c.args.task c.requires.leaving
     can (g.L.Log.logged c.args.log.now) (g.L.Log.logged c.leave_call.new.log) c.leave_call.ensures in
     let a =
-    c.settle.ensures.at _ (does.at _ (handled_before c.args.app.now [] s (plain_by c.args.machine.now s c.requires.going.1.none h) c.args.machine.now _
+    c.settle.ensures.at _ (does.at _ (begun_with_none c.args.app.now s (none_by c.args.machine.now s c.requires.none h) c.args.machine.now _
     (begun c.args.machine.now (g.L.Log.logged c.args.log.now).told s h c.requires.begun))) in
     let still =
     steps_still c.args.app.now limits [] s c.args.machine.now c.settle.new.self (g.L.Log.logged c.settle.new.log).told h a in
@@ -74,5 +74,5 @@ returns-clause-told g c = λ limits s h.
     leaves c.args.app.now limits c.args.machine.now c.leave_call.new.machine c.args.task c.requires.leaving
     can (g.L.Log.logged c.args.log.now) (g.L.Log.logged c.leave_call.new.log) c.leave_call.ensures in
     (c.settle.ensures.at _
-    (does.at _ (handled_before c.args.app.now [] s (plain_by c.args.machine.now s c.requires.going.1.none h) c.args.machine.now _
+    (does.at _ (begun_with_none c.args.app.now s (none_by c.args.machine.now s c.requires.none h) c.args.machine.now _
     (begun c.args.machine.now (g.L.Log.logged c.args.log.now).told s h c.requires.begun)))).log

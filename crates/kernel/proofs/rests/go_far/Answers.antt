@@ -6,6 +6,7 @@ use Rattle.machine.specs.declared.machine.Machine.{Machine}
 use Rattle.machine.specs.Logged.{all_of}
 use Rattle.machine.specs.Can.{IsUnderWay}
 use Rattle.machine.proofs.Either.{elapsed_is, steps_are}
+use Rattle.machine.proofs.Pending.{none_of_any}
 use Rattle.kernel.specs.Along.{IsFree}
 use Rattle.kernel.specs.Leads.{IsLed, IsPast}
 use Rattle.kernel.proofs.Along.{free_of_limits}
@@ -49,6 +50,7 @@ go_on-requires-clause-free c =
     free_of_limits c.args.app.now c.args.limits.now c.free_until-stop.result c.steps.machine c.args.injections.now
     (c.steps.invariant.led.leads.way c.args.injections.now (record { way = c.requires.way; past = c.requires.past }))
     (λ n from below. c.requires.past n (omega arith)) c.free_until-stop.ensures.ticks c.free_until-stop.ensures.steps
+    (none_of_any c.steps.machine.sources.pending (sym c.any_pending.ensures ∙ c.if-any_pending.false))
 
 pub steps-smaller : goal.steps-smaller
 steps-smaller c =
@@ -97,7 +99,9 @@ steps-preserved c =
           (all_of c.args.trail.now) (all_of c.steps.trail) (all_of c.go_on.new.trail) led
           (led_on c.args.app.now c.args.limits.now c.free_until-stop.result c.steps.machine c.go_on.new.kernel
           (all_of c.steps.trail) (all_of c.go_on.new.trail) c.free_until-stop.ensures.ticks
-          c.free_until-stop.ensures.steps c.in_ok-go_on.ensures.along c.args.injections.now past);
+          c.free_until-stop.ensures.steps c.in_ok-go_on.ensures.along
+          (none_of_any c.steps.machine.sources.pending (sym c.any_pending.ensures ∙ c.if-any_pending.false))
+          c.args.injections.now past);
       far = omega arith;
       meter = omega arith;
     }
@@ -108,7 +112,8 @@ returns-in_err-go_on-clause-way c =
     let free : IsFree c.args.app.now c.args.limits.now c.free_until-stop.result c.steps.machine c.args.injections.now =
     free_of_limits c.args.app.now c.args.limits.now c.free_until-stop.result c.steps.machine c.args.injections.now
     (c.steps.invariant.led.leads.way c.args.injections.now (record { way = c.requires.way; past = c.requires.past }))
-    (λ n from below. c.requires.past n (omega arith)) c.free_until-stop.ensures.ticks c.free_until-stop.ensures.steps in
+    (λ n from below. c.requires.past n (omega arith)) c.free_until-stop.ensures.ticks c.free_until-stop.ensures.steps
+    (none_of_any c.steps.machine.sources.pending (sym c.any_pending.ensures ∙ c.if-any_pending.false)) in
     c.go_on.ensures.to.way c.args.injections.now free
 
 pub returns-in_err-go_on-clause-kept : goal.returns-in_err-go_on-clause-kept
@@ -124,7 +129,8 @@ returns-in_err-go_on-clause-refused c =
     let free : IsFree c.args.app.now c.args.limits.now c.free_until-stop.result c.steps.machine c.args.injections.now =
     free_of_limits c.args.app.now c.args.limits.now c.free_until-stop.result c.steps.machine c.args.injections.now
     (c.steps.invariant.led.leads.way c.args.injections.now (record { way = c.requires.way; past = c.requires.past }))
-    (λ n from below. c.requires.past n (omega arith)) c.free_until-stop.ensures.ticks c.free_until-stop.ensures.steps in
+    (λ n from below. c.requires.past n (omega arith)) c.free_until-stop.ensures.ticks c.free_until-stop.ensures.steps
+    (none_of_any c.steps.machine.sources.pending (sym c.any_pending.ensures ∙ c.if-any_pending.false)) in
     let way : IsUnderWay c.args.app.now c.args.injections.now c.args.limits.now c.go_on.new.kernel =
     c.go_on.ensures.to.way c.args.injections.now free in
     let p = err_from_is_err_and c.from_residual.result c.from_residual.ensures.1 in
@@ -151,7 +157,8 @@ invariant_of-kernel-in_err-go_on c = λ task behind.
     let free : IsFree c.args.app.now c.args.limits.now c.free_until-stop.result c.steps.machine c.args.injections.now =
     free_of_limits c.args.app.now c.args.limits.now c.free_until-stop.result c.steps.machine c.args.injections.now
     (c.steps.invariant.led.leads.way c.args.injections.now (record { way = c.requires.way; past = c.requires.past }))
-    (λ n from below. c.requires.past n (omega arith)) c.free_until-stop.ensures.ticks c.free_until-stop.ensures.steps in
+    (λ n from below. c.requires.past n (omega arith)) c.free_until-stop.ensures.ticks c.free_until-stop.ensures.steps
+    (none_of_any c.steps.machine.sources.pending (sym c.any_pending.ensures ∙ c.if-any_pending.false)) in
     blank_on_the_way c.args.app.now c.well_formed-2.ensures c.args.limits.now c.args.injections.now c.go_on.new.kernel
     (c.go_on.ensures.to.way c.args.injections.now free) task
     (subst (λ (ts : List Definition). length ts ≤ task) c.tasks.ensures behind)

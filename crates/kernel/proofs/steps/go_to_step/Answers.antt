@@ -8,7 +8,8 @@ use Rattle.model.specs.State.{State}
 use Rattle.model.specs.Run.{end_of, injected, state_after}
 use Rattle.machine.specs.declared.machine.Machine.{Machine}
 use Rattle.machine.specs.StandsFor.{Stands}
-use Rattle.machine.specs.Can.{IsUnderWay}
+use Rattle.machine.specs.Can.{IsUnderWay, NonePends}
+use Rattle.machine.proofs.Pending.{none_of_any}
 use Rattle.kernel.specs.Along.{IsFree}
 use Rattle.machine.specs.Logged.{all_of}
 use Rattle.kernel.specs.Rows.{events_from}
@@ -37,10 +38,10 @@ module _ (app : Application) (formed : IsWellFormed app) (plan : List Injection)
 
   free_then : (until least : ℕ) → ((n : ℕ) → n < least → injected later n ≡ []) → until ≤ least
       → (app.tickless ≡ false → next.steps < until → next.clock.age + next.clock.held + until ≤ limits.ticks + next.steps)
-      → (next.steps < until → until ≤ limits.steps) → IsFree app limits until next plan
-  free_then until least alone far ticks steps =
+      → (next.steps < until → until ≤ limits.steps) → NonePends next → IsFree app limits until next plan
+  free_then until least alone far ticks steps none =
       free_of_limits app limits until next plan (goes_on app formed plan limits are k way on next stands_on)
-      (λ n from below. sym (left_then.same n from) ∙ alone n (omega arith)) ticks steps
+      (λ n from below. sym (left_then.same n from) ∙ alone n (omega arith)) ticks steps none
 
 pub steps-init : goal.steps-init
 steps-init c = record {
@@ -204,7 +205,8 @@ go_on-requires-clause-free c =
     c.steps.kernel c.step_by_plan.new.kernel c.steps.invariant.way on c.steps.left.now c.in_ok-left.left.now
     c.steps.invariant.left c.in_ok-left.ensures.later c.in_ok-left.ensures.stands c.free_until-until.result
     c.next_injection.result c.next_injection.ensures.alone (omega (arith, c.free_until-until.ensures.far, c.min.ensures))
-    c.free_until-until.ensures.ticks c.free_until-until.ensures.steps in
+    c.free_until-until.ensures.ticks c.free_until-until.ensures.steps
+    (none_of_any c.step_by_plan.new.kernel.sources.pending (sym c.any_pending.ensures ∙ c.if-not-any_pending.true)) in
     free
 
 pub go_on-requires-clause-meter : goal.go_on-requires-clause-meter
@@ -249,7 +251,8 @@ steps-preserved c =
     c.steps.kernel c.step_by_plan.new.kernel c.steps.invariant.way on c.steps.left.now c.in_ok-left.left.now
     c.steps.invariant.left c.in_ok-left.ensures.later c.in_ok-left.ensures.stands c.free_until-until.result
     c.next_injection.result c.next_injection.ensures.alone (omega (arith, c.free_until-until.ensures.far, c.min.ensures))
-    c.free_until-until.ensures.ticks c.free_until-until.ensures.steps in
+    c.free_until-until.ensures.ticks c.free_until-until.ensures.steps
+    (none_of_any c.step_by_plan.new.kernel.sources.pending (sym c.any_pending.ensures ∙ c.if-not-any_pending.true)) in
     let passed = c.go_on.ensures.to.on in
     let g = c.go_on.ensures.meter in
     let far = c.go_on.ensures.to.far c.free_until-until.ensures.ahead in
@@ -292,7 +295,8 @@ returns-in_err-go_on-clause-way c =
     c.steps.kernel c.step_by_plan.new.kernel c.steps.invariant.way on c.steps.left.now c.in_ok-left.left.now
     c.steps.invariant.left c.in_ok-left.ensures.later c.in_ok-left.ensures.stands c.free_until-until.result
     c.next_injection.result c.next_injection.ensures.alone (omega (arith, c.free_until-until.ensures.far, c.min.ensures))
-    c.free_until-until.ensures.ticks c.free_until-until.ensures.steps in
+    c.free_until-until.ensures.ticks c.free_until-until.ensures.steps
+    (none_of_any c.step_by_plan.new.kernel.sources.pending (sym c.any_pending.ensures ∙ c.if-not-any_pending.true)) in
     c.go_on.ensures.to.way c.args.injections.now free
 
 pub returns-in_err-go_on-clause-on : goal.returns-in_err-go_on-clause-on

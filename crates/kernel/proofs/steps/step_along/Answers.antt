@@ -5,7 +5,7 @@ use Rattle.kernel.proofs.steps.step_along.Goals as goal
 
 pub returns-then-is_empty-clause-told : goal.returns-then-is_empty-clause-told
 returns-then-is_empty-clause-told c = λ s h.
-    told_after c.step_onto.new.log _ _ (c.step_onto.ensures.before ∙ c.begin.ensures.before) (c.step_onto.ensures.told s h)
+    told_after c.step_alone.new.log _ _ (c.step_alone.ensures.before ∙ c.begin.ensures.before) (c.step_alone.ensures.told s h)
 
 pub returns-clause-told : goal.returns-clause-told
 returns-clause-told c =

@@ -5,10 +5,10 @@ use Rattle.machine.proofs.Either.{steps_are}
 use Rattle.kernel.proofs.Amid.{amid_answered, amid_next, letting_go, on_amid, reporting, stands_amid, told_amid}
 use Rattle.kernel.proofs.Bounds.{below_limits, can_do}
 use Rattle.kernel.proofs.Counting.{steps_still}
-use Rattle.kernel.proofs.Ending.{begun, handled_before, stepped}
+use Rattle.kernel.proofs.Ending.{begun, begun_with_none, stepped}
 use Rattle.kernel.proofs.Holding.{letting_begun, on_begun, stands_held, steps_held, told_held}
 use Rattle.kernel.proofs.Running.{acts}
-use Rattle.machine.proofs.Pending.{plain_by}
+use Rattle.machine.proofs.Pending.{none_by}
 use Rattle.kernel.proofs.steps.step_at.Goals as goal
 
 pub act-following-requires-clause-can : goal.act-following-requires-clause-can
@@ -23,7 +23,7 @@ overflow_add-machine-then-eq-3 g c =
     let a =
     c.settle.ensures.at _ ((acts c.args.app.now c.args.limits.now c.args.machine.now c.args.task c.requires.at.current
     c.args.op.now c.requires.at.at c.act-following.new.machine _ _ c.act-following.ensures.does).at
-    _ (handled_before c.args.app.now [] going.state (plain_by c.args.machine.now going.state going.none going.stands) c.args.machine.now _
+    _ (begun_with_none c.args.app.now going.state (none_by c.args.machine.now going.state c.requires.none going.stands) c.args.machine.now _
     (begun c.args.machine.now (g.L.Log.logged c.args.log.now).told going.state going.stands c.requires.begun))) in
     let still =
     steps_still c.args.app.now c.args.limits.now [] going.state c.args.machine.now
@@ -39,7 +39,7 @@ returns-then-eq-3-clause-stands g c = λ s h.
     let a =
     c.settle.ensures.at _ ((acts c.args.app.now c.args.limits.now c.args.machine.now c.args.task c.requires.at.current
     c.args.op.now c.requires.at.at c.act-following.new.machine _ _ c.act-following.ensures.does).at
-    _ (handled_before c.args.app.now [] s (plain_by c.args.machine.now s c.requires.going.none h) c.args.machine.now _
+    _ (begun_with_none c.args.app.now s (none_by c.args.machine.now s c.requires.none h) c.args.machine.now _
     (begun c.args.machine.now (g.L.Log.logged c.args.log.now).told s h c.requires.begun))) in
     let still =
     steps_still c.args.app.now c.args.limits.now [] s c.args.machine.now
@@ -53,7 +53,7 @@ returns-then-eq-3-clause-told g c = λ s h.
     (c.settle.ensures.at _
     ((acts c.args.app.now c.args.limits.now c.args.machine.now c.args.task c.requires.at.current
     c.args.op.now c.requires.at.at c.act-following.new.machine _ _ c.act-following.ensures.does).at
-    _ (handled_before c.args.app.now [] s (plain_by c.args.machine.now s c.requires.going.none h) c.args.machine.now _
+    _ (begun_with_none c.args.app.now s (none_by c.args.machine.now s c.requires.none h) c.args.machine.now _
     (begun c.args.machine.now (g.L.Log.logged c.args.log.now).told s h c.requires.begun)))).log
 
 pub overflow_add-machine-2 : goal.overflow_add-machine-2
@@ -62,7 +62,7 @@ overflow_add-machine-2 g c =
     let a =
     c.settle-2.ensures.at _ ((acts c.args.app.now c.args.limits.now c.args.machine.now c.args.task c.requires.at.current
     c.args.op.now c.requires.at.at c.act-following.new.machine _ _ c.act-following.ensures.does).at
-    _ (handled_before c.args.app.now [] going.state (plain_by c.args.machine.now going.state going.none going.stands) c.args.machine.now _
+    _ (begun_with_none c.args.app.now going.state (none_by c.args.machine.now going.state c.requires.none going.stands) c.args.machine.now _
     (begun c.args.machine.now (g.L.Log.logged c.args.log.now).told going.state going.stands c.requires.begun))) in
     let still =
     steps_still c.args.app.now c.args.limits.now [] going.state c.args.machine.now
@@ -78,7 +78,7 @@ returns-clause-stands g c = λ s h.
     let a =
     c.settle-2.ensures.at _ ((acts c.args.app.now c.args.limits.now c.args.machine.now c.args.task c.requires.at.current
     c.args.op.now c.requires.at.at c.act-following.new.machine _ _ c.act-following.ensures.does).at
-    _ (handled_before c.args.app.now [] s (plain_by c.args.machine.now s c.requires.going.none h) c.args.machine.now _
+    _ (begun_with_none c.args.app.now s (none_by c.args.machine.now s c.requires.none h) c.args.machine.now _
     (begun c.args.machine.now (g.L.Log.logged c.args.log.now).told s h c.requires.begun))) in
     let still =
     steps_still c.args.app.now c.args.limits.now [] s c.args.machine.now
@@ -92,7 +92,7 @@ returns-clause-told g c = λ s h.
     (c.settle-2.ensures.at _
     ((acts c.args.app.now c.args.limits.now c.args.machine.now c.args.task c.requires.at.current
     c.args.op.now c.requires.at.at c.act-following.new.machine _ _ c.act-following.ensures.does).at
-    _ (handled_before c.args.app.now [] s (plain_by c.args.machine.now s c.requires.going.none h) c.args.machine.now _
+    _ (begun_with_none c.args.app.now s (none_by c.args.machine.now s c.requires.none h) c.args.machine.now _
     (begun c.args.machine.now (g.L.Log.logged c.args.log.now).told s h c.requires.begun)))).log
 
 pub returns-then-eq-clause-stands : goal.returns-then-eq-clause-stands
@@ -105,7 +105,7 @@ returns-then-eq-clause-stands g c = λ s h.
     c.args.op.now c.requires.at.at c.act-following.new.machine _ _ c.act-following.ensures.does)
     c.requires.begun in
     stands_amid c.args.app.now c.args.limits.now c.args.machine.now c.act-following.new.machine c.args.task
-    c.args.op.now c.requires.at c.requires.going.none (c.act-following.ensures.plain e) (c.act-following.ensures.runs e)
+    c.args.op.now c.requires.at c.requires.none (c.act-following.ensures.plain e) (c.act-following.ensures.runs e)
     (c.act-following.ensures.amid e) (g.L.Log.logged c.act-following.new.log).told does s h
 
 pub returns-then-eq-clause-told : goal.returns-then-eq-clause-told
@@ -118,7 +118,7 @@ returns-then-eq-clause-told g c = λ s h.
     c.args.op.now c.requires.at.at c.act-following.new.machine _ _ c.act-following.ensures.does)
     c.requires.begun in
     told_amid c.args.app.now c.args.limits.now c.args.machine.now c.act-following.new.machine c.args.task
-    c.args.op.now c.requires.at c.requires.going.none (c.act-following.ensures.plain e) (c.act-following.ensures.runs e)
+    c.args.op.now c.requires.at c.requires.none (c.act-following.ensures.plain e) (c.act-following.ensures.runs e)
     (c.act-following.ensures.amid e) (g.L.Log.logged c.act-following.new.log).told does s h
 
 pub returns-then-eq-clause-on : goal.returns-then-eq-clause-on
@@ -131,7 +131,7 @@ returns-then-eq-clause-on g c = λ next s h going.
     c.args.op.now c.requires.at.at c.act-following.new.machine _ _ c.act-following.ensures.does)
     c.requires.begun in
     on_amid c.args.app.now c.args.limits.now c.args.machine.now c.act-following.new.machine c.args.task
-    c.args.op.now c.requires.at c.requires.going.none (c.act-following.ensures.plain e) (c.act-following.ensures.runs e)
+    c.args.op.now c.requires.at c.requires.none (c.act-following.ensures.plain e) (c.act-following.ensures.runs e)
     (c.act-following.ensures.amid e) (g.L.Log.logged c.act-following.new.log).told does s h going
 
 pub returns-then-eq-2-clause-stands : goal.returns-then-eq-2-clause-stands
@@ -144,7 +144,7 @@ returns-then-eq-2-clause-stands g c = λ s h.
     c.args.op.now c.requires.at.at c.act-following.new.machine _ _ c.act-following.ensures.does)
     c.requires.begun in
     stands_amid c.args.app.now c.args.limits.now c.args.machine.now c.act-following.new.machine c.args.task
-    c.args.op.now c.requires.at c.requires.going.none (c.act-following.ensures.plain e) (c.act-following.ensures.runs e)
+    c.args.op.now c.requires.at c.requires.none (c.act-following.ensures.plain e) (c.act-following.ensures.runs e)
     (c.act-following.ensures.amid e) (g.L.Log.logged c.act-following.new.log).told does s h
 
 pub returns-then-eq-2-clause-told : goal.returns-then-eq-2-clause-told
@@ -157,7 +157,7 @@ returns-then-eq-2-clause-told g c = λ s h.
     c.args.op.now c.requires.at.at c.act-following.new.machine _ _ c.act-following.ensures.does)
     c.requires.begun in
     told_amid c.args.app.now c.args.limits.now c.args.machine.now c.act-following.new.machine c.args.task
-    c.args.op.now c.requires.at c.requires.going.none (c.act-following.ensures.plain e) (c.act-following.ensures.runs e)
+    c.args.op.now c.requires.at c.requires.none (c.act-following.ensures.plain e) (c.act-following.ensures.runs e)
     (c.act-following.ensures.amid e) (g.L.Log.logged c.act-following.new.log).told does s h
 
 pub returns-then-eq-2-clause-on : goal.returns-then-eq-2-clause-on
@@ -170,7 +170,7 @@ returns-then-eq-2-clause-on g c = λ next s h going.
     c.args.op.now c.requires.at.at c.act-following.new.machine _ _ c.act-following.ensures.does)
     c.requires.begun in
     on_amid c.args.app.now c.args.limits.now c.args.machine.now c.act-following.new.machine c.args.task
-    c.args.op.now c.requires.at c.requires.going.none (c.act-following.ensures.plain e) (c.act-following.ensures.runs e)
+    c.args.op.now c.requires.at c.requires.none (c.act-following.ensures.plain e) (c.act-following.ensures.runs e)
     (c.act-following.ensures.amid e) (g.L.Log.logged c.act-following.new.log).told does s h going
 
 pub overflow_add-machine-then-eq-4 : goal.overflow_add-machine-then-eq-4
@@ -186,7 +186,7 @@ overflow_add-machine-then-eq-4 g c =
     c.requires.begun in
     let still =
     steps_held c.args.app.now c.args.limits.now c.args.machine.now c.act-following.new.machine
-    c.requires.going.none (g.L.Log.logged c.act-following.new.log).told does held going.state going.stands in
+    c.requires.none (g.L.Log.logged c.act-following.new.log).told does held going.state going.stands in
     let is = steps_are c.args.machine.now going.state going.stands in
     let low = below_limits c.args.app.now c.args.limits.now going.state going.goes_on in
     let few = low.1 in
@@ -204,7 +204,7 @@ returns-then-eq-4-clause-stands g c = λ s h.
     c.args.op.now c.requires.at.at c.act-following.new.machine _ _ c.act-following.ensures.does)
     c.requires.begun in
     stands_held c.args.app.now c.args.limits.now c.args.machine.now c.act-following.new.machine
-    c.requires.going.none (g.L.Log.logged c.act-following.new.log).told does held s h
+    c.requires.none (g.L.Log.logged c.act-following.new.log).told does held s h
 
 pub returns-then-eq-4-clause-told : goal.returns-then-eq-4-clause-told
 returns-then-eq-4-clause-told g c = λ s h.
@@ -217,7 +217,7 @@ returns-then-eq-4-clause-told g c = λ s h.
     c.args.op.now c.requires.at.at c.act-following.new.machine _ _ c.act-following.ensures.does)
     c.requires.begun in
     told_held c.args.app.now c.args.limits.now c.args.machine.now c.act-following.new.machine
-    c.requires.going.none (g.L.Log.logged c.act-following.new.log).told does held s h
+    c.requires.none (g.L.Log.logged c.act-following.new.log).told does held s h
 
 pub returns-then-eq-4-clause-letting : goal.returns-then-eq-4-clause-letting
 returns-then-eq-4-clause-letting g c = λ e.
@@ -238,6 +238,6 @@ returns-then-eq-4-clause-held g c = λ e s h.
     c.args.op.now c.requires.at.at c.act-following.new.machine _ _ c.act-following.ensures.does)
     c.requires.begun in
     on_begun c.args.app.now c.args.limits.now c.args.machine.now c.act-following.new.machine c.args.task
-    c.args.op.now c.requires.at w c.requires.going.none _ s h refl (
+    c.args.op.now c.requires.at w c.requires.none _ s h refl (
     stands_held c.args.app.now c.args.limits.now c.args.machine.now c.act-following.new.machine
-    c.requires.going.none (g.L.Log.logged c.act-following.new.log).told does held s h)
+    c.requires.none (g.L.Log.logged c.act-following.new.log).told does held s h)

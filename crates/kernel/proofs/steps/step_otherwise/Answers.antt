@@ -3,22 +3,22 @@ use Rattle.model.specs.Step.{step}
 use Rattle.machine.proofs.Either.{steps_are}
 use Rattle.kernel.proofs.Bounds.{below_limits, can_act_after, there_after}
 use Rattle.kernel.proofs.Counting.{steps_still}
-use Rattle.kernel.proofs.Ending.{begun, handled_before, stepped}
-use Rattle.machine.proofs.Pending.{plain_by}
+use Rattle.kernel.proofs.Ending.{begun, begun_with_none, stepped}
+use Rattle.machine.proofs.Pending.{none_by}
 use Rattle.kernel.proofs.steps.step_otherwise.Goals as goal
 
 pub act_otherwise-following-requires-clause-there : goal.act_otherwise-following-requires-clause-there
 act_otherwise-following-requires-clause-there g c =
     let going = c.requires.going in
     there_after c.args.app.now c.well_formed-2.ensures c.args.machine.now going [] c.args.machine.now
-    (handled_before c.args.app.now [] _ (plain_by c.args.machine.now _ going.none going.stands) c.args.machine.now _
+    (begun_with_none c.args.app.now _ (none_by c.args.machine.now _ c.requires.none going.stands) c.args.machine.now _
     (begun c.args.machine.now (g.L.Log.logged c.args.log.now).told _ going.stands c.requires.begun)).stands
 
 pub act_otherwise-following-requires-clause-can : goal.act_otherwise-following-requires-clause-can
 act_otherwise-following-requires-clause-can g c =
     let going = c.requires.going in
     can_act_after c.args.app.now c.well_formed-2.ensures c.args.machine.now going [] c.args.machine.now
-    (handled_before c.args.app.now [] _ (plain_by c.args.machine.now _ going.none going.stands) c.args.machine.now _
+    (begun_with_none c.args.app.now _ (none_by c.args.machine.now _ c.requires.none going.stands) c.args.machine.now _
     (begun c.args.machine.now (g.L.Log.logged c.args.log.now).told _ going.stands c.requires.begun)).stands
 
 pub overflow_add-machine : goal.overflow_add-machine
@@ -26,7 +26,7 @@ overflow_add-machine g c =
     let going = c.requires.going in
     let a =
     c.settle.ensures.at _ (c.act_otherwise-following.ensures.does.at _
-    (handled_before c.args.app.now [] going.state (plain_by c.args.machine.now going.state going.none going.stands) c.args.machine.now _
+    (begun_with_none c.args.app.now going.state (none_by c.args.machine.now going.state c.requires.none going.stands) c.args.machine.now _
     (begun c.args.machine.now (g.L.Log.logged c.args.log.now).told going.state going.stands c.requires.begun))) in
     let still =
     steps_still c.args.app.now c.args.limits.now [] going.state c.args.machine.now
@@ -41,7 +41,7 @@ pub returns-clause-stands : goal.returns-clause-stands
 returns-clause-stands g c = λ s h.
     let a =
     c.settle.ensures.at _ (c.act_otherwise-following.ensures.does.at _
-    (handled_before c.args.app.now [] s (plain_by c.args.machine.now s c.requires.going.none h) c.args.machine.now _
+    (begun_with_none c.args.app.now s (none_by c.args.machine.now s c.requires.none h) c.args.machine.now _
     (begun c.args.machine.now (g.L.Log.logged c.args.log.now).told s h c.requires.begun))) in
     let still =
     steps_still c.args.app.now c.args.limits.now [] s c.args.machine.now
@@ -54,5 +54,5 @@ unfolding step
 returns-clause-told g c = λ s h.
     (c.settle.ensures.at _
     (c.act_otherwise-following.ensures.does.at _
-    (handled_before c.args.app.now [] s (plain_by c.args.machine.now s c.requires.going.none h) c.args.machine.now _
+    (begun_with_none c.args.app.now s (none_by c.args.machine.now s c.requires.none h) c.args.machine.now _
     (begun c.args.machine.now (g.L.Log.logged c.args.log.now).told s h c.requires.begun)))).log

@@ -1,4 +1,6 @@
-use Rattle.std.proofs.Common.{◌∙◌, subst}
+use Rattle.std.proofs.Common.{◌∙◌, refl, subst}
+use Rattle.machine.specs.StandsFor.Stands.{Placed}
+use Rattle.machine.proofs.Either.{not_by_task}
 use Rattle.model.specs.declared.op.Op.TheVariants.{SuspendAll}
 use Rattle.model.specs.State.{Progress}
 use Rattle.model.specs.Step.{act, judge}
@@ -12,7 +14,8 @@ returns g c = record {
       let P : Progress → Type 0 = λ p.
       At c.judge.new.machine (g.L.Log.logged c.suspend_all.new.log).told
       (judge c.args.task p.op_index (act c.args.app.now c.args.task SuspendAll s)) in
-      acted_at c.args.app.now c.judge.new.machine _ s c.args.task SuspendAll (no_misuse s c.args.task)
+      acted_at c.args.app.now c.judge.new.machine _ s c.args.task SuspendAll (no_misuse s c.args.task SuspendAll
+      (not_by_task c.args.machine.now s (Placed h.stands) c.requires.can.tick.advance.awake) refl)
       (subst P (c.behind-machine.view_is ∙ c.progress.ensures ∙ h.stands.rest.progress c.args.task)
       (c.judge.ensures _ _ (c.suspend_all.ensures.at s h)));
   few = c.suspend_all.ensures.few;

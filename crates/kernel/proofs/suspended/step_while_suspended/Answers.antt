@@ -3,15 +3,15 @@ use Rattle.model.specs.Step.{step}
 use Rattle.machine.proofs.Either.{steps_are}
 use Rattle.kernel.proofs.Bounds.{below_limits, can_act_after}
 use Rattle.kernel.proofs.Counting.{steps_still}
-use Rattle.kernel.proofs.Ending.{begun, handled_before, stepped}
-use Rattle.machine.proofs.Pending.{plain_by}
+use Rattle.kernel.proofs.Ending.{begun, begun_with_none, stepped}
+use Rattle.machine.proofs.Pending.{none_by}
 use Rattle.kernel.proofs.suspended.step_while_suspended.Goals as goal
 
 pub act_while_suspended-requires-clause-can : goal.act_while_suspended-requires-clause-can
 act_while_suspended-requires-clause-can g c = λ op at.
     let going = c.requires.going in
     let can = can_act_after c.args.app.now c.well_formed-2.ensures c.args.machine.now going [] c.args.machine.now
-    (handled_before c.args.app.now [] _ (plain_by c.args.machine.now _ going.none going.stands) c.args.machine.now _
+    (begun_with_none c.args.app.now _ (none_by c.args.machine.now _ c.requires.none going.stands) c.args.machine.now _
     (begun c.args.machine.now (g.L.Log.logged c.args.log.now).told _ going.stands c.requires.begun)).stands in
     (can.op c.args.task op c.requires.runs at).1 c.requires.some
 
@@ -26,7 +26,7 @@ overflow_add-machine g c =
     let going = c.requires.going in
     let a =
     c.settle.ensures.at _ ((c.act_while_suspended.ensures c.args.limits.now).at _
-    (handled_before c.args.app.now [] going.state (plain_by c.args.machine.now going.state going.none going.stands) c.args.machine.now _
+    (begun_with_none c.args.app.now going.state (none_by c.args.machine.now going.state c.requires.none going.stands) c.args.machine.now _
     (begun c.args.machine.now (g.L.Log.logged c.args.log.now).told going.state going.stands c.requires.begun))) in
     let still =
     steps_still c.args.app.now c.args.limits.now [] going.state c.args.machine.now
@@ -41,7 +41,7 @@ pub returns-clause-stands : goal.returns-clause-stands
 returns-clause-stands g c = λ s h.
     let a =
     c.settle.ensures.at _ ((c.act_while_suspended.ensures c.args.limits.now).at _
-    (handled_before c.args.app.now [] s (plain_by c.args.machine.now s c.requires.going.none h) c.args.machine.now _
+    (begun_with_none c.args.app.now s (none_by c.args.machine.now s c.requires.none h) c.args.machine.now _
     (begun c.args.machine.now (g.L.Log.logged c.args.log.now).told s h c.requires.begun))) in
     let still =
     steps_still c.args.app.now c.args.limits.now [] s c.args.machine.now
@@ -53,7 +53,7 @@ pub returns-clause-told : goal.returns-clause-told
 unfolding step
 returns-clause-told g c = λ s h.
     (c.settle.ensures.at _ ((c.act_while_suspended.ensures c.args.limits.now).at _
-    (handled_before c.args.app.now [] s (plain_by c.args.machine.now s c.requires.going.none h) c.args.machine.now _
+    (begun_with_none c.args.app.now s (none_by c.args.machine.now s c.requires.none h) c.args.machine.now _
     (begun c.args.machine.now (g.L.Log.logged c.args.log.now).told s h c.requires.begun)))).log
 
 pub returns-clause-before : goal.returns-clause-before

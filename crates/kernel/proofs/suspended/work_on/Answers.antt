@@ -28,7 +28,7 @@ held_tick_interrupt-requires-clause-some g c =
     let now : c.use_up.new.machine.sections ≡ (use_up c.args.app.now c.args.task c.args.ticks s).sections =
     done.stands.rest.sections in
     let before : c.args.machine.now.sections ≡ s.sections = h.rest.sections in
-    let shut = c.requires.can.closed in
+    let shut = c.requires.closed in
     let e = c.use_up.ensures.suspensions in
     let l = c.requires.some in
     omega arith

@@ -3,7 +3,8 @@ use Rattle.model.specs.declared.event.Misuse.TheVariants.{NotHolder}
 use Rattle.model.specs.State.{State, object_at, with_object}
 use Rattle.objects.specs.Objects.{Objects}
 use Rattle.machine.specs.StandsFor.{At}
-use Rattle.sched.proofs.Standing.{none_suspends}
+use Rattle.machine.specs.StandsFor.Stands.{Placed}
+use Rattle.machine.proofs.Either.{not_by_task}
 use Rattle.ops.proofs.Ranking.{gave, gave_nothing}
 use Rattle.ops.proofs.Waits.{stored_at}
 use Rattle.ops.proofs.mutexes.give_mutex.Goals as goal
@@ -21,7 +22,7 @@ pub returns-in-Ok : goal.returns-in-Ok
 returns-in-Ok g c = record {
   at = λ s h.
       gave c.args.app.now c.let_go.new.machine _ s c.args.task c.args.object
-      (none_suspends s (sym h.stands.sched.suspensions ∙ c.requires.can.tick.advance.awake)) (c.in-Ok.ensures.allowed s None h.stands.rest.objects)
+      (not_by_task c.args.machine.now s (Placed h.stands) c.requires.can.tick.advance.awake) (c.in-Ok.ensures.allowed s None h.stands.rest.objects)
       (c.let_go.ensures.at _ (stored_at c.args.machine.now _ s h c.args.object _
       c.give_mutex.new.self (c.in-Ok.ensures.stands s None h.stands.rest.objects)));
   few = c.let_go.ensures.few;
@@ -32,7 +33,7 @@ pub returns-in-Err : goal.returns-in-Err
 returns-in-Err g c = record {
   at = λ s h.
       gave_nothing c.args.app.now c.misuse.new.self _ s c.args.task c.args.object NotHolder
-      (none_suspends s (sym h.stands.sched.suspensions ∙ c.requires.can.tick.advance.awake)) (c.in-Err.ensures.misuse s None h.stands.rest.objects)
+      (not_by_task c.args.machine.now s (Placed h.stands) c.requires.can.tick.advance.awake) (c.in-Err.ensures.misuse s None h.stands.rest.objects)
       (c.misuse.ensures _ s (subst
       (λ (q : Objects). At (record c.args.machine.now { objects = q }) (g.L.Log.logged c.args.log.now).told s)
       (sym c.in-Err.ensures.refused) h));

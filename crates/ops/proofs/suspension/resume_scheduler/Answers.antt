@@ -9,7 +9,7 @@ apply_held-requires c =
     let less =
     with_suspensions c.args.machine.now s.log s (record { stands = can.agrees.1; log = refl }) c.resume_all.new.self
     _ (c.resume_all.ensures.stands s can.agrees.1.sched
-    (in_force s c.args.machine.now can.agrees.1 c.requires.some c.requires.can.closed)) in
+    (in_force s c.args.machine.now can.agrees.1 c.requires.some c.requires.closed)) in
     let none = sym c.suspensions.ensures.suspensions ∙ c.if-suspensions-eq0.true in
     record { can = record { agrees = (_, less.stands); free = can.free; age = can.age; awake = none } }
 
@@ -17,14 +17,14 @@ pub returns-then-suspensions-eq0-clause-does : goal.returns-then-suspensions-eq0
 returns-then-suspensions-eq0-clause-does c = λ log s h.
     let e = h.stands.sched.suspensions in
     let none_open = h.stands.rest.sections in
-    let shut = c.requires.can.closed in
+    let shut = c.requires.closed in
     let some = c.requires.some in
     let left = c.suspensions.ensures.suspensions ∙ c.resume_all.ensures.suspensions in
     let none = c.if-suspensions-eq0.true in
     last_resumed c.args.app.now c.apply_held.new.machine log s (omega arith)
     (c.apply_held.ensures.does log _ (with_suspensions c.args.machine.now log s h c.resume_all.new.self
     _ (c.resume_all.ensures.stands s h.stands.sched
-    (in_force s c.args.machine.now h.stands c.requires.some c.requires.can.closed))))
+    (in_force s c.args.machine.now h.stands c.requires.some c.requires.closed))))
 
 pub returns-then-suspensions-eq0-clause-depth : goal.returns-then-suspensions-eq0-clause-depth
 returns-then-suspensions-eq0-clause-depth c = λ _.
@@ -39,11 +39,11 @@ pub returns-else-suspensions-eq0-clause-does : goal.returns-else-suspensions-eq0
 returns-else-suspensions-eq0-clause-does c = λ log s h.
     let e = h.stands.sched.suspensions in
     let none_open = h.stands.rest.sections in
-    let shut = c.requires.can.closed in
+    let shut = c.requires.closed in
     let left = c.suspensions.ensures.suspensions ∙ c.resume_all.ensures.suspensions in
     let some = c.requires.some in
     let more = c.if-suspensions-eq0.false in
     more_resumed c.args.app.now _ log s (λ one. more (let z : c.suspensions.result ≡ 0 = omega arith in z))
     (with_suspensions c.args.machine.now log s h c.resume_all.new.self
     _ (c.resume_all.ensures.stands s h.stands.sched
-    (in_force s c.args.machine.now h.stands c.requires.some c.requires.can.closed)))
+    (in_force s c.args.machine.now h.stands c.requires.some c.requires.closed)))

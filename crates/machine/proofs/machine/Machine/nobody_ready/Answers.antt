@@ -1,4 +1,4 @@
-use Rattle.std.proofs.Common.{refl, ap, sym, ◌∙◌}
+use Rattle.std.proofs.Common.{◌+◌, length, refl, ap, sym, ◌∙◌}
 use Rattle.sched.specs.Schedule.{Schedule, is_suspended, lined_up}
 use Rattle.clock.specs.StandsFor.{tasks_at}
 use Rattle.model.specs.Step.{nobody_ready}
@@ -42,7 +42,10 @@ returns-clause-stands c =
           delayed = λ m. ap (tasks_at m) c.new-2.ensures.nobody ∙ sym (none_due c.args.app.now m);
           table = table;
         };
-        sources = sources_at_reset c.args.app.now c.well_formed-2.ensures.few_handlers c.new-5.result c.new-5.ensures.none c.new-5.ensures.full;
+        sources =
+            sources_at_reset c.args.app.now c.well_formed-2.ensures.few_handlers c.new-5.result
+            (c.new-5.ensures.number ∙ ap (λ n. n + 1) (c.len.ensures.value ∙ ap (λ hs. length hs) c.handlers.ensures)) c.new-5.ensures.none
+            c.new-5.ensures.full;
         sections = refl;
         steps = refl;
         stopped = refl;

@@ -1,12 +1,12 @@
 use Rattle.std.proofs.Common.{arith, ◌∙◌, subst, sym}
 use Rattle.objects.specs.Objects.{HasRoom, Objects}
-use Rattle.kernel.proofs.Handling.{injected_free, injected_held, room_after}
-use Rattle.kernel.proofs.handlers.inject.Goals as goal
+use Rattle.kernel.proofs.Handling.{served_free, served_held, room_after}
+use Rattle.kernel.proofs.handlers.serve.Goals as goal
 
 pub returns-then-not-is_held-clause-does : goal.returns-then-not-is_held-clause-does
 returns-then-not-is_held-clause-does g c = record {
   at = λ s h.
-      injected_free c.args.app.now c.args.handler s c.handle.new.machine c.preempt.new.self
+      served_free c.args.app.now c.args.handler s c.handle.new.machine c.preempt.new.self
       _ _ (λ t. sym (c.is_held.ensures.held _ t) ∙ c.if-not-is_held.true)
       (c.handle.ensures.any.at s h) (λ p. c.preempt.ensures.does.at _ p);
   few = let a = c.handle.ensures.any.few in let b = c.preempt.ensures.does.few in omega arith;
@@ -21,7 +21,7 @@ returns-then-not-is_held-clause-objects g c = λ o a fit.
 pub returns-else-not-is_held-clause-does : goal.returns-else-not-is_held-clause-does
 returns-else-not-is_held-clause-does g c = record {
   at = λ s h.
-      injected_held c.args.app.now c.args.handler s c.handle.new.machine _
+      served_held c.args.app.now c.args.handler s c.handle.new.machine _
       (λ t. sym (c.is_held.ensures.held _ t) ∙ c.if-not-is_held.false) (c.handle.ensures.any.at s h);
   few = let a = c.handle.ensures.any.few in omega arith;
   before = c.handle.ensures.any.before;

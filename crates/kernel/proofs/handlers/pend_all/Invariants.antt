@@ -1,0 +1,11 @@
+use Rattle.std.proofs.Common.{◌≡◌, take}
+use Rattle.model.specs.State.{for_each}
+use Rattle.model.specs.Handlers.{pend}
+use Rattle.machine.specs.StandsFor.{MovesAny}
+use Rattle.kernel.proofs.handlers.pend_all.Given as goal
+
+abbrev pub invariant-loop-handler : goal.invariant-loop-handler
+invariant-loop-handler l = record {
+  any : MovesAny l.fn.machine l.machine (for_each pend (take l.handler-index l.handlers));
+  objects : l.machine.objects ≡ l.fn.machine.objects;
+}

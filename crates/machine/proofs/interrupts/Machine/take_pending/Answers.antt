@@ -1,0 +1,12 @@
+use Rattle.std.proofs.Common.{ℕ, subst, sym}
+use Rattle.std.specs.List.{filter, range_with_len}
+use Rattle.machine.specs.Sources.{Sources, is_pending}
+use Rattle.machine.proofs.Pending.{cleared_at, pending_are}
+use Rattle.machine.proofs.interrupts.Machine.take_pending.Goals as goal
+
+pub returns-clause-does : goal.returns-clause-does
+returns-clause-does c = λ log s h.
+    cleared_at c.args.self.now log s c.clear.new.self h c.clear.ensures.number c.clear.ensures.none c.clear.ensures.full
+
+pub returns-clause-were : goal.returns-clause-were
+returns-clause-were c = λ s h. pending_are c.args.self.now s h
