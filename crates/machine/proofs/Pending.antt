@@ -1,11 +1,12 @@
 -- Which interrupts are pending, in the kernel and in each state that it represents.
 use Rattle.std.proofs.Common.{◌≡◌, ◌≢◌, ◌∙◌, ◌<◌, ◌≤◌, ◌+◌, ◌-◌, ℕ, zero, suc, Bool, true, false, eqb, List, [], ◌∷◌, get_or, set, length, map}
-use Rattle.std.proofs.Common.{ltb, ltb-false, Option, None, refl, ap, sym, subst, arith, get_or-set_same, get_or-set_other}
+use Rattle.std.proofs.Common.{ltb, ltb-false, Option, Some, None, refl, ap, sym, subst, arith, get_or-set_same, get_or-set_other}
 use Rattle.std.specs.List.{filter, range_with_len, list_any}
 use Rattle.std.proofs.Math.ListN.{length-set}
 use Rattle.std.proofs.lemmas.Bool.{ltb-true}
 use Rattle.std.proofs.lemmas.List.{get_or_past, length-map, set_past}
 use Rattle.model.specs.declared.call.WaitList.{WaitList}
+use Rattle.model.specs.declared.event.Event.{Event}
 use Rattle.model.specs.State.{State, Source, no_source, source_at}
 use Rattle.model.specs.Handlers.{pend, pending_of, none_pending}
 use Rattle.model.specs.Invariant.{IsNonePending, IsTable}
@@ -137,20 +138,20 @@ with_sources k s (Placing task list b) v xs are = Placing task list (before_with
 are_pended : (v : Sources) (xs : List Source) (i : ℕ) → AreSources v xs → i < length xs
     → AreSources (record v { pending = set v.pending i true }) (set xs i (record (get_or xs i no_source) { pending = true }))
 are_pended v xs i are l = record {
-  number = are.number ∙ sym length-set;
+  number = are.number ∙ sym (length-set xs i (record (get_or xs i no_source) { pending = true }));
   pending = λ source. by_test (eqb source i)
       (λ t.
       let e : source ≡ i = eqb-same source i t in
       rw e (get_or-set_same v.pending i true false (let full = are.full in let few = are.few in omega arith)
       ∙ sym (ap (λ (x : Source). x.pending) (get_or-set_same xs i (record (get_or xs i no_source) { pending = true }) no_source l))))
       (λ t.
-      let apart : i ≢ source = (λ e. let u : eqb source i ≡ true = rw (sym e) (eqb-refl source) in absurd (cc)) in
+      let apart : source ≢ i = (λ e. let u : eqb source i ≡ true = ap (λ (k : ℕ). eqb k i) e ∙ eqb-refl i in absurd (cc)) in
       get_or-set_other v.pending i source true false apart
       ∙ are.pending source
       ∙ sym (ap (λ (x : Source). x.pending)
       (get_or-set_other xs i source (record (get_or xs i no_source) { pending = true }) no_source apart)));
-  full = length-set ∙ are.full;
-  few = rw length-set are.few;
+  full = length-set v.pending i true ∙ are.full;
+  few = let n = length-set xs i (record (get_or xs i no_source) { pending = true }) in let few = are.few in omega arith;
 }
 
 pub pended_at : (k : Machine) (log : List Event) (s : State) (i : ℕ) (v : Sources) → AtAny k log s

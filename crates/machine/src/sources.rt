@@ -105,8 +105,6 @@ impl Sources {
     pub(crate) fn is_same(&self, other: &Self) -> bool
         ensures { result ≡ true → self.now ≡ other.now }
     {
-        self.number == other.number
-            && self.any_pending == other.any_pending
-            && self.pending == other.pending
+        self.number == other.number && self.pending == other.pending
     }
 }

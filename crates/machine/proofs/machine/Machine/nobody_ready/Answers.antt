@@ -44,7 +44,7 @@ returns-clause-stands c =
         };
         sources =
             sources_at_reset c.args.app.now c.well_formed-2.ensures.few_handlers c.new-5.result
-            (c.new-5.ensures.number ∙ ap (λ n. n + 1) (c.len.ensures.value ∙ ap (λ hs. length hs) c.handlers.ensures)) c.new-5.ensures.none
+            (c.new-5.ensures.number ∙ ap (λ hs. length hs + 1) c.handlers.ensures) c.new-5.ensures.none
             c.new-5.ensures.full;
         sections = refl;
         steps = refl;

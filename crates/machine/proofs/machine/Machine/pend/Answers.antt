@@ -1,5 +1,5 @@
 use Rattle.machine.proofs.Pending.{pended_at}
-use Rattle.machine.proofs.interrupts.Machine.pend.Goals as goal
+use Rattle.machine.proofs.machine.Machine.pend.Goals as goal
 
 pub returns-clause-does : goal.returns-clause-does
 returns-clause-does c = λ log s h.
