@@ -3,7 +3,7 @@ use Rattle.std.proofs.Common.{◌≡◌, ◌<◌, ℕ, true, false, eqb, Option,
 use Rattle.model.specs.declared.event.Event.{Event}
 use Rattle.model.specs.declared.event.Misuse.{Misuse}
 use Rattle.model.specs.State.{State, Task, task_at, progress_at, call_at, object_at, with_task, for_one, no_task, with_object}
-use Rattle.model.specs.Switching.{is_ready, to_back, preempt}
+use Rattle.model.specs.Switching.{is_held_by_task, is_ready, to_back, preempt}
 use Rattle.model.specs.Mutexes.{set_priority, mutexes_held, raise, inherit_from, inherit, best_priority, fall_back, after_timeout}
 use Rattle.model.specs.Mutexes.{disinherit, give_mutex}
 use Rattle.model.proofs.Sorting.{by_test}
