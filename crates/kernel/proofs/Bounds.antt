@@ -48,6 +48,7 @@ use Rattle.ops.specs.Can.{CanSetBits, CanWaitBits, CanHold}
 use Rattle.kernel.specs.Can.{CanOp, CanAct, CanIdle, CanStep}
 use Rattle.machine.proofs.Either.{elapsed_is, held_is, now_is, current_is, progress_is, sections_are, suspensions_are}
 use Rattle.sched.specs.StandsFor.{depth_of, task_holds_of}
+use Rattle.model.proofs.Sorting.{by_test}
 use Rattle.soundness.proofs.Settled.{nothing_holds, section_holds}
 use Rattle.soundness.proofs.Going.{suspended_held}
 
@@ -111,6 +112,8 @@ loop_room (GetBits g) nesting h = tt
 loop_room (WaitBits g c w) nesting h = tt
 loop_room (Suspend j) nesting h = tt
 loop_room (Resume j) nesting h = tt
+loop_room EnterCritical nesting h = tt
+loop_room ExitCritical nesting h = tt
 loop_room SuspendAll nesting h = tt
 loop_room ResumeAll nesting h = tt
 loop_room (NextCommand o) nesting h = tt
@@ -172,7 +175,7 @@ unheld n true t = absurd (cc)
 unheld n false t = omega arith
 
 -- A task that has come to hold the scheduler holds it.
-holds_by_some : (s : State) → 0 < task_holds_of s → is_held_by_task s ≡ true
+pub holds_by_some : (s : State) → 0 < task_holds_of s → is_held_by_task s ≡ true
 holds_by_some s some = by_test (is_scheduler_suspended s)
     (λ t. suspended_held s t)
     (λ t. section_holds s (let most = ltb-false 0 s.suspensions t in lt-ltb 0 s.sections (omega arith)))

@@ -24,7 +24,7 @@ use Rattle.model.specs.Order.{tasks_of}
 use Rattle.model.specs.Switching.{preempt, slice, settle, is_scheduler_suspended, unless_held, write}
 use Rattle.model.specs.Waiting.{awakened, wait_in, set_deadline, is_expired, end_hold, unlock_object, unlock}
 use Rattle.model.specs.Time.{advance, increment_tick, jump, apply_one, apply_held}
-use Rattle.model.specs.Ops.{answer, use_up, expect}
+use Rattle.model.specs.Ops.{answer, use_up, expect, with_sections}
 use Rattle.model.specs.Objects.{possible}
 use Rattle.model.specs.Calls.{decide, leave_call, await}
 use Rattle.model.specs.Groups.{is_met, begin_set, set_bits, wait_for_bits, begin_bits_wait, check, wait_bits}
@@ -33,6 +33,7 @@ use Rattle.model.specs.Daemon.{next_command, obeyed, end_set_by_daemon, obey, co
 use Rattle.model.specs.Handlers.{interrupt, tick_interrupt, idle, ticks_ahead}
 use Rattle.model.specs.Step.{is_ended, judge, act, act_unless, misuse, act_if, act_current, before_step}
 use Rattle.model.proofs.Sorting.{by_test}
+use Rattle.soundness.proofs.Judging.{by_judgement}
 use Rattle.soundness.proofs.Passing.{either_way, lasts-final_bits}
 use Rattle.model.specs.declared.event.Event.{Event}
 use Rattle.machine.specs.declared.machine.Machine.{Machine}
@@ -234,10 +235,7 @@ steps-act app i (NextCommand o) s = steps-next_command app i o (call_at s i).pha
 steps-act app i Obey s = steps-obey app i (command_at s i) (call_at s i).phase s
 
 steps-judged : (i op_index : ℕ) (s : State) → (judge i op_index s).steps ≡ s.steps
-unfolding judge
-steps-judged i op_index s = by_test (is_scheduler_suspended s && is_ended (status_at s i))
-    (λ t. rw t refl)
-    (λ t. rw t refl)
+steps-judged i op_index s = by_judgement (λ (t : State). t.steps ≡ s.steps) i op_index s refl (λ kind. refl)
 
 steps-act_unless : (app : Application) (i : ℕ) (kind : Option Misuse) (op : Op) (s : State)
     → (act_unless app i kind op s).steps ≡ s.steps

@@ -22,7 +22,7 @@ use Rattle.model.specs.Time.{delayed_key}
 use Rattle.model.specs.Handlers.{inject}
 use Rattle.model.specs.Step.{is_ended, act_current, before_step, come_before, step}
 use Rattle.model.specs.Run.{are_all_ended, is_interrupt_to_come, is_stuck, end_of}
-use Rattle.model.specs.Invariant.{IsRunning, IsState, RunsIn, holds, wait_of}
+use Rattle.model.specs.Invariant.{IsNonePending, IsRunning, IsState, RunsIn, holds, wait_of}
 use Rattle.model.proofs.Sorting.{length-in_order, by_test}
 use Rattle.model.proofs.Lists.{eqb-apart, eqb-refl, eqb-same, HasKey, list_has}
 use Rattle.lists.specs.Lists.{first_of, has_node}

@@ -2,7 +2,10 @@
 use Rattle.std.proofs.lemmas.Bool.{leb-true}
 use Rattle.std.proofs.Common.{◌≡◌, ◌<◌, ◌≤◌, ◌+◌, ◌&&◌, leb, ℕ, zero, suc, List, [], ◌∷◌, ◌++◌, length, map, get_or, take, drop}
 use Rattle.std.proofs.Common.{false, true, Option, None, ap, refl, sym, subst, ◌-◌, ◌∙◌, arith, Some}
-use Rattle.std.specs.List.{AllByRecursion}
+use Rattle.std.specs.List.{AllByRecursion, filter, range_with_len}
+use Rattle.std.specs.Prelude.{Bool, if◌then◌else◌}
+use Rattle.model.proofs.Sorting.{by_test}
+use Rattle.machine.specs.Sources.{Sources, is_pending}
 use Rattle.std.proofs.lemmas.List.{drop_all, drop_more, length-drop, take_all, take_more}
 use Rattle.model.specs.declared.event.What.{What}
 use Rattle.model.specs.declared.event.What.TheVariants.{IsrMark}
@@ -338,3 +341,32 @@ pub told_resume : (P : State → Type 0) (app : Application) (s : State) (handle
 told_resume P app s handler op_index op i n what is told same h =
     let one : what ≡ isr_told handler op_index (one_if (can_resume (status_at s i))) = told ∙ ap (isr_told handler op_index) same in
     rw is (subst (λ (w : What). P (write w (resume i s))) one h)
+
+-- ---- what is pending
+
+-- The source comes if it is among these.
+abbrev pub serve_if : Application → Sources → ℕ → State → State
+serve_if app pending source s = if is_pending pending source then serve app source s else s
+
+-- A deed is done with one number more.
+each_more : (deed : ℕ → State → State) (a n : ℕ) (s : State)
+    → for_each deed (range_with_len a (suc n)) s ≡ deed (a + n) (for_each deed (range_with_len a n) s)
+each_more deed a zero s = ap (λ (k : ℕ). deed k s) (let z : a ≡ a + 0 = omega arith in z)
+each_more deed a (suc n) s =
+    each_more deed (a + 1) n (deed a s)
+    ∙ ap (λ (k : ℕ). deed k (for_each deed (range_with_len (a + 1) n) (deed a s))) (let e : a + 1 + n ≡ a + suc n = omega arith in e)
+
+pub each_next : (deed : ℕ → State → State) (n : ℕ) (s : State)
+    → for_each deed (range_with_len 0 (n + 1)) s ≡ deed n (for_each deed (range_with_len 0 n) s)
+each_next deed n s =
+    ap (λ (k : ℕ). for_each deed (range_with_len 0 k) s) (let e : n + 1 ≡ suc n = omega arith in e)
+    ∙ each_more deed 0 n s
+    ∙ ap (λ (k : ℕ). deed k (for_each deed (range_with_len 0 n) s)) (let e : 0 + n ≡ n = omega arith in e)
+
+-- It is done with those that pass a test.
+pub each_if : (deed : ℕ → State → State) (p : ℕ → Bool) (is : List ℕ) (s : State)
+    → for_each deed (filter p is) s ≡ for_each (λ i t. if p i then deed i t else t) is s
+each_if deed p [] s = refl
+each_if deed p (i ∷ is) s = by_test (p i)
+    (λ t. rw t (each_if deed p is (deed i s)))
+    (λ t. rw t (each_if deed p is s))

@@ -1,13 +1,16 @@
 -- While a task holds the scheduler: what a tick that is held, the end of a script and a misuse make of the states that the kernel
 -- represents.
 use Rattle.std.proofs.Common.{◌≡◌, ◌≢◌, ◌<◌, ◌≤◌, ◌+◌, ℕ, zero, suc, true, false, List, Option, Some, None, refl, sym, subst, ◌∙◌}
-use Rattle.std.proofs.Common.{arith}
-use Rattle.std.proofs.lemmas.Bool.{lt-ltb, le-ltb}
+use Rattle.std.proofs.Common.{arith, ltb-false, ◌&&◌}
+use Rattle.std.proofs.lemmas.Bool.{lt-ltb, ltb-true}
+use Rattle.std.specs.Prelude.{Bool, if◌then◌else◌}
+use Rattle.std.specs.Option.{option_or}
+use Rattle.model.proofs.Sorting.{by_test}
 use Rattle.model.specs.declared.event.Event.{Event}
 use Rattle.model.specs.declared.answer.AnswerCondition.{AnswerCondition}
 use Rattle.model.specs.declared.event.End.TheVariants as ending
 use Rattle.model.specs.declared.event.Misuse.{Misuse}
-use Rattle.model.specs.declared.event.Misuse.TheVariants.{NotSuspended, NotCritical}
+use Rattle.model.specs.declared.event.Misuse.TheVariants.{WhileSuspended, NotSuspended, WhileCritical, NotCritical}
 use Rattle.model.specs.declared.op.Op.{Op}
 use Rattle.model.specs.declared.op.Op.TheVariants.{Work, Delay, DelayUntil, Yield, Time, Mark, Expect, Repeat, End as EndLoop, If}
 use Rattle.model.specs.declared.op.Op.TheVariants.{Else, EndIf, Break, Stamp, Since, Await, Do, GiveMutex, MessagesWaiting}
@@ -15,12 +18,12 @@ use Rattle.model.specs.declared.op.Op.TheVariants.{SpacesAvailable, SetBits, Cle
 use Rattle.model.specs.declared.op.Op.TheVariants.{SuspendAll, ResumeAll, EnterCritical, ExitCritical, NextCommand, Obey}
 use Rattle.model.specs.Application.{Application}
 use Rattle.model.specs.State.{State, status_at, progress_at}
-use Rattle.model.specs.Switching.{is_held, is_held_by_task, is_scheduler_suspended, slice}
+use Rattle.model.specs.Switching.{is_critical, is_held, is_held_by_task, is_scheduler_suspended, slice}
 use Rattle.model.specs.Time.{increment_tick}
 use Rattle.model.specs.Handlers.{interrupt, tick_interrupt}
-use Rattle.model.specs.Step.{act, act_unless, end_misuse, is_ended, judge, may_switch, misuse, misused}
-use Rattle.soundness.proofs.Settled.{when_held, neither}
-use Rattle.soundness.proofs.Judging.{misuse_calm, takes_hold}
+use Rattle.model.specs.Step.{act, act_unless, end_misuse, is_barred, is_ended, own_misuse, judge, may_switch, misuse, misused}
+use Rattle.soundness.proofs.Settled.{when_held, neither, unlike}
+use Rattle.soundness.proofs.Judging.{misuse_calm, not_barred, switches_not, takes_hold}
 use Rattle.sched.specs.StandsFor as sched
 use Rattle.sched.specs.StandsFor.{depth_of, task_holds_of}
 use Rattle.sched.specs.Schedule.{Schedule}
@@ -29,9 +32,12 @@ use Rattle.clock.specs.StandsFor as clock
 use Rattle.clock.specs.Timeline.{Timeline}
 use Rattle.machine.specs.declared.machine.Machine.{Machine}
 use Rattle.machine.specs.Logged.{Logged}
-use Rattle.machine.specs.StandsFor.{At, Does, Moves}
+use Rattle.machine.specs.Can.{Agrees}
+use Rattle.machine.specs.StandsFor.{At, Does, Moves, Stands}
+use Rattle.machine.specs.StandsFor.Stands.{Placed}
 use Rattle.machine.proofs.Acting.{stopped_at}
 use Rattle.ops.proofs.Held.{with_ticks}
+use Rattle.kernel.proofs.Bounds.{holds_by_some}
 
 -- Tasks hold the scheduler more often than by critical sections, so a `suspend_all` is in force.
 pub suspended_by : (k : Machine) (log : List Event) (s : State) → At k log s → k.sections < k.sched.suspensions
@@ -79,6 +85,49 @@ unfolding tick_interrupt
 interrupted_held app new log s held h = subst (At new log) (sym (when_held slice (interrupt app (increment_tick s)) held)) h
 
 -- ---- an op while a task holds the scheduler
+
+-- what is no misuse then may not switch
+pub never_switches : (k : Machine) (i : ℕ) (op : Op) → Agrees k → 0 < k.sched.suspensions
+    → ((s : State) → Stands k s → misuse s i op ≡ None) → may_switch op ≡ false
+never_switches k i op a some fine =
+    switches_not a.0 i op (holds_by_some a.0 (let all = a.1.sched.suspensions in omega arith)) (fine a.0 (Placed a.1))
+
+-- nor has it a place outside of critical sections alone, where one is open
+pub not_open : (k : Machine) (i : ℕ) (op : Op) → Agrees k → is_barred op ≡ true
+    → ((s : State) → Stands k s → misuse s i op ≡ None) → k.sections ≡ 0
+not_open k i op a barred fine =
+    let same : k.sections ≡ (a.0).sections = a.1.rest.sections in
+    by_test (is_critical a.0)
+    (λ t. unlike (sym barred ∙ not_barred a.0 i op t (fine a.0 (Placed a.1))))
+    (λ t. let most = ltb-false 0 (a.0).sections t in omega arith)
+
+-- and `exit_critical` is none only where one is open
+pub open_by : (k : Machine) (i : ℕ) → Agrees k → 0 < k.sched.suspensions
+    → ((s : State) → Stands k s → misuse s i ExitCritical ≡ None) → 0 < k.sections
+open_by k i a some fine =
+    let same : k.sections ≡ (a.0).sections = a.1.rest.sections in
+    by_test (is_critical a.0)
+    (λ t. let l = ltb-true 0 (a.0).sections t in omega arith)
+    (λ t. absurd (never_none (is_scheduler_suspended a.0) (rw t at (fine a.0 (Placed a.1))))) where
+      never_none : (b : Bool) → (if b && false then Some WhileSuspended else option_or (Some NotCritical) None) ≡ None → ⊥
+      never_none true e = absurd (cc)
+      never_none false e = absurd (cc)
+
+-- ---- which misuse an op is
+
+module _ (s : State) (i : ℕ) (op : Op) (fine : is_scheduler_suspended s && may_switch op ≡ false) where
+  pub misuse_own : (kind : Misuse) → own_misuse s i op ≡ Some kind → Some kind ≡ misuse s i op
+  misuse_own kind own = rw (fine, own) refl
+
+  pub misuse_barred : own_misuse s i op ≡ None → is_critical s ≡ true → is_barred op ≡ true → Some WhileCritical ≡ misuse s i op
+  misuse_barred own open_ barred = rw (fine, own, open_, barred) refl
+
+  pub misuse_fine : own_misuse s i op ≡ None → is_critical s && is_barred op ≡ false → misuse s i op ≡ None
+  misuse_fine own free = rw (fine, own, free) refl
+
+pub no_barred : (a : Bool) {b : Bool} → b ≡ false → a && b ≡ false
+no_barred true e = e
+no_barred false e = refl
 
 -- every other op may switch
 pub no_other : {X : Type 0} (op : Op) → may_switch op ≡ false → ((n : ℕ) → op ≢ Work n) → (op ≢ Time)

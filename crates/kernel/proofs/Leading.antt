@@ -1,21 +1,26 @@
 -- Kernels to which each run comes that has come to an earlier one, and into which nothing is injected any more.
-use Rattle.std.proofs.Common.{◌+◌, ◌≡◌, ◌<◌, ◌≤◌, ℕ, false, List, [], ◌++◌, Some, ap, sym, ◌∙◌, arith, append-nil, refl}
+use Rattle.std.proofs.Common.{◌+◌, ◌≡◌, ◌<◌, ◌≤◌, ℕ, suc, false, List, [], ◌++◌, None, Some, length, ap, sym, subst, ◌∙◌, arith, append-nil, refl}
 use Rattle.std.proofs.lemmas.List.{append_assoc, append_cancel_left}
 use Rattle.model.specs.declared.event.Event.{Event}
 use Rattle.model.specs.declared.event.End.{End}
 use Rattle.model.specs.declared.plan.Injection.{Injection}
 use Rattle.model.specs.Application.{Application, Limits}
 use Rattle.model.specs.State.{State}
-use Rattle.model.specs.Run.{Run, end_of, events_after}
+use Rattle.model.specs.Scripts.{AreLimits, IsWellFormed}
+use Rattle.model.specs.Step.{step}
+use Rattle.model.specs.Run.{Run, end_of, events_after, injected, state_after}
 use Rattle.model.proofs.Injected.{goes_on_with}
 use Rattle.machine.specs.declared.machine.Machine.{Machine}
 use Rattle.machine.specs.StandsFor.{Stands}
+use Rattle.machine.specs.Can.{IsUnderWay, NonePends}
 use Rattle.machine.proofs.Either.{elapsed_is}
 use Rattle.kernel.specs.Along.{IsFree, GoesOn}
 use Rattle.kernel.specs.Leads.{IsEnd, IsLed, IsPast, LeadsTo}
 use Rattle.kernel.specs.Rests.{IsRest}
 use Rattle.kernel.specs.Rows.{events_from}
 use Rattle.kernel.proofs.Along.{free_of_limits}
+use Rattle.kernel.proofs.Planned.{stands_as}
+use Rattle.kernel.proofs.Running.{goes_on, steps_more, told_more}
 
 module _ (app : Application) (limits : Limits) where
   -- ---- one kernel leads to another
@@ -84,6 +89,58 @@ module _ (app : Application) (limits : Limits) where
                 ∙ goes_on_with app limits other old.steps new.steps goes.to.on);
           };
         }
+
+  -- The kernel went a step further, before which nothing is injected, and no run ends.
+  module _ (formed : IsWellFormed app) (are : AreLimits limits.ticks limits.steps) (old new : Machine)
+      (on : (s : State) → Stands old s → None ≡ end_of app limits s)
+      (stands : (s : State) → Stands old s → Stands new (step app limits [] s)) where
+    goes_there : (plan : List Injection) → IsPast app limits old plan → end_of app limits (state_after app limits plan old.steps) ≡ None
+    goes_there plan is = sym (on (state_after app limits plan old.steps) is.way.stands)
+
+    stands_there : (plan : List Injection) → IsPast app limits old plan
+        → (s : State) → Stands old s → Stands new (step app limits (injected plan old.steps) s)
+    stands_there plan is = stands_as app limits old new [] (injected plan old.steps) (sym (is.past old.steps (omega arith))) stands
+
+    pub one_there : (plan : List Injection) → IsPast app limits old plan → new.steps ≡ suc old.steps
+    one_there plan is = steps_more app formed plan limits are old is.way (goes_there plan is) new (stands_there plan is)
+
+    pub way_there : (plan : List Injection) → IsPast app limits old plan → IsUnderWay app plan limits new
+    way_there plan is = goes_on app formed plan limits are old is.way (goes_there plan is) new (stands_there plan is)
+
+    -- where the step reports something, so has the run
+    pub some_there : (plan : List Injection) → IsPast app limits old plan
+        → ((s : State) → Stands old s → 0 < length (step app limits [] s).log) → 0 < length (events_after app limits plan new.steps)
+    some_there plan is some =
+        told_more app formed plan limits are old is.way (goes_there plan is) new (stands_there plan is)
+        (subst (λ (hs : List ℕ). 0 < length (step app limits hs (state_after app limits plan old.steps)).log)
+        (sym (is.past old.steps (omega arith))) (some (state_after app limits plan old.steps) is.way.stands))
+
+    module _ (before after : List Event)
+        (told : (s : State) → Stands old s → after ≡ before ++ (step app limits [] s).log) where
+      told_there : (plan : List Injection) → IsPast app limits old plan
+          → after ≡ before ++ (step app limits (injected plan old.steps) (state_after app limits plan old.steps)).log
+      told_there plan is =
+          subst (λ (hs : List ℕ). after ≡ before ++ (step app limits hs (state_after app limits plan old.steps)).log)
+          (sym (is.past old.steps (omega arith))) (told (state_after app limits plan old.steps) is.way.stands)
+
+      pub led_step : (plan : List Injection) → IsPast app limits old plan → IsLed app limits old new before after
+      led_step plan is =
+          let own : List Event = (step app limits (injected plan old.steps) (state_after app limits plan old.steps)).log in
+          let kept : after ≡ before ++ own = told_there plan is in
+          let one = one_there plan is in
+          record {
+            own = own;
+            kept = kept;
+            leads = record {
+              on = omega (arith, one);
+              way = λ other its. way_there other its;
+              events = λ other its.
+                  let log : List Event = (step app limits (injected other old.steps) (state_after app limits other old.steps)).log in
+                  let same : own ≡ log = append_cancel_left before own log (sym kept ∙ told_there other its) in
+                  ap (λ (n : ℕ). events_after app limits other n) (one_there other its)
+                  ∙ ap (λ (es : List Event). events_after app limits other old.steps ++ es) (sym same);
+            };
+          }
 
   -- ---- what is ahead
 

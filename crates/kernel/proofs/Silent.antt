@@ -26,6 +26,7 @@ use Rattle.model.specs.Groups.{keep_answer, wake_with_bits, bits_set, met_by, se
 use Rattle.model.specs.Groups.{answer_bits, begin_bits_wait, check, is_met, set_bits, want}
 use Rattle.model.specs.Daemon.{clear_by_daemon, command_at, next_command, obey}
 use Rattle.model.specs.Calls.{decide, await}
+use Rattle.model.specs.Invariant.{IsNonePending}
 use Rattle.model.specs.Step.{is_ended, act, act_current, act_if, before_step, own_misuse, step}
 use Rattle.model.specs.Run.{are_all_ended, is_stuck}
 use Rattle.model.proofs.Sorting.{by_test}

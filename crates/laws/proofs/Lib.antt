@@ -14,3 +14,4 @@ pub mod Blocks
 pub mod Awaited
 pub mod Handling
 pub mod Measuring
+pub mod Sections

@@ -11,5 +11,6 @@ pub mod Looking
 pub mod LookingExamples
 pub mod MutexExamples
 pub mod PlacementExamples
+pub mod Sections
 pub mod StampExamples
 pub mod TicklessExamples

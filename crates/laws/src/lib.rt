@@ -9,6 +9,7 @@ mod examples;
 mod looking;
 mod placements;
 mod runs;
+mod sections;
 mod stamps;
 mod states;
 
@@ -34,6 +35,10 @@ pub use placements::{
     steps_have_all_placements,
 };
 pub use runs::{late_points_do_nothing, row_is_one, run_is_one};
+pub use sections::{
+    injections_in_a_section_wait, no_handler_comes_inside, pending_handlers_change_nothing,
+    pending_handlers_come_at_the_exit, pending_handlers_come_once,
+};
 pub use stamps::{stamps_measure_time, stamps_stay, stamps_take_no_time};
 pub use states::{
     choice_in_words, idle_runs_alone, idle_sleeps_past_nothing,

@@ -27,12 +27,15 @@ pub fn states_are_sound()
 {}
 
 /// A step keeps to that from any such state, whatever handlers come before it: also where they are chosen as a run goes. It
-/// brings one `suspend_all` at most into force.
+/// brings one `suspend_all` at most into force, or opens one critical section.
 pub fn steps_keep_states_sound()
     ensures sound { (app : Application) → IsWellFormed app → (limits : Limits) (handlers : List ℕ) (s : State)
         → IsState app s → IsState app (step app limits handlers s) }
     ensures suspended { (app : Application) (limits : Limits) (handlers : List ℕ) (s : State)
         → s.suspensions ≤ s.steps → (step app limits handlers s).suspensions ≤ (step app limits handlers s).steps }
+    ensures held { (app : Application) (limits : Limits) (handlers : List ℕ) (s : State)
+        → s.suspensions + s.sections ≤ s.steps
+        → (step app limits handlers s).suspensions + (step app limits handlers s).sections ≤ (step app limits handlers s).steps }
 {}
 
 /// Between two steps the running task is Ready, where the scheduler isn't held.

@@ -25,7 +25,7 @@ pub none_now : (xs : List Source) → AreNonePending (map (λ (x : Source). reco
 none_now [] = tt
 none_now (x ∷ xs) = (refl, none_now xs)
 
-same_sources : (xs : List Source) → AreNonePending xs → map (λ (x : Source). record x { pending = false }) xs ≡ xs
+pub same_sources : (xs : List Source) → AreNonePending xs → map (λ (x : Source). record x { pending = false }) xs ≡ xs
 same_sources [] h = refl
 same_sources (x ∷ xs) h =
     ap (λ (b : Bool). record x { pending = b } ∷ map (λ (y : Source). record y { pending = false }) xs) (sym h.0)
@@ -46,7 +46,7 @@ pub pending_none : (s : State) → IsNonePending s → pending_of s ≡ []
 pending_none s h =
     none_left (λ source. (source_at s source).pending) (range_with_len 0 (length s.sources)) (λ i. not_pending s.sources i h)
 
-served_none : (app : Application) (s : State) → IsNonePending s → serve_pending app s ≡ s
+pub served_none : (app : Application) (s : State) → IsNonePending s → serve_pending app s ≡ s
 unfolding serve_pending
 served_none app s h =
     ap (λ (handlers : List ℕ). for_each (serve app) handlers (none_pending s)) (pending_none s h)
@@ -89,7 +89,7 @@ none_begun app handlers s open_ =
     rw open_ (subst AreNonePending (sym same) (none_now s.sources))
 
 -- what a step does behind its handlers leaves the sources as they are
-sources-step : (app : Application) (limits : Limits) (handlers : List ℕ) (s : State)
+pub sources-step : (app : Application) (limits : Limits) (handlers : List ℕ) (s : State)
     → (step app limits handlers s).sources ≡ (before_step app handlers s).sources
 unfolding step
 sources-step app limits handlers s =

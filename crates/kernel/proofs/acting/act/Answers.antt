@@ -232,8 +232,9 @@ returns-in-ExitCritical-clause-does g c =
     let can = rw c.in-ExitCritical.is at c.requires.can in
     rw c.in-ExitCritical.is (does_any 65 _ _ _ _ _ can.tick.advance.agrees (record {
       at = λ s h.
-          misused_at c.args.app.now c.misuse.new.self _ s c.args.task ExitCritical NotCritical
-          (not_critical s c.args.task (not_by_task c.args.machine.now s (Placed h.stands) c.requires.awake)) (c.misuse.ensures _ s h);
+          misused_at c.args.app.now c.misuse-in-ExitCritical.new.self _ s c.args.task ExitCritical NotCritical
+          (not_critical s c.args.task (not_by_task c.args.machine.now s (Placed h.stands) c.requires.awake))
+          (c.misuse-in-ExitCritical.ensures _ s h);
       few = omega arith;
       before = refl;
     }))

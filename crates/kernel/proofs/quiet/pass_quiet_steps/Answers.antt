@@ -9,7 +9,7 @@ pass_ticks-requires-clause-free c =
 
 pub quiet_steps-quiet-requires-clause-none : goal.quiet_steps-quiet-requires-clause-none
 quiet_steps-quiet-requires-clause-none c =
-    c.requires.free.none (omega (arith, c.if-kernel.false))
+    c.requires.free.none (omega (arith, c.if-until-kernel.false))
 
 pub returns : goal.returns
 returns c =

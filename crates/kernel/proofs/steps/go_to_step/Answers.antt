@@ -149,8 +149,8 @@ pub step_by_plan-requires-clause-few : goal.step_by_plan-requires-clause-few
 step_by_plan-requires-clause-few c =
     few_left c.args.injections.now c.steps.left.now c.steps.kernel.steps c.requires.plan c.steps.invariant.left
 
-pub steps-smaller : goal.steps-smaller
-steps-smaller c =
+pub steps-smaller-in-Continue-branch-2 : goal.steps-smaller-in-Continue-branch-2
+steps-smaller-in-Continue-branch-2 c =
     let on : end_of c.args.app.now c.args.limits.now
     (state_after c.args.app.now c.args.limits.now c.args.injections.now c.steps.kernel.steps)
     ≡ None =
@@ -227,8 +227,8 @@ go_on-requires-clause-meter c =
     let low = c.requires.meter in
     omega arith
 
-pub steps-preserved : goal.steps-preserved
-steps-preserved c =
+pub steps-preserved-in-Continue-branch-2 : goal.steps-preserved-in-Continue-branch-2
+steps-preserved-in-Continue-branch-2 c =
     let on : end_of c.args.app.now c.args.limits.now
     (state_after c.args.app.now c.args.limits.now c.args.injections.now c.steps.kernel.steps)
     ≡ None =
@@ -372,3 +372,68 @@ returns-in_err-left-clause-far c =
     let within = c.steps.invariant.far in
     let short : c.steps.kernel.steps ≢ c.args.step = c.if-kernel-step.false in
     omega (arith, m, within, short)
+
+-- ---- where something is pending after the step
+
+pub steps-smaller : goal.steps-smaller
+steps-smaller c =
+    let on : end_of c.args.app.now c.args.limits.now
+    (state_after c.args.app.now c.args.limits.now c.args.injections.now c.steps.kernel.steps)
+    ≡ None =
+    sym (c.in_default.ensures _ c.steps.invariant.way.stands) in
+    let stands =
+    stands_as c.args.app.now c.args.limits.now c.steps.kernel c.step_by_plan.new.kernel _ _
+    (handlers_are c.args.injections.now c.steps.left.now c.steps.kernel.steps _ refl c.steps.invariant.left)
+    c.in_ok-left.ensures.stands in
+    let low =
+    steps_below c.args.app.now c.well_formed-2.ensures c.args.injections.now
+    c.args.limits.now c.well_formed-3.ensures c.steps.kernel c.steps.invariant.way on in
+    let m =
+    steps_more c.args.app.now c.well_formed-2.ensures c.args.injections.now c.args.limits.now
+    c.well_formed-3.ensures c.steps.kernel c.steps.invariant.way on c.step_by_plan.new.kernel stands in
+    omega arith
+
+pub steps-preserved : goal.steps-preserved
+steps-preserved c =
+    let on : end_of c.args.app.now c.args.limits.now
+    (state_after c.args.app.now c.args.limits.now c.args.injections.now c.steps.kernel.steps)
+    ≡ None =
+    sym (c.in_default.ensures _ c.steps.invariant.way.stands) in
+    let stands =
+    stands_as c.args.app.now c.args.limits.now c.steps.kernel c.step_by_plan.new.kernel _ _
+    (handlers_are c.args.injections.now c.steps.left.now c.steps.kernel.steps _ refl c.steps.invariant.left)
+    c.in_ok-left.ensures.stands in
+    let m =
+    steps_more c.args.app.now c.well_formed-2.ensures c.args.injections.now c.args.limits.now
+    c.well_formed-3.ensures c.steps.kernel c.steps.invariant.way on c.step_by_plan.new.kernel stands in
+    let left : IsLeft c.args.injections.now c.in_ok-left.left.now c.step_by_plan.new.kernel.steps =
+    rw (c.in_ok-left.ensures.later, m)
+    (left_next c.args.injections.now c.steps.left.now c.steps.kernel.steps c.steps.invariant.left) in
+    let e = c.in_ok-left.ensures.meter in
+    let f = c.steps.invariant.meter in
+    let o = c.steps.invariant.on in
+    let far = c.steps.invariant.far in
+    let short : c.steps.kernel.steps ≢ c.args.step = c.if-kernel-step.false in
+    let whole : all_of c.step_by_plan.new.trail
+    ≡ all_of c.args.trail.now
+    ++ events_from c.args.app.now c.args.limits.now c.args.injections.now c.args.kernel.now.steps c.step_by_plan.new.kernel.steps =
+    more_events c.args.app.now c.well_formed-2.ensures c.args.injections.now c.args.limits.now c.well_formed-3.ensures
+    c.steps.kernel c.steps.invariant.way on c.step_by_plan.new.kernel stands c.args.kernel.now.steps c.steps.invariant.on
+    (all_of c.args.trail.now) (all_of c.steps.trail) (all_of c.step_by_plan.new.trail) c.steps.invariant.events
+    (subst (λ (hs : List ℕ).
+    all_of c.step_by_plan.new.trail
+    ≡ all_of c.steps.trail
+    ++ (step c.args.app.now c.args.limits.now hs
+    (state_after c.args.app.now c.args.limits.now c.args.injections.now c.steps.kernel.steps)).log)
+    (handlers_are c.args.injections.now c.steps.left.now c.steps.kernel.steps _ refl c.steps.invariant.left)
+    (c.in_ok-left.ensures.told _ c.steps.invariant.way.stands)) in
+    record {
+      way =
+          goes_on c.args.app.now c.well_formed-2.ensures c.args.injections.now c.args.limits.now c.well_formed-3.ensures
+          c.steps.kernel c.steps.invariant.way on c.step_by_plan.new.kernel stands;
+      on = omega arith;
+      far = omega (arith, m, far, short);
+      events = whole;
+      left = left;
+      meter = omega arith;
+    }

@@ -1,11 +1,28 @@
-use Rattle.std.proofs.Common.{◌∙◌, arith}
+use Rattle.std.proofs.Common.{◌≡◌, ◌∙◌, ◌++◌, ℕ, List, arith, subst, sym}
+use Rattle.model.specs.Step.{step}
+use Rattle.machine.specs.Logged.{all_of}
+use Rattle.machine.specs.StandsFor.{Stands}
+use Rattle.machine.proofs.Pending.{none_of_any}
 use Rattle.std.proofs.lemmas.Result.{on_err_weaker, on_ok_weaker}
+use Rattle.kernel.proofs.Ending.{empty}
 use Rattle.kernel.proofs.Running.{told_after}
 use Rattle.kernel.proofs.steps.step_along.Goals as goal
 
-pub returns-then-is_empty-clause-told : goal.returns-then-is_empty-clause-told
-returns-then-is_empty-clause-told c = λ s h.
-    told_after c.step_alone.new.log _ _ (c.step_alone.ensures.before ∙ c.begin.ensures.before) (c.step_alone.ensures.told s h)
+pub step_alone-requires-clause-none : goal.step_alone-requires-clause-none
+step_alone-requires-clause-none c =
+    none_of_any c.args.kernel.now.sources.pending (sym c.any_pending.ensures ∙ c.if-not-any_pending.true)
+
+pub returns-then-not-any_pending-clause-stands : goal.returns-then-not-any_pending-clause-stands
+returns-then-not-any_pending-clause-stands c = λ s h.
+    subst (λ (hs : List ℕ). Stands c.step_alone.new.machine (step c.args.app.now c.args.limits.now hs s))
+    (sym (empty c.args.handlers.now (sym c.is_empty.ensures ∙ c.if-is_empty.true))) (c.step_alone.ensures.stands s h)
+
+pub returns-then-not-any_pending-clause-told : goal.returns-then-not-any_pending-clause-told
+returns-then-not-any_pending-clause-told c = λ s h.
+    subst (λ (hs : List ℕ).
+    all_of c.step_alone.new.log ≡ all_of c.args.trail.now ++ (step c.args.app.now c.args.limits.now hs s).log)
+    (sym (empty c.args.handlers.now (sym c.is_empty.ensures ∙ c.if-is_empty.true)))
+    (told_after c.step_alone.new.log _ _ (c.step_alone.ensures.before ∙ c.begin.ensures.before) (c.step_alone.ensures.told s h))
 
 pub returns-clause-told : goal.returns-clause-told
 returns-clause-told c =

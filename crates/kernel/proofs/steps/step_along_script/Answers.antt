@@ -39,6 +39,15 @@ step_at-following-requires-clause-going c =
     can_step app c.well_formed-2.ensures c.args.injections.now limits
     c.well_formed-3.ensures c.steps.kernel g.free.way (ends_not short g)
 
+pub step_at-following-requires-clause-none : goal.step_at-following-requires-clause-none
+step_at-following-requires-clause-none c =
+    let inv = c.steps.invariant in
+    let app = c.args.app.now in
+    let limits = c.args.limits.now in
+    let g : IsGoing app limits c.args.until c.steps.kernel c.args.injections.now =
+    goes_still inv.along c.requires.going (inv.going c.args.injections.now c.requires.going) in
+    g.free.none (let soon = inv.soon in omega arith)
+
 pub step_at-following-requires-clause-at : goal.step_at-following-requires-clause-at
 step_at-following-requires-clause-at c = c.steps.invariant.at
 

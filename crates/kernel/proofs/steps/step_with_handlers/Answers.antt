@@ -28,6 +28,10 @@ act_current-requires-clause-can g c =
     (c.come_before.ensures.at _
     (begun c.args.machine.now (g.L.Log.logged c.args.log.now).told going.state going.stands c.requires.begun))).stands
 
+pub settle-requires : goal.settle-requires
+settle-requires g c =
+    let a = c.come_before.ensures.few in let b = c.act_current.ensures.few in let room = c.requires.room in omega arith
+
 pub overflow_add-machine : goal.overflow_add-machine
 overflow_add-machine g c =
     let going = c.requires.going in

@@ -1,5 +1,5 @@
 use Rattle.std.proofs.Common.{arith}
-use Rattle.kernel.proofs.Held.{does_up, moves_up, no_other}
+use Rattle.kernel.proofs.Held.{does_up, moves_up, never_switches, no_other}
 use Rattle.kernel.proofs.suspended.act_on.Goals as goal
 
 pub returns-in-Work : goal.returns-in-Work
@@ -53,12 +53,19 @@ returns-in-GetBits g c = rw c.in-GetBits.is (does_up 1 64 _ _ _ _ _ (omega arith
 pub returns-in-SuspendAll : goal.returns-in-SuspendAll
 returns-in-SuspendAll g c = rw c.in-SuspendAll.is (does_up 1 64 _ _ _ _ _ (omega arith) c.suspend_all.ensures)
 
+pub returns-in-EnterCritical : goal.returns-in-EnterCritical
+returns-in-EnterCritical g c = rw c.in-EnterCritical.is (moves_up 64 _ _ (g.L.Log.logged c.args.log.now) _ c.enter_critical.ensures)
+
+pub returns-in-ExitCritical : goal.returns-in-ExitCritical
+returns-in-ExitCritical g c = rw c.in-ExitCritical.is (moves_up 64 _ _ (g.L.Log.logged c.args.log.now) _ c.exit_critical.ensures)
+
 pub returns-in-ResumeAll : goal.returns-in-ResumeAll
 returns-in-ResumeAll g c = rw c.in-ResumeAll.is (does_up 2 64 _ _ _ _ _ (omega arith) c.resume_all.ensures)
 
 pub returns-in_default : goal.returns-in_default
 returns-in_default g c =
     let not = c.in_default in
-    no_other c.args.op.now c.requires.stays not.not-Work not.not-Time not.not-Mark not.not-Expect not.not-Repeat
+    no_other c.args.op.now (never_switches c.args.machine.now c.args.task c.args.op.now c.requires.can.agrees c.requires.some c.requires.fine)
+    not.not-Work not.not-Time not.not-Mark not.not-Expect not.not-Repeat
     not.not-End not.not-If not.not-Else not.not-EndIf not.not-Break not.not-Stamp not.not-Since not.not-MessagesWaiting
-    not.not-SpacesAvailable not.not-ClearBits not.not-GetBits not.not-SuspendAll not.not-ResumeAll
+    not.not-SpacesAvailable not.not-ClearBits not.not-GetBits not.not-SuspendAll not.not-ResumeAll not.not-EnterCritical not.not-ExitCritical

@@ -5,8 +5,8 @@ use Rattle.machine.proofs.Either.{does_any, does_more}
 use Rattle.kernel.proofs.Running.{acts, rests}
 use Rattle.kernel.proofs.suspended.act_while_suspended.Goals as goal
 
-pub act_unless_it_switches-requires-clause-can : goal.act_unless_it_switches-requires-clause-can
-act_unless_it_switches-requires-clause-can g c =
+pub act_unless_misuse-requires-clause-can : goal.act_unless_misuse-requires-clause-can
+act_unless_misuse-requires-clause-can g c =
     c.requires.can c.in-Some.op.now
     (let P : Progress → Type 0 = λ p. op_at c.args.app.now c.args.task p.op_index ≡ Some c.in-Some.op.now in
     subst P (c.behind-machine.view_is ∙ c.progress.ensures) c.in-Some.ensures.some)
@@ -17,9 +17,9 @@ returns-in-Some g c = λ limits.
     (let P : Progress → Type 0 = λ p. op_at c.args.app.now c.args.task p.op_index ≡ Some c.in-Some.op.now in
     subst P (c.behind-machine.view_is ∙ c.progress.ensures) c.in-Some.ensures.some) in
     acts c.args.app.now limits c.args.machine.now c.args.task c.requires.runs c.in-Some.op.now at
-    c.act_unless_it_switches.new.machine _ _
+    c.act_unless_misuse.new.machine _ _
     (does_more 64 65 _ _ _ _ _ (omega arith)
-    (does_any 64 _ _ _ _ _ (c.requires.can c.in-Some.op.now at).agrees c.act_unless_it_switches.ensures))
+    (does_any 64 _ _ _ _ _ (c.requires.can c.in-Some.op.now at).agrees c.act_unless_misuse.ensures))
 
 pub returns-in_default : goal.returns-in_default
 returns-in_default g c = λ limits.

@@ -16,6 +16,12 @@ step_while_suspended-requires-clause-going c =
     c.args.limits.now c.well_formed-3.ensures c.steps.kernel free.way
     (going_free short c.if-is_over_running.ensures c.args.injections.now free)
 
+pub step_while_suspended-requires-clause-none : goal.step_while_suspended-requires-clause-none
+step_while_suspended-requires-clause-none c =
+    let free : IsFree c.args.app.now c.args.limits.now c.args.until c.steps.kernel c.args.injections.now =
+    free_next c.steps.invariant.along.to c.requires in
+    free.none (let test = c.steps-test.true in let last = c.saturating_sub-last.ensures in omega arith)
+
 pub steps-smaller : goal.steps-smaller
 steps-smaller c =
     let short : c.steps.kernel.steps < c.args.until =

@@ -1,0 +1,5 @@
+use Rattle.laws.proofs.Sections.{pended_once}
+use Rattle.laws.proofs.sections.pending_handlers_come_once.Goals as goal
+
+pub returns : goal.returns
+returns c = λ handler s. pended_once handler s

@@ -1,0 +1,48 @@
+//! What is true of critical sections, and of the interrupts that are pending meanwhile.
+ghost use Rattle.std.specs.Prelude.{◌≡◌, ◌<◌, ℕ, suc, false, true, List, [], ◌∷◌, length};
+ghost use Rattle.std.specs.List.{AllByRecursion};
+ghost use Rattle.model.specs.declared.event.Event.{Event};
+ghost use Rattle.model.specs.Application.{Application, Limits};
+ghost use Rattle.model.specs.Scripts.{IsWellFormed};
+ghost use Rattle.model.specs.State.{State};
+ghost use Rattle.model.specs.Switching.{is_critical};
+ghost use Rattle.model.specs.Handlers.{pend};
+ghost use Rattle.model.specs.Step.{step};
+ghost use Rattle.model.specs.Invariant.{IsNonePending, IsState};
+ghost use Rattle.laws.specs.Sections.{alone, are_critical, is_of_handler};
+
+/// A handler that is injected while a critical section is open changes nothing of the run as long as one is open, but that it is
+/// pending: the same steps are done, and the same events are reported.
+pub fn pending_handlers_change_nothing()
+    ensures { (app : Application) → IsWellFormed app → (limits : Limits) (handler steps : ℕ) (s : State) → IsState app s
+        → are_critical app limits (suc steps) s ≡ true
+        → alone app limits steps (step app limits (handler ∷ []) s) ≡ pend handler (alone app limits (suc steps) s) }
+{}
+
+/// It comes before the first step before which none is open, and the run goes on from there as if it had been injected at that step.
+pub fn pending_handlers_come_at_the_exit()
+    ensures { (app : Application) (limits : Limits) (handler : ℕ) (s : State) → handler < length s.sources
+        → IsNonePending s → is_critical s ≡ false
+        → step app limits [] (pend handler s) ≡ step app limits (handler ∷ []) s }
+{}
+
+/// So a handler that is injected inside a section, before which nothing is pending, comes before the first step behind it, and nothing
+/// else of the run differs from the one in which it is injected there.
+pub fn injections_in_a_section_wait()
+    ensures { (app : Application) → IsWellFormed app → (limits : Limits) (handler steps : ℕ) (s : State) → IsState app s
+        → IsNonePending s → handler < length s.sources → are_critical app limits (suc steps) s ≡ true
+        → is_critical (alone app limits (suc steps) s) ≡ false
+        → step app limits [] (alone app limits steps (step app limits (handler ∷ []) s))
+        ≡ step app limits (handler ∷ []) (alone app limits (suc steps) s) }
+{}
+
+/// A handler that is pending already stays so, once.
+pub fn pending_handlers_come_once()
+    ensures { (handler : ℕ) (s : State) → pend handler (pend handler s) ≡ pend handler s }
+{}
+
+/// Before that no handler comes: none of the events of a step before which a critical section is open is a handler's.
+pub fn no_handler_comes_inside()
+    ensures { (app : Application) (limits : Limits) (handlers : List ℕ) (s : State) → IsState app s → is_critical s ≡ true
+        → AllByRecursion (λ (e : Event). is_of_handler e.what ≡ false) (step app limits handlers s).log }
+{}
