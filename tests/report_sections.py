@@ -99,7 +99,7 @@ def rows_of_one_section_are_one_class():
     holds(table, "2     4  80.0%  pass     1 uart")
     idle = f"{ROOT}/{FOLDER}/a_pending_handler_comes_in_the_step_of_idle"
     table = good_and_quick("classes", f"{idle}.report")
-    holds(table, "5 rows: 5 pass\n")
+    holds(table, "5 rows in 1 class")
     holds(table, "as the base run, but for the handler's own lines")
 
 
