@@ -543,11 +543,7 @@ fn the_slow_program_agrees_where_tasks_open_critical_sections(rt: HostRuntime) {
         seen.sections > 17_500 && seen.inner_sections > 9_540,
     );
     let has_pending = seen.pending_handlers > 7_030 && seen.pending_again > 4_370;
-    has_enough(
-        &rt,
-        &seen,
-        has_pending && seen.injections.critical > 43_800,
-    );
+    has_enough(&rt, &seen, has_pending && seen.injections.critical > 43_800);
     let has_served = seen.served_together > 4_010 && seen.served_in_holds > 80;
     has_enough(&rt, &seen, has_served && seen.ends_while_pending > 2_580);
     let has_misuses = seen.while_critical > 1_790 && seen.not_critical > 2_590;

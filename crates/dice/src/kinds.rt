@@ -58,11 +58,8 @@ impl Dice {
     {
         match self.theme {
             Theme::Any => self.roll(5),
-            Theme::Crowd
-            | Theme::Contest
-            | Theme::Suspension
-            | Theme::Decision
-            | Theme::Section => 1 + self.roll(2),
+            Theme::Crowd | Theme::Contest | Theme::Suspension | Theme::Decision | Theme::Section =>
+                1 + self.roll(2),
             Theme::Gathering => self.roll(2),
         }
     }
