@@ -5,12 +5,13 @@
 
 Prints for each campaign and number of workers the best and the median wall time of nine runs, the processor time of the
 best, and the peak memory. The runs take turns. The program is crates/rtosim/out/rtosim, or PROGRAM; large pages are asked for,
-as bin/rtosim does. With OTHER, the same of that program with one worker.
+as bin/rtosim does. With OTHER, the same of that program with one worker, where it takes the file.
 
 The campaigns: `dense`, 5,000 rows of tasks that call a queue and a mutex in nearly each step, each row to the step limit
 of 5,000; `computing`, the same with more `work` between the calls, and 2,000 rows of 2,000 steps; `commands`, 3,000 rows of tasks
 that wait for bits, which a handler has the daemon set and clear; `asleep`, 3,000 rows of tasks that sleep and wait for minutes and
-hours in a tickless application, which a handler wakes at any time; `million`, 1,000,000 single points of a short application, each
+hours in a tickless application, which a handler wakes at any time; `masked`, 5,000 rows of a driver that looks in a critical section in
+each turn, so that the handlers of many rows are pending first; `million`, 1,000,000 single points of a short application, each
 of which ends after some ten steps."""
 import ctypes
 import os
@@ -78,6 +79,17 @@ def asleep(steps):
     )
 
 
+def masked(steps):
+    """A driver that looks in a critical section in each turn, a task that sends to it, and a handler before each step."""
+    return (
+        f"[limits]\nsteps = {steps}\n"
+        '[[queue]]\nname = "q"\nlength = 4\n[[handler]]\nname = "h"\nops = ["send q 9"]\n'
+        + task("driver", 2, turns("enter_critical", "waiting q", "spaces q", "exit_critical", "receive q 5"))
+        + task("sender", 1, turns("work 1", "enter_critical", "stamp", "exit_critical", "send q 7 0"))
+        + '[campaign]\npoints = ["all h"]\n'
+    )
+
+
 def million_points():
     """A million points over an application that ends after some ten steps."""
     dice = random.Random(5)
@@ -88,6 +100,11 @@ def million_points():
         + task("a", 1, ["receive q 1", "send q 1 0", "receive q 0", "work 2"])
         + f"[campaign]\npoints = {array(points)}\n"
     )
+
+
+def takes(program, path):
+    """Whether the program takes this file, which an older one may refuse."""
+    return subprocess.run([program, "run", path], stdout=subprocess.DEVNULL, stderr=subprocess.DEVNULL).returncode < 3
 
 
 def timed(words):
@@ -103,7 +120,7 @@ def timed(words):
 def measure(name, path, programs):
     """Runs a campaign with each number of workers, and prints what that took."""
     calls = {f"{it} workers": [programs[0], "campaign", path, "--workers", str(it)] for it in WORKERS}
-    if len(programs) == 2:
+    if len(programs) == 2 and takes(programs[1], path):
         calls[os.path.relpath(programs[1])] = [programs[1], "campaign", path]
     runs = [[timed(words) for words in calls.values()] for _ in range(RUNS)]
     for call, taken in zip(calls, zip(*runs)):
@@ -117,7 +134,7 @@ def main():
     ctypes.CDLL(None).prctl(PR_SET_CHILD_SUBREAPER, 1, 0, 0, 0)
     programs = sys.argv[1:3] or [PROGRAM]
     texts = {"dense": producer_and_consumer(5000, 2), "computing": producer_and_consumer(2000, 200),
-             "commands": sensor_and_daemon(3000), "asleep": asleep(3000), "million": million_points()}
+             "commands": sensor_and_daemon(3000), "asleep": asleep(3000), "masked": masked(5000), "million": million_points()}
     with tempfile.TemporaryDirectory() as folder:
         for name, text in texts.items():
             path = os.path.join(folder, f"{name}.toml")

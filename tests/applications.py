@@ -1,5 +1,6 @@
 """Random applications, with campaigns of all steps of two handlers: half of them with a daemon, half of them tickless, half of them with
-branches and endless tasks, and half of them with handlers that look at answers and tasks that measure time."""
+branches and endless tasks, half of them with handlers that look at answers and tasks that measure time, and half of them with critical
+sections."""
 import json
 import random
 
@@ -90,7 +91,8 @@ class Applications:
     """Random applications, most of which have something that can't end, fails or isn't reached. Those of even seeds have a daemon,
     and handlers that set and clear bits by it. Of four seeds the last two are tickless: they sleep and wait for up to nearly a turn of the
     tick, begin at any tick, and have base interrupts amid their sleeps. Of eight seeds the last four have branches, and tasks that are
-    endless. Of sixteen seeds the last eight have handlers that look at answers, and tasks that measure time."""
+    endless. Of sixteen seeds the last eight have handlers that look at answers, and tasks that measure time. Of thirty-two seeds the last
+    sixteen have critical sections, some of which are closed too often, too seldom, or after an op that they bar."""
 
     def __init__(self, seed):
         self.dice, self.has_daemon = random.Random(seed), seed % 2 == 0
@@ -100,12 +102,21 @@ class Applications:
         self.has_branches, self.block_dice = seed % 8 > 3, random.Random(f"blocks {seed}")
         # And so has one whose handlers look.
         self.looks, self.look_dice = seed % 16 > 7, random.Random(f"looks {seed}")
+        # And one with critical sections.
+        self.masks, self.mask_dice = seed % 32 > 15, random.Random(f"masks {seed}")
 
     def ticks(self, few):
         """So few ticks, and in a tickless application perhaps many."""
         return self.long_dice.choice((few, 3, 40, 700, 4000, 86400000, 4294967294)) if self.is_tickless else few
 
     def task_op(self):
+        return self.mask_op() if self.masks and self.mask_dice.random() < 0.4 else self.unmasked_op()
+
+    def mask_op(self):
+        """An op that opens or closes a critical section, or one that is done inside."""
+        return self.mask_dice.choice(("enter_critical", "enter_critical", "exit_critical", "exit_critical", "waiting q", "bits g"))
+
+    def unmasked_op(self):
         return self.clock_op() if self.looks and self.look_dice.random() < 0.3 else self.other_op()
 
     def clock_op(self):

@@ -430,6 +430,38 @@ def the_other_misuses():
 
 
 @case
+def what_a_task_may_not_do_in_a_critical_section():
+    misused = ["work 1", "delay 1", "delay 0", "delay_until 1", "yield", "send q 1 0", "send_front q 1 0", "overwrite q 1", "receive q 0",
+               "peek q 0", "take s 0", "give s", "lock m 0", "set g 1", "wait g 1 any keep 0", "suspend b", "suspend a", "resume b",
+               "resume a", "suspend_all"]
+    both = EACH_KIND + task(name="b", priority=0)
+    for op in misused:
+        tells(both + task("enter_critical", op), "misuse a 1 5 in 2 steps, 0 ticks")
+    tells(both + task("lock m 0", "enter_critical", "unlock m"), "misuse a 2 5 in 3 steps, 0 ticks", "0 0 call a 0 lock = 1")
+    tells(both + task("suspend_all", "enter_critical", "resume_all"), "misuse a 2 5 in 3 steps, 0 ticks", "0 0 call a 0 suspend_all = 0")
+    # the least code is told
+    tells(both + task("enter_critical", "unlock m"), "misuse a 1 3 in 2 steps, 0 ticks")
+    tells(both + task("enter_critical", "resume_all"), "misuse a 1 2 in 2 steps, 0 ticks")
+    tells(both + task("suspend_all", "enter_critical", "yield"), "misuse a 2 1 in 3 steps, 0 ticks", "0 0 call a 0 suspend_all = 0")
+    allowed = ["repeat 1", "end", "mark 3", "time", "waiting q", "spaces q", "bits g", "clear g 1", "expect 0", "if 0", "else", "end",
+               "stamp", "since", "enter_critical", "exit_critical"]
+    tells(both + task("enter_critical", *allowed, "exit_critical"), "pass in 17 steps, 0 ticks", "3 0 mark a 3", "4 0 call a 4 time = 0",
+          "5 0 call a 5 waiting = 0", "6 0 call a 6 spaces = 1", "7 0 call a 7 bits = 0", "8 0 call a 8 clear = 0",
+          "13 0 call a 14 since = 0", "16 0 run -")
+
+
+@case
+def the_misuses_at_the_ends_of_critical_sections():
+    tells(task("exit_critical"), "misuse a 0 6 in 1 steps, 0 ticks")
+    tells(task("enter_critical", "exit_critical", "exit_critical"), "misuse a 2 6 in 3 steps, 0 ticks")
+    tells(task("enter_critical"), "misuse a 0 7 in 1 steps, 0 ticks")
+    tells(task("enter_critical", "enter_critical", "exit_critical"), "misuse a 2 7 in 3 steps, 0 ticks")
+    tells(task("suspend_all", "enter_critical"), "misuse a 1 4 in 2 steps, 0 ticks", "0 0 call a 0 suspend_all = 0")
+    many = ["repeat 1000", "enter_critical", "end", "repeat 1000", "exit_critical", "end"]
+    tells(task(*many), "pass in 4002 steps, 0 ticks", "4001 0 run -")
+
+
+@case
 def a_mutex_that_its_holder_locks_again():
     tells(EACH_KIND + task("lock m 0", "lock m 3"), "pass in 10 steps, 3 ticks", "0 0 call a 0 lock = 1", "5 0 run -", "8 3 run a",
           "9 3 call a 1 lock = 0", "9 3 run -")

@@ -166,11 +166,13 @@ def readme_shows_the_example_and_its_report():
     readme = text_of("README.md")
     plain = lambda toml: re.sub(r",(?=\])", "", re.sub(r"(?m)^#.*|\s", "", toml))
     equal([plain(it) for it in fenced(readme, "toml")], [plain(text_of("examples/lost_wake_up.toml"))])
-    asked, *lines = next(it for it in fenced(readme, "") if it.startswith("$ bin/rtosim campaign")).splitlines(True)
-    report = text_of("examples/lost_wake_up.report")
-    equal(asked, "$ bin/rtosim campaign examples/lost_wake_up.toml\n")
-    holds(report, "".join(lines[:-1]))
-    assert report.endswith(lines[-1]), lines[-1]
+    shown = next(it for it in fenced(readme, "") if it.startswith("$ bin/rtosim campaign"))
+    reports = re.findall(r"(?m)^\$ bin/rtosim campaign (.*)\.toml\n((?:[^$].*\n)*)", shown)
+    equal([name for name, _ in reports], ["examples/lost_wake_up", "examples/lost_wake_up_cured"])
+    for name, text in reports:
+        report, lines = text_of(f"{name}.report"), text.splitlines(True)
+        holds(report, "".join(lines[:-1]))
+        assert report.endswith(lines[-1]), lines[-1]
 
 
 @case
@@ -179,7 +181,7 @@ def the_definitions_to_begin_with_are_short():
     first = ("Switching", "Time", "Objects", "Calls", "Step", "Run")
     holds(readme, ", ".join(first))
     lines = sum(believed.lines_of(f"crates/model/specs/{it}.antt") for it in first)
-    assert lines < 300, lines
+    assert lines < 325, lines
 
 
 if __name__ == "__main__":

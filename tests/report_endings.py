@@ -100,7 +100,7 @@ def what_a_check_expected_and_what_the_answer_is():
 @case
 def each_misuse_has_its_words():
     count = 0
-    for file in sorted(glob.glob(f"{ROOT}/tests/runs/misuse/*.out") + glob.glob(f"{ROOT}/tests/runs/branch/*.out")):
+    for file in sorted(it for folder in ("misuse", "branch", "critical") for it in glob.glob(f"{ROOT}/tests/runs/{folder}/*.out")):
         found = lone_run_of(source_of(read(file).decode()).reader())
         if found.head.verdict.kind == "misuse":
             words = endings.Endings(read_application(f"{file[:-4]}.toml")).lines_of(found)

@@ -3,7 +3,7 @@ import re
 
 from .explaining_points import listed
 from .explaining_conditions import problem_of_condition
-from .formats import (CALLED, COMMANDS, DAEMON, EXAMPLE_OF_A_DAEMON, KIN, LOOPS, MEANT_OPS, MEANT_TURNS, MEANT_WAITS, MEASURES,
+from .formats import (CALLED, COMMANDS, DAEMON, EXAMPLE_OF_A_DAEMON, KIN, LOOPS, MASKS, MEANT_OPS, MEANT_TURNS, MEANT_WAITS, MEASURES,
                       NOT_SIMULATED_OPS, NUMBER, OPS, PLURALS, SECTIONS, Choice, Name, Turns, Wait, not_simulated, not_simulated_rule, op_of,
                       words_of)
 from .nearness import did_you_mean, near, quoted
@@ -104,6 +104,8 @@ def op_of_tasks(word):
         return f'"{word}" is an op of tasks: a handler has no loops'
     if word in MEASURES:
         return f'"{word}" is an op of tasks: no time passes in a handler'
+    if word in MASKS:
+        return f'"{word}" is an op of tasks: nothing comes between the ops of a handler, so it has no critical sections'
     return f'"{word}" is an op of tasks, and a handler has no such op'
 
 

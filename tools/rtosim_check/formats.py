@@ -287,6 +287,8 @@ TASK_OPS = table_of(
     Op("resume", T, does="resumes a suspended task"),
     Op("suspend_all", does="holds the scheduler"),
     Op("resume_all", does="ends one suspend_all"),
+    Op("enter_critical", does="opens a critical section, in which no handler and no tick comes"),
+    Op("exit_critical", does="closes one enter_critical"),
 )
 HANDLER_OPS = table_of(
     Op("send", Q, V, does="puts an item last into a queue, where it has room"),
@@ -307,8 +309,8 @@ DEEPEST_LOOP, DEEPEST = 4, 8
 OPS = {"task": TASK_OPS, "handler": HANDLER_OPS}
 # Ops of handlers that are commands to the daemon.
 COMMANDS = ("set", "clear")
-# Ops of loops, and ops that measure, which a handler has none of.
-LOOPS, MEASURES = ("repeat", "break"), ("stamp", "since")
+# Ops of loops, ops that measure, and ops of critical sections, which a handler has none of.
+LOOPS, MEASURES, MASKS = ("repeat", "break"), ("stamp", "since"), ("enter_critical", "exit_critical")
 
 # What FreeRTOS and others call the ops.
 MEANT_OPS = {
@@ -318,6 +320,11 @@ MEANT_OPS = {
     "uxqueuespacesavailable": "spaces", "xsemaphoretake": "take", "xsemaphoregive": "give", "xeventgroupsetbits": "set",
     "xeventgroupclearbits": "clear", "xeventgroupgetbits": "bits", "xeventgroupwaitbits": "wait", "vtasksuspend": "suspend",
     "vtaskresume": "resume", "xtaskresume": "resume", "vtasksuspendall": "suspend_all", "xtaskresumeall": "resume_all",
+    "taskenter_critical": "enter_critical", "taskexit_critical": "exit_critical", "portenter_critical": "enter_critical",
+    "portexit_critical": "exit_critical", "taskdisable_interrupts": "enter_critical", "taskenable_interrupts": "exit_critical",
+    "disable_interrupts": "enter_critical", "enable_interrupts": "exit_critical", "__disable_irq": "enter_critical",
+    "__enable_irq": "exit_critical", "critical": "enter_critical", "mask": "enter_critical", "unmask": "exit_critical",
+    "leave_critical": "exit_critical", "end_critical": "exit_critical", "begin_critical": "enter_critical",
     "sleep": "delay", "recv": "receive", "read": "receive", "get": "receive", "pop": "receive", "put": "send", "push": "send",
     "while": "repeat", "until": "repeat", "when": "if", "elif": "else", "elseif": "else", "elsif": "else", "otherwise": "else",
     "endif": "end", "end_if": "end", "fi": "end", "done": "end", "endloop": "end", "endwhile": "end", "leave": "break", "exit": "break",
@@ -329,8 +336,6 @@ MEANT_OPS = {
 # What isn't simulated, by the beginnings of the words for it, in small letters and without `_`; and of sections the same.
 NOT_SIMULATED_OPS = {
     "task notifications": ("notify", "xtasknotify", "vtasknotify", "ultasknotify", "tasknotify"),
-    "critical sections": ("entercritical", "exitcritical", "taskentercritical", "taskexitcritical", "critical", "disableinterrupts",
-                          "enableinterrupts", "taskdisableinterrupts", "taskenableinterrupts"),
     "software timers": ("xtimer", "pvtimer", "timer", "starttimer", "stoptimer", "resettimer"),
     "stream and message buffers": ("xstreambuffer", "streambuffer", "xmessagebuffer", "messagebuffer"),
     "queue sets": ("xqueueaddtoset", "xqueueselectfromset", "xqueueremovefromset", "queueset"),
@@ -339,13 +344,12 @@ NOT_SIMULATED_OPS = {
     "tasks that are created or deleted at run time": ("xtaskcreate", "vtaskdelete", "createtask", "deletetask"),
 }
 NOT_SIMULATED_SECTIONS = {
-    "software timers": ("timer",), "task notifications": ("notif",), "critical sections": ("critical",),
+    "software timers": ("timer",), "task notifications": ("notif",),
     "stream and message buffers": ("stream", "messagebuffer", "message_buffer"), "queue sets": ("queueset", "queue_set"),
     "recursive mutexes": ("recursive",), "more than one core": ("core",),
 }
 IN_ITS_PLACE = {
     "task notifications": "a binary or a counting semaphore of the task's own represents one",
-    "critical sections": "so a handler may come between any two ops, and a campaign may report moments that the firmware masks",
     "software timers": "a [[handler]] at an [[interrupt]], or an endless task with delay_until, represents one",
 }
 # Ops that do the like to things of other kinds.

@@ -1,5 +1,6 @@
 """Warnings of ops that are a misuse whenever they are done: an `unlock` of a mutex that the task can't hold, an op that may wait inside
-`suspend_all`, a `resume_all` or an end of the script that has no pair.
+`suspend_all` or a critical section, a `resume_all`, an `exit_critical` or an end of the script that has no pair; and of sections that
+stay open.
 
 All are sure: each condition may hold or not, each `lock` may succeed, and each op may end."""
 from typing import Dict, FrozenSet, NamedTuple
@@ -7,39 +8,82 @@ from typing import Dict, FrozenSet, NamedTuple
 from .findings import WARNING, Finding
 
 HOLDS, RELEASES = "suspend_all", "resume_all"
+OPENS, CLOSES = "enter_critical", "exit_critical"
+# Ops that may be done in a critical section.
+LOOKS = {"repeat", "break", "if", "else", "end", "mark", "expect", "time", "stamp", "since", "waiting", "spaces", "bits", "clear",
+         OPENS, CLOSES}
 # Ops that neither wait nor switch.
-STAYS = {"work", "repeat", "break", "if", "else", "end", "mark", "expect", "time", "stamp", "since", "waiting", "spaces", "bits", "clear",
-         HOLDS, RELEASES}
+STAYS = LOOKS | {"work", HOLDS, RELEASES}
 RULE = "a misuse ends the run, since FreeRTOS asserts it or its manual forbids it"
 WHY = {
     1: "it may wait or switch, and a suspend_all is active whichever way leads here", 2: "no suspend_all is active whichever way leads here",
     3: "the task can't hold the mutex here", 4: "the script ends with it, and a suspend_all is active whichever way leads here",
+    5: "it has no place in a critical section, and one is open whichever way leads here",
+    6: "no critical section is open whichever way leads here",
+    7: "the script ends with it, and a critical section is open whichever way leads here",
 }
+AROUND = "put it before the enter_critical or after the exit_critical"
+TO_DO = {
+    5: f"inside a section a task looks, decides and marks; a call that may wait or switch has no place there: {AROUND}",
+    6: "write one exit_critical for each enter_critical of this task, on each way",
+    7: "write an exit_critical for each enter_critical of this task, on each way to the end",
+}
+OF_WORK = f"no tick comes in a section, so one that takes a tick loses it: {AROUND}, or hold the scheduler with suspend_all, which keeps ticks"
+
+
+class Count(NamedTuple):
+    """How many of something are open, at least and at most."""
+
+    fewest: int = 0
+    most: int = 0
+
+    def joined(self, other):
+        return Count(min(self.fewest, other.fewest), max(self.most, other.most))
+
+    def more(self, bound):
+        return Count(min(self.fewest + 1, bound), min(self.most + 1, bound))
+
+    def less(self):
+        return Count(max(self.fewest, 1) - 1, self.most - 1)
 
 
 class Held(NamedTuple):
-    """What may be held before an op: how many `suspend_all` at least and at most, and which mutexes at most."""
+    """What may be held before an op: how many `suspend_all`, how many critical sections, and which mutexes at most."""
 
-    fewest: int
-    most: int
-    mutexes: FrozenSet[str]
+    suspensions: Count = Count()
+    sections: Count = Count()
+    mutexes: FrozenSet[str] = frozenset()
 
     def joined(self, other):
-        return Held(min(self.fewest, other.fewest), max(self.most, other.most), self.mutexes | other.mutexes)
+        return Held(self.suspensions.joined(other.suspensions), self.sections.joined(other.sections), self.mutexes | other.mutexes)
 
 
 def warnings(scripts):
-    """The misuses of these scripts of tasks, whose ops are known."""
+    """The misuses of these scripts of tasks, whose ops are known, and their sections that stay open."""
     for script in scripts:
-        for at, code in sorted(misuses(script).items()):
-            node = script.ops[at][1]
-            message = f'{script.entry.label}, script {at}, "{node.value}": a misuse whenever it is done: {WHY[code]}'
-            yield Finding(WARNING, "Misuse", node.span, message, RULE)
+        codes = misuses(script)
+        for at, code in sorted(codes.items()):
+            yield warning(script, at, "Misuse", f"a misuse whenever it is done: {WHY[code]}", rule_of(script.ops[at][0], code))
+        if not {5, 7} & set(codes.values()):
+            for at in left_open(script):
+                message = "this section stays open: no exit_critical follows, whichever way is taken"
+                yield warning(script, at, "LeftOpen", message, f"no handler and no tick comes while a section is open; {TO_DO[6]}")
+
+
+def warning(script, at, kind, message, rule):
+    node = script.ops[at][1]
+    return Finding(WARNING, kind, node.span, f'{script.entry.label}, script {at}, "{node.value}": {message}', rule)
+
+
+def rule_of(words, code):
+    """Why a misuse ends the run, and what to do."""
+    to_do = OF_WORK if code == 5 and words[0] == "work" else TO_DO.get(code)
+    return f"{RULE}; {to_do}" if to_do else RULE
 
 
 def misuses(script) -> Dict[int, int]:
     """The code of each op that is a misuse on each way to it."""
-    before = {0: Held(0, 0, frozenset())} if script.ops else {}
+    before = {0: Held()} if script.ops else {}
     following = list(before)
     while following:
         at = following.pop()
@@ -52,33 +96,70 @@ def misuses(script) -> Dict[int, int]:
             if before.get(it) != found:
                 before[it] = found
                 following += [it] if it < len(script.ops) else []
-    codes = {at: code_of(script.ops[at][0], held) for at, held in before.items() if at < len(script.ops)}
-    return {at: code or 4 for at, code in codes.items() if code or ends_held(script, at, before[at])}
+    codes = {at: code_of(script.ops[at][0], held) or code_of_end(script, at, held) for at, held in before.items() if at < len(script.ops)}
+    return {at: code for at, code in codes.items() if code}
 
 
 def code_of(words, held: Held):
     """The code of the misuse that an op is whichever way leads to it; None if it needn't be one."""
-    if words[0] not in STAYS and held.fewest > 0:
+    if words[0] not in STAYS and held.suspensions.fewest > 0:
         return 1
-    if words[0] == RELEASES and held.most == 0:
+    if words[0] == RELEASES and held.suspensions.most == 0:
         return 2
-    return 3 if words[0] == "unlock" and words[1] not in held.mutexes else None
+    if words[0] == "unlock" and words[1] not in held.mutexes:
+        return 3
+    if words[0] not in LOOKS and held.sections.fewest > 0:
+        return 5
+    return 6 if words[0] == CLOSES and held.sections.most == 0 else None
 
 
-def ends_held(script, at, held: Held):
-    """Whether the script ends with this op, in each case while a `suspend_all` is active."""
-    return set(script.paths.after(at)) == {len(script.ops)} and held_after(script.ops[at][0], held, len(script.ops)).fewest > 0
+def code_of_end(script, at, held: Held):
+    """The code of the misuse that it is to end the script with this op, if it surely ends there and is one."""
+    if set(script.paths.after(at)) != {len(script.ops)}:
+        return None
+    after = held_after(script.ops[at][0], held, len(script.ops))
+    if after.suspensions.fewest > 0:
+        return 4
+    return 7 if after.sections.fewest > 0 else None
 
 
 def held_after(words, held: Held, bound) -> Held:
     """What is held after an op that was no misuse."""
     word = words[0]
-    if word == HOLDS:
-        return held._replace(fewest=min(held.fewest + 1, bound), most=min(held.most + 1, bound))
-    if word == RELEASES:
-        return held._replace(fewest=max(held.fewest, 1) - 1, most=held.most - 1)
     if word not in STAYS:
-        held = held._replace(fewest=0, most=0)
+        held = held._replace(suspensions=Count())
+    if word not in LOOKS:
+        held = held._replace(sections=Count())
+    if word == HOLDS:
+        return held._replace(suspensions=held.suspensions.more(bound))
+    if word == RELEASES:
+        return held._replace(suspensions=held.suspensions.less())
+    if word == OPENS:
+        return held._replace(sections=held.sections.more(bound))
+    if word == CLOSES:
+        return held._replace(sections=held.sections.less())
     if word == "lock":
         return held._replace(mutexes=held.mutexes | {words[1]})
     return held._replace(mutexes=held.mutexes - {words[1]}) if word == "unlock" else held
+
+
+def left_open(script):
+    """Those that open a critical section, of the ops to which a way leads, after which no op closes one."""
+    words = [words[0] for words, _ in script.ops]
+    reached = reached_from(script, 0)
+    return [at for at in sorted(reached) if words[at] == OPENS and not any(words[it] == CLOSES for it in reached_after(script, at))]
+
+
+def reached_after(script, at):
+    return set().union(*(reached_from(script, it) for it in script.paths.after(at)))
+
+
+def reached_from(script, first):
+    """The ops to which ways lead from this one."""
+    reached, following = set(), [first]
+    while following:
+        at = following.pop()
+        if at not in reached and at < len(script.ops):
+            reached.add(at)
+            following += script.paths.after(at)
+    return reached

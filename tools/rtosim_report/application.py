@@ -7,9 +7,11 @@ from .escaping import plain
 from .faults import Fault
 
 # Words of ops for which no line names them.
-SILENT_WORDS = {"work", "mark", "expect", "repeat", "end", "if", "else", "break", "stamp"}
+SILENT_WORDS = {"work", "mark", "expect", "repeat", "end", "if", "else", "break", "stamp", "enter_critical", "exit_critical"}
 # Ops whose second word isn't the name of an object, a group or a task.
 NAMELESS = SILENT_WORDS | {"delay", "delay_until", "yield", "time", "since", "suspend_all", "resume_all"}
+# The ops that open and close a critical section.
+OPENS, CLOSES = "enter_critical", "exit_critical"
 # The sections of the objects, which are numbered in this order.
 OBJECTS = ("queue", "binary", "counting", "mutex")
 ORDINALS = {2: "2nd", 3: "3rd"}
@@ -90,6 +92,11 @@ class Application(NamedTuple):
         ready = [it for it in self.tasks.values() if it.ops] + [self.daemon] * (self.daemon is not None)
         first = max(ready, key=lambda it: it.priority, default=None)
         return None if first is None else first.name
+
+    @property
+    def has_sections(self):
+        """Whether a task opens critical sections."""
+        return any(it.word == OPENS for script in self.tasks.values() for it in script.ops)
 
     def op(self, name, index) -> Optional[Op]:
         script = self.script(name)

@@ -180,8 +180,9 @@ class Candidate:
 def without_own(run, start):
     """The row's text except for the lines of its handlers, of which the first comes at this byte."""
     point, text = run.head.point, run.text
-    if point.is_single:
-        return text[:start] + text[start + own_bytes(text[start : start + 4096], point[0]) :]
+    own = own_bytes(text[start : start + 4096], point[0]) if point.is_single else 0
+    if own:
+        return text[:start] + text[start + own :]
     tail = run.lines(start)
     return text[:start] + b"".join(texts_of(without(tail, own_stretches(tail, point))))
 

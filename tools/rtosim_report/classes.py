@@ -1,7 +1,7 @@
 """Groups rows: those that fail by their cause, those that pass by their outcome.
 
-Two rows have the same outcome when their verdicts, and what they report from the injection on, are the same except for the numbers of
-steps and ticks. The rows that are the base run except for the handlers' own lines, in which no call fails, are a class of their own."""
+Two rows have the same outcome when their verdicts, and what they report from where the first handler comes, are the same except for the
+numbers of steps and ticks. The rows that are the base run except for the handlers' own lines, in which no call fails, are a class of their own."""
 import enum
 import hashlib
 import re
@@ -13,6 +13,7 @@ from .base_run import is_base_exactly, tail_of_row
 from .causes import Causes, failed_beyond, failed_in_text
 from .endings import Endings
 from .faults import BadReport
+from .injections import from_arrival
 from .report import Head
 
 # An outcome that takes more bytes is known by a digest.
@@ -170,6 +171,7 @@ class Classifier:
             return self.key_by_cause(run, failed)
         if is_as_base:
             return AS_BASE, failed
+        tail = from_arrival(tail, run.head.point) if run.head.is_reached else tail
         seen = [b" ".join(it[1:]) for it in tail] if exact else [what for _, _, what in tail]
         end = f"{run.head.verdict.text} {run.head.ticks}" if exact else run.head.verdict.text
         outcome = b"\n".join(seen)

@@ -101,11 +101,9 @@ def is_as_base(run, tail, position, base, keeps_ticks=False) -> bool:
     seen = slice(1 if keeps_ticks else 2, 3)
     if own < 0 or own and not run.head.is_reached:
         return False
-    if own and not run.head.point.is_single:
+    if own and (not run.head.point.is_single or own > leading_own(tail[:own], run.head.point[0])):
         stretches = own_stretches(tail, run.head.point)
         return any(are_alike(without(tail, it), 0, base.lines, position, seen) for it in parts_of_stretches(stretches, own))
-    if own and own > leading_own(tail[:own], run.head.point[0]):
-        return False
     return are_alike(tail, own, base.lines, position, seen)
 
 

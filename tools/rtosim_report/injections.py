@@ -1,11 +1,14 @@
 """Which lines of a row are those of the injected handlers.
 
-The lines of a step are in this order: those of the handlers that are injected before it, one handler after another, each with
-a change of the processor behind them if they bring one about; then those of the step."""
-import bisect
+The lines of a step are in this order: those of the handlers that come before it, one handler after another, each with
+a change of the processor behind them if they bring one about; then those of the step. A handler that is injected while a critical section
+is open is pending, and comes before the first step after the section."""
 import functools
-from itertools import groupby
+import re
+from itertools import groupby, islice
 
+# What a task may report while a critical section is open.
+INSIDE = re.compile(rb"call [A-Za-z0-9_]+ [0-9]+ (?:time|since|waiting|spaces|bits|clear) = |mark ")
 
 
 @functools.lru_cache(maxsize=64)
@@ -27,12 +30,74 @@ def leading_own(lines, injection, start=0):
 
 def position_of(lines, step):
     """How many lines come before this step."""
-    return bisect.bisect_left([int(it[0]) for it in lines], step)
+    first, last = 0, len(lines)
+    while first < last:
+        middle = (first + last) // 2
+        if int(lines[middle][0]) < step:
+            first = middle + 1
+        else:
+            last = middle
+    return first
 
 
 def groups_of(point):
     """The injections of a point by their steps: each step with those that come before it, in their order."""
     return [(step, list(group)) for step, group in groupby(point, key=lambda it: it.step)]
+
+
+def arrival_of(lines, injection, names):
+    """Before which step an injected handler comes: its own; or a later one, where these lines are as those of a critical section up to the
+    lines of handlers of these names."""
+    own, inside, left_at = own_words(injection.handler), None, None
+    first = position_of(lines, injection.step)
+    for at in range(first, len(lines)):
+        step, tick, what = lines[at]
+        kind, name = what.split(b" ", 2)[:2]
+        if tick != lines[first][1] or left_at not in (None, int(step) - 1):
+            break
+        if name in names and kind != b"call":
+            has_come = any(it[2].startswith(own) for it in lines_of_step(lines, at))
+            return int(step) if has_come else injection.step
+        if left_at is not None or not (kind == b"run" or INSIDE.match(what) and inside in (None, name)):
+            break
+        # a task that ends with the section leaves the processor in the step of its last exit
+        inside, left_at = name, int(step) if kind == b"run" else None
+    return injection.step
+
+
+def lines_of_step(lines, at):
+    """Those from this line on that are of its step."""
+    step = lines[at][0]
+    for it in islice(lines, at, None):
+        if it[0] != step:
+            return
+        yield it
+
+
+def arrivals_of(lines, point):
+    """Of each injection of a point the step before which it comes."""
+    names = {it.handler.encode() for it in point}
+    return {it: arrival_of(lines, it, names) for it in point}
+
+
+def arrived(lines, point):
+    """The injections of a point, each with the step before which it comes, in the order in which they come."""
+    arrivals = arrivals_of(lines, point)
+    found = [(it, it._replace(step=arrivals[it])) for it in point]
+    return [come for _, come in sorted(found, key=lambda it: (it[1].step, it[0].step == it[1].step, order_of(lines, *it)))]
+
+
+def from_arrival(tail, point):
+    """The lines of a row from where the first of its handlers comes; the tail begins at the first injection."""
+    return tail[position_of(tail, min(arrivals_of(tail, point).values())) :]
+
+
+def order_of(lines, injection, come):
+    """Of a pending handler where its lines are, since they come in the order of the file; the others come in theirs."""
+    if injection.step == come.step:
+        return 0
+    own = own_words(come.handler)
+    return next((at for at in range(position_of(lines, come.step), len(lines)) if lines[at][2].startswith(own)), 0)
 
 
 def is_change_between(lines, at, injection):
@@ -61,7 +126,7 @@ def own_stretches(tail, point, base=None):
     """The stretches of all injections of a row, of which the tail begins at the first. What the base run has at the same step and
     tick, since its own interrupt has the same handler while the ticks are held, is taken off the last of a step."""
     found = []
-    for step, injections in groups_of(point):
+    for step, injections in groups_of(arrived(tail, point)):
         stretches = stretches_of_step(tail, position_of(tail, step), injections)
         if base is not None:
             at, count = stretches[-1]

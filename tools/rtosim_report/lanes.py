@@ -16,6 +16,7 @@ class Doing(enum.Enum):
     SLEEPS = "sleeps"
     SUSPENDED = "is suspended"
     READY = "is ready"
+    PENDING = "is pending"
 
 
 class LaneKind(enum.Enum):
@@ -27,6 +28,7 @@ class LaneKind(enum.Enum):
 class WindowKind(enum.Enum):
     LOCKED = "the queue is locked"
     HELD = "the scheduler is held"
+    MASKED = "interrupts are masked"
 
 
 @dataclass(frozen=True)

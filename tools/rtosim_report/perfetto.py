@@ -12,6 +12,7 @@ from .lanes import LaneKind, WindowKind
 MILLISECOND, MICROSECOND = 1000, 1
 MOST_MILLISECONDS = (1 << 63) // 1_000_000
 PROCESS = 1
+WINDOWS = {WindowKind.LOCKED: "queue locked", WindowKind.HELD: "scheduler held", WindowKind.MASKED: "interrupts masked"}
 
 
 def write(output, timeline):
@@ -67,7 +68,7 @@ def bar_name(bar):
 
 
 def window_name(window):
-    return "queue locked" if window.kind is WindowKind.LOCKED else "scheduler held"
+    return WINDOWS[window.kind]
 
 
 def instant(note, stamp, track):

@@ -9,11 +9,11 @@ from typing import Dict, List
 from .away import UNNAMED, AwayTimes
 from .clock_of_lines import TickReader
 from .daemon import commands_of, find_daemon
-from .injections import groups_of, position_of, stretches_of_step
-from .lanes import Bar, Doing, Lane, LaneKind, Note, Timeline
+from .injections import arrivals_of, arrived, groups_of, position_of, stretches_of_step
+from .lanes import Bar, Doing, Lane, LaneKind, Note, Timeline, WindowKind
 from .report import IDLE, Kind, event_of
 from .suspensions import changes_of
-from .windows import windows_of_calls, windows_of_waits
+from .windows import windows_of_calls, windows_of_sections, windows_of_waits
 
 
 def of_base(base, application=None):
@@ -27,10 +27,11 @@ def of_row(run, base, application=None):
     the daemon, which can't do in fewer steps what it does."""
     lines = run.checked_lines()
     own, switches = injected_lines(lines, run.head.point, base) if run.head.is_reached else (set(), set())
+    arrivals = arrivals_of(lines, run.head.point)
     events, first = [event_of(it) for it in lines], None
     for count in range(len(switches) + 1):
         for left_out in combinations(sorted(switches), count):
-            builder = Builder(run.head, events, own | switches.difference(left_out), application)
+            builder = Builder(run.head, events, own | switches.difference(left_out), application, arrivals)
             built = builder.build()
             if not builder.is_contradicted:
                 return built
@@ -41,7 +42,7 @@ def of_row(run, base, application=None):
 def injected_lines(lines, point, base):
     """Which lines come before their step: the handlers' own, and the changes of the processor that they bring about."""
     found, switches = set(), set()
-    for step, injections in groups_of(point):
+    for step, injections in groups_of(arrived(lines, point)):
         first = position_of(lines, step)
         at, count = stretches_of_step(lines, first, injections)[-1]
         own, following = lines[first : at + count], lines[at + count : at + count + 2]
@@ -65,8 +66,10 @@ def is_switch_of_injection(own, following, injected_at, base):
 class Builder:
     """Puts a timeline together from the events of a run."""
 
-    def __init__(self, head, events, injected=frozenset(), application=None):
+    def __init__(self, head, events, injected=frozenset(), application=None, arrivals=None):
         self.head, self.events, self.injected, self.application = head, events, injected, application
+        # Of each injection the step before which its lines come.
+        self.arrivals = arrivals or {}
         self.lanes: Dict[str, Lane] = {}
         self.commands = commands_of(self)
         self.name_lanes()
@@ -148,11 +151,11 @@ class Builder:
         self.walk()
         daemon, self.is_contradicted = find_daemon(self)
         waits, endings, ops = self.away(None if daemon is None else daemon.lane)
-        windows = self.windows(waits)
+        windows = self.windows(waits, ops)
         if daemon is not None:
             waits += daemon.bars(UNNAMED not in self.lanes)
             windows += daemon.windows
-        bars = [it for it in self.turns if it.end > it.start] + waits
+        bars = [it for it in self.turns if it.end > it.start] + waits + list(self.pending(windows))
         used = {it.lane for it in bars} | {it.lane for it in self.notes}
         lanes = [it for it in self.lanes.values() if it in used or it.name != UNNAMED]
         return Timeline(self.head, lanes, bars, self.notes, windows, self.clock, self.injections(),
@@ -206,5 +209,18 @@ class Builder:
                     ops[lane] = times.ops.stretches
         return found, endings, ops
 
-    def windows(self, waits):
-        return windows_of_waits(waits, self.head.steps) + windows_of_calls(self.notes, self.head.steps)
+    def windows(self, waits, ops):
+        sections = windows_of_sections(ops, self.application, self.head.steps)
+        return windows_of_waits(waits, self.head.steps) + windows_of_calls(self.notes, self.head.steps) + sections
+
+    def pending(self, windows):
+        """From where handlers were injected in a critical section to where they came, or to the run's end: by the sections where they are
+        known, otherwise by the handlers' lines."""
+        masked = [it for it in windows if it.kind is WindowKind.MASKED]
+        if self.application is not None and not self.application.has_sections:
+            return
+        for it in self.injections():
+            open_there = next((window for window in masked if window.start <= it.step < window.end), None)
+            end = open_there.end if open_there is not None else self.arrivals.get(it, it.step)
+            if end > it.step:
+                yield Bar(self.lanes[it.handler], it.step, end, Doing.PENDING)

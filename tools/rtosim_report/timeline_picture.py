@@ -31,13 +31,22 @@ STYLES = [
     (".injection", "stroke:#b3261e;stroke-width:1.5;stroke-dasharray:4 3", "stroke:#ff8a80"),
     (".injected", "fill:#b3261e", "fill:#ff8a80"),
 ]
+# Those of a run with critical sections.
+SECTION_STYLES = [
+    (".masked", "fill:#0f766e", "fill:#5eead4"),
+    (".pending", "fill:#f4b8b3", "fill:#7d2f2b"),
+]
 CLASSES = {
     Doing.RUNS: "runs", Doing.WAITS: "waits", Doing.SLEEPS: "sleeps", Doing.SUSPENDED: "suspended", Doing.READY: "ready",
+    Doing.PENDING: "pending",
 }
+# Of each kind of window its class, and how far below the bar it is.
+WINDOWS = {WindowKind.LOCKED: ("locked", 1), WindowKind.HELD: ("held", 5), WindowKind.MASKED: ("masked", 1)}
 LEGEND = [
     ("runs", "runs"), ("waits", "waits in a call"), ("sleeps", "sleeps"), ("suspended", "suspended"),
     ("ready", "Ready"), ("ended", "ended"), ("idle", "idle runs"), ("locked", "queue locked"), ("held", "scheduler held"), ("injected", "injected"),
 ]
+SECTION_LEGEND = [("masked", "masked"), ("pending", "pending")]
 
 
 @dataclass
@@ -140,7 +149,8 @@ def axis_numbers(timeline, last):
 
 def write(output, timeline):
     layout = layout_of(timeline)
-    drawing.start(output, layout.width, layout.height, STYLES, timeline.title())
+    styles = STYLES + SECTION_STYLES * has_sections(timeline)
+    drawing.start(output, layout.width, layout.height, styles, timeline.title())
     fails = "" if timeline.head.verdict.passes else " fails"
     output.line(drawing.label(12, 24, timeline.title(), "title" + fails))
     for band in range(layout.bands):
@@ -153,9 +163,14 @@ def write(output, timeline):
     drawing.end(output)
 
 
+def has_sections(timeline):
+    """Whether a critical section, or a handler that is pending, is drawn."""
+    return any(it.kind is WindowKind.MASKED for it in timeline.windows) or any(it.doing is Doing.PENDING for it in timeline.bars)
+
+
 def write_legend(output, layout):
     at = 12.0
-    for name, text in LEGEND:
+    for name, text in LEGEND + SECTION_LEGEND * has_sections(layout.timeline):
         top, height = (40, 4) if name == "ready" else (36, 11)
         output.line(drawing.box(at, top, 5 if name == "ended" else 11, height, name))
         output.line(drawing.label(at + 16, 46, text, "quiet"))
@@ -247,8 +262,7 @@ def bar_shape(layout, index, band, start, end, it, count):
 def write_windows(output, layout, index, windows):
     for band in range(layout.bands):
         for start, end, it in pieces(layout, band, windows):
-            below = 1 if it.kind is WindowKind.LOCKED else 5
-            name = "locked" if it.kind is WindowKind.LOCKED else "held"
+            name, below = WINDOWS[it.kind]
             left, right = layout.across(band, start), layout.across(band, end)
             top = layout.bar_top(band, index) + BAR + below
             title = f"{it.kind.value}: steps {it.start} to {it.end - 1} of {it.lane.name}"

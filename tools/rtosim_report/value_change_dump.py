@@ -113,7 +113,10 @@ def add_counters(dump, timeline, times):
 
 
 def add_windows(dump, timeline, times):
-    for kind, name in ((WindowKind.LOCKED, "queue_locked"), (WindowKind.HELD, "scheduler_held")):
+    kinds = [(WindowKind.LOCKED, "queue_locked"), (WindowKind.HELD, "scheduler_held")]
+    if any(it.kind is WindowKind.MASKED for it in timeline.windows):
+        kinds.append((WindowKind.MASKED, "interrupts_masked"))
+    for kind, name in kinds:
         signal = dump.signal("", name)
         for it in sorted(timeline.windows, key=lambda it: it.start):
             if it.kind is kind:
@@ -127,6 +130,10 @@ def add_lane(dump, timeline, times, lane):
         comes = dump.signal(lane.name, "comes")
         for it in notes:
             dump.while_on(comes, times.at(it.boundary), times.at(it.boundary) + 1)
+        if bars:
+            pending = dump.signal(lane.name, "pending")
+            for it in bars:
+                dump.while_on(pending, times.at(it.start), times.at(it.end))
     else:
         scope = lane.name if lane.kind is LaneKind.TASK else "idle"
         add_doing(dump, times, scope if scope != "(not named)" else "not_named", bars)

@@ -1,4 +1,6 @@
-"""The stretches in which a queue is locked or the scheduler is held, as the waits and the calls of a run show them."""
+"""The stretches in which a queue is locked or the scheduler is held, as the waits and the calls of a run show them; and those in which a
+critical section is open, as far as it is known which ops the tasks are in."""
+from .application import CLOSES, OPENS
 from .lanes import Doing, Window, WindowKind
 from .report import Kind
 
@@ -39,4 +41,21 @@ def windows_of_calls(notes, steps):
                 found.append(Window(holder, since, it.step + 1, WindowKind.HELD))
     if depth:
         found.append(Window(holder, since, steps, WindowKind.HELD))
+    return found
+
+
+def windows_of_sections(ops, application, steps):
+    """A task has interrupts masked from its first `enter_critical` to its last `exit_critical`."""
+    found = []
+    for lane, stretches in ops.items():
+        depth, since = 0, 0
+        for it in stretches:
+            word = application.op(lane.name, it.op).word
+            if word == OPENS:
+                depth += 1
+                since = it.end if depth == 1 else since
+            elif word == CLOSES and depth:
+                depth -= 1
+                found += [Window(lane, since, it.end, WindowKind.MASKED)] if depth == 0 else []
+        found += [Window(lane, since, steps, WindowKind.MASKED)] if depth and since < steps else []
     return found

@@ -77,6 +77,17 @@ pub fn put_numeral(bytes: &mut [u8], at: usize, numeral: Numeral<'_>, after: u8)
     put_byte(bytes, at, after)
 }
 
+/// Writes the number in decimal digits, of which a `u16` has at most 5.
+#[inline]
+pub fn put_short_number(bytes: &mut [u8], at: usize, number: u16) -> usize
+    requires { at + 5 ≤ length bytes.old }
+    ensures end { result ≤ at + 5 }
+    ensures text { take result bytes.new ≡ take at bytes.old ++ decimal number }
+{
+    let mut buffer = itoa::Buffer::new();
+    put_text(bytes, at, buffer.format(number).as_bytes())
+}
+
 /// Writes the number in decimal digits, of which a `u32` has at most 10.
 #[inline]
 pub fn put_number(bytes: &mut [u8], at: usize, number: u32) -> usize

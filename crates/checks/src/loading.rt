@@ -220,7 +220,7 @@ priority = 1
 script = [
     'set g 16777215', 'clear any 0000000001', ' bits  any ', 'wait any 5 any keep forever',
     '  wait g 16777215 all clear 4294967294', 'wait g 1 all keep 0', 'wait any 2 any clear 7',
-    'suspend all', 'resume a', 'suspend_all', ' resume_all ',
+    'suspend all', 'resume a', 'suspend_all', ' resume_all ', ' enter_critical', 'exit_critical  ',
 ]
 
 [[task]]
@@ -265,6 +265,8 @@ fn groups_and_the_ops_on_them_and_those_that_suspend_are_loaded(rt: HostRuntime)
         Op::Resume(a),
         Op::SuspendAll,
         Op::ResumeAll,
+        Op::EnterCritical,
+        Op::ExitCritical,
     ];
     has_ops(&rt, &app, &ops);
     let isr_ops = [

@@ -267,12 +267,13 @@ fn fail(rt: &impl Abort, alloc: Global, seed: u32, app: &App, points: &[Point], 
     panic!(rt; "seed {seed}, {manner:?}: another report, of points{told} on this file\n{file}");
 }
 
-/// For applications whose tasks crowd about objects, and every fourth time for those whose tasks go by what was answered.
+/// For applications whose tasks crowd about objects, and every fourth time for those whose tasks go by what was answered, or open
+/// critical sections.
 fn dice_of(seed: u32) -> Dice {
-    if seed % 4 == 0 {
-        Dice::deciding(seed)
-    } else {
-        Dice::crowding(seed)
+    match seed % 4 {
+        0 => Dice::deciding(seed),
+        2 => Dice::masking(seed),
+        _ => Dice::crowding(seed),
     }
 }
 

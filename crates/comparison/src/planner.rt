@@ -15,6 +15,8 @@ pub(crate) struct Injections {
     pub(crate) locked: usize,
     /// Those while the scheduler is suspended.
     pub(crate) suspended: usize,
+    /// Those while a critical section is open.
+    pub(crate) critical: usize,
     /// Those while the daemon runs; those of them in its own window, while its call has locked its queue.
     pub(crate) beside_daemon: usize,
     pub(crate) in_its_window: usize,
@@ -28,8 +30,8 @@ pub(crate) struct Planner {
     dice: Dice,
     /// Before how many steps handlers may still come.
     left: u32,
-    /// Handlers come before one in this many steps inside calls and while the scheduler is suspended, and before one of three
-    /// times as many others.
+    /// Handlers come before one in this many steps inside calls, while the scheduler is suspended and while a critical section is open,
+    /// and before one of three times as many others.
     rarity: u32,
     pub(crate) injections: Vec<Injection>,
     pub(crate) made: Injections,
@@ -68,9 +70,10 @@ impl Planner {
     /// How many handlers come before the next step. Some always come where tasks wait at both sides of the locked object, and
     /// where a task of higher priority is suspended while the running one is about to decide whether it waits.
     fn roll_count(&mut self, slow: &SlowKernel) -> u32 {
+        let is_held = slow.is_scheduler_suspended() || slow.is_critical();
         let sides = if slow.has_both_at_lock() || slow.has_suspended_above_decision() {
             1
-        } else if slow.is_inside_call() || slow.is_scheduler_suspended() {
+        } else if slow.is_inside_call() || is_held {
             self.rarity
         } else {
             self.rarity.saturating_mul(3)
@@ -88,6 +91,7 @@ impl Planner {
         let is_inside_call = slow.is_inside_call();
         let is_locked = slow.is_locked();
         let is_suspended = slow.is_scheduler_suspended();
+        let is_critical = slow.is_critical();
         self.made.all = self.made.all.saturating_add(1);
         let inside = &mut self.made.inside_calls;
         *inside = inside.saturating_add(is_inside_call as usize);
@@ -95,6 +99,8 @@ impl Planner {
         *locked = locked.saturating_add(is_locked as usize);
         let suspended = &mut self.made.suspended;
         *suspended = suspended.saturating_add(is_suspended as usize);
+        let critical = &mut self.made.critical;
+        *critical = critical.saturating_add(is_critical as usize);
         self.count_daemon(slow, app);
     }
 

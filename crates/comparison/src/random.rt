@@ -72,6 +72,20 @@ struct Seen {
     not_suspended: usize,
     not_holder: usize,
     ended_suspended: usize,
+    while_critical: usize,
+    not_critical: usize,
+    ended_critical: usize,
+    /// A task opened a critical section; one inside another.
+    sections: usize,
+    inner_sections: usize,
+    /// A handler was injected while a section was open; one that was pending already.
+    pending_handlers: usize,
+    pending_again: usize,
+    /// Two or more pending handlers came before a step; one or more did while the scheduler was suspended.
+    served_together: usize,
+    served_in_holds: usize,
+    /// The run ended with a handler pending.
+    ends_while_pending: usize,
     /// A command came to the daemon.
     commands: usize,
     /// One found no room.
@@ -152,6 +166,7 @@ impl Seen {
         self.count_groups(slow);
         self.count_suspensions(slow);
         self.count_misuses(slow);
+        self.count_sections(slow);
         self.count_commands(slow, app);
         self.count_jumps(slow);
         self.count_branches(slow);
@@ -187,6 +202,21 @@ impl Seen {
         see(&mut self.not_suspended, tally.not_suspended);
         see(&mut self.not_holder, tally.not_holder);
         see(&mut self.ended_suspended, tally.ended_suspended);
+        see(&mut self.while_critical, tally.while_critical);
+        see(&mut self.not_critical, tally.not_critical);
+        see(&mut self.ended_critical, tally.ended_critical);
+    }
+
+    fn count_sections(&mut self, slow: &SlowKernel) {
+        let tally = slow.tally;
+        let is_any_pending = slow.is_any_pending();
+        see(&mut self.sections, tally.sections);
+        see(&mut self.inner_sections, tally.inner_sections);
+        see(&mut self.pending_handlers, tally.pending_handlers);
+        see(&mut self.pending_again, tally.pending_again);
+        see(&mut self.served_together, tally.served_together);
+        see(&mut self.served_in_holds, tally.served_in_holds);
+        add(&mut self.ends_while_pending, is_any_pending as usize);
     }
 
     fn count_commands(&mut self, slow: &SlowKernel, app: &App) {
@@ -252,6 +282,7 @@ impl Seen {
         add(&mut self.injections.inside_calls, injections.inside_calls);
         add(&mut self.injections.locked, injections.locked);
         add(&mut self.injections.suspended, injections.suspended);
+        add(&mut self.injections.critical, injections.critical);
         add(&mut self.injections.beside_daemon, injections.beside_daemon);
         add(&mut self.injections.in_its_window, injections.in_its_window);
         add(&mut self.injections.late, injections.late);
@@ -311,6 +342,8 @@ enum Sort {
     Suspension,
     /// Tasks and handlers go by what was answered. Handlers are injected in every other run.
     Decision,
+    /// Tasks open critical sections. Handlers are injected in three of four runs.
+    Section,
 }
 
 impl Sort {
@@ -322,6 +355,7 @@ impl Sort {
             Sort::Gathering => Dice::gathering(seed),
             Sort::Suspension => Dice::suspending(seed),
             Sort::Decision => Dice::deciding(seed),
+            Sort::Section => Dice::masking(seed),
         }
     }
 
@@ -330,7 +364,7 @@ impl Sort {
             Sort::Any => false,
             Sort::Crowd => true,
             Sort::Contest | Sort::Gathering | Sort::Decision => seed % 2 != 0,
-            Sort::Suspension => seed % 4 != 0,
+            Sort::Suspension | Sort::Section => seed % 4 != 0,
         }
     }
 
@@ -500,6 +534,22 @@ fn the_slow_program_agrees_where_tasks_and_handlers_go_by_answers(rt: HostRuntim
     has_enough(&rt, &seen, has_times && seen.long_measures > 12);
 }
 
+#[test]
+fn the_slow_program_agrees_where_tasks_open_critical_sections(rt: HostRuntime) {
+    let seen = seen_in(&rt, rt.alloc(), Sort::Section);
+    has_enough(
+        &rt,
+        &seen,
+        seen.sections > 17_500 && seen.inner_sections > 9_540,
+    );
+    let has_pending = seen.pending_handlers > 7_030 && seen.pending_again > 4_370;
+    has_enough(&rt, &seen, has_pending && seen.injections.critical > 43_800);
+    let has_served = seen.served_together > 4_010 && seen.served_in_holds > 80;
+    has_enough(&rt, &seen, has_served && seen.ends_while_pending > 2_580);
+    let has_misuses = seen.while_critical > 1_790 && seen.not_critical > 2_590;
+    has_enough(&rt, &seen, has_misuses && seen.ended_critical > 3_270);
+}
+
 /// The application that a file describes.
 pub(crate) fn loaded(rt: &impl Abort, alloc: Global, file: &str) -> App {
     let document = toml::table_from_str(alloc, file)
@@ -566,6 +616,8 @@ fn an_application_that_is_shown_as_a_file_is_loaded_as_it_was(rt: HostRuntime) {
         let app = Dice::new(seed).app(rt.alloc()).expect(&rt, "memory");
         load_again(&rt, rt.alloc(), &app);
         let app = Dice::deciding(seed).app(rt.alloc()).expect(&rt, "memory");
+        load_again(&rt, rt.alloc(), &app);
+        let app = Dice::masking(seed).app(rt.alloc()).expect(&rt, "memory");
         load_again(&rt, rt.alloc(), &app);
     }
 }

@@ -87,6 +87,7 @@ impl Dice {
     {
         match self.theme {
             Theme::Decision => 4 + self.roll(21),
+            Theme::Section => 4 + self.roll(13),
             _ => self.roll(9),
         }
     }
@@ -113,7 +114,7 @@ impl Dice {
 
 /// Ends the branches and loops that are open.
 pub(super) fn close(script: &mut ScriptBuilder, objects: &[ObjectKind])
-    requires few { length script.old ≤ 30 }
+    requires few { length script.old ≤ 32 }
     requires known { AreKnown objects.now script.old }
     ensures { AreKnown objects.now script.new }
 {

@@ -83,7 +83,7 @@ impl Dice {
     fn resumes(&mut self) -> bool {
         match self.theme {
             Theme::Crowd | Theme::Contest => false,
-            Theme::Any | Theme::Gathering | Theme::Decision => self.roll(4) == 0,
+            Theme::Any | Theme::Gathering | Theme::Decision | Theme::Section => self.roll(4) == 0,
             Theme::Suspension => self.roll(2) == 0,
         }
     }
@@ -107,7 +107,7 @@ impl Dice {
     fn commands(&mut self) -> bool {
         match self.theme {
             Theme::Crowd | Theme::Contest => self.roll(8) == 0,
-            Theme::Any | Theme::Suspension | Theme::Decision => self.roll(3) == 0,
+            Theme::Any | Theme::Suspension | Theme::Decision | Theme::Section => self.roll(3) == 0,
             Theme::Gathering => self.roll(3) > 0,
         }
     }
@@ -117,7 +117,7 @@ impl Dice {
     fn looks(&mut self) -> bool {
         match self.theme {
             Theme::Decision => self.roll(5) < 3,
-            Theme::Any => self.roll(10) == 0,
+            Theme::Any | Theme::Section => self.roll(10) == 0,
             Theme::Crowd | Theme::Contest | Theme::Gathering | Theme::Suspension => false,
         }
     }

@@ -22,6 +22,7 @@ mod handler_ops;
 mod handlers;
 mod kinds;
 mod ops;
+mod sections;
 
 /// Numbers that follow from a seed.
 #[derive(Drop)]
@@ -38,6 +39,8 @@ pub struct Dice {
     held: [bool; 4],
     /// How often the present script has suspended the scheduler and not resumed it yet.
     suspensions: u8,
+    /// How many critical sections the present script has opened and not closed yet.
+    sections: u8,
     /// The number of the present task, and the other task that it has suspended last and not resumed yet.
     present: u8,
     suspended: Option<TaskId>,
@@ -61,6 +64,8 @@ enum Theme {
     Suspension,
     /// They go by what was answered: their scripts have branches, and loops that are left. So do the handlers. They measure time.
     Decision,
+    /// They open and close critical sections, and call on objects in between.
+    Section,
 }
 
 /// What calls do.
@@ -73,6 +78,21 @@ enum Role {
     Receives,
 }
 
+/// Appends the op to a script, where that is so.
+fn push_if(script: &mut ScriptBuilder, objects: &[ObjectKind], op: Op, is_so: bool)
+    requires range { InRange op }
+    requires is_known { IsKnown objects.now op }
+    requires few { length script.old ≤ 250 }
+    requires known { AreKnown objects.now script.old }
+    ensures few { length script.new ≤ length script.old + 1 }
+    ensures known { AreKnown objects.now script.new }
+{
+    let _ = objects;
+    if is_so {
+        let _ = script.push(op);
+    }
+}
+
 impl Dice {
     fn of_theme(seed: u32, theme: Theme) -> Self {
         Dice {
@@ -83,6 +103,7 @@ impl Dice {
             is_late: false,
             held: [false; 4],
             suspensions: 0,
+            sections: 0,
             present: 0,
             suspended: None,
             sleeps_long: false,
@@ -118,6 +139,11 @@ impl Dice {
     /// For applications whose tasks and handlers go by what was answered.
     pub fn deciding(seed: u32) -> Self {
         Dice::of_theme(seed, Theme::Decision)
+    }
+
+    /// For applications whose tasks open and close critical sections.
+    pub fn masking(seed: u32) -> Self {
+        Dice::of_theme(seed, Theme::Section)
     }
 
     /// A number below this one.
@@ -181,7 +207,7 @@ impl Dice {
             Theme::Any => 0,
             Theme::Crowd => 4,
             Theme::Contest | Theme::Gathering | Theme::Suspension => 2,
-            Theme::Decision => 1,
+            Theme::Decision | Theme::Section => 1,
         };
         match first + self.roll(8 - first) {
             0..=1 => Some(0),
@@ -231,55 +257,34 @@ impl Dice {
         }
     }
 
-    /// Forgets that the present script has suspended the scheduler, once and seldom.
-    fn forget_suspension(&mut self) {
+    /// Forgets that the present script has suspended the scheduler, or has a critical section open, once and seldom.
+    fn forget_hold(&mut self) {
         if self.suspensions > 0 && self.roll(12) == 0 {
             self.suspensions = self.suspensions.saturating_sub(1);
         }
-    }
-
-    /// Resumes the scheduler at the end of a script that has suspended it more often than this.
-    fn last_resume(&self, objects: &[ObjectKind], number: u8) -> Option<Op>
-        ensures range { IfSome result (λ op. InRange op) }
-        ensures known { IfSome result (λ op. IsKnown objects.now op) }
-    {
-        let _ = objects;
-        if number < self.suspensions {
-            Some(Op::ResumeAll)
-        } else {
-            None
+        if self.sections > 0 && self.roll(12) == 0 {
+            self.sections = self.sections.saturating_sub(1);
         }
     }
 
-    /// Resumes the scheduler at the end of a script as often as that has suspended it.
-    fn resume_all(&self, script: &mut ScriptBuilder, objects: &[ObjectKind])
+    /// Closes the critical sections that a script leaves open, and resumes the scheduler as often as that has suspended it.
+    fn end_holds(&self, script: &mut ScriptBuilder, objects: &[ObjectKind])
         requires few { length script.old ≤ 24 }
         requires known { AreKnown objects.now script.old }
-        ensures few { length script.new ≤ 26 }
+        ensures few { length script.new ≤ 28 }
         ensures known { AreKnown objects.now script.new }
     {
-        for number in 0..2_u8 {
-            self.resume_last(script, objects, number);
-        }
-    }
-
-    /// Resumes the scheduler, where the script has suspended it more often than this.
-    fn resume_last(&self, script: &mut ScriptBuilder, objects: &[ObjectKind], number: u8)
-        requires few { length script.old ≤ 25 }
-        requires known { AreKnown objects.now script.old }
-        ensures few { length script.new ≤ length script.old + 1 }
-        ensures known { AreKnown objects.now script.new }
-    {
-        if let Some(op) = self.last_resume(objects, number) {
-            let _ = script.push(op);
-        }
+        push_if(script, objects, Op::ExitCritical, self.sections > 0);
+        push_if(script, objects, Op::ExitCritical, self.sections > 1);
+        push_if(script, objects, Op::ResumeAll, self.suspensions > 0);
+        push_if(script, objects, Op::ResumeAll, self.suspensions > 1);
     }
 
     /// Gives back what a script holds at its end.
     fn unlock_all(&self, script: &mut ScriptBuilder, objects: &[ObjectKind])
-        requires few { length script.old ≤ 26 }
+        requires few { length script.old ≤ 28 }
         requires known { AreKnown objects.now script.old }
-        ensures few { length script.new ≤ 30 }
+        ensures few { length script.new ≤ 32 }
         ensures known { AreKnown objects.now script.new }
     {
         for number in 0..4_u8 {
@@ -289,7 +294,7 @@ impl Dice {
 
     /// Gives the mutex of this number back, where it is held.
     fn unlock_last(&self, script: &mut ScriptBuilder, objects: &[ObjectKind], number: u8)
-        requires few { length script.old ≤ 29 }
+        requires few { length script.old ≤ 31 }
         requires known { AreKnown objects.now script.old }
         ensures few { length script.new ≤ length script.old + 1 }
         ensures known { AreKnown objects.now script.new }
@@ -299,8 +304,9 @@ impl Dice {
         }
     }
 
-    /// Up to eight ops, or 24 where tasks go by what was answered. One that isn't allowed where it would be is left out. Then the
-    /// scheduler is resumed if it is suspended, mutexes that are held are given back, and branches and loops that are open end.
+    /// Up to eight ops, or 24 where tasks go by what was answered, or 16 where they open critical sections. One that isn't allowed where
+    /// it would be is left out. Then sections that are open are closed, the scheduler is resumed if it is suspended, mutexes that are
+    /// held are given back, and branches and loops that are open end.
     fn script(&mut self, alloc: Global, objects: &[ObjectKind]) -> Option<Script>
         ensures script { IfSome result (λ script. IsScript script) }
         ensures known { IfSome result (λ script. AreKnown objects.now script) }
@@ -309,12 +315,13 @@ impl Dice {
         let length = self.op_count();
         self.held = [false; 4];
         self.suspensions = 0;
+        self.sections = 0;
         self.suspended = None;
         for index in 0..length {
             let _ = script.push(self.op_at(index, objects));
         }
-        self.forget_suspension();
-        self.resume_all(&mut script, objects);
+        self.forget_hold();
+        self.end_holds(&mut script, objects);
         self.unlock_all(&mut script, objects);
         close(&mut script, objects);
         match script.finish(alloc) {
@@ -327,7 +334,7 @@ impl Dice {
         ensures { result < 4 }
     {
         match self.theme {
-            Theme::Any | Theme::Decision => self.roll(3) as u8,
+            Theme::Any | Theme::Decision | Theme::Section => self.roll(3) as u8,
             Theme::Crowd | Theme::Gathering if self.is_late => 1 + self.roll(2) as u8,
             Theme::Crowd | Theme::Gathering => 1,
             Theme::Contest | Theme::Suspension if self.is_late => 1 + self.roll(3) as u8,
@@ -392,7 +399,7 @@ impl Dice {
         self.present = 1;
         self.add_task(&mut tasks, alloc, "b", objects)?;
         self.role = late;
-        self.is_late = !matches!(self.theme, Theme::Any | Theme::Decision);
+        self.is_late = !matches!(self.theme, Theme::Any | Theme::Decision | Theme::Section);
         self.present = 2;
         self.add_task(&mut tasks, alloc, "c", objects)?;
         self.present = 3;

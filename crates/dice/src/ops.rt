@@ -13,7 +13,7 @@ impl Dice {
         ensures known { IsKnown objects.now result }
     {
         let _ = objects;
-        if !matches!(self.theme, Theme::Any | Theme::Decision) {
+        if !matches!(self.theme, Theme::Any | Theme::Decision | Theme::Section) {
             return Op::Time;
         }
         match self.roll(5) {
@@ -166,12 +166,13 @@ impl Dice {
             9 => Op::GetBits(self.group()),
             10 => Op::ClearBits(self.group(), self.mask()),
             11 => self.block_op(objects),
+            12 if self.theme == Theme::Section => self.begin_section(objects),
             _ => self.change_suspension(objects),
         }
     }
 
     /// An op of any kind. One that speaks of no object comes in place of a call where there is no object.
-    fn any_op(&mut self, objects: &[ObjectKind]) -> Op
+    pub(super) fn any_op(&mut self, objects: &[ObjectKind]) -> Op
         ensures range { InRange result }
         ensures known { IsKnown objects.now result }
     {
@@ -246,6 +247,9 @@ impl Dice {
         ensures range { InRange result }
         ensures known { IsKnown objects.now result }
     {
+        if self.sections > 0 && self.roll(48) > 0 {
+            return self.critical_op(objects);
+        }
         if self.suspensions > 0 && self.roll(48) > 0 {
             return self.suspended_op(objects);
         }
@@ -255,6 +259,7 @@ impl Dice {
             Theme::Gathering => self.gathering_op(objects),
             Theme::Suspension => self.suspending_op(objects),
             Theme::Decision => self.deciding_op(objects),
+            Theme::Section => self.masking_op(objects),
         }
     }
 }

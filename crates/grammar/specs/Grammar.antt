@@ -13,6 +13,7 @@ use Rattle.model.specs.declared.op.Op.{Op}
 use Rattle.model.specs.declared.op.Op.TheVariants.{Work, Delay, DelayUntil, Yield, Time, Mark, Expect, Repeat, End, If, Else, Break}
 use Rattle.model.specs.declared.op.Op.TheVariants.{Stamp, Since, Await, Do, GiveMutex, MessagesWaiting, SpacesAvailable, SetBits}
 use Rattle.model.specs.declared.op.Op.TheVariants.{ClearBits, GetBits, WaitBits, Suspend, Resume, SuspendAll, ResumeAll}
+use Rattle.model.specs.declared.op.Op.TheVariants.{EnterCritical, ExitCritical}
 use Rattle.model.specs.declared.op.IsrOp.{IsrOp}
 use Rattle.model.specs.declared.op.IsrOp.TheVariants as isr
 use Rattle.model.specs.Words.{word_of, word_of_isr}
@@ -162,13 +163,15 @@ group_forms =
     ∷ (codes "wait", GroupName (λ group. Bits (λ condition. WaitTime (λ ticks. Done (WaitBits group condition ticks)))))
     ∷ []
 
--- those of each op that suspends or resumes
+-- those of each op that suspends or resumes, or opens or closes a critical section
 abbrev pub suspension_forms : List (Word × Form Op)
 suspension_forms =
     (codes "suspend", TaskName (λ task. Done (Suspend task)))
     ∷ (codes "resume", TaskName (λ task. Done (Resume task)))
     ∷ (codes "suspend_all", Done SuspendAll)
     ∷ (codes "resume_all", Done ResumeAll)
+    ∷ (codes "enter_critical", Done EnterCritical)
+    ∷ (codes "exit_critical", Done ExitCritical)
     ∷ []
 
 -- those of each op

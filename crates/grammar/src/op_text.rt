@@ -104,7 +104,7 @@ fn wait_op<F: Finding>(words: &mut Words<'_>, finding: &F) -> Option<Op>
     Some(Op::WaitBits(group, condition, words.number_unless("forever")?))
 }
 
-// The op of this word that suspends or resumes, whose arguments are the next words.
+// The op of this word by the forms of suspending and resuming and of critical sections. Its arguments are the next words.
 fn suspension_op_after<F: Finding>(word: &[u8], words: &mut Words<'_>, finding: &F) -> Option<Op>
     // What is still to be read is whether the text ends here.
     ensures { MatchOption result
@@ -120,6 +120,10 @@ fn suspension_op_after<F: Finding>(word: &[u8], words: &mut Words<'_>, finding: 
         Some(Op::SuspendAll)
     } else if is(word, "resume_all") {
         Some(Op::ResumeAll)
+    } else if is(word, "enter_critical") {
+        Some(Op::EnterCritical)
+    } else if is(word, "exit_critical") {
+        Some(Op::ExitCritical)
     } else {
         None
     }

@@ -5,14 +5,14 @@ use Rattle.model.specs.declared.op.Op.{Op}
 use Rattle.model.specs.declared.op.Op.TheVariants.{Work, Delay, DelayUntil, Yield, Time, Mark, Expect, Repeat, End, If, Else, EndIf}
 use Rattle.model.specs.declared.op.Op.TheVariants.{Break, Stamp, Since, Await, Do, GiveMutex, MessagesWaiting, SpacesAvailable}
 use Rattle.model.specs.declared.op.Op.TheVariants.{SetBits, ClearBits, GetBits, WaitBits, Suspend, Resume, SuspendAll, ResumeAll}
-use Rattle.model.specs.declared.op.Op.TheVariants.{NextCommand, Obey}
+use Rattle.model.specs.declared.op.Op.TheVariants.{EnterCritical, ExitCritical, NextCommand, Obey}
 use Rattle.model.specs.declared.op.Access.{Access}
 use Rattle.model.specs.declared.op.Access.TheVariants.{Send, SendFront, Overwrite, Receive, Peek, Take, Give, Lock}
 use Rattle.model.specs.declared.op.IsrOp.{IsrOp}
 use Rattle.model.specs.declared.op.IsrOp.TheVariants as isr_op
 use Rattle.model.specs.Words.{word_of, word_of_access, word_of_isr}
 
-access_short : (a : Access) → length (word_of_access a) ≤ 11
+access_short : (a : Access) → length (word_of_access a) ≤ 14
 access_short (Send v) = lit≤ tt
 access_short (SendFront v) = lit≤ tt
 access_short (Overwrite v) = lit≤ tt
@@ -22,8 +22,8 @@ access_short Take = lit≤ tt
 access_short Give = lit≤ tt
 access_short Lock = lit≤ tt
 
--- The first word of an op has at most eleven letters.
-pub word_short : (op : Op) → length (word_of op) ≤ 11
+-- The first word of an op has at most fourteen letters.
+pub word_short : (op : Op) → length (word_of op) ≤ 14
 word_short (Work n) = lit≤ tt
 word_short (Delay n) = lit≤ tt
 word_short (DelayUntil n) = lit≤ tt
@@ -52,15 +52,17 @@ word_short (Suspend t) = lit≤ tt
 word_short (Resume t) = lit≤ tt
 word_short SuspendAll = lit≤ tt
 word_short ResumeAll = lit≤ tt
+word_short EnterCritical = lit≤ tt
+word_short ExitCritical = lit≤ tt
 word_short (NextCommand o) = lit≤ tt
 word_short Obey = lit≤ tt
 
-command_short : (clear : Bool) → length (if clear then codes "clear" else codes "set") ≤ 11
+command_short : (clear : Bool) → length (if clear then codes "clear" else codes "set") ≤ 14
 command_short true = lit≤ tt
 command_short false = lit≤ tt
 
 -- So has that of an op of a handler.
-pub isr_word_short : (op : IsrOp) → length (word_of_isr op) ≤ 11
+pub isr_word_short : (op : IsrOp) → length (word_of_isr op) ≤ 14
 isr_word_short (isr_op.Do o a) = access_short a
 isr_word_short (isr_op.Command c) = command_short c.clear
 isr_word_short (isr_op.Resume t) = lit≤ tt

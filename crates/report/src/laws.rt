@@ -11,7 +11,7 @@ ghost use Rattle.model.specs.Application.{Application, Limits};
 ghost use Rattle.model.specs.Campaign.{Row, AreRows, totals_of};
 ghost use Rattle.model.specs.declared.plan.Injection.{Injection};
 ghost use Rattle.model.specs.declared.event.End.TheVariants.{Pass, Check, Misuse};
-ghost use Rattle.model.specs.declared.event.Misuse.TheVariants.{WhileSuspended, NotSuspended, NotHolder, EndedSuspended};
+ghost use Rattle.model.specs.declared.event.Misuse.TheVariants.{WhileSuspended, NotSuspended, NotHolder, EndedSuspended, WhileCritical, NotCritical, EndedCritical};
 
 /// The report of a `delay 1` beside a task that only marks, letter by letter.
 pub fn report_of_delay_one()
@@ -67,6 +67,12 @@ pub fn verdicts_of_misuses()
         codes "misuse abcdefghijklmnop 0 3" }
     ensures ended_suspended { verdict_text each_form (Misuse 0 0 EndedSuspended) ≡
         codes "misuse abcdefghijklmnop 0 4" }
+    ensures while_critical { verdict_text each_form (Misuse 0 0 WhileCritical) ≡
+        codes "misuse abcdefghijklmnop 0 5" }
+    ensures not_critical { verdict_text each_form (Misuse 0 0 NotCritical) ≡
+        codes "misuse abcdefghijklmnop 0 6" }
+    ensures ended_critical { verdict_text each_form (Misuse 0 0 EndedCritical) ≡
+        codes "misuse abcdefghijklmnop 0 7" }
 {}
 
 /// An event of each form, with the largest numbers, letter by letter.

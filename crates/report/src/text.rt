@@ -9,7 +9,7 @@ ghost use Rattle.report.specs.Fronts.{mark_front, isr_mark_front, run_front};
 
 use crate::title::Title;
 use byte_io::Page;
-use byte_io::place::{put_number, put_text};
+use byte_io::place::{put_short_number, put_text};
 use model::{App, End, Ending, HandlerId, Injection, Misuse, Point, TaskId, Totals};
 
 // The room that the line of an event needs at most. The longest is that of a call: two numbers of 10 digits, two spaces, at most
@@ -39,7 +39,7 @@ pub(crate) fn name(app: &App, task: TaskId) -> &[u8]
 #[tactic(auto, using(crate::proofs::Short::word_short))]
 fn word(app: &App, task: TaskId, op_index: u16) -> &'static [u8]
     ensures text { result.now ≡ word_at app.now task op_index }
-    ensures size { length result.now ≤ 11 }
+    ensures size { length result.now ≤ 14 }
 {
     match app.op(task, op_index) {
         None => b"",
@@ -60,7 +60,7 @@ fn handler_name(app: &App, handler: HandlerId) -> &[u8]
 #[tactic(auto, using(crate::proofs::Short::isr_word_short))]
 fn isr_word(app: &App, handler: HandlerId, op_index: u16) -> &'static [u8]
     ensures text { result.now ≡ isr_word_at app.now handler op_index }
-    ensures size { length result.now ≤ 11 }
+    ensures size { length result.now ≤ 14 }
 {
     match app.isr_op(handler, op_index) {
         None => b"",
@@ -83,7 +83,7 @@ pub(crate) fn put_call_front(
     let at = put_text(bytes, at, b"call ");
     let at = put_text(bytes, at, name(app, task));
     let at = put_text(bytes, at, b" ");
-    let at = put_number(bytes, at, op_index as u32);
+    let at = put_short_number(bytes, at, op_index);
     let at = put_text(bytes, at, b" ");
     let at = put_text(bytes, at, word(app, task, op_index));
     put_text(bytes, at, b" = ")
@@ -142,7 +142,7 @@ pub(crate) fn put_isr_front(
     let at = put_text(bytes, at, b"isr ");
     let at = put_text(bytes, at, handler_name(app, handler));
     let at = put_text(bytes, at, b" ");
-    let at = put_number(bytes, at, op_index as u32);
+    let at = put_short_number(bytes, at, op_index);
     let at = put_text(bytes, at, b" ");
     let at = put_text(bytes, at, isr_word(app, handler, op_index));
     put_text(bytes, at, b" = ")
@@ -184,6 +184,9 @@ fn code_of(misuse: Misuse) -> u32
         Misuse::NotSuspended => 2,
         Misuse::NotHolder => 3,
         Misuse::EndedSuspended => 4,
+        Misuse::WhileCritical => 5,
+        Misuse::NotCritical => 6,
+        Misuse::EndedCritical => 7,
     }
 }
 

@@ -78,7 +78,10 @@ module _ (app : Application) (entries : Entries) (has : HasEntries app entries) 
   suspension_forms_known : AllKnown suspension_forms
   suspension_forms_known = (
     (λ t at a. at_task app entries has t at),
-    ((λ t at a. at_task app entries has t at), ((λ a. refl), ((λ a. refl), tt))),
+    (
+      (λ t at a. at_task app entries has t at),
+      ((λ a. refl), ((λ a. refl), ((λ a. refl), ((λ a. refl), tt)))),
+    ),
   )
 
   group_forms_known : AllKnown group_forms

@@ -15,6 +15,7 @@ mod handlers;
 mod idle;
 mod misuses;
 mod mutexes;
+mod sections;
 mod shared;
 mod suspension;
 mod waits_for_bits;
@@ -120,6 +121,18 @@ pub struct Tally {
     pub not_suspended: u32,
     pub not_holder: u32,
     pub ended_suspended: u32,
+    pub while_critical: u32,
+    pub not_critical: u32,
+    pub ended_critical: u32,
+    /// A task opened a critical section; one inside another.
+    pub sections: u32,
+    pub inner_sections: u32,
+    /// A handler was injected while a section was open; one that was pending already.
+    pub pending_handlers: u32,
+    pub pending_again: u32,
+    /// Two or more pending handlers came before a step; one or more did while the scheduler was suspended.
+    pub served_together: u32,
+    pub served_in_holds: u32,
     /// A command came to the daemon; one found no room; one came while the daemon's own call had locked the queue.
     pub commands: u32,
     pub refused_commands: u32,
@@ -181,6 +194,9 @@ pub struct SlowKernel {
     /// How many `suspend_all` are in force, and how many ticks have come since the first of them.
     suspensions: u32,
     held_ticks: u32,
+    /// How many critical sections are open, and which handlers were injected meanwhile and haven't come yet.
+    sections: u32,
+    pending: [bool; 17],
     /// The object that a call has locked.
     locked: Option<u8>,
     next_ticket: u64,
@@ -217,6 +233,8 @@ impl SlowKernel {
             is_held: false,
             suspensions: 0,
             held_ticks: 0,
+            sections: 0,
+            pending: [false; 17],
             locked: None,
             next_ticket: 0,
             steps: 0,
@@ -312,7 +330,7 @@ impl SlowKernel {
 
     /// Whether anything may switch: neither a call nor a task holds the scheduler.
     fn may_switch(&self) -> bool {
-        !self.is_held && !self.is_scheduler_suspended()
+        !self.is_held && !self.is_scheduler_suspended() && !self.is_critical()
     }
 
     /// The choice runs.
@@ -606,6 +624,8 @@ impl SlowKernel {
             Op::Resume(other) => self.call_resume(app, id, other),
             Op::SuspendAll => self.suspend_all(app, id),
             Op::ResumeAll => self.resume_all(app, id),
+            Op::EnterCritical => self.enter_critical(app, id),
+            Op::ExitCritical => self.exit_critical(app, id),
             Op::NextCommand(queue) => self.next_command(app, id, queue.number),
             Op::Obey => self.obey(app, id),
         }
@@ -624,9 +644,7 @@ impl SlowKernel {
 
     /// A step of a run under these limits, before which the handlers of these injections come.
     pub fn step(&mut self, app: &App, limits: &Limits, injections: &[Injection]) {
-        for injection in injections {
-            self.inject(app, injection.handler);
-        }
+        self.come_before_step(app, injections);
         self.act_current(app, limits);
         if self.may_switch() && self.current.is_some_and(|id| !self.is_ready(id)) {
             self.choose();

@@ -25,7 +25,15 @@ fn may_be_held(op: Op) -> bool {
             | Op::ClearBits(_, _)
             | Op::SuspendAll
             | Op::ResumeAll
+            | Op::EnterCritical
+            | Op::ExitCritical
     )
+}
+
+/// Whether an op may be done while a critical section is open: it is one that may be done while the scheduler is suspended, and lets
+/// no tick pass and leaves the scheduler alone.
+fn may_be_critical(op: Op) -> bool {
+    may_be_held(op) && !matches!(op, Op::Work(_) | Op::SuspendAll | Op::ResumeAll)
 }
 
 impl SlowKernel {
@@ -41,6 +49,7 @@ impl SlowKernel {
     fn misuse(&self, app: &App, id: TaskId) -> Option<Misuse> {
         let op = app.op(id, self.task(id).op_index)?;
         let is_suspended = self.is_scheduler_suspended();
+        let is_critical = self.is_critical();
         let may_be_held = may_be_held(op);
         let is_by_other = self.is_by_other(id, op);
         if is_suspended && !may_be_held {
@@ -49,6 +58,10 @@ impl SlowKernel {
             Some(Misuse::NotSuspended)
         } else if is_by_other {
             Some(Misuse::NotHolder)
+        } else if is_critical && !may_be_critical(op) {
+            Some(Misuse::WhileCritical)
+        } else if !is_critical && op == Op::ExitCritical {
+            Some(Misuse::NotCritical)
         } else {
             None
         }
@@ -60,6 +73,9 @@ impl SlowKernel {
             Misuse::NotSuspended => &mut self.tally.not_suspended,
             Misuse::NotHolder => &mut self.tally.not_holder,
             Misuse::EndedSuspended => &mut self.tally.ended_suspended,
+            Misuse::WhileCritical => &mut self.tally.while_critical,
+            Misuse::NotCritical => &mut self.tally.not_critical,
+            Misuse::EndedCritical => &mut self.tally.ended_critical,
         };
         count_if(count, true);
     }
@@ -70,12 +86,14 @@ impl SlowKernel {
         self.count_misuse(misuse);
     }
 
-    /// A task must not come to its end while the scheduler is suspended.
+    /// A task must not come to its end while the scheduler is suspended or a critical section is open.
     fn stop_at_end(&mut self, id: TaskId, op_index: u16) {
         let task = self.task(id);
         let is_ended = matches!(task.status, Status::Ended);
         if is_ended && self.is_scheduler_suspended() {
             self.stop(id, op_index, Misuse::EndedSuspended);
+        } else if is_ended && self.is_critical() {
+            self.stop(id, op_index, Misuse::EndedCritical);
         }
     }
 

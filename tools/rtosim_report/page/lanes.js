@@ -1,9 +1,12 @@
 // A run's lanes as a drawing, with the cursor over them.
 
 const BAR = 14, LABEL = 14, LANE_GAP = 12, PLOT_TOP = 22, WIDEST = 54, NARROWEST = 6, MOST_WIDE = 60000;
-const DOING = { runs: "runs", waits: "waits", sleeps: "sleeps", suspended: "is suspended", ready: "is Ready" };
+const DOING = { runs: "runs", waits: "waits", sleeps: "sleeps", suspended: "is suspended", ready: "is Ready", pending: "is pending" };
+// Of each kind of window how far below the bar it is, and what is so.
+const WINDOWS = { locked: [1, "the queue is locked"], held: [5, "the scheduler is held"], masked: [1, "interrupts are masked"] };
 const LEGEND = [["runs", "runs"], ["waits", "waits in a call"], ["sleeps", "sleeps"], ["suspended", "suspended"], ["ready", "Ready"],
-  ["ended", "ended"], ["idle", "idle runs"], ["locked", "queue locked"], ["held", "scheduler held"], ["mark-injected", "injected"]];
+  ["ended", "ended"], ["idle", "idle runs"], ["locked", "queue locked"], ["held", "scheduler held"], ["masked", "interrupts masked"],
+  ["pending", "pending"], ["mark-injected", "injected"]];
 
 // The elapsed ticks at a boundary: those that are known, and between them evenly many.
 function tickAt([, boundaries, ticks], boundary) {
@@ -91,7 +94,7 @@ class Lanes {
   }
 
   drawWindow(lane, start, end, kind) {
-    const below = kind === "locked" ? 1 : 5, what = kind === "locked" ? "the queue is locked" : "the scheduler is held";
+    const [below, what] = WINDOWS[kind];
     const box = { class: kind, x: this.across(start), y: this.tops[lane] + BAR + below, width: (end - start) * this.stepWidth, height: 3 };
     this.svg.append(shape("rect", box, null, `${what}: steps ${start} to ${end - 1}`));
   }

@@ -3,4 +3,4 @@ use Rattle.dice.specs.Known.{AreKnown}
 use Rattle.dice.proofs.Dice.unlock_all.Given as goal
 
 abbrev pub invariant-loop-number : goal.invariant-loop-number
-invariant-loop-number l = (length l.script ≤ 26 + l.number) × AreKnown l.objects l.script
+invariant-loop-number l = (length l.script ≤ 28 + l.number) × AreKnown l.objects l.script

@@ -17,3 +17,15 @@ returns-clause-not_holder c = refl
 pub returns-clause-ended_suspended : goal.returns-clause-ended_suspended
 unfolding digits
 returns-clause-ended_suspended c = refl
+
+pub returns-clause-while_critical : goal.returns-clause-while_critical
+unfolding digits
+returns-clause-while_critical c = refl
+
+pub returns-clause-not_critical : goal.returns-clause-not_critical
+unfolding digits
+returns-clause-not_critical c = refl
+
+pub returns-clause-ended_critical : goal.returns-clause-ended_critical
+unfolding digits
+returns-clause-ended_critical c = refl
