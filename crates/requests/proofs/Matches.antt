@@ -1,8 +1,7 @@
 -- What the matches of the words say of the job.
 use Rattle.std.proofs.Common.{◌≡◌, ◌∙◌, ap, refl, sym, subst, codes, inl, inr, List, [], ◌∷◌, ℕ, Option, Some, None, Result, Ok}
 use Rattle.std.proofs.Common.{Err, option_map, IsNone}
-use Rattle.std.specs.Prelude.{Bool, true, false, MatchResult, if◌then◌else◌}
-use Rattle.std.specs.Str.{bytes_eq}
+use Rattle.std.specs.Prelude.{true, MatchResult}
 use Rattle.std.specs.Result.{result_ok}
 use Rattle.std.specs.Str.Parse.{ParsesUnsigned}
 use Rattle.clap.specs.Words.{TriesOne, App, Row, is_simple, takes, fault_of, is_simple_and_free, Kinds, subcommand_of}
@@ -10,18 +9,16 @@ use Rattle.clap.specs.Words.{subcommand_rows_of, HasKind, HasMatchesOf, IsAmong,
 use Rattle.clap.specs.Kinds.{or_else}
 use Rattle.clap.specs.declared.error.Error.{Error}
 use Rattle.clap.specs.declared.error.kind.ErrorKind.{ErrorKind}
-use Rattle.clap.specs.declared.error.kind.ErrorKind.TheVariants.{OutOfMemory, ValueValidation}
+use Rattle.clap.specs.declared.error.kind.ErrorKind.TheVariants.{OutOfMemory}
 use Rattle.clap.specs.declared.parser.matches.ArgMatches.{ArgMatches}
 use Rattle.clap.proofs.OnLiterals.{clap_on_literals}
 use Rattle.requests.specs.declared.options.BadOption.{BadOption}
 use Rattle.requests.specs.declared.options.Options.{Options}
 use Rattle.requests.specs.Options.{bad_option}
-use Rattle.report.specs.Shards.{Shard}
-use Rattle.report.specs.declared.view.View.{View}
 use Rattle.requests.specs.declared.job.Job.{Job}
-use Rattle.requests.specs.declared.job.Job.TheVariants.{Campaign, Run, RunUnpaired}
-use Rattle.requests.specs.Words.{IsJobOf, IsNoNumber, NamesNoOptions, faults_of, faults_without, number_in, number_of, rtosim_app}
-use Rattle.requests.specs.Words.{shard_in_rows, value_faults, view_in}
+use Rattle.requests.specs.declared.job.Job.TheVariants.{Campaign, Explore, Run, RunUnpaired}
+use Rattle.requests.specs.Words.{IsJobOf, IsNoNumber, NamesNoOptions, faults_of, number_in, number_of, rtosim_app}
+use Rattle.requests.specs.Words.{value_faults}
 
 pub taken_as : (a b : App) (words : List (List ℕ)) (P : Type 0) → a ≡ b → (takes a words ≡ true → P) → takes b words ≡ true → P
 taken_as a b words P same gives took = gives (rw same took)
@@ -49,21 +46,18 @@ kinds_as a words P same gives = subst (λ (x : App). is_simple_and_free x ≡ tr
 
 -- ---- the values of words that the command takes
 
-abbrev no_kinds : Kinds
-no_kinds = []
-
-none_if : (b : Bool) → (if b then [] else []) ≡ no_kinds
-none_if true = refl
-none_if false = refl
-
 -- words that name a job have no fault
 no_fault : (named : Option (List ℕ × List Row)) (job : Job) → IsJobOf named job → value_faults named ≡ []
 no_fault None job is = absurd is
 no_fault (Some named) job (inl is) = rw is.0 refl
-no_fault (Some named) (Run file at state) (inr is) = absurd is.1
-no_fault (Some named) (RunUnpaired file) (inr is) = absurd is.1
-no_fault (Some named) (Campaign file view shard options quiet) (inr is) =
-    rw (is.1.1, is.1.2) (none_if (bytes_eq named.0 (codes "campaign")))
+no_fault (Some named) (Run file at state) (inr (inl is)) = absurd is.1
+no_fault (Some named) (RunUnpaired file) (inr (inl is)) = absurd is.1
+no_fault (Some named) (Campaign file view shard options quiet) (inr (inl is)) = rw (is.0, is.1.1, is.1.2) refl
+no_fault (Some named) (Explore file injections handlers) (inr (inl is)) = absurd is.1
+no_fault (Some named) (Run file at state) (inr (inr is)) = absurd is.1
+no_fault (Some named) (RunUnpaired file) (inr (inr is)) = absurd is.1
+no_fault (Some named) (Campaign file view shard options quiet) (inr (inr is)) = absurd is.1
+no_fault (Some named) (Explore file injections handlers) (inr (inr is)) = rw (is.0, is.1.2) refl
 
 pub no_faults : (a : App) (words : List (List ℕ)) (job : Job) → a ≡ rtosim_app → IsJobOf (subcommand_of rtosim_app words) job
     → (is_simple_and_free a ≡ true → fault_of a words ≡ []) → faults_of words ≡ []
@@ -92,23 +86,6 @@ value_as a words m e same has gives is =
 
 pub memory_alone : (kinds : Kinds) (e : Error) → HasKind kinds e → kinds ≡ [] → kind_of e ≡ OutOfMemory
 memory_alone kinds e is none = elim (subst (λ (k : Kinds). HasKind k e) none is) [ inl memory ↦ memory | inr among ↦ absurd among ]
-
--- a value that is none
-pub bad_list : (named : Option (List ℕ × List Row)) (name : List ℕ) (rows : List Row)
-    → named ≡ Some (name, rows) → name ≡ codes "campaign" → view_in rows ≡ None
-    → value_faults named ≡ ValueValidation ∷ []
-bad_list named name rows is at none = rw (is, at, none) refl
-
-pub bad_shard : (named : Option (List ℕ × List Row)) (name : List ℕ) (rows : List Row)
-    → named ≡ Some (name, rows) → name ≡ codes "campaign" → shard_in_rows rows ≡ None
-    → value_faults named ≡ ValueValidation ∷ []
-bad_shard named name rows is at none = rw (is, at) (without_shard (view_in rows) (shard_in_rows rows) none)
-  where
-    without_shard : (view : Option View) (shard : Option Shard) → shard ≡ None → faults_without view shard ≡ ValueValidation ∷ []
-    without_shard None None e = refl
-    without_shard (Some view) None e = refl
-    without_shard None (Some shard) e = refl
-    without_shard (Some view) (Some shard) e = absurd (cc e)
 
 -- A text that is read as a number is one.
 pub number_read : {E : Type 0} (gives : List ℕ → Result ℕ E → Type 0) (text : Option (List ℕ)) (r : Result (Option ℕ) E)

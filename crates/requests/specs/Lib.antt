@@ -1,4 +1,5 @@
 pub mod Jobs
+pub mod Names
 pub mod Options
 pub mod Processors
 pub mod Shown

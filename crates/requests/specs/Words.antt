@@ -14,6 +14,7 @@ use Rattle.clap.specs.declared.error.kind.ErrorKind.TheVariants.{ValueValidation
 use Rattle.clap.specs.declared.builder.arg.Arg.{Arg}
 use Rattle.clap.specs.declared.builder.command.Command.{Command}
 use Rattle.clap.specs.declared.builder.command.Command.TheViews.{out-Command as fields_of}
+use Rattle.model.specs.Points.{most_of_point}
 use Rattle.model.specs.Scripts.{last_point}
 use Rattle.requests.specs.declared.at.At.{At}
 use Rattle.requests.specs.declared.options.BadOption.{BadOption}
@@ -25,7 +26,8 @@ use Rattle.report.specs.declared.view.Ends.{Ends}
 use Rattle.report.specs.declared.view.View.{View}
 use Rattle.requests.specs.Shown.{ends_of, shard_named}
 use Rattle.requests.specs.declared.job.Job.{Job}
-use Rattle.requests.specs.declared.job.Job.TheVariants.{Run, RunUnpaired, Campaign}
+use Rattle.requests.specs.declared.job.Job.TheVariants.{Run, RunUnpaired, Campaign, Explore}
+use Rattle.requests.specs.Names.{are_names, names_of}
 
 -- ---- the command
 
@@ -94,12 +96,21 @@ campaign_app =
     with_rule (with_rule (with_rule (with_rule (with_rule (with_rule (with_rule (with_rule (new_app (codes "campaign")) file_rule)
     only_rule) heads_rule) shard_rule) workers_rule) stride_rule) block_rule) quiet_rule
 
+abbrev pub injections_rule : Rule
+injections_rule = option_rule (codes "injections") (codes "1") 0 most_of_point
+
+abbrev pub handlers_rule : Rule
+handlers_rule = text_rule (codes "handlers")
+
+abbrev pub explore_app : App
+explore_app = with_rule (with_rule (with_rule (new_app (codes "explore")) file_rule) injections_rule) handlers_rule
+
 -- the program without its commands: one of them has to be named
 abbrev pub rtosim_top : App
 rtosim_top = on_top (λ s. record s { has_version = true; subcommand_required = true }) (new_app (codes "rtosim"))
 
 unfoldable pub rtosim_app : App
-rtosim_app = with_subcommand (with_subcommand rtosim_top run_app.top) campaign_app.top
+rtosim_app = with_subcommand (with_subcommand (with_subcommand rtosim_top run_app.top) campaign_app.top) explore_app.top
 
 -- The command is read as this one, and has no argument that its own commands have too.
 pub record IsCommandOf (app : App) (command : Command) : Type 0 where
@@ -153,6 +164,7 @@ IsRunOf rows (Run file at state) =
     × (is_given (first_of (codes "state") rows) ≡ state)
 IsRunOf rows (RunUnpaired file) = (first_of (codes "FILE") rows ≡ Some file.now) × NamesHalf rows
 IsRunOf rows (Campaign file view shard options quiet) = ⊥
+IsRunOf rows (Explore file injections handlers) = ⊥
 
 -- the number of an option
 abbrev pub number_in : (name : Text) → List Row → Option ℕ
@@ -193,12 +205,35 @@ IsCampaignOf rows (Campaign file view shard options quiet) =
     (first_of (codes "FILE") rows ≡ Some file.now) × (view_in rows ≡ Some view)
     × (shard_in_rows rows ≡ Some shard) × AreOptionsOf rows options
     × (is_given (first_of (codes "quiet") rows) ≡ quiet)
+IsCampaignOf rows (Explore file injections handlers) = ⊥
+
+-- They are as many injections as the words of `explore` name, or as many as they have where these name none.
+abbrev pub AreInjectionsOf : List Row → ℕ → Type 0
+AreInjectionsOf rows injections = (number_in (codes "injections") rows ≡ Some injections) × (injections ≤ most_of_point)
+
+-- the list of handlers that is named, if it is one of names; where none is, there is no list
+abbrev pub handlers_in : Option Text → Option (Option Text)
+handlers_in None = Some None
+handlers_in (Some list) = if are_names (names_of list) then Some (Some list) else None
+
+abbrev pub handlers_in_rows : List Row → Option (Option Text)
+handlers_in_rows rows = handlers_in (first_of (codes "handlers") rows)
+
+-- The job is to explore the file that the words of `explore` name, with the injections and the handlers that they name.
+abbrev pub IsExploreOf : List Row → Job → Type 0
+IsExploreOf rows (Run file at state) = ⊥
+IsExploreOf rows (RunUnpaired file) = ⊥
+IsExploreOf rows (Campaign file view shard options quiet) = ⊥
+IsExploreOf rows (Explore file injections handlers) =
+    (first_of (codes "FILE") rows ≡ Some file.now) × AreInjectionsOf rows injections
+    × (handlers_in_rows rows ≡ Some (option_map (λ list. list.now) handlers))
 
 -- The job is what the words name, by the command and its own words.
 abbrev pub IsJobOf : Option (Text × List Row) → Job → Type 0
 IsJobOf None job = ⊥
 IsJobOf (Some named) job =
-    ((named.0 ≡ codes "run") × IsRunOf named.1 job) ⊎ ((named.0 ≡ codes "campaign") × IsCampaignOf named.1 job)
+    ((named.0 ≡ codes "run") × IsRunOf named.1 job)
+    ⊎ (((named.0 ≡ codes "campaign") × IsCampaignOf named.1 job) ⊎ ((named.0 ≡ codes "explore") × IsExploreOf named.1 job))
 
 -- There is a text, and it is no number.
 abbrev pub IsNoNumber : Option Text → Type 0
@@ -239,11 +274,23 @@ abbrev pub NamesNoCampaign : List Row → Type 0
 NamesNoCampaign rows =
     (first_of (codes "FILE") rows ≡ None) ⊎ ((view_in rows ≡ None) ⊎ ((shard_in_rows rows ≡ None) ⊎ NamesNoOptions rows))
 
+-- The number of injections that the words of `explore` name is none, or out of its range.
+abbrev pub NamesNoInjections : List Row → Type 0
+NamesNoInjections rows =
+    LacksNumber (codes "injections") rows
+    ⊎ ((injections : ℕ) × (number_in (codes "injections") rows ≡ Some injections) × (most_of_point < injections))
+
+-- The words of `explore` name no file, no list of handlers, or no number of injections.
+abbrev pub NamesNoExplore : List Row → Type 0
+NamesNoExplore rows =
+    (first_of (codes "FILE") rows ≡ None) ⊎ ((handlers_in_rows rows ≡ None) ⊎ NamesNoInjections rows)
+
 -- The words name no job.
 abbrev pub NamesNoJob : Option (Text × List Row) → Type 0
 NamesNoJob None = Unit {0}
 NamesNoJob (Some named) =
     (named.0 ≡ codes "run" → NamesNoRun named.1) × (named.0 ≡ codes "campaign" → NamesNoCampaign named.1)
+    × (named.0 ≡ codes "explore" → NamesNoExplore named.1)
 
 -- ---- words that are refused
 
@@ -252,13 +299,20 @@ abbrev pub faults_without : Option View → Option Shard → Kinds
 faults_without (Some view) (Some shard) = []
 faults_without view shard = ValueValidation ∷ []
 
+-- of what kind a fault is where the handlers are none
+abbrev pub handlers_faults : Option (Option Text) → Kinds
+handlers_faults (Some handlers) = []
+handlers_faults None = ValueValidation ∷ []
+
 -- of what kind the fault of words is that the command takes
 abbrev pub value_faults : Option (Text × List Row) → Kinds
 value_faults None = []
 value_faults (Some named) =
-    if bytes_eq named.0 (codes "campaign") then faults_without (view_in named.1) (shard_in_rows named.1) else []
+    if bytes_eq named.0 (codes "campaign") then faults_without (view_in named.1) (shard_in_rows named.1)
+    else if bytes_eq named.0 (codes "explore") then handlers_faults (handlers_in_rows named.1)
+    else []
 
--- Of what kinds the fault of the words may be: one of those that the command doesn't take, otherwise that of a list of ends or of a
--- shard. There is none where they name a job.
+-- Of what kinds the fault of the words may be: one of those that the command doesn't take, otherwise that of a list of ends, of a
+-- shard or of handlers. There is none where they name a job.
 abbrev pub faults_of : List (List ℕ) → Kinds
 faults_of words = or_else (fault_of rtosim_app words) (value_faults (subcommand_of rtosim_app words))

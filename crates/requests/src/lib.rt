@@ -3,6 +3,8 @@
 
 mod at;
 mod job;
+mod most_injections;
+mod names;
 mod options;
 mod processors;
 mod shown;
@@ -10,6 +12,7 @@ mod words;
 
 pub use at::At;
 pub use job::Job;
+pub use most_injections::MostInjections;
 pub use options::{BadOption, Options};
 pub use processors::meant;
 pub use words::job_named;

@@ -3,10 +3,12 @@ ghost use Rattle.std.specs.Prelude.{◌≡◌, Some, codes, IfOk, IfErr, IfSome,
 ghost use Rattle.clap.specs.declared.builder.command.Command.TheViews.{out-Command as fields_of};
 ghost use Rattle.clap.specs.Words.{new_app, with_subcommand, takes, kind_of, subcommand_of, first_of, one_of, found_of, rows_of, subcommand_rows_of, FailsBy, HasKind};
 ghost use Rattle.clap.specs.declared.error.kind.ErrorKind.TheVariants.{OutOfMemory, ValueValidation};
-ghost use Rattle.requests.specs.Words.{file_rule, at_rule, handler_rule, state_rule, only_rule, heads_rule, shard_rule, quiet_rule, flag_rule, text_rule, option_rule, workers_rule, stride_rule, block_rule, run_app, campaign_app, rtosim_top, rtosim_app, texts_of, number_of, is_given, ends_in, view_in, shard_of_words, shard_in_rows, value_faults, faults_of, IsCommandOf, IsArgOf, IsStepOf, IsRunOf, AreOptionsOf, IsCampaignOf, IsJobOf, IsNoNumber, NamesNoStep, NamesNoRun, NamesNoOptions, NamesNoCampaign, NamesNoJob};
+ghost use Rattle.requests.specs.Words.{file_rule, at_rule, handler_rule, state_rule, only_rule, heads_rule, shard_rule, quiet_rule, flag_rule, text_rule, option_rule, workers_rule, stride_rule, block_rule, run_app, campaign_app, explore_app, injections_rule, handlers_rule, rtosim_top, rtosim_app, texts_of, number_of, is_given, ends_in, view_in, shard_of_words, shard_in_rows, handlers_in, handlers_in_rows, handlers_faults, faults_without, value_faults, faults_of, IsCommandOf, IsArgOf, IsStepOf, IsRunOf, AreOptionsOf, IsCampaignOf, AreInjectionsOf, IsExploreOf, IsJobOf, IsNoNumber, NamesNoStep, NamesNoRun, NamesNoOptions, NamesNoCampaign, NamesNoInjections, NamesNoExplore, NamesNoJob};
 
 use crate::at::At;
 use crate::job::Job;
+use crate::most_injections::MostInjections;
+use crate::names::are_names;
 use crate::options::Options;
 use crate::shown::{ends_of, shard_named};
 use clap::error::ErrorKind;
@@ -30,6 +32,10 @@ const BAD_LIST: &str =
     "the value of '--only' is pass, check, misuse, ticks, steps, stuck or failing, or several of them joined by commas";
 
 const BAD_SHARD: &str = "the value of '--shard' is I/N, where N is 1 to 1000000 and I is 1 to N";
+
+// What is said of handlers that are none.
+const BAD_HANDLERS: &str =
+    "the value of '--handlers' is the name of a handler, or several different ones joined by commas";
 
 // The latest step before which a handler can be injected (profile).
 const MOST_STEP: u32 = 1_000_000;
@@ -151,6 +157,23 @@ fn block_argument<'a>(alloc: Global) -> Arg<'a>
     )
 }
 
+fn injections_argument<'a>(alloc: Global) -> Arg<'a>
+    ensures { IsArgOf injections_rule result }
+{
+    valued_argument(alloc, "injections", "K")
+        .value_parser(value_parser!(u32).range(..=i64::from(MostInjections::MOST)))
+        .default_value("1")
+        .help("Injections that a placement has at most, 0 to 3")
+}
+
+fn handlers_argument<'a>(alloc: Global) -> Arg<'a>
+    ensures { IsArgOf handlers_rule result }
+{
+    valued_argument(alloc, "handlers", "NAMES").help(
+        "Handlers that are injected, by their names, joined by commas; otherwise all",
+    )
+}
+
 // A command of this name without arguments, whose help says what it is about and ends with the statuses.
 fn described_command<'a>(alloc: Global, name: &'a str, about: &'a str) -> Command<'a>
     ensures reads { IsCommandOf (new_app name.now) result }
@@ -198,6 +221,22 @@ fn campaign_command<'a>(alloc: Global) -> Result<Command<'a>, AllocError>
     .args(arguments)
 }
 
+fn explore_command<'a>(alloc: Global) -> Result<Command<'a>, AllocError>
+    ensures { IfOk result (λ command. IsCommandOf explore_app command) }
+{
+    let arguments = vec![in alloc;
+        file_argument(alloc),
+        injections_argument(alloc),
+        handlers_argument(alloc),
+    ]?;
+    described_command(
+        alloc,
+        "explore",
+        "Counts how the runs with all placements of a few injections end",
+    )
+    .args(arguments)
+}
+
 // The program without its commands.
 fn program<'a>(alloc: Global) -> Command<'a>
     ensures reads { IsCommandOf rtosim_top result }
@@ -221,12 +260,21 @@ fn program_with_run<'a>(alloc: Global) -> Result<Command<'a>, AllocError>
     program(alloc).subcommand(run)
 }
 
-fn command<'a>(alloc: Global) -> Result<Command<'a>, AllocError>
-    ensures { IfOk result (λ command. IsCommandOf rtosim_app command) }
+// The program with the commands `run` and `campaign`.
+fn program_with_runs<'a>(alloc: Global) -> Result<Command<'a>, AllocError>
+    ensures { IfOk result (λ command. IsCommandOf (with_subcommand (with_subcommand rtosim_top run_app.top) campaign_app.top) command) }
 {
     let program = program_with_run(alloc)?;
     let campaign = campaign_command(alloc)?;
     program.subcommand(campaign)
+}
+
+fn command<'a>(alloc: Global) -> Result<Command<'a>, AllocError>
+    ensures { IfOk result (λ command. IsCommandOf rtosim_app command) }
+{
+    let program = program_with_runs(alloc)?;
+    let explore = explore_command(alloc)?;
+    program.subcommand(explore)
 }
 
 fn text<'a>(matches: &ArgMatches<'a>, id: &str) -> Option<&'a str>
@@ -361,6 +409,42 @@ fn campaign_job<'a>(matches: &ArgMatches<'a>) -> Option<Job<'a>>
     })
 }
 
+// How many injections the words of `explore` name. `None`: it is no number, or out of its range.
+fn injections_of(matches: &ArgMatches<'_>) -> Option<MostInjections>
+    ensures injections { IfSome result (AreInjectionsOf (rows_of (found_of matches.now))) }
+    ensures none { IsNone result → NamesNoInjections (rows_of (found_of matches.now)) }
+{
+    match number(matches, "injections") {
+        Ok(Some(count)) => MostInjections::new(count),
+        _ => None,
+    }
+}
+
+// The handlers, where a list of them is named or not.
+fn handlers_in<'a>(list: Option<&'a str>) -> Option<Option<&'a str>>
+    ensures { option_map (λ list. option_map (λ list. list.now) list) result ≡ handlers_in (option_map (λ list. list.now) list.entry) }
+{
+    match list {
+        Some(list) if !are_names(list) => None,
+        list => Some(list),
+    }
+}
+
+// The job of the command `explore`.
+fn explore_job<'a>(matches: &ArgMatches<'a>) -> Option<Job<'a>>
+    ensures job { IfSome result (IsExploreOf (rows_of (found_of matches.now))) }
+    ensures none { IsNone result → NamesNoExplore (rows_of (found_of matches.now)) }
+{
+    let file = text(matches, "FILE")?;
+    let handlers = handlers_in(text(matches, "handlers"))?;
+    let injections = injections_of(matches)?;
+    Some(Job::Explore {
+        file,
+        injections,
+        handlers,
+    })
+}
+
 fn job_of<'a>(matches: &ArgMatches<'a>) -> Option<Job<'a>>
     ensures job { IfSome result (IsJobOf (subcommand_rows_of matches.now)) }
     ensures none { IsNone result → NamesNoJob (subcommand_rows_of matches.now) }
@@ -369,8 +453,33 @@ fn job_of<'a>(matches: &ArgMatches<'a>) -> Option<Job<'a>>
     match name {
         "run" => run_job(inner),
         "campaign" => campaign_job(inner),
+        "explore" => explore_job(inner),
         _ => None,
     }
+}
+
+// What is wrong with a value of words of `campaign`, if one is.
+fn bad_campaign_value(matches: &ArgMatches<'_>) -> Option<&'static str>
+    ensures { IsSome result → faults_without (view_in (rows_of (found_of matches.now))) (shard_in_rows (rows_of (found_of matches.now)))
+        ≡ ValueValidation ∷ [] }
+{
+    if view_of(matches).is_none() {
+        return Some(BAD_LIST);
+    }
+    if shard_of(matches).is_none() {
+        return Some(BAD_SHARD);
+    }
+    None
+}
+
+// What is wrong with a value of words of `explore`, if one is.
+fn bad_explore_value(matches: &ArgMatches<'_>) -> Option<&'static str>
+    ensures { IsSome result → handlers_faults (handlers_in_rows (rows_of (found_of matches.now))) ≡ ValueValidation ∷ [] }
+{
+    if handlers_in(text(matches, "handlers")).is_none() {
+        return Some(BAD_HANDLERS);
+    }
+    None
 }
 
 // What is wrong with a value of words that the command takes, if one is.
@@ -378,16 +487,11 @@ fn bad_value(matches: &ArgMatches<'_>) -> Option<&'static str>
     ensures { IsSome result → value_faults (subcommand_rows_of matches.now) ≡ ValueValidation ∷ [] }
 {
     let (name, inner) = matches.subcommand()?;
-    if name != "campaign" {
-        return None;
+    match name {
+        "campaign" => bad_campaign_value(inner),
+        "explore" => bad_explore_value(inner),
+        _ => None,
     }
-    if view_of(inner).is_none() {
-        return Some(BAD_LIST);
-    }
-    if shard_of(inner).is_none() {
-        return Some(BAD_SHARD);
-    }
-    None
 }
 
 // The refusal of a value.
@@ -412,8 +516,8 @@ fn refusal(alloc: Global, matches: &ArgMatches<'_>) -> Error
 }
 
 /// The job that the words name; the first of them is the name of the program. At `Err` help or the version was asked
-/// for, the words are refused, or no memory is left, as the kind of the error says. Words that the command takes, and whose list of ends
-/// and shard are such, are refused only for want of memory.
+/// for, the words are refused, or no memory is left, as the kind of the error says. Words that the command takes, and whose list of ends,
+/// shard and handlers are such, are refused only for want of memory.
 pub fn job_named<'a, S: AsStr>(alloc: Global, words: &'a [S]) -> Result<Job<'a>, Error>
     ensures job { IfOk result (IsJobOf (subcommand_of rtosim_app (map S.text words.entry.now))) }
     ensures memory { IfErr result (λ e. takes rtosim_app (map S.text words.entry.now) ≡ true
