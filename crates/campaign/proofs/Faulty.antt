@@ -92,7 +92,7 @@ pub same_read : (A B : Type 0) (f : ServeFault) → is_read_fault {A = A} (Err f
 same_read A B Read = refl
 same_read A B NotToml = refl
 same_read A B (Load fault) = refl
-same_read A B UnknownHandler = refl
+same_read A B (UnknownHandler place) = refl
 same_read A B TooManyPoints = refl
 same_read A B Memory = refl
 same_read A B Write = refl
@@ -101,7 +101,7 @@ pub same_write : (A B : Type 0) (f : ServeFault) → is_write_fault {A = A} (Err
 same_write A B Read = refl
 same_write A B NotToml = refl
 same_write A B (Load fault) = refl
-same_write A B UnknownHandler = refl
+same_write A B (UnknownHandler place) = refl
 same_write A B TooManyPoints = refl
 same_write A B Memory = refl
 same_write A B Write = refl
@@ -117,7 +117,7 @@ module _ {A : Type 0} (IsReport : (bytes report : List ℕ) → A → Type 0)
   serves_fault old Read h r w e = record { answers = (h, Keeps-refl old); read = r; write = e }
   serves_fault old NotToml h r w e = record { answers = (h, Keeps-refl old); read = r; write = e }
   serves_fault old (Load fault) h r w e = record { answers = (h, Keeps-refl old); read = r; write = e }
-  serves_fault old UnknownHandler h r w e = record { answers = (h, Keeps-refl old); read = r; write = e }
+  serves_fault old (UnknownHandler place) h r w e = record { answers = (h, Keeps-refl old); read = r; write = e }
   serves_fault old TooManyPoints h r w e = record { answers = (h, Keeps-refl old); read = r; write = e }
   serves_fault old Memory h r w e = record { answers = (h, Keeps-refl old); read = r; write = e }
   serves_fault old Write h r w e = absurd (cc)
@@ -140,7 +140,7 @@ module _ {A : Type 0} (IsReport : (bytes report : List ℕ) → A → Type 0) (H
   answers_as_known old new (Err Read) h = ((h.0.0, as_known h.0.0 h.0.1, h.0.2), h.1)
   answers_as_known old new (Err NotToml) h = ((h.0.0, as_known h.0.0 h.0.1, h.0.2), h.1)
   answers_as_known old new (Err (Load fault)) h = ((h.0.0, as_known h.0.0 h.0.1, h.0.2), h.1)
-  answers_as_known old new (Err UnknownHandler) h = ((h.0.0, as_known h.0.0 h.0.1, h.0.2), h.1)
+  answers_as_known old new (Err (UnknownHandler place)) h = ((h.0.0, as_known h.0.0 h.0.1, h.0.2), h.1)
   answers_as_known old new (Err TooManyPoints) h = ((h.0.0, as_known h.0.0 h.0.1, h.0.2), h.1)
   answers_as_known old new (Err Memory) h = ((h.0.0, as_known h.0.0 h.0.1, h.0.2), h.1)
 
@@ -156,7 +156,7 @@ file_fault : (at : Option At) (bytes : List ℕ) (f : ServeFault) → HasFileFau
 file_fault at bytes Read h = h
 file_fault at bytes NotToml h = h
 file_fault at bytes (Load fault) h = h
-file_fault at bytes UnknownHandler h = absurd h
+file_fault at bytes (UnknownHandler place) h = absurd h
 file_fault at bytes TooManyPoints h = h
 file_fault at bytes Memory h = h
 file_fault at bytes Write h = h
@@ -167,7 +167,7 @@ run_fault : (at : Option At) (bytes : List ℕ) (app : Application) (f : ServeFa
 run_fault at bytes app Read file h = absurd h
 run_fault at bytes app NotToml file h = absurd h
 run_fault at bytes app (Load fault) file h = absurd h
-run_fault at bytes app UnknownHandler file h = (app, file, h)
+run_fault at bytes app (UnknownHandler place) file h = (app, file, h)
 run_fault at bytes app TooManyPoints file h = absurd h
 run_fault at bytes app Memory file h = file_has_bytes bytes app file
 run_fault at bytes app Write file h = absurd h
@@ -183,7 +183,7 @@ run_reads : (at : Option At) (app : Application) (f : ServeFault) → IsRunFault
 run_reads at app Read h = absurd h
 run_reads at app NotToml h = refl
 run_reads at app (Load fault) h = refl
-run_reads at app UnknownHandler h = refl
+run_reads at app (UnknownHandler place) h = refl
 run_reads at app TooManyPoints h = refl
 run_reads at app Memory h = refl
 run_reads at app Write h = refl
@@ -192,7 +192,7 @@ run_writes : (at : Option At) (app : Application) (f : ServeFault) → IsRunFaul
 run_writes at app Read h = absurd h
 run_writes at app NotToml h = refl
 run_writes at app (Load fault) h = refl
-run_writes at app UnknownHandler h = refl
+run_writes at app (UnknownHandler place) h = refl
 run_writes at app TooManyPoints h = refl
 run_writes at app Memory h = refl
 run_writes at app Write h = absurd h
@@ -213,7 +213,7 @@ campaign_file_fault : (bytes : List ℕ) (f : ServeFault) → HasFileFault bytes
 campaign_file_fault bytes Read h = h
 campaign_file_fault bytes NotToml h = h
 campaign_file_fault bytes (Load fault) h = h
-campaign_file_fault bytes UnknownHandler h = h
+campaign_file_fault bytes (UnknownHandler place) h = h
 campaign_file_fault bytes TooManyPoints h = absurd h
 campaign_file_fault bytes Memory h = h
 campaign_file_fault bytes Write h = h
@@ -224,7 +224,7 @@ campaign_fault : (bytes : List ℕ) (app : Application) (f : ServeFault)
 campaign_fault bytes app Read file h = absurd h
 campaign_fault bytes app NotToml file h = absurd h
 campaign_fault bytes app (Load fault) file h = absurd h
-campaign_fault bytes app UnknownHandler file h = absurd h
+campaign_fault bytes app (UnknownHandler place) file h = absurd h
 campaign_fault bytes app TooManyPoints file h = (app, file, h)
 campaign_fault bytes app Memory file h = file_has_bytes bytes app file
 campaign_fault bytes app Write file h = absurd h
@@ -242,7 +242,7 @@ campaign_reads : (app : Application) (f : ServeFault) → IsCampaignFault app f 
 campaign_reads app Read h = absurd h
 campaign_reads app NotToml h = refl
 campaign_reads app (Load fault) h = refl
-campaign_reads app UnknownHandler h = refl
+campaign_reads app (UnknownHandler place) h = refl
 campaign_reads app TooManyPoints h = refl
 campaign_reads app Memory h = refl
 campaign_reads app Write h = refl
@@ -251,7 +251,7 @@ campaign_writes : (app : Application) (f : ServeFault) → IsCampaignFault app f
 campaign_writes app Read h = absurd h
 campaign_writes app NotToml h = refl
 campaign_writes app (Load fault) h = refl
-campaign_writes app UnknownHandler h = refl
+campaign_writes app (UnknownHandler place) h = refl
 campaign_writes app TooManyPoints h = refl
 campaign_writes app Memory h = refl
 campaign_writes app Write h = absurd h

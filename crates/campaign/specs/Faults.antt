@@ -10,7 +10,8 @@ use Rattle.campaign.specs.declared.file.ServeFault.{ServeFault}
 use Rattle.campaign.specs.declared.file.ServeFault.TheVariants.{Read, Load, UnknownHandler, TooManyPoints, Memory}
 use Rattle.campaign.specs.declared.points.ExpandFault.{ExpandFault}
 use Rattle.campaign.specs.declared.points.ExpandFault.TheVariants as expanding
-use Rattle.campaign.specs.OneRun.{NamesNoHandler}
+use Rattle.campaign.specs.Named.{IsFirstUnknown}
+use Rattle.campaign.specs.OneRun.{names_asked}
 use Rattle.campaign.specs.Campaigns.{HasTooManyPoints}
 
 abbrev pub of_reading : ReadFault → ServeFault
@@ -23,7 +24,7 @@ of_loading (loading.Fault fault) = Load fault
 
 -- why an application is not run to its end: no handler has the name, or no memory is left
 abbrev pub IsRunFault : Option At → Application → ServeFault → Type 0
-IsRunFault at app UnknownHandler = NamesNoHandler at app
+IsRunFault at app (UnknownHandler place) = IsFirstUnknown app (names_asked at) place
 IsRunFault at app Memory = Unit {0}
 IsRunFault at app fault = ⊥
 

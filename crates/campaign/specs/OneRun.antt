@@ -1,5 +1,5 @@
 -- What one run of a file comes to: the report of the base run, or of row 0, where a handler is injected.
-use Rattle.std.specs.Prelude.{◌≡◌, ℕ, Bool, List, [], Option, Some, None, Result, option_map}
+use Rattle.std.specs.Prelude.{◌≡◌, ℕ, Bool, List, [], ◌∷◌, Option, Some, None, Result, option_map}
 use Rattle.model.specs.Application.{Application}
 use Rattle.model.specs.Words.{handler_named}
 use Rattle.model.specs.Run.{Run, IsRun, IsRow}
@@ -12,6 +12,7 @@ use Rattle.report.specs.declared.title.Title.TheVariants.{Base, Row}
 use Rattle.requests.specs.declared.at.At.{At}
 use Rattle.campaign.specs.declared.file.ServeFault.{ServeFault}
 use Rattle.campaign.specs.declared.file.ServeFault.TheVariants.{UnknownHandler}
+use Rattle.campaign.specs.Named.{IsFirstUnknown}
 use Rattle.campaign.specs.Serving.{IsFileOf, HasFileFault, Serves}
 
 -- the point of one injection: the handler of the application that has the name
@@ -26,14 +27,14 @@ IsAsked (Some at) app title run =
     (point : List Injection) × (point_named app at ≡ Some point)
     × (reached : Bool) × (title ≡ Row 0 point reached) × IsRow app app.limits point reached run
 
--- An injection is asked for, and no handler of the application has the name.
-abbrev pub NamesNoHandler : Option At → Application → Type 0
-NamesNoHandler None app = ⊥
-NamesNoHandler (Some at) app = point_named app at ≡ None
+-- the names of handlers in what is asked for
+abbrev pub names_asked : Option At → List (List ℕ)
+names_asked None = []
+names_asked (Some at) = at.handler.now ∷ []
 
 -- The bytes have this fault, where this run is asked for.
 abbrev pub HasFault : Option At → List ℕ → ServeFault → Type 0
-HasFault at bytes UnknownHandler = (app : Application) × IsFileOf bytes app × NamesNoHandler at app
+HasFault at bytes (UnknownHandler place) = (app : Application) × IsFileOf bytes app × IsFirstUnknown app (names_asked at) place
 HasFault at bytes fault = HasFileFault bytes fault
 
 -- the bytes are a file where the run that is asked for has this report and this end

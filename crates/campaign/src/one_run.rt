@@ -43,7 +43,7 @@ fn asked_run(alloc: Global, app: &App, at: Option<At<'_>>) -> Result<(Title, Run
         return Ok((Title::Base, base_run(alloc, app, app.limits())?));
     };
     let Some(handler) = app.handler_named(at.handler) else {
-        return Err(ServeFault::UnknownHandler);
+        return Err(ServeFault::UnknownHandler(0));
     };
     let point = Point::one(at.step, handler);
     let (reached, run) = row_of(alloc, app, &point)?;

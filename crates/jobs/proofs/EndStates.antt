@@ -19,7 +19,7 @@ module _ (at : Option At) (input : Option (List ℕ)) (rf wf : Bool) (old : Opti
   same_fault Read w h = record { answers = h.answers; read = h.read; write = h.write }
   same_fault NotToml w h = record { answers = h.answers; read = h.read; write = h.write }
   same_fault (Load fault) w h = record { answers = h.answers; read = h.read; write = h.write }
-  same_fault UnknownHandler w h = record { answers = h.answers; read = h.read; write = h.write }
+  same_fault (UnknownHandler place) w h = record { answers = h.answers; read = h.read; write = h.write }
   same_fault TooManyPoints w h = record { answers = h.answers; read = h.read; write = h.write }
   same_fault Memory w h = record { answers = h.answers; read = h.read; write = h.write }
   same_fault Write w h = absurd (cc)
@@ -34,7 +34,7 @@ module _ (at : Option At) (input : Option (List ℕ)) (rf wf : Bool) (old : Opti
   runs_unwritten app Read h = absurd h
   runs_unwritten app NotToml h = refl
   runs_unwritten app (Load fault) h = refl
-  runs_unwritten app UnknownHandler h = refl
+  runs_unwritten app (UnknownHandler place) h = refl
   runs_unwritten app TooManyPoints h = refl
   runs_unwritten app Memory h = refl
   runs_unwritten app Write h = absurd h

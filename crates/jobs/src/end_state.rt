@@ -57,7 +57,7 @@ fn asked_run(
         return Ok((Title::Base, run, end_state));
     };
     let Some(handler) = app.handler_named(at.handler) else {
-        return Err(ServeFault::UnknownHandler);
+        return Err(ServeFault::UnknownHandler(0));
     };
     let point = Point::one(at.step, handler);
     let (reached, run, end_state) = ended_row(alloc, app, &point)?;

@@ -4,6 +4,7 @@
 
 mod acting;
 mod end_state;
+mod exploring;
 mod fault_line;
 mod obeying;
 
