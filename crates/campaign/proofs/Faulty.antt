@@ -20,7 +20,7 @@ use Rattle.byte_io.specs.declared.read.ReadFault.{ReadFault}
 use Rattle.byte_io.specs.declared.read.ReadFault.TheVariants as read
 use Rattle.report.specs.Shards.{Shard}
 use Rattle.report.specs.declared.view.View.{View}
-use Rattle.requests.specs.declared.at.At.{At}
+use Rattle.requests.specs.declared.named_point.NamedPoint.{NamedPoint}
 use Rattle.campaign.specs.declared.file.ServeFault.{ServeFault}
 use Rattle.campaign.specs.declared.file.ServeFault.TheVariants.{Read, NotToml, Load, UnknownHandler, TooManyPoints, Memory, Write}
 use Rattle.campaign.specs.Serving.{Answers, Serves, Known, IsDocument, IsFileOf, HasFileFault}
@@ -152,7 +152,7 @@ module _ {A : Type 0} (IsReport : (bytes report : List ℕ) → A → Type 0) (H
 -- ---- one run
 
 -- A fault of a file is one whatever is asked for.
-file_fault : (at : Option At) (bytes : List ℕ) (f : ServeFault) → HasFileFault bytes f → HasFault at bytes f
+file_fault : (at : Option NamedPoint) (bytes : List ℕ) (f : ServeFault) → HasFileFault bytes f → HasFault at bytes f
 file_fault at bytes Read h = h
 file_fault at bytes NotToml h = h
 file_fault at bytes (Load fault) h = h
@@ -162,7 +162,7 @@ file_fault at bytes Memory h = h
 file_fault at bytes Write h = h
 
 -- So is why its application was not run.
-run_fault : (at : Option At) (bytes : List ℕ) (app : Application) (f : ServeFault)
+run_fault : (at : Option NamedPoint) (bytes : List ℕ) (app : Application) (f : ServeFault)
     → IsFileOf bytes app → IsRunFault at app f → HasFault at bytes f
 run_fault at bytes app Read file h = absurd h
 run_fault at bytes app NotToml file h = absurd h
@@ -173,13 +173,13 @@ run_fault at bytes app Memory file h = file_has_bytes bytes app file
 run_fault at bytes app Write file h = absurd h
 
 -- a fault of the file itself
-pub serves_file_fault : (at : Option At) (input : Option (List ℕ)) (rf wf : Bool) (old : Option (List ℕ)) (f : ServeFault)
+pub serves_file_fault : (at : Option NamedPoint) (input : Option (List ℕ)) (rf wf : Bool) (old : Option (List ℕ)) (f : ServeFault)
     → ((bytes : List ℕ) × Known input bytes × HasFileFault bytes f)
     → rf ≡ is_read_fault {A = End} (Err f) → is_write_fault {A = End} (Err f) ≡ false
     → wf ≡ false → ServesRun at input rf old old wf (Err f)
 serves_file_fault at input rf wf old f h r w e = serves_fault _ _ input rf wf old f (h.0, h.1, file_fault at h.0 f h.2) r w e
 
-run_reads : (at : Option At) (app : Application) (f : ServeFault) → IsRunFault at app f → is_read_fault {A = End} (Err f) ≡ false
+run_reads : (at : Option NamedPoint) (app : Application) (f : ServeFault) → IsRunFault at app f → is_read_fault {A = End} (Err f) ≡ false
 run_reads at app Read h = absurd h
 run_reads at app NotToml h = refl
 run_reads at app (Load fault) h = refl
@@ -188,7 +188,7 @@ run_reads at app TooManyPoints h = refl
 run_reads at app Memory h = refl
 run_reads at app Write h = refl
 
-run_writes : (at : Option At) (app : Application) (f : ServeFault) → IsRunFault at app f → is_write_fault {A = End} (Err f) ≡ false
+run_writes : (at : Option NamedPoint) (app : Application) (f : ServeFault) → IsRunFault at app f → is_write_fault {A = End} (Err f) ≡ false
 run_writes at app Read h = absurd h
 run_writes at app NotToml h = refl
 run_writes at app (Load fault) h = refl
@@ -198,7 +198,7 @@ run_writes at app Memory h = refl
 run_writes at app Write h = absurd h
 
 -- an application that was not run
-pub serves_run_fault : (at : Option At) (input : Option (List ℕ))
+pub serves_run_fault : (at : Option NamedPoint) (input : Option (List ℕ))
     (rf wf : Bool) (old : Option (List ℕ)) (f : ServeFault) (app : Application)
     → ((bytes : List ℕ) × Known input bytes × IsFileOf bytes app) → IsRunFault at app f
     → rf ≡ false → wf ≡ false → ServesRun at input rf old old wf (Err f)

@@ -35,7 +35,7 @@ fn campaign_of(file: &str) -> Job<'_> {
 fn base_run_of(file: &str) -> Job<'_> {
     Job::Run {
         file,
-        at: None,
+        point: None,
         state: false,
     }
 }
@@ -87,7 +87,7 @@ fn sinks_that_take_a_byte_a_call(rt: HostRuntime) {
     let alloc = rt.alloc();
     let job = Job::Run {
         file: "app.toml",
-        at: None,
+        point: None,
         state: false,
     };
     check_byte_by_byte(&rt, alloc, &job, ONE_MARK, 0, (ONE_MARK_REPORT, ""));

@@ -1,6 +1,6 @@
 //! The words of the command line that name a job.
 
-use campaign::{At, Options};
+use campaign::{NamedPoint, Options};
 use jobs::{Job, job_named};
 use report::{Ends, Shard, View};
 
@@ -102,12 +102,12 @@ fn words_that_name_a_job(rt: HostRuntime) {
         let job = match (named.at, named.handler) {
             (None, None) => Job::Run {
                 file,
-                at: None,
+                point: None,
                 state,
             },
             (Some(step), Some(handler)) => Job::Run {
                 file,
-                at: Some(At { step, handler }),
+                point: Some(NamedPoint::one(step, handler)),
                 state,
             },
             _ => Job::RunUnpaired { file },

@@ -4,7 +4,7 @@ use Rattle.std.specs.Prelude.{Ok, Err, Result, IfSome}
 use Rattle.std.proofs.KnownBytes.{Keeps-refl}
 use Rattle.report.specs.Shards.{Shard}
 use Rattle.report.specs.declared.view.View.{View}
-use Rattle.requests.specs.declared.at.At.{At}
+use Rattle.requests.specs.declared.named_point.NamedPoint.{NamedPoint}
 use Rattle.campaign.specs.declared.file.ServeFault.{ServeFault}
 use Rattle.campaign.specs.declared.file.ServeFault.TheVariants.{Read, NotToml, Load, UnknownHandler, TooManyPoints, Memory, Write}
 use Rattle.campaign.specs.Faults.{of_reading}
@@ -32,12 +32,12 @@ lacks_file old wf f due e = (elim due [ inl h ↦ inr (rw h refl) | inr h ↦ in
 
 module _ (input other : Option (List ℕ)) (as_known : (bytes : List ℕ) → Known input bytes → Known other bytes)
     (rf : Bool) (old new : Option (List ℕ)) (wf : Bool) where
-  run_as_known : (at : Option At) (outcome : Result Bool ServeFault)
+  run_as_known : (at : Option NamedPoint) (outcome : Result Bool ServeFault)
       → RunServed at input rf old new wf outcome → RunServed at other rf old new wf outcome
   run_as_known at (Ok passes) h = (h.0, h.1, serves_as_known _ _ input other as_known rf old new wf (Ok h.0) h.2)
   run_as_known at (Err fault) h = serves_as_known _ _ input other as_known rf old new wf (Err fault) h
 
-  end_state_as_known : (at : Option At) (outcome : Result Bool ServeFault)
+  end_state_as_known : (at : Option NamedPoint) (outcome : Result Bool ServeFault)
       → EndStateServed at input rf old new wf outcome → EndStateServed at other rf old new wf outcome
   end_state_as_known at (Ok passes) h = (h.0, h.1, serves_as_known _ _ input other as_known rf old new wf (Ok h.0) h.2)
   end_state_as_known at (Err fault) h = serves_as_known _ _ input other as_known rf old new wf (Err fault) h

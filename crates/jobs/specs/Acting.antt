@@ -10,7 +10,7 @@ use Rattle.model.specs.declared.totals.Totals.{Totals}
 use Rattle.model.specs.Campaign.{is_pass}
 use Rattle.script.specs.declared.fault.Fault.{Fault}
 use Rattle.script.specs.Faults.{fault_code, fault_name, place_words}
-use Rattle.requests.specs.declared.at.At.{At}
+use Rattle.requests.specs.declared.named_point.NamedPoint.{NamedPoint}
 use Rattle.campaign.specs.declared.file.ServeFault.{ServeFault}
 use Rattle.campaign.specs.declared.file.ServeFault.TheVariants.{Read, NotToml, Load, UnknownHandler, TooManyPoints, Memory, Write}
 use Rattle.campaign.specs.Serving.{Known}
@@ -34,10 +34,10 @@ abbrev pub all_pass : Totals → Bool
 all_pass totals = totals.pass == totals.rows
 
 -- A run is served, and passes or not.
-abbrev pub RunServed : Option At → (input : Option (List ℕ))
+abbrev pub RunServed : Option NamedPoint → (input : Option (List ℕ))
     → (read_failed : Bool) → (old new : Option (List ℕ)) → (write_failed : Bool)
     → Result Bool ServeFault → Type 0
-RunServed at input read_failed old new write_failed = IsServed is_pass (ServesRun at input read_failed old new write_failed)
+RunServed asked input read_failed old new write_failed = IsServed is_pass (ServesRun asked input read_failed old new write_failed)
 
 -- A part of a campaign is served as the view shows it, and all its rows pass or not.
 abbrev pub CampaignServed : View → Shard → (input : Option (List ℕ))
@@ -49,10 +49,10 @@ CampaignServed view shard input read_failed old new write_failed =
 -- What a job asks for is served, and passes or not.
 abbrev pub Served : Job → (input : Option (List ℕ)) → (read_failed : Bool) → (old new : Option (List ℕ)) → (write_failed : Bool)
     → Result Bool ServeFault → Type 0
-Served (Run file at false) input read_failed old new write_failed outcome =
-    RunServed at input read_failed old new write_failed outcome
-Served (Run file at true) input read_failed old new write_failed outcome =
-    EndStateServed at input read_failed old new write_failed outcome
+Served (Run file point false) input read_failed old new write_failed outcome =
+    RunServed point input read_failed old new write_failed outcome
+Served (Run file point true) input read_failed old new write_failed outcome =
+    EndStateServed point input read_failed old new write_failed outcome
 Served (RunUnpaired file) input read_failed old new write_failed outcome = ⊥
 Served (Campaign file view shard options quiet) input read_failed old new write_failed outcome =
     CampaignServed view shard input read_failed old new write_failed outcome

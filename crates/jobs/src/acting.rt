@@ -14,7 +14,7 @@ use byte_io::{FromReader, ReadFault, Sink, Source, read_all, read_at_most};
 use campaign::{Gate, NoGate, ServeFault, serve_of, serve_run_of};
 use model::End;
 use report::{Shard, View};
-use requests::{At, Job, Options};
+use requests::{Job, NamedPoint, Options};
 use std::alloc::Global;
 use std::fs::File;
 use std::io::{self, ErrorKind};
@@ -103,15 +103,15 @@ pub fn conclude<F: Sink>(job: &Job<'_>, faults: &mut F, outcome: Result<bool, Jo
 // Serves a run. Answers whether it passes.
 fn serve_run_at<W: Sink>(
     alloc: Global,
-    at: Option<At<'_>>,
+    point: Option<NamedPoint<'_>>,
     bytes: &[u8],
     writer: &mut W,
 ) -> Result<bool, ServeFault>
     requires { W.has_failed writer.old ≡ false }
-    ensures { RunServed at.entry (Some bytes.now) false
+    ensures { RunServed point.entry (Some bytes.now) false
         (W.held writer.old) (W.held writer.new) (W.has_failed writer.new) result }
 {
-    let end = serve_run_of(alloc, bytes, writer, at)?;
+    let end = serve_run_of(alloc, bytes, writer, point)?;
     Ok(matches!(end, End::Pass))
 }
 
@@ -155,15 +155,15 @@ fn serve_job<T: Threads + Wait + Sync, W: Sink, G: Gate + Sync>(
     let served = match job {
         Job::RunUnpaired { .. } => return Err(JobFault::Unpaired),
         Job::Run {
-            at,
+            point,
             state: false,
             ..
-        } => serve_run_at(alloc, *at, bytes, writer),
+        } => serve_run_at(alloc, *point, bytes, writer),
         Job::Run {
-            at,
+            point,
             state: true,
             ..
-        } => serve_end_state_at(alloc, *at, bytes, writer),
+        } => serve_end_state_at(alloc, *point, bytes, writer),
         Job::Campaign {
             view,
             shard,

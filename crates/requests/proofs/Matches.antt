@@ -1,11 +1,11 @@
 -- What the matches of the words say of the job.
-use Rattle.std.proofs.Common.{◌≡◌, ◌∙◌, ap, refl, sym, subst, codes, inl, inr, List, [], ◌∷◌, ℕ, Option, Some, None, Result, Ok}
+use Rattle.std.proofs.Common.{◌≡◌, ◌≢◌, ◌∙◌, ap, refl, sym, subst, codes, inl, inr, List, [], ◌∷◌, ℕ, Option, Some, None, Result, Ok}
 use Rattle.std.proofs.Common.{Err, option_map, IsNone}
-use Rattle.std.specs.Prelude.{true, MatchResult}
+use Rattle.std.specs.Prelude.{Bool, true, IfSome, MatchResult}
 use Rattle.std.specs.Result.{result_ok}
 use Rattle.std.specs.Str.Parse.{ParsesUnsigned}
 use Rattle.clap.specs.Words.{TriesOne, App, Row, is_simple, takes, fault_of, is_simple_and_free, Kinds, subcommand_of}
-use Rattle.clap.specs.Words.{subcommand_rows_of, HasKind, HasMatchesOf, IsAmong, kind_of}
+use Rattle.clap.specs.Words.{subcommand_rows_of, first_of, one_of, HasKind, HasMatchesOf, IsAmong, kind_of}
 use Rattle.clap.specs.Kinds.{or_else}
 use Rattle.clap.specs.declared.error.Error.{Error}
 use Rattle.clap.specs.declared.error.kind.ErrorKind.{ErrorKind}
@@ -17,6 +17,11 @@ use Rattle.requests.specs.declared.options.Options.{Options}
 use Rattle.requests.specs.Options.{bad_option}
 use Rattle.requests.specs.declared.job.Job.{Job}
 use Rattle.requests.specs.declared.job.Job.TheVariants.{Campaign, Explore, Run, RunUnpaired}
+use Rattle.grammar.specs.Points.{RawPair}
+use Rattle.requests.specs.declared.named_point.NamedPoint.{NamedPoint}
+use Rattle.requests.specs.Asked.{pairs_in, pairs_spelled}
+use Rattle.requests.specs.Words.{Asking, Base, Half, Injects, IsRunOf, IsRunWith, IsStepOf, NamesNoRun, Nothing, asked_by}
+use Rattle.requests.specs.Words.{asking, injecting, is_given, point_faults, spelled_faults}
 use Rattle.requests.specs.Words.{IsJobOf, IsNoNumber, NamesNoOptions, faults_of, number_in, number_of, rtosim_app}
 use Rattle.requests.specs.Words.{value_faults}
 
@@ -46,15 +51,40 @@ kinds_as a words P same gives = subst (λ (x : App). is_simple_and_free x ≡ tr
 
 -- ---- the values of words that the command takes
 
+-- What a job asks for is asked for in sound words.
+some_asked : (point : Option NamedPoint) → asked_by point ≢ Nothing
+some_asked None e = cc e
+some_asked (Some point) e = cc e
+
+no_spelled_fault : (o : Option (List RawPair)) (a : Asking) → injecting o ≡ a → a ≢ Nothing → spelled_faults o ≡ []
+no_spelled_fault (Some pairs) a is some = refl
+no_spelled_fault None a is some = absurd (some (sym is))
+
+no_point_fault : (point at handler : Option (List ℕ)) (step : Option ℕ) (a : Asking) → option_map number_of at ≡ step
+    → asking point step handler ≡ a → a ≢ Nothing → point_faults point at handler ≡ []
+no_point_fault None at handler step a is asked some = refl
+no_point_fault (Some point) None None None a is asked some = no_spelled_fault (pairs_spelled point) a asked some
+no_point_fault (Some point) None (Some handler) None a is asked some = absurd (some (sym asked))
+no_point_fault (Some point) None handler (Some step) a is asked some = absurd (cc is)
+no_point_fault (Some point) (Some at) handler None a is asked some = absurd (cc is)
+no_point_fault (Some point) (Some at) handler (Some step) a is asked some = absurd (some (sym asked))
+
 -- words that name a job have no fault
 no_fault : (named : Option (List ℕ × List Row)) (job : Job) → IsJobOf named job → value_faults named ≡ []
 no_fault None job is = absurd is
-no_fault (Some named) job (inl is) = rw is.0 refl
-no_fault (Some named) (Run file at state) (inr (inl is)) = absurd is.1
+no_fault (Some named) (Run file point state) (inl is) =
+    rw is.0 (no_point_fault (first_of (codes "point") named.1) (one_of (codes "at") named.1) (first_of (codes "handler") named.1)
+    is.1.1.0 (asked_by point) is.1.1.1.0 is.1.1.2 (some_asked point))
+no_fault (Some named) (RunUnpaired file) (inl is) =
+    rw is.0 (no_point_fault (first_of (codes "point") named.1) (one_of (codes "at") named.1) (first_of (codes "handler") named.1)
+    is.1.1.0 Half is.1.1.1.0 is.1.1.2 (λ e. cc e))
+no_fault (Some named) (Campaign file view shard options quiet) (inl is) = absurd is.1
+no_fault (Some named) (Explore file injections handlers) (inl is) = absurd is.1
+no_fault (Some named) (Run file point state) (inr (inl is)) = absurd is.1
 no_fault (Some named) (RunUnpaired file) (inr (inl is)) = absurd is.1
 no_fault (Some named) (Campaign file view shard options quiet) (inr (inl is)) = rw (is.0, is.1.1, is.1.2) refl
 no_fault (Some named) (Explore file injections handlers) (inr (inl is)) = absurd is.1
-no_fault (Some named) (Run file at state) (inr (inr is)) = absurd is.1
+no_fault (Some named) (Run file point state) (inr (inr is)) = absurd is.1
 no_fault (Some named) (RunUnpaired file) (inr (inr is)) = absurd is.1
 no_fault (Some named) (Campaign file view shard options quiet) (inr (inr is)) = absurd is.1
 no_fault (Some named) (Explore file injections handlers) (inr (inr is)) = rw (is.0, is.1.2) refl
@@ -86,6 +116,46 @@ value_as a words m e same has gives is =
 
 pub memory_alone : (kinds : Kinds) (e : Error) → HasKind kinds e → kinds ≡ [] → kind_of e ≡ OutOfMemory
 memory_alone kinds e is none = elim (subst (λ (k : Kinds). HasKind k e) none is) [ inl memory ↦ memory | inr among ↦ absurd among ]
+
+-- ---- the job of words of `run`
+
+pub run_as : (rows : List Row) (file : List ℕ) (state : Bool) (step : Option ℕ) (a : Asking) (r : Option Job)
+    → first_of (codes "FILE") rows ≡ Some file → is_given (first_of (codes "state") rows) ≡ state → IsStepOf rows step
+    → asking (first_of (codes "point") rows) step (first_of (codes "handler") rows) ≡ a → IsRunWith file state a r
+    → IfSome r (IsRunOf rows)
+run_as rows file state step Base None f s at asks is = tt
+run_as rows file state step Base (Some (Run name None told)) f s at asks is =
+    (rw is.0 f, (step, at, asks), rw is.1 s)
+run_as rows file state step Base (Some (Run name (Some point) told)) f s at asks is = absurd is
+run_as rows file state step Base (Some (RunUnpaired name)) f s at asks is = absurd is
+run_as rows file state step Base (Some (Campaign name view shard options quiet)) f s at asks is = absurd is
+run_as rows file state step Base (Some (Explore name injections handlers)) f s at asks is = absurd is
+run_as rows file state step (Injects pairs) None f s at asks is = tt
+run_as rows file state step (Injects pairs) (Some (Run name (Some point) told)) f s at asks is =
+    (rw is.0 f, (step, at, asks ∙ ap Injects (sym is.2)), rw is.1 s)
+run_as rows file state step (Injects pairs) (Some (Run name None told)) f s at asks is = absurd is
+run_as rows file state step (Injects pairs) (Some (RunUnpaired name)) f s at asks is = absurd is
+run_as rows file state step (Injects pairs) (Some (Campaign name view shard options quiet)) f s at asks is = absurd is
+run_as rows file state step (Injects pairs) (Some (Explore name injections handlers)) f s at asks is = absurd is
+run_as rows file state step Half None f s at asks is = tt
+run_as rows file state step Half (Some (RunUnpaired name)) f s at asks is = (rw is f, (step, at, asks))
+run_as rows file state step Half (Some (Run name point told)) f s at asks is = absurd is
+run_as rows file state step Half (Some (Campaign name view shard options quiet)) f s at asks is = absurd is
+run_as rows file state step Half (Some (Explore name injections handlers)) f s at asks is = absurd is
+run_as rows file state step Nothing None f s at asks is = tt
+run_as rows file state step Nothing (Some (Run name point told)) f s at asks is = absurd is
+run_as rows file state step Nothing (Some (RunUnpaired name)) f s at asks is = absurd is
+run_as rows file state step Nothing (Some (Campaign name view shard options quiet)) f s at asks is = absurd is
+run_as rows file state step Nothing (Some (Explore name injections handlers)) f s at asks is = absurd is
+
+pub no_run_as : (rows : List Row) (file : List ℕ) (state : Bool) (step : Option ℕ) (a : Asking) (r : Option Job)
+    → IsStepOf rows step → asking (first_of (codes "point") rows) step (first_of (codes "handler") rows) ≡ a
+    → IsRunWith file state a r → IsNone r → NamesNoRun rows
+no_run_as rows file state step Base None at asks is none = absurd is
+no_run_as rows file state step (Injects pairs) None at asks is none = absurd is
+no_run_as rows file state step Half None at asks is none = absurd is
+no_run_as rows file state step Nothing None at asks is none = inr (inr (step, at, asks))
+no_run_as rows file state step a (Some job) at asks is none = absurd (cc none)
 
 -- A text that is read as a number is one.
 pub number_read : {E : Type 0} (gives : List ℕ → Result ℕ E → Type 0) (text : Option (List ℕ)) (r : Result (Option ℕ) E)

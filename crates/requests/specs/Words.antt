@@ -16,7 +16,7 @@ use Rattle.clap.specs.declared.builder.command.Command.{Command}
 use Rattle.clap.specs.declared.builder.command.Command.TheViews.{out-Command as fields_of}
 use Rattle.model.specs.Points.{most_of_point}
 use Rattle.model.specs.Scripts.{last_point}
-use Rattle.requests.specs.declared.at.At.{At}
+use Rattle.requests.specs.declared.named_point.NamedPoint.{NamedPoint}
 use Rattle.requests.specs.declared.options.BadOption.{BadOption}
 use Rattle.requests.specs.declared.options.Options.{Options}
 use Rattle.requests.specs.Options.{bad_option}
@@ -27,6 +27,8 @@ use Rattle.report.specs.declared.view.View.{View}
 use Rattle.requests.specs.Shown.{ends_of, shard_named}
 use Rattle.requests.specs.declared.job.Job.{Job}
 use Rattle.requests.specs.declared.job.Job.TheVariants.{Run, RunUnpaired, Campaign, Explore}
+use Rattle.grammar.specs.Points.{RawPair}
+use Rattle.requests.specs.Asked.{pairs_in, pairs_spelled}
 use Rattle.requests.specs.Names.{are_names, names_of}
 
 -- ---- the command
@@ -57,8 +59,13 @@ flag_rule name = record (new_rule name) { long = Some name; action = Some SetTru
 abbrev pub state_rule : Rule
 state_rule = flag_rule (codes "state")
 
+abbrev pub point_rule : Rule
+point_rule = text_rule (codes "point")
+
 abbrev pub run_app : App
-run_app = with_rule (with_rule (with_rule (with_rule (new_app (codes "run")) file_rule) at_rule) handler_rule) state_rule
+run_app =
+    with_rule (with_rule (with_rule (with_rule (with_rule (new_app (codes "run")) file_rule) at_rule) handler_rule) point_rule)
+    state_rule
 
 abbrev pub quiet_rule : Rule
 quiet_rule = flag_rule (codes "quiet")
@@ -144,27 +151,52 @@ abbrev pub is_given : Option Text → Bool
 is_given None = false
 is_given (Some text) = bytes_eq text (codes "true")
 
--- The words of `run` name the step and the handler of this injection; or they name neither, and there is none.
-abbrev pub NamesInjection : List Row → Option At → Type 0
-NamesInjection rows (Some at) = IsStepOf rows (Some at.step) × (first_of (codes "handler") rows ≡ Some at.handler.now)
-NamesInjection rows None = IsStepOf rows None × (first_of (codes "handler") rows ≡ None)
+-- what words ask for: the base run, a point of these injections, half of an injection, or what no job is
+pub data Asking : Type 0 where
+  Base : Asking
+  Injects : List RawPair → Asking
+  Half : Asking
+  Nothing : Asking
 
--- They name one of the two alone.
-abbrev pub NamesHalf : List Row → Type 0
-NamesHalf rows =
-    ((step : ℕ) × IsStepOf rows (Some step) × (first_of (codes "handler") rows ≡ None))
-    ⊎ ((handler : Text) × IsStepOf rows None × (first_of (codes "handler") rows ≡ Some handler))
+abbrev pub injecting : Option (List RawPair) → Asking
+injecting (Some pairs) = Injects pairs
+injecting None = Nothing
 
--- The job is to run the file that the words of `run` name, with the injection that they name. It writes the end state too, or
+-- what these ask for: the text of a point, a step, and a handler. A point goes with neither of the others.
+abbrev pub asking : (point : Option Text) → (step : Option ℕ) → (handler : Option Text) → Asking
+asking None None None = Base
+asking None (Some step) (Some handler) = Injects (record { step = step; handler = handler } ∷ [])
+asking None step handler = Half
+asking (Some point) None None = injecting (pairs_spelled point)
+asking (Some point) step handler = Nothing
+
+-- The words of `run` ask for this.
+abbrev pub Asks : List Row → Asking → Type 0
+Asks rows a =
+    (step : Option ℕ) × IsStepOf rows step × (asking (first_of (codes "point") rows) step (first_of (codes "handler") rows) ≡ a)
+
+-- what a run with this point asks for, or one without
+abbrev pub asked_by : Option NamedPoint → Asking
+asked_by None = Base
+asked_by (Some point) = Injects (pairs_in point.injections)
+
+-- The job is to run the file that the words of `run` name, with the injections that they ask for. It writes the end state too, or
 -- doesn't. Or it is that of words that name half of an injection.
 abbrev pub IsRunOf : List Row → Job → Type 0
-IsRunOf rows (Run file at state) =
-    (first_of (codes "FILE") rows ≡ Some file.now)
-    × NamesInjection rows at
-    × (is_given (first_of (codes "state") rows) ≡ state)
-IsRunOf rows (RunUnpaired file) = (first_of (codes "FILE") rows ≡ Some file.now) × NamesHalf rows
+IsRunOf rows (Run file point state) =
+    (first_of (codes "FILE") rows ≡ Some file.now) × Asks rows (asked_by point) × (is_given (first_of (codes "state") rows) ≡ state)
+IsRunOf rows (RunUnpaired file) = (first_of (codes "FILE") rows ≡ Some file.now) × Asks rows Half
 IsRunOf rows (Campaign file view shard options quiet) = ⊥
 IsRunOf rows (Explore file injections handlers) = ⊥
+
+-- the job of words of `run` that ask for this
+abbrev pub IsRunWith : (file : Text) → (state : Bool) → Asking → Option Job → Type 0
+IsRunWith file state Base (Some (Run name None told)) = (name.now ≡ file) × (told ≡ state)
+IsRunWith file state (Injects pairs) (Some (Run name (Some point) told)) =
+    (name.now ≡ file) × (told ≡ state) × (pairs_in point.injections ≡ pairs)
+IsRunWith file state Half (Some (RunUnpaired name)) = name.now ≡ file
+IsRunWith file state Nothing None = Unit {0}
+IsRunWith file state a job = ⊥
 
 -- the number of an option
 abbrev pub number_in : (name : Text) → List Row → Option ℕ
@@ -199,7 +231,7 @@ shard_in_rows rows = shard_of_words (first_of (codes "shard") rows)
 -- The job is the campaign of the file that the words of `campaign` name, with the view, the shard and the options that they name,
 -- quiet or not.
 abbrev pub IsCampaignOf : List Row → Job → Type 0
-IsCampaignOf rows (Run file at state) = ⊥
+IsCampaignOf rows (Run file point state) = ⊥
 IsCampaignOf rows (RunUnpaired file) = ⊥
 IsCampaignOf rows (Campaign file view shard options quiet) =
     (first_of (codes "FILE") rows ≡ Some file.now) × (view_in rows ≡ Some view)
@@ -221,7 +253,7 @@ handlers_in_rows rows = handlers_in (first_of (codes "handlers") rows)
 
 -- The job is to explore the file that the words of `explore` name, with the injections and the handlers that they name.
 abbrev pub IsExploreOf : List Row → Job → Type 0
-IsExploreOf rows (Run file at state) = ⊥
+IsExploreOf rows (Run file point state) = ⊥
 IsExploreOf rows (RunUnpaired file) = ⊥
 IsExploreOf rows (Campaign file view shard options quiet) = ⊥
 IsExploreOf rows (Explore file injections handlers) =
@@ -246,9 +278,9 @@ NamesNoStep rows =
     IsNoNumber (one_of (codes "at") rows)
     ⊎ ((step : ℕ) × (option_map number_of (one_of (codes "at") rows) ≡ Some step) × (last_point < step))
 
--- The words of `run` name no file, or no step.
+-- The words of `run` name no file, or no step, or ask for nothing that a job is.
 abbrev pub NamesNoRun : List Row → Type 0
-NamesNoRun rows = (first_of (codes "FILE") rows ≡ None) ⊎ NamesNoStep rows
+NamesNoRun rows = (first_of (codes "FILE") rows ≡ None) ⊎ (NamesNoStep rows ⊎ Asks rows Nothing)
 
 -- An option has no number.
 abbrev pub LacksNumber : (name : Text) → List Row → Type 0
@@ -294,6 +326,16 @@ NamesNoJob (Some named) =
 
 -- ---- words that are refused
 
+abbrev pub spelled_faults : Option (List RawPair) → Kinds
+spelled_faults (Some pairs) = []
+spelled_faults None = ValueValidation ∷ []
+
+-- of what kind a fault is of a point, a step and a handler: the point is none, or one of the others is named too
+abbrev pub point_faults : (point : Option Text) → (at handler : Option Text) → Kinds
+point_faults None at handler = []
+point_faults (Some point) None None = spelled_faults (pairs_spelled point)
+point_faults (Some point) at handler = ValueValidation ∷ []
+
 -- of what kind a fault is where the view or the shard is none
 abbrev pub faults_without : Option View → Option Shard → Kinds
 faults_without (Some view) (Some shard) = []
@@ -304,15 +346,19 @@ abbrev pub handlers_faults : Option (Option Text) → Kinds
 handlers_faults (Some handlers) = []
 handlers_faults None = ValueValidation ∷ []
 
+abbrev pub run_faults : List Row → Kinds
+run_faults rows = point_faults (first_of (codes "point") rows) (one_of (codes "at") rows) (first_of (codes "handler") rows)
+
 -- of what kind the fault of words is that the command takes
 abbrev pub value_faults : Option (Text × List Row) → Kinds
 value_faults None = []
 value_faults (Some named) =
     if bytes_eq named.0 (codes "campaign") then faults_without (view_in named.1) (shard_in_rows named.1)
     else if bytes_eq named.0 (codes "explore") then handlers_faults (handlers_in_rows named.1)
+    else if bytes_eq named.0 (codes "run") then run_faults named.1
     else []
 
 -- Of what kinds the fault of the words may be: one of those that the command doesn't take, otherwise that of a list of ends, of a
--- shard or of handlers. There is none where they name a job.
+-- shard, of handlers or of a point. There is none where they name a job.
 abbrev pub faults_of : List (List ℕ) → Kinds
 faults_of words = or_else (fault_of rtosim_app words) (value_faults (subcommand_of rtosim_app words))

@@ -2,8 +2,8 @@
 ghost use Rattle.std.specs.Prelude.{◌≡◌};
 ghost use Rattle.requests.specs.Jobs.{file_of, handler_of, is_unpaired};
 
-use crate::at::At;
 use crate::most_injections::MostInjections;
+use crate::named_point::NamedPoint;
 use crate::names::name_at;
 use crate::options::Options;
 use report::{Shard, View};
@@ -11,11 +11,11 @@ use report::{Shard, View};
 /// What the program is to do.
 #[derive(Clone, Copy, PartialEq, Eq)]
 pub enum Job<'a> {
-    /// Write the report of the run of this file's application: the base run, or row 0, with this injection. The end state is
+    /// Write the report of the run of this file's application: the base run, or row 0, with this point. The end state is
     /// written too, or isn't.
     Run {
         file: &'a str,
-        at: Option<At<'a>>,
+        point: Option<NamedPoint<'a>>,
         state: bool,
     },
     /// Nothing but to open this file: a run was asked for with a step and no handler, or with a handler and no step.
@@ -58,7 +58,10 @@ impl<'a> Job<'a> {
         ensures { result.now ≡ handler_of self.now place }
     {
         match self {
-            Job::Run { at: Some(at), .. } if place == 0 => at.handler,
+            Job::Run {
+                point: Some(point),
+                ..
+            } => point.handler(place),
             Job::Explore {
                 handlers: Some(names),
                 ..

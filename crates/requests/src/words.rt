@@ -3,13 +3,15 @@ ghost use Rattle.std.specs.Prelude.{◌≡◌, Some, codes, IfOk, IfErr, IfSome,
 ghost use Rattle.clap.specs.declared.builder.command.Command.TheViews.{out-Command as fields_of};
 ghost use Rattle.clap.specs.Words.{new_app, with_subcommand, takes, kind_of, subcommand_of, first_of, one_of, found_of, rows_of, subcommand_rows_of, FailsBy, HasKind};
 ghost use Rattle.clap.specs.declared.error.kind.ErrorKind.TheVariants.{OutOfMemory, ValueValidation};
-ghost use Rattle.requests.specs.Words.{file_rule, at_rule, handler_rule, state_rule, only_rule, heads_rule, shard_rule, quiet_rule, flag_rule, text_rule, option_rule, workers_rule, stride_rule, block_rule, run_app, campaign_app, explore_app, injections_rule, handlers_rule, rtosim_top, rtosim_app, texts_of, number_of, is_given, ends_in, view_in, shard_of_words, shard_in_rows, handlers_in, handlers_in_rows, handlers_faults, faults_without, value_faults, faults_of, IsCommandOf, IsArgOf, IsStepOf, IsRunOf, AreOptionsOf, IsCampaignOf, AreInjectionsOf, IsExploreOf, IsJobOf, IsNoNumber, NamesNoStep, NamesNoRun, NamesNoOptions, NamesNoCampaign, NamesNoInjections, NamesNoExplore, NamesNoJob};
+ghost use Rattle.requests.specs.Asked.{pairs_in};
+ghost use Rattle.requests.specs.Words.{file_rule, at_rule, handler_rule, point_rule, state_rule, only_rule, heads_rule, shard_rule, quiet_rule, flag_rule, text_rule, option_rule, workers_rule, stride_rule, block_rule, run_app, campaign_app, explore_app, injections_rule, handlers_rule, rtosim_top, rtosim_app, texts_of, number_of, is_given, ends_in, view_in, shard_of_words, shard_in_rows, handlers_in, handlers_in_rows, handlers_faults, faults_without, value_faults, faults_of, IsCommandOf, IsArgOf, IsStepOf, IsRunOf, IsRunWith, asking, injecting, run_faults, AreOptionsOf, IsCampaignOf, AreInjectionsOf, IsExploreOf, IsJobOf, IsNoNumber, NamesNoStep, NamesNoRun, NamesNoOptions, NamesNoCampaign, NamesNoInjections, NamesNoExplore, NamesNoJob};
 
-use crate::at::At;
 use crate::job::Job;
 use crate::most_injections::MostInjections;
+use crate::named_point::NamedPoint;
 use crate::names::are_names;
 use crate::options::Options;
+use crate::point_words::point_spelled;
 use crate::shown::{ends_of, shard_named};
 use clap::error::ErrorKind;
 use clap::{Arg, ArgAction, ArgMatches, Command, Error, value_parser};
@@ -32,6 +34,10 @@ const BAD_LIST: &str =
     "the value of '--only' is pass, check, misuse, ticks, steps, stuck or failing, or several of them joined by commas";
 
 const BAD_SHARD: &str = "the value of '--shard' is I/N, where N is 1 to 1000000 and I is 1 to N";
+
+// What is said of a point that is none, or that isn't alone.
+const BAD_POINT: &str =
+    "the value of '--point' is STEP HANDLER, once to three times, and it goes with neither '--at' nor '--handler'";
 
 // What is said of handlers that are none.
 const BAD_HANDLERS: &str =
@@ -109,6 +115,14 @@ fn handler_argument<'a>(alloc: Global) -> Arg<'a>
 {
     valued_argument(alloc, "handler", "HANDLER").help(
         "The handler that is injected, by its name in the file",
+    )
+}
+
+fn point_argument<'a>(alloc: Global) -> Arg<'a>
+    ensures { IsArgOf point_rule result }
+{
+    valued_argument(alloc, "point", "POINT").help(
+        "Injections in the place of these two: 'STEP HANDLER STEP HANDLER ..'",
     )
 }
 
@@ -190,6 +204,7 @@ fn run_command<'a>(alloc: Global) -> Result<Command<'a>, AllocError>
         file_argument(alloc),
         at_argument(alloc),
         handler_argument(alloc),
+        point_argument(alloc),
         state_argument(alloc),
     ]?;
     described_command(
@@ -304,6 +319,47 @@ fn step_of(matches: &ArgMatches<'_>) -> Option<Option<u32>>
     }
 }
 
+// The point that these words name, where a point and a handler are named or not. `None`: it is none, or one of the others is named too.
+fn point_among<'a>(point: &'a str, step: Option<u32>, handler: Option<&str>) -> Option<NamedPoint<'a>>
+    ensures { asking (Some point.entry.now) step (option_map (λ handler. handler.now) handler.entry)
+        ≡ injecting (option_map (λ point. pairs_in point.injections) result) }
+{
+    match (step, handler) {
+        (None, None) => point_spelled(point),
+        (None, Some(_)) | (Some(_), _) => None,
+    }
+}
+
+// The job of the command `run`, which this file and these words name.
+fn run_with<'a>(
+    file: &'a str,
+    state: bool,
+    point: Option<&'a str>,
+    step: Option<u32>,
+    handler: Option<&'a str>,
+) -> Option<Job<'a>>
+    ensures { IsRunWith file.entry.now state
+        (asking (option_map (λ point. point.now) point.entry) step (option_map (λ handler. handler.now) handler.entry)) result }
+{
+    match (point, step, handler) {
+        (None, None, None) => Some(Job::Run {
+            file,
+            point: None,
+            state,
+        }),
+        (None, Some(step), Some(handler)) => Some(Job::Run {
+            file,
+            point: Some(NamedPoint::one(step, handler)),
+            state,
+        }),
+        (None, Some(_), None) | (None, None, Some(_)) => Some(Job::RunUnpaired { file }),
+        (Some(point), step, handler) => {
+            let point = Some(point_among(point, step, handler)?);
+            Some(Job::Run { file, point, state })
+        }
+    }
+}
+
 // The job of the command `run`.
 fn run_job<'a>(matches: &ArgMatches<'a>) -> Option<Job<'a>>
     ensures job { IfSome result (IsRunOf (rows_of (found_of matches.now))) }
@@ -312,19 +368,13 @@ fn run_job<'a>(matches: &ArgMatches<'a>) -> Option<Job<'a>>
     let file = text(matches, "FILE")?;
     let step = step_of(matches)?;
     let state = is_given(matches, "state");
-    match (step, text(matches, "handler")) {
-        (None, None) => Some(Job::Run {
-            file,
-            at: None,
-            state,
-        }),
-        (Some(step), Some(handler)) => Some(Job::Run {
-            file,
-            at: Some(At { step, handler }),
-            state,
-        }),
-        _ => Some(Job::RunUnpaired { file }),
-    }
+    run_with(
+        file,
+        state,
+        text(matches, "point"),
+        step,
+        text(matches, "handler"),
+    )
 }
 
 // Whether a flag is given.
@@ -458,6 +508,23 @@ fn job_of<'a>(matches: &ArgMatches<'a>) -> Option<Job<'a>>
     }
 }
 
+// What is wrong with the point of words of `run`, if something is.
+fn bad_run_value(matches: &ArgMatches<'_>) -> Option<&'static str>
+    ensures { IsSome result → run_faults (rows_of (found_of matches.now)) ≡ ValueValidation ∷ [] }
+{
+    let point = text(matches, "point")?;
+    let Ok(None) = number(matches, "at") else {
+        return Some(BAD_POINT);
+    };
+    if text(matches, "handler").is_some() {
+        return Some(BAD_POINT);
+    }
+    match point_spelled(point) {
+        Some(_) => None,
+        None => Some(BAD_POINT),
+    }
+}
+
 // What is wrong with a value of words of `campaign`, if one is.
 fn bad_campaign_value(matches: &ArgMatches<'_>) -> Option<&'static str>
     ensures { IsSome result → faults_without (view_in (rows_of (found_of matches.now))) (shard_in_rows (rows_of (found_of matches.now)))
@@ -490,6 +557,7 @@ fn bad_value(matches: &ArgMatches<'_>) -> Option<&'static str>
     match name {
         "campaign" => bad_campaign_value(inner),
         "explore" => bad_explore_value(inner),
+        "run" => bad_run_value(inner),
         _ => None,
     }
 }
@@ -517,7 +585,7 @@ fn refusal(alloc: Global, matches: &ArgMatches<'_>) -> Error
 
 /// The job that the words name; the first of them is the name of the program. At `Err` help or the version was asked
 /// for, the words are refused, or no memory is left, as the kind of the error says. Words that the command takes, and whose list of ends,
-/// shard and handlers are such, are refused only for want of memory.
+/// shard, handlers and point are such, are refused only for want of memory.
 pub fn job_named<'a, S: AsStr>(alloc: Global, words: &'a [S]) -> Result<Job<'a>, Error>
     ensures job { IfOk result (IsJobOf (subcommand_of rtosim_app (map S.text words.entry.now))) }
     ensures memory { IfErr result (λ e. takes rtosim_app (map S.text words.entry.now) ≡ true
