@@ -1,5 +1,5 @@
 -- The injections of a point's text.
-use Rattle.std.proofs.Common.{◌≡◌, ◌∙◌, ◌≤◌, ◌<◌, ℕ, suc, zero, Bool, true, false, cond, ltb, List, [], ◌∷◌, get_or, length, Option, Some, None, refl, ap}
+use Rattle.std.proofs.Common.{◌≡◌, ◌∙◌, ◌≤◌, ◌<◌, ℕ, suc, zero, Bool, true, false, cond, ltb, List, [], ◌∷◌, get_or, length, map, Option, Some, None, refl, ap, sym}
 use Rattle.std.proofs.Common.{arith, subst}
 use Rattle.std.specs.Prelude.{option_and_then, option_map}
 use Rattle.std.specs.List.{AllByRecursion, list_all}
@@ -8,10 +8,11 @@ use Rattle.std.specs.Str.{IsUtf8}
 use Rattle.std.proofs.lemmas.Bool.{and_parts, ltb-false, not-true, or_parts}
 use Rattle.std.proofs.lemmas.Bool.Decides.{nat_tests}
 use Rattle.std.proofs.lemmas.Str.{IsUtf8-from_ascii}
+use Rattle.grammar.specs.declared.raw_point.RawInjection.{RawInjection}
 use Rattle.grammar.specs.Grammar.{Word, number_of}
 use Rattle.grammar.specs.Names.{is_name, is_name_byte}
 use Rattle.grammar.specs.Points.{RawEntry, RawEvery, RawOne, RawPair, all_there, falls_from, if_named, if_point, if_step, may_be_point}
-use Rattle.grammar.specs.Points.{name_of_every, raw_at, raw_of, raw_pair, raw_pairs}
+use Rattle.grammar.specs.Points.{name_of_every, pair_view, raw_at, raw_of, raw_pair, raw_pairs}
 use Rattle.model.specs.Points.{Rises}
 use Rattle.requests.specs.Asked.{is_rising}
 
@@ -117,3 +118,21 @@ all_small (b ∷ bs) all (suc i) = all_small bs (and_parts (is_name_byte b) (lis
 pub name_is_text : (name : List ℕ) → is_name name ≡ true → IsUtf8 name
 name_is_text [] is = absurd (cc is)
 name_is_text (b ∷ bs) is = IsUtf8-from_ascii (b ∷ bs) (all_small (b ∷ bs) (and_parts _ _ (and_parts _ _ is).1).1)
+
+-- ---- as the code has them
+
+named_views : (pairs : List RawInjection) → AreNamed (map pair_view pairs)
+    → AllByRecursion (λ (pair : RawInjection). is_name pair.handler.now ≡ true) pairs
+named_views [] h = tt
+named_views (pair ∷ pairs) h = (h.0, named_views pairs h.1)
+
+-- What is read of a text as injections has names, and may be a point.
+pub views_named : (ws : List Word) (read pairs : List RawInjection) → Some (RawOne (map pair_view read)) ≡ raw_of ws → pairs ≡ read
+    → AllByRecursion (λ (pair : RawInjection). is_name pair.handler.now ≡ true) pairs
+views_named ws read pairs e same =
+    let of = of_pairs ws (map pair_view read) (sym e) in
+    named_views pairs (rw same (pairs_named ws (map pair_view read) of.0))
+
+pub views_may : (ws : List Word) (read pairs : List RawInjection) → Some (RawOne (map pair_view read)) ≡ raw_of ws → pairs ≡ read
+    → may_be_point (map pair_view pairs) ≡ true
+views_may ws read pairs e same = rw same (of_pairs ws (map pair_view read) (sym e)).1

@@ -1,5 +1,5 @@
 use Rattle.requests.proofs.Pointing.{name_is_text}
 use Rattle.requests.proofs.point_words.at_of.Goals as goal
 
-pub prove-unreachable-requires : goal.prove-unreachable-requires
-prove-unreachable-requires c = absurd (c.in-Err.ensures.cases.0 (name_is_text c.args.pair.now.handler.now c.requires))
+pub unreachable-requires : goal.unreachable-requires
+unreachable-requires c = absurd (c.in-Err.ensures.cases.0 (name_is_text c.args.pair.now.handler.now c.requires))
