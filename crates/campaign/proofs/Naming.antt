@@ -1,5 +1,5 @@
 -- The point of injections whose handlers have names.
-use Rattle.std.proofs.Common.{◌≡◌, ◌∙◌, ◌≤◌, ◌<◌, ◌↔◌, ◌+◌, ℕ, true, List, [], ◌∷◌, length, map, Option, Some, None, option_map, refl, sym, ap, subst}
+use Rattle.std.proofs.Common.{◌≡◌, ◌∙◌, ◌≤◌, ◌<◌, ◌↔◌, ℕ, suc, true, List, [], ◌∷◌, length, map, Option, Some, None, option_map, refl, sym, ap, subst}
 use Rattle.std.proofs.Common.{arith}
 use Rattle.std.specs.Prelude.{Err, IsSome, Result}
 use Rattle.std.specs.List.{AllByRecursion}
@@ -41,7 +41,7 @@ module _ (app : Application) where
   as_many (p ∷ ps) [] e = absurd (cc e)
   as_many (p ∷ ps) (i ∷ is) e =
       let rest : AreThese ps is = cc in
-      ap (λ (n : ℕ). n + 1) (as_many ps is rest)
+      ap suc (as_many ps is rest)
 
   from_there : (n : ℕ) (ps : List RawPair) (is : List Injection) → AreThese ps is
       → AllByRecursion (λ (p : RawPair). n ≤ p.step) ps → AllByRecursion (λ (i : Injection). n ≤ i.step) is

@@ -1,5 +1,5 @@
 //! The point that is asked for, of an application.
-ghost use Rattle.std.specs.Prelude.{◌≡◌, ◌×◌, ℕ, Some, None, MatchResult, map};
+ghost use Rattle.std.specs.Prelude.{◌≡◌, ℕ, Some, None, MatchResult, map};
 ghost use Rattle.model.specs.Points.{IsPoint};
 ghost use Rattle.model.specs.Words.{handler_named};
 ghost use Rattle.requests.specs.Asked.{names_in, pair_at, pairs_in};

@@ -11,4 +11,4 @@ mod obeying;
 pub use acting::{JobFault, act, conclude, open_and_act, refuse, status_of};
 pub use fault_line::tell;
 pub use obeying::{conclude_error, obey};
-pub use requests::{Job, job_named};
+pub use requests::{Job, MostInjections, job_named};

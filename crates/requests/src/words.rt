@@ -21,8 +21,9 @@ use std::convert::AsStr;
 use std::num::ParseIntError;
 
 const STATUSES: &str = "Exit status:
-  0  the run or every row passes, or help or the version was asked for
-  1  the run or some row ends in another way: its head line says how
+  0  the run passes, or every row or placement does; or help or the version
+     was asked for
+  1  the run, or some row or placement, ends in another way: its line says how
   2  the words of the command line are refused, or no handler has the name
   3  the file can't be read, is not TOML, describes no application, or has
      more than 1000000 points
