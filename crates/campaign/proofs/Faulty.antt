@@ -179,7 +179,8 @@ pub serves_file_fault : (at : Option NamedPoint) (input : Option (List ℕ)) (rf
     → wf ≡ false → ServesRun at input rf old old wf (Err f)
 serves_file_fault at input rf wf old f h r w e = serves_fault _ _ input rf wf old f (h.0, h.1, file_fault at h.0 f h.2) r w e
 
-run_reads : (at : Option NamedPoint) (app : Application) (f : ServeFault) → IsRunFault at app f → is_read_fault {A = End} (Err f) ≡ false
+run_reads : (at : Option NamedPoint) (app : Application) (f : ServeFault)
+    → IsRunFault at app f → is_read_fault {A = End} (Err f) ≡ false
 run_reads at app Read h = absurd h
 run_reads at app NotToml h = refl
 run_reads at app (Load fault) h = refl
@@ -188,7 +189,8 @@ run_reads at app TooManyPoints h = refl
 run_reads at app Memory h = refl
 run_reads at app Write h = refl
 
-run_writes : (at : Option NamedPoint) (app : Application) (f : ServeFault) → IsRunFault at app f → is_write_fault {A = End} (Err f) ≡ false
+run_writes : (at : Option NamedPoint) (app : Application) (f : ServeFault)
+    → IsRunFault at app f → is_write_fault {A = End} (Err f) ≡ false
 run_writes at app Read h = absurd h
 run_writes at app NotToml h = refl
 run_writes at app (Load fault) h = refl

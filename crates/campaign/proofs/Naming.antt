@@ -1,5 +1,6 @@
 -- The point of injections whose handlers have names.
-use Rattle.std.proofs.Common.{◌≡◌, ◌∙◌, ◌≤◌, ◌<◌, ◌↔◌, ℕ, suc, true, List, [], ◌∷◌, length, map, Option, Some, None, option_map, refl, sym, ap, subst}
+use Rattle.std.proofs.Common.{◌≡◌, ◌∙◌, ◌≤◌, ◌<◌, ◌↔◌, ℕ, suc, true, List, [], ◌∷◌, length, map, Option, Some, None, option_map}
+use Rattle.std.proofs.Common.{refl, sym, ap, subst}
 use Rattle.std.proofs.Common.{arith}
 use Rattle.std.specs.Prelude.{Err, IsSome, Result}
 use Rattle.std.specs.List.{AllByRecursion}
@@ -26,7 +27,8 @@ some_handler step None i e = absurd (cc e)
 some_handler step (Some handler) i e = refl
 
 -- Some handler has the name.
-pub known : (app : Application) (p : RawPair) (i : Injection) → injection_named app p ≡ Some i → IsSome (handler_named app p.handler)
+pub known : (app : Application) (p : RawPair) (i : Injection)
+    → injection_named app p ≡ Some i → IsSome (handler_named app p.handler)
 known app p i e = some_handler p.step (handler_named app p.handler) i e
 
 -- ---- all of them

@@ -29,7 +29,8 @@ names_asked (Some named) = names_in (pairs_in named.injections)
 
 -- The bytes have this fault, where this run is asked for.
 abbrev pub HasFault : Option NamedPoint → List ℕ → ServeFault → Type 0
-HasFault asked bytes (UnknownHandler place) = (app : Application) × IsFileOf bytes app × IsFirstUnknown app (names_asked asked) place
+HasFault asked bytes (UnknownHandler place) =
+    (app : Application) × IsFileOf bytes app × IsFirstUnknown app (names_asked asked) place
 HasFault asked bytes fault = HasFileFault bytes fault
 
 -- the bytes are a file where the run that is asked for has this report and this end
@@ -43,7 +44,8 @@ pub record IsReportOf (asked : Option NamedPoint) (bytes report : List ℕ) (end
   pub text : report ≡ run_text app title run
 
 -- a call that serves the run that is asked for, and answers how it ends
-abbrev pub ServesRun : Option NamedPoint → Option (List ℕ) → (read_failed : Bool) → (old new : Option (List ℕ)) → (write_failed : Bool)
+abbrev pub ServesRun : Option NamedPoint → Option (List ℕ)
+    → (read_failed : Bool) → (old new : Option (List ℕ)) → (write_failed : Bool)
     → Result End ServeFault → Type 0
 ServesRun asked input read_failed old new write_failed outcome =
     Serves End (IsReportOf asked) (HasFault asked) input read_failed old new write_failed outcome

@@ -93,7 +93,8 @@ counted_once (f ∷ fs) all differ each whole =
 
 -- ---- what is explored
 
-ends_apart : (all : List Placed) (found : List Found) → AllByRecursion (IsFound all) found → AreRising found → AreDistinct (ends found)
+ends_apart : (all : List Placed) (found : List Found)
+    → AllByRecursion (IsFound all) found → AreRising found → AreDistinct (ends found)
 ends_apart all [] each up = tt
 ends_apart all (f ∷ fs) each up = (
   all_map (λ d. d ≢ f.least.end) (λ (g : Found). g.least.end) fs

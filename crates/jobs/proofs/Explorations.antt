@@ -1,5 +1,6 @@
 -- What is explored for a file, and the handlers that are asked for.
-use Rattle.std.proofs.Common.{◌≡◌, ◌∙◌, ◌↔◌, ◌<◌, ◌+◌, ℕ, Bool, true, false, List, [], ◌∷◌, ◌++◌, length, map, Option, Some, None, refl, sym, ap}
+use Rattle.std.proofs.Common.{◌≡◌, ◌∙◌, ◌↔◌, ◌<◌, ◌+◌, ℕ, Bool, true, false, List, [], ◌∷◌, ◌++◌, length, map, Option, Some, None}
+use Rattle.std.proofs.Common.{refl, sym, ap}
 use Rattle.std.proofs.Common.{append_assoc, arith, inl, inr, subst}
 use Rattle.std.specs.Prelude.{Contains, Err, IsSome, Ok, Result}
 use Rattle.std.specs.Result.{IsErr}
@@ -22,7 +23,8 @@ use Rattle.campaign.specs.declared.file.ServeFault.TheVariants.{Read, NotToml, L
 use Rattle.campaign.specs.Named.{IsFirstUnknown}
 use Rattle.campaign.specs.Serving.{HasFileFault, IsFileOf, Known, is_read_fault, is_write_fault}
 use Rattle.campaign.proofs.Faulty.{file_has_bytes, serves_fault}
-use Rattle.jobs.specs.Explorations.{HasExploringFault, IsExplorationOf, IsExploringFault, IsFoundIn, IsNamingFault, ServesExploration}
+use Rattle.jobs.specs.Explorations.{HasExploringFault, IsExplorationOf, IsExploringFault, IsFoundIn, IsNamingFault}
+use Rattle.jobs.specs.Explorations.{ServesExploration}
 
 -- ---- faults
 

@@ -1,5 +1,6 @@
 -- What a job comes to over its file, of whose bytes nothing need be known.
-use Rattle.std.proofs.Common.{◌≡◌, ◌≢◌, ◌≤◌, ℕ, Bool, true, false, List, [], length, ◌⊎◌, inl, inr, Option, Some, None, option_map, refl}
+use Rattle.std.proofs.Common.{◌≡◌, ◌≢◌, ◌≤◌, ℕ, Bool, true, false, List, [], length, ◌⊎◌, inl, inr, Option, Some, None}
+use Rattle.std.proofs.Common.{option_map, refl}
 use Rattle.std.specs.Prelude.{Ok, Err, Result, IfSome}
 use Rattle.std.proofs.KnownBytes.{Keeps-refl}
 use Rattle.report.specs.Shards.{Shard}
@@ -151,7 +152,7 @@ fails_to_read job file rf wf old Read h working =
 fails_to_read job file rf wf old Memory h working = (h.0, served_fault job file rf wf old read.Memory h.0 (λ e. h.2) h.1 working)
 fails_to_read job file rf wf old NotToml h working = absurd h
 fails_to_read job file rf wf old (Load fault) h working = absurd h
-fails_to_read job file rf wf old UnknownHandler h working = absurd h
+fails_to_read job file rf wf old (UnknownHandler place) h working = absurd h
 fails_to_read job file rf wf old TooManyPoints h working = absurd h
 fails_to_read job file rf wf old Write h working = absurd h
 

@@ -36,7 +36,8 @@ pub record IsEndStateReportOf (asked : Option NamedPoint) (bytes report : List �
   pub text : report ≡ run_text app title run ++ end_state_text app (end_state_of_run app title run)
 
 -- a call that serves the run that is asked for and its end state, and answers how it ends
-abbrev pub ServesEndState : Option NamedPoint → Option (List ℕ) → (read_failed : Bool) → (old new : Option (List ℕ)) → (write_failed : Bool)
+abbrev pub ServesEndState : Option NamedPoint → Option (List ℕ)
+    → (read_failed : Bool) → (old new : Option (List ℕ)) → (write_failed : Bool)
     → Result End ServeFault → Type 0
 ServesEndState asked input read_failed old new write_failed outcome =
     Serves End (IsEndStateReportOf asked) (HasFault asked) input read_failed old new write_failed outcome
