@@ -20,7 +20,7 @@ use Rattle.byte_io.specs.declared.read.ReadFault.{ReadFault}
 use Rattle.byte_io.specs.declared.read.ReadFault.TheVariants as read
 use Rattle.report.specs.Shards.{Shard}
 use Rattle.report.specs.declared.view.View.{View}
-use Rattle.requests.specs.declared.at.At.{At}
+use Rattle.requests.specs.declared.named_point.NamedPoint.{NamedPoint}
 use Rattle.campaign.specs.declared.file.ServeFault.{ServeFault}
 use Rattle.campaign.specs.declared.file.ServeFault.TheVariants.{Read, NotToml, Load, UnknownHandler, TooManyPoints, Memory, Write}
 use Rattle.campaign.specs.Serving.{Answers, Serves, Known, IsDocument, IsFileOf, HasFileFault}
@@ -92,7 +92,7 @@ pub same_read : (A B : Type 0) (f : ServeFault) → is_read_fault {A = A} (Err f
 same_read A B Read = refl
 same_read A B NotToml = refl
 same_read A B (Load fault) = refl
-same_read A B UnknownHandler = refl
+same_read A B (UnknownHandler place) = refl
 same_read A B TooManyPoints = refl
 same_read A B Memory = refl
 same_read A B Write = refl
@@ -101,7 +101,7 @@ pub same_write : (A B : Type 0) (f : ServeFault) → is_write_fault {A = A} (Err
 same_write A B Read = refl
 same_write A B NotToml = refl
 same_write A B (Load fault) = refl
-same_write A B UnknownHandler = refl
+same_write A B (UnknownHandler place) = refl
 same_write A B TooManyPoints = refl
 same_write A B Memory = refl
 same_write A B Write = refl
@@ -117,7 +117,7 @@ module _ {A : Type 0} (IsReport : (bytes report : List ℕ) → A → Type 0)
   serves_fault old Read h r w e = record { answers = (h, Keeps-refl old); read = r; write = e }
   serves_fault old NotToml h r w e = record { answers = (h, Keeps-refl old); read = r; write = e }
   serves_fault old (Load fault) h r w e = record { answers = (h, Keeps-refl old); read = r; write = e }
-  serves_fault old UnknownHandler h r w e = record { answers = (h, Keeps-refl old); read = r; write = e }
+  serves_fault old (UnknownHandler place) h r w e = record { answers = (h, Keeps-refl old); read = r; write = e }
   serves_fault old TooManyPoints h r w e = record { answers = (h, Keeps-refl old); read = r; write = e }
   serves_fault old Memory h r w e = record { answers = (h, Keeps-refl old); read = r; write = e }
   serves_fault old Write h r w e = absurd (cc)
@@ -140,7 +140,7 @@ module _ {A : Type 0} (IsReport : (bytes report : List ℕ) → A → Type 0) (H
   answers_as_known old new (Err Read) h = ((h.0.0, as_known h.0.0 h.0.1, h.0.2), h.1)
   answers_as_known old new (Err NotToml) h = ((h.0.0, as_known h.0.0 h.0.1, h.0.2), h.1)
   answers_as_known old new (Err (Load fault)) h = ((h.0.0, as_known h.0.0 h.0.1, h.0.2), h.1)
-  answers_as_known old new (Err UnknownHandler) h = ((h.0.0, as_known h.0.0 h.0.1, h.0.2), h.1)
+  answers_as_known old new (Err (UnknownHandler place)) h = ((h.0.0, as_known h.0.0 h.0.1, h.0.2), h.1)
   answers_as_known old new (Err TooManyPoints) h = ((h.0.0, as_known h.0.0 h.0.1, h.0.2), h.1)
   answers_as_known old new (Err Memory) h = ((h.0.0, as_known h.0.0 h.0.1, h.0.2), h.1)
 
@@ -152,53 +152,55 @@ module _ {A : Type 0} (IsReport : (bytes report : List ℕ) → A → Type 0) (H
 -- ---- one run
 
 -- A fault of a file is one whatever is asked for.
-file_fault : (at : Option At) (bytes : List ℕ) (f : ServeFault) → HasFileFault bytes f → HasFault at bytes f
+file_fault : (at : Option NamedPoint) (bytes : List ℕ) (f : ServeFault) → HasFileFault bytes f → HasFault at bytes f
 file_fault at bytes Read h = h
 file_fault at bytes NotToml h = h
 file_fault at bytes (Load fault) h = h
-file_fault at bytes UnknownHandler h = absurd h
+file_fault at bytes (UnknownHandler place) h = absurd h
 file_fault at bytes TooManyPoints h = h
 file_fault at bytes Memory h = h
 file_fault at bytes Write h = h
 
 -- So is why its application was not run.
-run_fault : (at : Option At) (bytes : List ℕ) (app : Application) (f : ServeFault)
+run_fault : (at : Option NamedPoint) (bytes : List ℕ) (app : Application) (f : ServeFault)
     → IsFileOf bytes app → IsRunFault at app f → HasFault at bytes f
 run_fault at bytes app Read file h = absurd h
 run_fault at bytes app NotToml file h = absurd h
 run_fault at bytes app (Load fault) file h = absurd h
-run_fault at bytes app UnknownHandler file h = (app, file, h)
+run_fault at bytes app (UnknownHandler place) file h = (app, file, h)
 run_fault at bytes app TooManyPoints file h = absurd h
 run_fault at bytes app Memory file h = file_has_bytes bytes app file
 run_fault at bytes app Write file h = absurd h
 
 -- a fault of the file itself
-pub serves_file_fault : (at : Option At) (input : Option (List ℕ)) (rf wf : Bool) (old : Option (List ℕ)) (f : ServeFault)
+pub serves_file_fault : (at : Option NamedPoint) (input : Option (List ℕ)) (rf wf : Bool) (old : Option (List ℕ)) (f : ServeFault)
     → ((bytes : List ℕ) × Known input bytes × HasFileFault bytes f)
     → rf ≡ is_read_fault {A = End} (Err f) → is_write_fault {A = End} (Err f) ≡ false
     → wf ≡ false → ServesRun at input rf old old wf (Err f)
 serves_file_fault at input rf wf old f h r w e = serves_fault _ _ input rf wf old f (h.0, h.1, file_fault at h.0 f h.2) r w e
 
-run_reads : (at : Option At) (app : Application) (f : ServeFault) → IsRunFault at app f → is_read_fault {A = End} (Err f) ≡ false
+run_reads : (at : Option NamedPoint) (app : Application) (f : ServeFault)
+    → IsRunFault at app f → is_read_fault {A = End} (Err f) ≡ false
 run_reads at app Read h = absurd h
 run_reads at app NotToml h = refl
 run_reads at app (Load fault) h = refl
-run_reads at app UnknownHandler h = refl
+run_reads at app (UnknownHandler place) h = refl
 run_reads at app TooManyPoints h = refl
 run_reads at app Memory h = refl
 run_reads at app Write h = refl
 
-run_writes : (at : Option At) (app : Application) (f : ServeFault) → IsRunFault at app f → is_write_fault {A = End} (Err f) ≡ false
+run_writes : (at : Option NamedPoint) (app : Application) (f : ServeFault)
+    → IsRunFault at app f → is_write_fault {A = End} (Err f) ≡ false
 run_writes at app Read h = absurd h
 run_writes at app NotToml h = refl
 run_writes at app (Load fault) h = refl
-run_writes at app UnknownHandler h = refl
+run_writes at app (UnknownHandler place) h = refl
 run_writes at app TooManyPoints h = refl
 run_writes at app Memory h = refl
 run_writes at app Write h = absurd h
 
 -- an application that was not run
-pub serves_run_fault : (at : Option At) (input : Option (List ℕ))
+pub serves_run_fault : (at : Option NamedPoint) (input : Option (List ℕ))
     (rf wf : Bool) (old : Option (List ℕ)) (f : ServeFault) (app : Application)
     → ((bytes : List ℕ) × Known input bytes × IsFileOf bytes app) → IsRunFault at app f
     → rf ≡ false → wf ≡ false → ServesRun at input rf old old wf (Err f)
@@ -213,7 +215,7 @@ campaign_file_fault : (bytes : List ℕ) (f : ServeFault) → HasFileFault bytes
 campaign_file_fault bytes Read h = h
 campaign_file_fault bytes NotToml h = h
 campaign_file_fault bytes (Load fault) h = h
-campaign_file_fault bytes UnknownHandler h = h
+campaign_file_fault bytes (UnknownHandler place) h = h
 campaign_file_fault bytes TooManyPoints h = absurd h
 campaign_file_fault bytes Memory h = h
 campaign_file_fault bytes Write h = h
@@ -224,7 +226,7 @@ campaign_fault : (bytes : List ℕ) (app : Application) (f : ServeFault)
 campaign_fault bytes app Read file h = absurd h
 campaign_fault bytes app NotToml file h = absurd h
 campaign_fault bytes app (Load fault) file h = absurd h
-campaign_fault bytes app UnknownHandler file h = absurd h
+campaign_fault bytes app (UnknownHandler place) file h = absurd h
 campaign_fault bytes app TooManyPoints file h = (app, file, h)
 campaign_fault bytes app Memory file h = file_has_bytes bytes app file
 campaign_fault bytes app Write file h = absurd h
@@ -242,7 +244,7 @@ campaign_reads : (app : Application) (f : ServeFault) → IsCampaignFault app f 
 campaign_reads app Read h = absurd h
 campaign_reads app NotToml h = refl
 campaign_reads app (Load fault) h = refl
-campaign_reads app UnknownHandler h = refl
+campaign_reads app (UnknownHandler place) h = refl
 campaign_reads app TooManyPoints h = refl
 campaign_reads app Memory h = refl
 campaign_reads app Write h = refl
@@ -251,7 +253,7 @@ campaign_writes : (app : Application) (f : ServeFault) → IsCampaignFault app f
 campaign_writes app Read h = absurd h
 campaign_writes app NotToml h = refl
 campaign_writes app (Load fault) h = refl
-campaign_writes app UnknownHandler h = refl
+campaign_writes app (UnknownHandler place) h = refl
 campaign_writes app TooManyPoints h = refl
 campaign_writes app Memory h = refl
 campaign_writes app Write h = absurd h

@@ -7,6 +7,7 @@ mod GoingOn
 mod Jobs
 mod Keeping
 mod Multiplicity
+pub mod Naming
 mod Seeing
 mod Started
 mod Whole

@@ -3,6 +3,7 @@ pub mod Faults
 pub mod Kinds
 pub mod Made
 pub mod Marks
+pub mod Named
 pub mod OneRun
 pub mod Points
 pub mod Seen

@@ -30,7 +30,7 @@ HasFileFault bytes NotToml = IsUtf8 bytes → parse_document bytes ≡ None
 HasFileFault bytes (Load fault) =
     (document : Members) × IsDocument bytes document × (load_fault document ≡ Some fault)
 HasFileFault bytes Memory = bytes ≢ []
-HasFileFault bytes UnknownHandler = ⊥
+HasFileFault bytes (UnknownHandler place) = ⊥
 HasFileFault bytes TooManyPoints = ⊥
 HasFileFault bytes fault = Unit {0}
 

@@ -19,8 +19,8 @@ pub enum ServeFault {
     NotToml,
     /// The document has this fault, the first that its checks find.
     Load(Fault),
-    /// An injection is asked for, and no handler of the application has the name.
-    UnknownHandler,
+    /// No handler of the application has the name that what is asked for has in this place, from 0. It is the first such name.
+    UnknownHandler(usize),
     /// The points of the campaign are more than 1,000,000 (profile).
     TooManyPoints,
     /// No memory is left, for the bytes, the application or its runs. For no bytes none is needed.

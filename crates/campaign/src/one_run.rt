@@ -6,10 +6,11 @@ ghost use Rattle.campaign.specs.OneRun.{IsAsked, ServesRun};
 ghost use Rattle.campaign.specs.Serving.{IsFileOf, Known};
 
 use crate::file::{ServeFault, app_in, app_of};
+use crate::named::point_named;
 use byte_io::{Sink, Source};
 use model::{App, End, Limits, Memory, Meter, Plan, Point, Run};
 use report::{Title, write_run};
-use requests::At;
+use requests::NamedPoint;
 use std::alloc::Global;
 
 /// The base run: nothing is injected.
@@ -35,17 +36,18 @@ fn row_of(alloc: Global, app: &App, point: &Point) -> Result<(bool, Run), Memory
 }
 
 // The run that is asked for, and what its report is of.
-fn asked_run(alloc: Global, app: &App, at: Option<At<'_>>) -> Result<(Title, Run), ServeFault>
-    ensures { MatchResult result (λ asked. IsAsked at.entry app.now asked.0 asked.1)
-        (IsRunFault at.entry app.now) }
+fn asked_run(
+    alloc: Global,
+    app: &App,
+    asked: Option<NamedPoint<'_>>,
+) -> Result<(Title, Run), ServeFault>
+    ensures { MatchResult result (λ run. IsAsked asked.entry app.now run.0 run.1)
+        (IsRunFault asked.entry app.now) }
 {
-    let Some(at) = at else {
+    let Some(named) = asked else {
         return Ok((Title::Base, base_run(alloc, app, app.limits())?));
     };
-    let Some(handler) = app.handler_named(at.handler) else {
-        return Err(ServeFault::UnknownHandler);
-    };
-    let point = Point::one(at.step, handler);
+    let point = point_named(app, &named)?;
     let (reached, run) = row_of(alloc, app, &point)?;
     let title = Title::Row {
         number: 0,
@@ -60,20 +62,20 @@ fn serve_app<W: Sink>(
     alloc: Global,
     app: &App,
     writer: &mut W,
-    at: Option<At<'_>>,
+    asked: Option<NamedPoint<'_>>,
 ) -> Result<End, ServeFault>
     requires { W.has_failed writer.old ≡ false }
     ensures { (input : Option (List ℕ)) (bytes : List ℕ) → Known input bytes → IsFileOf bytes app.now
-        → ServesRun at.entry input false (W.held writer.old) (W.held writer.new)
+        → ServesRun asked.entry input false (W.held writer.old) (W.held writer.new)
         (W.has_failed writer.new) result }
 {
-    let (title, run) = asked_run(alloc, app, at)?;
+    let (title, run) = asked_run(alloc, app, asked)?;
     write_run(writer, app, title, &run)?;
     Ok(run.end)
 }
 
 /// Reads a file, runs the application that it names under its own limits, and writes the report of the run, as its
-/// last deed: the base run, or where an injection is asked for, row 0. Answers how the run that it wrote ends.
+/// last deed: the base run, or where a point is asked for, row 0. Answers how the run that it wrote ends.
 ///
 /// At `Write` a beginning of the report is written. At every other error nothing is. `UnknownHandler` comes after every
 /// fault of the file, and before any run.
@@ -81,15 +83,15 @@ pub fn serve_run<R: Source, W: Sink>(
     alloc: Global,
     reader: &mut R,
     writer: &mut W,
-    at: Option<At<'_>>,
+    asked: Option<NamedPoint<'_>>,
 ) -> Result<End, ServeFault>
     requires reads { R.has_failed reader.old ≡ false }
     requires writes { W.has_failed writer.old ≡ false }
-    ensures { ServesRun at.entry (R.left reader.old) (R.has_failed reader.new)
+    ensures { ServesRun asked.entry (R.left reader.old) (R.has_failed reader.new)
         (W.held writer.old) (W.held writer.new) (W.has_failed writer.new) result }
 {
     let app = app_of(alloc, reader)?;
-    serve_app(alloc, &app, writer, at)
+    serve_app(alloc, &app, writer, asked)
 }
 
 /// The same of the file of these bytes.
@@ -97,12 +99,12 @@ pub fn serve_run_of<W: Sink>(
     alloc: Global,
     bytes: &[u8],
     writer: &mut W,
-    at: Option<At<'_>>,
+    asked: Option<NamedPoint<'_>>,
 ) -> Result<End, ServeFault>
     requires { W.has_failed writer.old ≡ false }
-    ensures { ServesRun at.entry (Some bytes.now) false
+    ensures { ServesRun asked.entry (Some bytes.now) false
         (W.held writer.old) (W.held writer.new) (W.has_failed writer.new) result }
 {
     let app = app_in(alloc, bytes)?;
-    serve_app(alloc, &app, writer, at)
+    serve_app(alloc, &app, writer, asked)
 }

@@ -7,21 +7,21 @@ use model::Point;
 /// points of steps that are 64 apart share a place, and those of the same first injection.
 #[derive(Drop)]
 pub(crate) struct Recent {
-    rows: [usize; 1024],
+    rows: [usize; 1088],
 }
 
 // The place of a point, by its first injection.
 fn place(point: &Point) -> usize
-    ensures { result < 1024 }
+    ensures { result < 1088 }
 {
     let first = point.first();
-    (first.step as usize % 64) * 16 + first.handler.number as usize
+    (first.step as usize % 64) * 17 + first.handler.number as usize
 }
 
 impl Recent {
     /// No row is made.
     pub(crate) fn new() -> Recent {
-        Recent { rows: [0; 1024] }
+        Recent { rows: [0; 1088] }
     }
 
     /// The number of the row that may be of this point.

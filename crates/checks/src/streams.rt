@@ -2,7 +2,7 @@
 
 use crate::sinks::{Breaking, Holder, check_text};
 use campaign::{NoGate, Options};
-use jobs::{Job, act};
+use jobs::{Job, MostInjections, act};
 use report::{Shard, View};
 use std::alloc::Global;
 use std::process::Abort;
@@ -35,7 +35,7 @@ fn campaign_of(file: &str) -> Job<'_> {
 fn base_run_of(file: &str) -> Job<'_> {
     Job::Run {
         file,
-        at: None,
+        point: None,
         state: false,
     }
 }
@@ -87,7 +87,7 @@ fn sinks_that_take_a_byte_a_call(rt: HostRuntime) {
     let alloc = rt.alloc();
     let job = Job::Run {
         file: "app.toml",
-        at: None,
+        point: None,
         state: false,
     };
     check_byte_by_byte(&rt, alloc, &job, ONE_MARK, 0, (ONE_MARK_REPORT, ""));
@@ -95,6 +95,32 @@ fn sinks_that_take_a_byte_a_call(rt: HostRuntime) {
     check_byte_by_byte(&rt, alloc, &job, "", 3, ("", line));
     let job = campaign_of("app.toml");
     check_byte_by_byte(&rt, alloc, &job, TWO_ROWS, 1, (TWO_ROWS_REPORT, ""));
+}
+
+// How the runs of `TWO_ROWS` with up to two interrupts end.
+const TWO_ROWS_EXPLORED: &str = "check a 1: 6 placements, least is none in 2 steps, 0 ticks
+total 6
+";
+
+#[test]
+fn what_is_explored_byte_by_byte(rt: HostRuntime) {
+    let alloc = rt.alloc();
+    let Some(injections) = MostInjections::new(2) else {
+        panic!(rt; "no number");
+    };
+    let job = Job::Explore {
+        file: "app.toml",
+        injections,
+        handlers: Some("h"),
+    };
+    check_byte_by_byte(&rt, alloc, &job, TWO_ROWS, 1, (TWO_ROWS_EXPLORED, ""));
+    let job = Job::Explore {
+        file: "app.toml",
+        injections,
+        handlers: Some("h,g\u{7}"),
+    };
+    let line = "rtosim: unknown handler g\\u{7}\n";
+    check_byte_by_byte(&rt, alloc, &job, TWO_ROWS, 2, ("", line));
 }
 
 /// Runs a sound file, over a writer that has room for this many bytes of its report. Answers what was written.

@@ -1,7 +1,7 @@
 //! The words of the command line that name a job.
 
-use campaign::{At, Options};
-use jobs::{Job, job_named};
+use campaign::{At, NamedInjections, NamedPoint, Options};
+use jobs::{Job, MostInjections, job_named};
 use report::{Ends, Shard, View};
 
 /// The words of `run` that name a job, and the job.
@@ -102,15 +102,90 @@ fn words_that_name_a_job(rt: HostRuntime) {
         let job = match (named.at, named.handler) {
             (None, None) => Job::Run {
                 file,
-                at: None,
+                point: None,
                 state,
             },
             (Some(step), Some(handler)) => Job::Run {
                 file,
-                at: Some(At { step, handler }),
+                point: Some(NamedPoint::one(step, handler)),
                 state,
             },
             _ => Job::RunUnpaired { file },
+        };
+        assert!(rt; job_named(rt.alloc(), named.words).ok() == Some(job));
+    }
+}
+
+#[test]
+fn words_that_name_a_point(rt: HostRuntime) {
+    let words = ["rtosim", "run", "app.toml", "--point", " 3 h  3 g 7 h"];
+    let first = At {
+        step: 3,
+        handler: "h",
+    };
+    let second = At {
+        step: 3,
+        handler: "g",
+    };
+    let third = At {
+        step: 7,
+        handler: "h",
+    };
+    let job = Job::Run {
+        file: "app.toml",
+        point: Some(NamedPoint {
+            injections: NamedInjections::Three(first, second, third),
+        }),
+        state: false,
+    };
+    assert!(rt; job_named(rt.alloc(), &words).ok() == Some(job));
+}
+
+/// The words of `explore` that name a job, and how many injections and which handlers they name.
+#[derive(Clone, Copy)]
+struct NamedExploration {
+    words: &'static [&'static str],
+    injections: u32,
+    handlers: Option<&'static str>,
+}
+
+const EXPLORATIONS: [NamedExploration; 3] = [
+    NamedExploration {
+        words: &["rtosim", "explore", "app.toml"],
+        injections: 1,
+        handlers: None,
+    },
+    NamedExploration {
+        words: &[
+            "rtosim", "explore", "--injections=3", "app.toml", "--handlers", "h",
+        ],
+        injections: 3,
+        handlers: Some("h"),
+    },
+    NamedExploration {
+        words: &[
+            "rtosim",
+            "explore",
+            "app.toml",
+            "--handlers=Uart_1,b",
+            "--injections",
+            "0",
+        ],
+        injections: 0,
+        handlers: Some("Uart_1,b"),
+    },
+];
+
+#[test]
+fn words_that_name_an_exploration(rt: HostRuntime) {
+    for named in EXPLORATIONS {
+        let Some(injections) = MostInjections::new(named.injections) else {
+            panic!(rt; "no number");
+        };
+        let job = Job::Explore {
+            file: "app.toml",
+            injections,
+            handlers: named.handlers,
         };
         assert!(rt; job_named(rt.alloc(), named.words).ok() == Some(job));
     }
@@ -292,4 +367,31 @@ fn values_that_are_refused(rt: HostRuntime) {
         let words = ["rtosim", "campaign", "app.toml", value];
         assert!(rt; job_named(rt.alloc(), &words).is_err(), "{value}");
     }
+}
+
+const REFUSED_WORDS: [(&str, &str); 12] = [
+    ("explore", "--injections=4"),
+    ("explore", "--injections="),
+    ("explore", "--handlers="),
+    ("explore", "--handlers=h,h"),
+    ("explore", "--handlers=h,"),
+    ("explore", "--handlers=h g"),
+    ("explore", "--handlers=1h"),
+    ("run", "--point="),
+    ("run", "--point=all h"),
+    ("run", "--point=1 h 0 h"),
+    ("run", "--point=1 h 1 h 1 h 1 h"),
+    ("run", "--point=1000001 h"),
+];
+
+#[test]
+fn words_that_are_refused(rt: HostRuntime) {
+    for (command, value) in REFUSED_WORDS {
+        let words = ["rtosim", command, "app.toml", value];
+        assert!(rt; job_named(rt.alloc(), &words).is_err(), "{value}");
+    }
+    let words = [
+        "rtosim", "run", "a", "--point", "0 h", "--at", "0", "--handler", "h",
+    ];
+    assert!(rt; job_named(rt.alloc(), &words).is_err());
 }

@@ -263,17 +263,17 @@ module _ (app : Application) (limits : Limits) (handlers : List ℕ) (levels : �
 
   -- all of them are few
   all_few : total (ways handlers left (levels - 1)) (begun app limits handlers (levels - 1) ready.n)
-      + length (ended app limits handlers (levels - 1) ready.n) ≤ power 16000017 3
+      + length (ended app limits handlers (levels - 1) ready.n) ≤ power 17000018 3
   all_few =
       let early = ready.early in
       let short = ready.short in
       let few = ready.few in
       let steps : left + ready.n ≤ 1000001 = omega (arith, early, short) in
-      let product : length handlers * (left + ready.n) ≤ 16 * 1000001 = product_most (length handlers) 16
+      let product : length handlers * (left + ready.n) ≤ 17 * 1000001 = product_most (length handlers) 17
       (left + ready.n) 1000001 few steps in
-      let base : power (1 + length handlers * (left + ready.n)) (levels - 1) ≤ power 16000017 (levels - 1) =
-      power_most (1 + length handlers * (left + ready.n)) 16000017 (levels - 1) (omega (arith, product)) in
-      let top : power 16000017 (levels - 1) ≤ power 16000017 3 = power_more 16000017 (levels - 1) 3 (omega arith)
+      let base : power (1 + length handlers * (left + ready.n)) (levels - 1) ≤ power 17000018 (levels - 1) =
+      power_most (1 + length handlers * (left + ready.n)) 17000018 (levels - 1) (omega (arith, product)) in
+      let top : power 17000018 (levels - 1) ≤ power 17000018 3 = power_more 17000018 (levels - 1) 3 (omega arith)
       (omega (arith, few_levels)) in
       let all = all_plans app limits handlers (levels - 1) ready.n left in
       omega (arith, base, top, all)

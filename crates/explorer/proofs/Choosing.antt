@@ -76,7 +76,7 @@ module _ (handlers old : List ℕ) (n : ℕ) (h : SetUntil handlers old n) where
 
 -- These have a mark.
 pub record MarksUntil (handlers : List ℕ) (marks : List Bool) (i : ℕ) : Type 0 where
-  pub long : length marks ≡ 16
+  pub long : length marks ≡ 17
   pub are : (n : ℕ) → get_or marks n false ≡ true → Contains handlers n
   pub all : AllByRecursion (λ handler. get_or marks handler false ≡ true) (take i handlers)
 
@@ -114,10 +114,10 @@ levels_more handlers levels n longer new are long is seq =
       early (x ∷ ls) (suc k) l = early ls k (omega (arith, l))
 
 -- What has a mark has a number below that of the marks.
-pub low_of : (marks : List Bool) (n : ℕ) → length marks ≡ 16 → get_or marks n false ≡ true → n < 16
-low_of marks n long h = elim (cases_lt n 16) [
+pub low_of : (marks : List Bool) (n : ℕ) → length marks ≡ 17 → get_or marks n false ≡ true → n < 17
+low_of marks n long h = elim (cases_lt n 17) [
   | inl l ↦ l
-  | inr m ↦ (let none : get_or marks n false ≡ false = past marks n (let le : 16 ≤ n = m in omega (arith, long, le)) in absurd (cc))
+  | inr m ↦ (let none : get_or marks n false ≡ false = past marks n (let le : 17 ≤ n = m in omega (arith, long, le)) in absurd (cc))
 ] where
   past : (xs : List Bool) (k : ℕ) → length xs ≤ k → get_or xs k false ≡ false
   past [] k l = refl

@@ -1,5 +1,5 @@
 -- The first layer, and the last one.
-use Rattle.std.proofs.Common.{◌≡◌, ◌<◌, ◌-◌, ℕ, List, [], ◌∷◌, length, map, refl, ap, sym, ◌∙◌, subst, arith}
+use Rattle.std.proofs.Common.{◌≡◌, ◌<◌, ◌≤◌, ◌+◌, ◌-◌, ◌*◌, ◌^◌, ℕ, List, [], ◌∷◌, length, map, refl, ap, sym, ◌∙◌, subst, arith}
 use Rattle.std.specs.List.{AllByRecursion, AllZip, flat_map}
 use Rattle.model.specs.declared.plan.Injection.{Injection}
 use Rattle.model.specs.Application.{Application, Limits}
@@ -13,6 +13,7 @@ use Rattle.explorer.specs.declared.layer.Node.{Node}
 use Rattle.explorer.specs.Layers.{AreOf, Carries, Gains}
 use Rattle.explorer.specs.Reordered.IsReordered.{Nothing}
 use Rattle.explorer.specs.Tallies.{AreTallied, IsLayer, IsTally}
+use Rattle.explorer.proofs.Bounds.{all_plans, power, power_more, power_most, product_most, total}
 use Rattle.explorer.proofs.Ordering.{less_itself}
 use Rattle.explorer.proofs.Reorderings.{all_reordered, among_reordered, distinct_reordered, length_reordered, map_reordered}
 
@@ -62,10 +63,24 @@ module _ (app : Application) (limits : Limits) (handlers : List ℕ) (levels : �
     by (plan ∷ plans) h =
         let under = steps_under app plan limits limits.steps (h.0.goes_on limits.steps l) in absurd (omega (arith, under))
 
-  tallied : (n : ℕ) (nodes : List Node) (found : List Found) (all : List Placed) → AreDistinct handlers
+  few_placed : (n : ℕ) (nodes : List Node) (found : List Found) (all : List Placed) → length handlers ≤ 17 → levels ≤ 4
+      → n ≤ 1000001 → IsLayer app limits handlers levels n nodes found all → length all < 2 ^ 128
+  few_placed n nodes found all few few_levels early layer =
+      let product : length handlers * (0 + n) ≤ 17 * 1000001 =
+      product_most (length handlers) 17 (0 + n) 1000001 few (omega (arith, early)) in
+      let base : power (1 + length handlers * (0 + n)) (levels - 1) ≤ power 17000018 (levels - 1) =
+      power_most (1 + length handlers * (0 + n)) 17000018 (levels - 1) (omega (arith, product)) in
+      let top : power 17000018 (levels - 1) ≤ power 17000018 3 = power_more 17000018 (levels - 1) 3 (omega arith)
+      (omega (arith, few_levels)) in
+      let ended_few = all_plans app limits handlers (levels - 1) n 0 in
+      let same = length_reordered (ended app limits handlers (levels - 1) n) all layer.same in
+      omega (arith, base, top, ended_few, same)
+
+  tallied : (n : ℕ) (nodes : List Node) (found : List Found) (all : List Placed) → length handlers ≤ 17 → levels ≤ 4
+      → n ≤ 1000001 → AreDistinct handlers
       → begun app limits handlers (levels - 1) n ≡ [] → IsLayer app limits handlers levels n nodes found all
       → AreTallied app limits handlers (levels - 1) found
-  tallied n nodes found all differ none layer =
+  tallied n nodes found all few few_levels early differ none layer =
       let are = all_ended app limits handlers (levels - 1) differ n none in
       let placed = ended app limits handlers (levels - 1) n in
       record {
@@ -78,13 +93,18 @@ module _ (app : Application) (limits : Limits) (handlers : List ℕ) (levels : �
           whole = λ p is. among_reordered p placed all layer.same (are.whole p is);
         };
         tally = layer.tally;
+        few = few_placed n nodes found all few few_levels early layer;
       }
 
-  pub tallied_if_empty : (n : ℕ) (nodes : List Node) (found : List Found) (all : List Placed) → AreDistinct handlers
+  pub tallied_if_empty : (n : ℕ) (nodes : List Node) (found : List Found) (all : List Placed) → length handlers ≤ 17 → levels ≤ 4
+      → n ≤ 1000001 → AreDistinct handlers
       → nodes ≡ [] → IsLayer app limits handlers levels n nodes found all → AreTallied app limits handlers (levels - 1) found
-  tallied_if_empty n nodes found all differ empty layer =
-      tallied n nodes found all differ (none_begun n nodes (begun app limits handlers (levels - 1) n) empty layer.carries) layer
+  tallied_if_empty n nodes found all few few_levels early differ empty layer =
+      tallied n nodes found all few few_levels early differ
+      (none_begun n nodes (begun app limits handlers (levels - 1) n) empty layer.carries) layer
 
-  pub tallied_at_last : (n : ℕ) (nodes : List Node) (found : List Found) (all : List Placed) → AreDistinct handlers
+  pub tallied_at_last : (n : ℕ) (nodes : List Node) (found : List Found) (all : List Placed) → length handlers ≤ 17 → levels ≤ 4
+      → n ≤ 1000001 → AreDistinct handlers
       → limits.steps < n → IsLayer app limits handlers levels n nodes found all → AreTallied app limits handlers (levels - 1) found
-  tallied_at_last n nodes found all differ late layer = tallied n nodes found all differ (none_late n late) layer
+  tallied_at_last n nodes found all few few_levels early differ late layer =
+      tallied n nodes found all few few_levels early differ (none_late n late) layer

@@ -10,3 +10,4 @@ pub mod Bounds
 pub mod Advancing
 pub mod Sorted
 pub mod FirstAndLast
+pub mod Totals

@@ -1,5 +1,5 @@
 -- What is found so far.
-use Rattle.std.specs.Prelude.{◌≡◌, ◌<◌, ◌≤◌, ◌+◌, ◌-◌, ℕ, false, List, ◌++◌, Contains, length, map}
+use Rattle.std.specs.Prelude.{◌≡◌, ◌<◌, ◌≤◌, ◌+◌, ◌-◌, ◌^◌, ℕ, false, List, ◌++◌, Contains, length, map}
 use Rattle.std.specs.List.{AllByRecursion, flat_map}
 use Rattle.model.specs.declared.plan.Injection.{Injection}
 use Rattle.model.specs.Application.{Application, Limits}
@@ -55,7 +55,7 @@ pub record IsReady (app : Application) (limits : Limits) (handlers : List ℕ) (
   pub layer : IsLayer app limits handlers levels n nodes found all
   pub some : 0 < levels
   pub early : n ≤ limits.steps
-  pub few : length handlers ≤ 16
+  pub few : length handlers ≤ 17
   pub short : limits.steps ≤ 1000000
 
 -- From there the new ones are those before the next step.
@@ -65,8 +65,9 @@ IsAdvanced app limits handlers levels old new old_found new_found = (n : ℕ) (a
     → IsLayer app limits handlers levels n old old_found all
     → (more : List Placed) × IsLayer app limits handlers levels (n + 1) new new_found more
 
--- This is found among all placements, in any order.
+-- This is found among all placements, in any order. There are fewer than the code's numbers.
 pub record AreTallied (app : Application) (limits : Limits) (handlers : List ℕ) (most : ℕ) (found : List Found) : Type 0 where
   pub all : List Placed
   pub are_all : AreAll app limits handlers most all
   pub tally : IsTally all found
+  pub few : length all < 2 ^ 128

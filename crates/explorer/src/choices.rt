@@ -109,7 +109,7 @@ impl Choices {
         ensures levels { IfOk result (λ choices. AreLevels choices.handlers.items choices.levels.items) }
         ensures long { IfOk result (λ choices. length choices.levels.items ≡ most + 1) }
         ensures set { IfOk result (λ choices. IsSetOf handlers.now choices.handlers.items) }
-        ensures few { IfOk result (λ choices. length choices.handlers.items ≤ 16) }
+        ensures few { IfOk result (λ choices. length choices.handlers.items ≤ 17) }
     {
         let handlers = set_of(alloc, handlers)?;
         let mut levels = Vec::new(alloc);
@@ -138,11 +138,11 @@ fn push_all(
 }
 
 // For each number whether the handler of this number is one of these.
-fn marks_of(handlers: &[HandlerId]) -> [bool; 16]
+fn marks_of(handlers: &[HandlerId]) -> [bool; 17]
     ensures marks { HasMarks handlers.now result }
-    ensures long { length result ≡ 16 }
+    ensures long { length result ≡ 17 }
 {
-    let mut marks = [false; 16];
+    let mut marks = [false; 17];
     for handler in handlers {
         let number = handler.number as usize;
         marks[number] = true;
@@ -153,11 +153,11 @@ fn marks_of(handlers: &[HandlerId]) -> [bool; 16]
 // These handlers, each once, in the order of their numbers.
 fn set_of(alloc: Global, handlers: &[HandlerId]) -> Result<Vec<HandlerId>, Memory>
     ensures set { IfOk result (λ set. IsSetOf handlers.now set.items) }
-    ensures few { IfOk result (λ set. length set.items ≤ 16) }
+    ensures few { IfOk result (λ set. length set.items ≤ 17) }
 {
     let marks = marks_of(handlers);
     let mut set = Vec::new(alloc);
-    for number in 0..16 {
+    for number in 0..17 {
         if marks[number as usize] {
             set.push(HandlerId { number })?;
         }

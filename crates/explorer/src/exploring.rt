@@ -1,8 +1,9 @@
 //! All placements of an application.
-ghost use Rattle.std.specs.Prelude.{◌≡◌, ◌<◌, ◌≤◌, ◌-◌, IfOk, length};
+ghost use Rattle.std.specs.Prelude.{◌≡◌, ◌<◌, ◌≤◌, ◌-◌, ◌^◌, IfOk, length};
 ghost use Rattle.model.specs.Placements.{AreDistinct, IsExplored};
 ghost use Rattle.explorer.specs.Choosing.{AreLevels};
 ghost use Rattle.explorer.specs.Tallies.{AreTallied};
+ghost use Rattle.explorer.specs.Totals.{placements_in};
 
 use crate::advance::{Stepper, advance};
 use crate::choices::Choices;
@@ -25,7 +26,7 @@ fn all_found(
     requires some { 0 < length choices.now.levels.items }
     requires few { length choices.now.levels.items ≤ 4 }
     requires once { AreDistinct choices.now.handlers.items }
-    requires few_handlers { length choices.now.handlers.items ≤ 16 }
+    requires few_handlers { length choices.now.handlers.items ≤ 17 }
     ensures { IfOk result (λ found. AreTallied app.now limits.now choices.now.handlers.items (length choices.now.levels.items - 1) found.items) }
 {
     app.well_formed();
@@ -59,7 +60,7 @@ fn all_found(
 
 /// What is found among all placements of at most so many injections (three at most) of these handlers, in the run of an application under
 /// these limits: of each end that some placement has how many have it, and the least of them. In which order the handlers are named, and
-/// whether twice, makes no difference.
+/// whether twice, makes no difference. There are fewer than 2^128 placements in all.
 ///
 /// `Memory` is answered only where a growth was refused.
 pub fn explore(
@@ -70,7 +71,8 @@ pub fn explore(
     most: usize,
 ) -> Result<Vec<Found>, Memory>
     requires { most ≤ 3 }
-    ensures { IfOk result (λ found. IsExplored app.now limits.now handlers.now most found.items) }
+    ensures explored { IfOk result (λ found. IsExplored app.now limits.now handlers.now most found.items) }
+    ensures few { IfOk result (λ found. placements_in found.items < 2 ^ 128) }
 {
     let choices = Choices::new(alloc, handlers, most)?;
     let found = all_found(alloc, app, limits, &choices)?;

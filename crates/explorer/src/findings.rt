@@ -4,6 +4,7 @@ ghost use Rattle.std.specs.List.{AllByRecursion};
 ghost use Rattle.model.specs.Placements as definitions;
 ghost use Rattle.explorer.specs.Finding.{HasEnd, HaveOthers, IsAddedAt, IsCounted};
 ghost use Rattle.explorer.specs.Tallies.{TalliesMore};
+ghost use Rattle.explorer.specs.Totals.{placements_in};
 
 use crate::placement::Placement;
 use model::{End, Memory};
@@ -79,4 +80,16 @@ pub(crate) fn count_end(found: &mut Vec<Found>, more: Found) -> Result<(), Memor
         None => found.push(more)?,
     }
     Ok(())
+}
+
+/// How many placements are found in all.
+pub fn placements_in(found: &[Found]) -> u128
+    requires { placements_in found.now < 2 ^ 128 }
+    ensures { result ≡ placements_in found.now }
+{
+    let mut placements = 0;
+    for one in found {
+        placements += one.number;
+    }
+    placements
 }

@@ -10,5 +10,5 @@ mod order;
 mod placement;
 
 pub use exploring::explore;
-pub use findings::Found;
+pub use findings::{Found, placements_in};
 pub use placement::Placement;

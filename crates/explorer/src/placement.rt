@@ -36,7 +36,8 @@ impl Placement {
 
     /// The injections, in order.
     pub fn as_slice(&self) -> &[Injection]
-        ensures { result.now ≡ self.now }
+        ensures value { result.now ≡ self.now }
+        ensures few { length result.now ≤ 3 }
     {
         self.injections.as_slice()
     }

@@ -3,7 +3,7 @@ use Rattle.std.proofs.Common.{◌≡◌, ℕ, Bool, false, List, Option, refl}
 use Rattle.std.specs.Prelude.{Err}
 use Rattle.model.specs.declared.event.End.{End}
 use Rattle.model.specs.Application.{Application}
-use Rattle.requests.specs.declared.at.At.{At}
+use Rattle.requests.specs.declared.named_point.NamedPoint.{NamedPoint}
 use Rattle.campaign.specs.declared.file.ServeFault.{ServeFault}
 use Rattle.campaign.specs.declared.file.ServeFault.TheVariants.{Read, NotToml, Load, UnknownHandler, TooManyPoints, Memory, Write}
 use Rattle.campaign.specs.Faults.{IsRunFault}
@@ -12,14 +12,14 @@ use Rattle.campaign.specs.Serving.{HasFileFault, IsFileOf, Known, is_read_fault,
 use Rattle.campaign.proofs.Faulty.{serves_file_fault, serves_run_fault}
 use Rattle.jobs.specs.EndStates.{ServesEndState}
 
-module _ (at : Option At) (input : Option (List ℕ)) (rf wf : Bool) (old : Option (List ℕ)) where
+module _ (at : Option NamedPoint) (input : Option (List ℕ)) (rf wf : Bool) (old : Option (List ℕ)) where
   -- where nothing is written
   same_fault : (f : ServeFault) → is_write_fault {A = End} (Err f) ≡ false
       → ServesRun at input rf old old wf (Err f) → ServesEndState at input rf old old wf (Err f)
   same_fault Read w h = record { answers = h.answers; read = h.read; write = h.write }
   same_fault NotToml w h = record { answers = h.answers; read = h.read; write = h.write }
   same_fault (Load fault) w h = record { answers = h.answers; read = h.read; write = h.write }
-  same_fault UnknownHandler w h = record { answers = h.answers; read = h.read; write = h.write }
+  same_fault (UnknownHandler place) w h = record { answers = h.answers; read = h.read; write = h.write }
   same_fault TooManyPoints w h = record { answers = h.answers; read = h.read; write = h.write }
   same_fault Memory w h = record { answers = h.answers; read = h.read; write = h.write }
   same_fault Write w h = absurd (cc)
@@ -34,7 +34,7 @@ module _ (at : Option At) (input : Option (List ℕ)) (rf wf : Bool) (old : Opti
   runs_unwritten app Read h = absurd h
   runs_unwritten app NotToml h = refl
   runs_unwritten app (Load fault) h = refl
-  runs_unwritten app UnknownHandler h = refl
+  runs_unwritten app (UnknownHandler place) h = refl
   runs_unwritten app TooManyPoints h = refl
   runs_unwritten app Memory h = refl
   runs_unwritten app Write h = absurd h

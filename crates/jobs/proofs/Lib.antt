@@ -2,3 +2,4 @@ pub mod Lines
 mod Putting
 mod Serving
 pub mod EndStates
+pub mod Explorations

@@ -1,10 +1,11 @@
 -- What a job comes to over its file, of whose bytes nothing need be known.
-use Rattle.std.proofs.Common.{◌≡◌, ◌≢◌, ◌≤◌, ℕ, Bool, true, false, List, [], length, ◌⊎◌, inl, inr, Option, Some, None, refl}
+use Rattle.std.proofs.Common.{◌≡◌, ◌≢◌, ◌≤◌, ℕ, Bool, true, false, List, [], length, ◌⊎◌, inl, inr, Option, Some, None}
+use Rattle.std.proofs.Common.{option_map, refl}
 use Rattle.std.specs.Prelude.{Ok, Err, Result, IfSome}
 use Rattle.std.proofs.KnownBytes.{Keeps-refl}
 use Rattle.report.specs.Shards.{Shard}
 use Rattle.report.specs.declared.view.View.{View}
-use Rattle.requests.specs.declared.at.At.{At}
+use Rattle.requests.specs.declared.named_point.NamedPoint.{NamedPoint}
 use Rattle.campaign.specs.declared.file.ServeFault.{ServeFault}
 use Rattle.campaign.specs.declared.file.ServeFault.TheVariants.{Read, NotToml, Load, UnknownHandler, TooManyPoints, Memory, Write}
 use Rattle.campaign.specs.Faults.{of_reading}
@@ -13,11 +14,12 @@ use Rattle.campaign.proofs.Faulty.{campaign_serves_file_fault, reading_failed, s
 use Rattle.byte_io.specs.declared.read.ReadFault.{ReadFault}
 use Rattle.byte_io.specs.declared.read.ReadFault.TheVariants as read
 use Rattle.requests.specs.declared.job.Job.{Job}
-use Rattle.requests.specs.declared.job.Job.TheVariants.{Run, RunUnpaired, Campaign}
+use Rattle.requests.specs.declared.job.Job.TheVariants.{Run, RunUnpaired, Campaign, Explore}
 use Rattle.jobs.specs.declared.acting.JobFault.{JobFault}
 use Rattle.jobs.specs.declared.acting.JobFault.TheVariants.{Serve, TooLarge, Unpaired}
 use Rattle.jobs.specs.EndStates.{EndStateServed}
 use Rattle.jobs.proofs.EndStates.{end_state_file_fault}
+use Rattle.jobs.proofs.Explorations.{exploration_file_fault}
 use Rattle.jobs.specs.Acting.{RunServed, CampaignServed, Served, Does, DoesOverFile, FailsToRead, LacksFile, OpensAndDoes, ReadsFor}
 use Rattle.requests.specs.Jobs.{is_unpaired}
 use Rattle.jobs.specs.Acting.{most_bytes}
@@ -31,12 +33,12 @@ lacks_file old wf f due e = (elim due [ inl h ↦ inr (rw h refl) | inr h ↦ in
 
 module _ (input other : Option (List ℕ)) (as_known : (bytes : List ℕ) → Known input bytes → Known other bytes)
     (rf : Bool) (old new : Option (List ℕ)) (wf : Bool) where
-  run_as_known : (at : Option At) (outcome : Result Bool ServeFault)
+  run_as_known : (at : Option NamedPoint) (outcome : Result Bool ServeFault)
       → RunServed at input rf old new wf outcome → RunServed at other rf old new wf outcome
   run_as_known at (Ok passes) h = (h.0, h.1, serves_as_known _ _ input other as_known rf old new wf (Ok h.0) h.2)
   run_as_known at (Err fault) h = serves_as_known _ _ input other as_known rf old new wf (Err fault) h
 
-  end_state_as_known : (at : Option At) (outcome : Result Bool ServeFault)
+  end_state_as_known : (at : Option NamedPoint) (outcome : Result Bool ServeFault)
       → EndStateServed at input rf old new wf outcome → EndStateServed at other rf old new wf outcome
   end_state_as_known at (Ok passes) h = (h.0, h.1, serves_as_known _ _ input other as_known rf old new wf (Ok h.0) h.2)
   end_state_as_known at (Err fault) h = serves_as_known _ _ input other as_known rf old new wf (Err fault) h
@@ -52,6 +54,7 @@ module _ (input other : Option (List ℕ)) (as_known : (bytes : List ℕ) → Kn
   served_as_known (Run file at true) outcome h = end_state_as_known at outcome h
   served_as_known (RunUnpaired file) outcome h = absurd h
   served_as_known (Campaign file view shard options quiet) outcome h = campaign_as_known view shard outcome h
+  served_as_known (Explore file injections handlers) outcome h = serves_as_known _ _ input other as_known rf old new wf outcome h
 
   does_as_known : (job : Job) (outcome : Result Bool JobFault)
       → Does job input rf old new wf outcome → Does job other rf old new wf outcome
@@ -86,7 +89,7 @@ module _ (job : Job) (file : Option (List ℕ)) (bytes : List ℕ) (old new : Op
   over_file (Err (Serve Memory)) h = (does_whole (Err (Serve Memory)) h.0 h).1
   over_file (Err (Serve NotToml)) h = does_whole (Err (Serve NotToml)) h.0 h
   over_file (Err (Serve (Load fault))) h = does_whole (Err (Serve (Load fault))) h.0 h
-  over_file (Err (Serve UnknownHandler)) h = does_whole (Err (Serve UnknownHandler)) h.0 h
+  over_file (Err (Serve (UnknownHandler place))) h = does_whole (Err (Serve (UnknownHandler place))) h.0 h
   over_file (Err (Serve TooManyPoints)) h = does_whole (Err (Serve TooManyPoints)) h.0 h
   over_file (Err (Serve Write)) h = does_whole (Err (Serve Write)) h.0 h
 
@@ -135,6 +138,12 @@ served_fault (Campaign name view shard options quiet) file rf wf old read.Failed
     campaign_serves_file_fault view shard file rf wf old Read (reading_failed file read.Failed some) failed refl working
 served_fault (Campaign name view shard options quiet) file rf wf old read.Memory paired some failed working =
     campaign_serves_file_fault view shard file rf wf old Memory (reading_failed file read.Memory some) failed refl working
+served_fault (Explore name injections handlers) file rf wf old read.Failed paired some failed working =
+    exploration_file_fault injections (option_map (λ list. list.now) handlers) file rf wf
+    old Read (reading_failed file read.Failed some) failed refl working
+served_fault (Explore name injections handlers) file rf wf old read.Memory paired some failed working =
+    exploration_file_fault injections (option_map (λ list. list.now) handlers) file rf wf
+    old Memory (reading_failed file read.Memory some) failed refl working
 
 pub fails_to_read : (job : Job) (file : Option (List ℕ)) (rf wf : Bool) (old : Option (List ℕ)) (fault : ServeFault)
     → FailsToRead job file rf (Serve fault) → wf ≡ false → Does job file rf old old wf (Err (Serve fault))
@@ -143,7 +152,7 @@ fails_to_read job file rf wf old Read h working =
 fails_to_read job file rf wf old Memory h working = (h.0, served_fault job file rf wf old read.Memory h.0 (λ e. h.2) h.1 working)
 fails_to_read job file rf wf old NotToml h working = absurd h
 fails_to_read job file rf wf old (Load fault) h working = absurd h
-fails_to_read job file rf wf old UnknownHandler h working = absurd h
+fails_to_read job file rf wf old (UnknownHandler place) h working = absurd h
 fails_to_read job file rf wf old TooManyPoints h working = absurd h
 fails_to_read job file rf wf old Write h working = absurd h
 
@@ -155,7 +164,7 @@ fails_over_file job file rf wf old (Serve Read) h working = fails_to_read job fi
 fails_over_file job file rf wf old (Serve Memory) h working = fails_to_read job file rf wf old Memory h working
 fails_over_file job file rf wf old (Serve NotToml) h working = absurd h
 fails_over_file job file rf wf old (Serve (Load fault)) h working = absurd h
-fails_over_file job file rf wf old (Serve UnknownHandler) h working = absurd h
+fails_over_file job file rf wf old (Serve (UnknownHandler place)) h working = absurd h
 fails_over_file job file rf wf old (Serve TooManyPoints) h working = absurd h
 fails_over_file job file rf wf old (Serve Write) h working = absurd h
 
@@ -177,8 +186,8 @@ over_unknown_file job file rf old new wf (Err (Serve NotToml)) h =
     (tt, no_more_known job file rf old new wf (Err (Serve NotToml)) h.1)
 over_unknown_file job file rf old new wf (Err (Serve (Load fault))) h =
     (tt, no_more_known job file rf old new wf (Err (Serve (Load fault))) h.1)
-over_unknown_file job file rf old new wf (Err (Serve UnknownHandler)) h =
-    (tt, no_more_known job file rf old new wf (Err (Serve UnknownHandler)) h.1)
+over_unknown_file job file rf old new wf (Err (Serve (UnknownHandler place))) h =
+    (tt, no_more_known job file rf old new wf (Err (Serve (UnknownHandler place))) h.1)
 over_unknown_file job file rf old new wf (Err (Serve TooManyPoints)) h =
     (tt, no_more_known job file rf old new wf (Err (Serve TooManyPoints)) h.1)
 over_unknown_file job file rf old new wf (Err (Serve Write)) h = (tt, no_more_known job file rf old new wf (Err (Serve Write)) h.1)

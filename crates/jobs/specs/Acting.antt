@@ -1,6 +1,6 @@
 -- What doing a job comes to; the program's status and fault lines.
 use Rattle.std.specs.Prelude.{◌≡◌, ◌≢◌, ◌⊎◌, ◌==◌, ◌<◌, ◌≤◌, ◌*◌, ◌^◌, ℕ, length, IfSome, Bool, true, false, List, [], ◌∷◌, ◌++◌}
-use Rattle.std.specs.Prelude.{codes, decimal, Option, Some, None, Result, Ok, Err}
+use Rattle.std.specs.Prelude.{codes, decimal, Option, Some, None, Result, Ok, Err, option_map}
 use Rattle.std.specs.Io.KnownBytes.{Appends, Keeps}
 use Rattle.byte_io.specs.Bytes.{SentFront}
 use Rattle.byte_io.specs.Line.{joined_line}
@@ -10,18 +10,19 @@ use Rattle.model.specs.declared.totals.Totals.{Totals}
 use Rattle.model.specs.Campaign.{is_pass}
 use Rattle.script.specs.declared.fault.Fault.{Fault}
 use Rattle.script.specs.Faults.{fault_code, fault_name, place_words}
-use Rattle.requests.specs.declared.at.At.{At}
+use Rattle.requests.specs.declared.named_point.NamedPoint.{NamedPoint}
 use Rattle.campaign.specs.declared.file.ServeFault.{ServeFault}
 use Rattle.campaign.specs.declared.file.ServeFault.TheVariants.{Read, NotToml, Load, UnknownHandler, TooManyPoints, Memory, Write}
 use Rattle.campaign.specs.Serving.{Known}
 use Rattle.campaign.specs.OneRun.{ServesRun}
 use Rattle.campaign.specs.Campaigns.{ServesCampaign}
 use Rattle.jobs.specs.EndStates.{EndStateServed}
+use Rattle.jobs.specs.Explorations.{ServesExploration}
 use Rattle.jobs.specs.Passing.{IsServed}
 use Rattle.report.specs.Shards.{Shard}
 use Rattle.report.specs.declared.view.View.{View}
 use Rattle.requests.specs.declared.job.Job.{Job}
-use Rattle.requests.specs.declared.job.Job.TheVariants.{Run, RunUnpaired, Campaign}
+use Rattle.requests.specs.declared.job.Job.TheVariants.{Run, RunUnpaired, Campaign, Explore}
 use Rattle.requests.specs.Jobs.{file_of, handler_of, is_unpaired}
 use Rattle.jobs.specs.declared.acting.JobFault.{JobFault}
 use Rattle.jobs.specs.declared.acting.JobFault.TheVariants.{Unpaired, TooLarge, Serve}
@@ -33,10 +34,10 @@ abbrev pub all_pass : Totals → Bool
 all_pass totals = totals.pass == totals.rows
 
 -- A run is served, and passes or not.
-abbrev pub RunServed : Option At → (input : Option (List ℕ))
+abbrev pub RunServed : Option NamedPoint → (input : Option (List ℕ))
     → (read_failed : Bool) → (old new : Option (List ℕ)) → (write_failed : Bool)
     → Result Bool ServeFault → Type 0
-RunServed at input read_failed old new write_failed = IsServed is_pass (ServesRun at input read_failed old new write_failed)
+RunServed asked input read_failed old new write_failed = IsServed is_pass (ServesRun asked input read_failed old new write_failed)
 
 -- A part of a campaign is served as the view shows it, and all its rows pass or not.
 abbrev pub CampaignServed : View → Shard → (input : Option (List ℕ))
@@ -48,13 +49,15 @@ CampaignServed view shard input read_failed old new write_failed =
 -- What a job asks for is served, and passes or not.
 abbrev pub Served : Job → (input : Option (List ℕ)) → (read_failed : Bool) → (old new : Option (List ℕ)) → (write_failed : Bool)
     → Result Bool ServeFault → Type 0
-Served (Run file at false) input read_failed old new write_failed outcome =
-    RunServed at input read_failed old new write_failed outcome
-Served (Run file at true) input read_failed old new write_failed outcome =
-    EndStateServed at input read_failed old new write_failed outcome
+Served (Run file point false) input read_failed old new write_failed outcome =
+    RunServed point input read_failed old new write_failed outcome
+Served (Run file point true) input read_failed old new write_failed outcome =
+    EndStateServed point input read_failed old new write_failed outcome
 Served (RunUnpaired file) input read_failed old new write_failed outcome = ⊥
 Served (Campaign file view shard options quiet) input read_failed old new write_failed outcome =
     CampaignServed view shard input read_failed old new write_failed outcome
+Served (Explore file injections handlers) input read_failed old new write_failed outcome =
+    ServesExploration injections (option_map (λ list. list.now) handlers) input read_failed old new write_failed outcome
 
 -- What doing a job comes to, over an input: what it asks for is served; or its step and its handler don't go together, and nothing
 -- is written.
@@ -120,7 +123,7 @@ status_of (Ok true) = 0
 status_of (Ok false) = 1
 status_of (Err Unpaired) = 2
 status_of (Err TooLarge) = 3
-status_of (Err (Serve UnknownHandler)) = 2
+status_of (Err (Serve (UnknownHandler place))) = 2
 status_of (Err (Serve Read)) = 3
 status_of (Err (Serve NotToml)) = 3
 status_of (Err (Serve (Load fault))) = 3
@@ -142,7 +145,7 @@ fault_pieces name TooLarge = codes "rtosim: cannot read" ∷ (shown_name name ++
 fault_pieces name (Serve Read) = codes "rtosim: cannot read" ∷ shown_name name ∷ []
 fault_pieces name (Serve NotToml) = codes "rtosim: not TOML" ∷ []
 fault_pieces name (Serve (Load fault)) = load_pieces fault
-fault_pieces name (Serve UnknownHandler) = codes "rtosim: unknown handler" ∷ shown_name name ∷ []
+fault_pieces name (Serve (UnknownHandler place)) = codes "rtosim: unknown handler" ∷ shown_name name ∷ []
 fault_pieces name (Serve TooManyPoints) = codes "rtosim: too many points" ∷ []
 fault_pieces name (Serve Memory) = codes "rtosim: out of memory" ∷ []
 fault_pieces name (Serve Write) = codes "rtosim: cannot write" ∷ []
@@ -152,7 +155,7 @@ fault_line name fault = joined_line (fault_pieces name fault)
 
 -- the name in the line of a job's fault: that of the handler that is unknown, otherwise that of the file
 abbrev pub name_told : Job → JobFault → List ℕ
-name_told job (Serve UnknownHandler) = handler_of job
+name_told job (Serve (UnknownHandler place)) = handler_of job place
 name_told job fault = file_of job
 
 -- what is printed of an outcome

@@ -10,7 +10,7 @@ use Rattle.report.specs.declared.title.Title.{Title}
 use Rattle.report.specs.declared.title.Title.TheVariants.{Base, Row}
 use Rattle.report.specs.EndStates.{end_state_text}
 use Rattle.report.specs.Text.{run_text}
-use Rattle.requests.specs.declared.at.At.{At}
+use Rattle.requests.specs.declared.named_point.NamedPoint.{NamedPoint}
 use Rattle.campaign.specs.declared.file.ServeFault.{ServeFault}
 use Rattle.campaign.specs.OneRun.{HasFault, IsAsked}
 use Rattle.campaign.specs.Serving.{IsFileOf, Serves}
@@ -26,24 +26,25 @@ abbrev pub end_state_of_run : Application → Title → Run → EndState
 end_state_of_run app title run = end_state_of (state_after app app.limits (plan_titled title) run.steps)
 
 -- The bytes are a file. The run of it that is asked for has this end, and this report, which its end state follows.
-pub record IsEndStateReportOf (at : Option At) (bytes report : List ℕ) (end : End) : Type 0 where
+pub record IsEndStateReportOf (asked : Option NamedPoint) (bytes report : List ℕ) (end : End) : Type 0 where
   pub app : Application
   pub file : IsFileOf bytes app
   pub title : Title
   pub run : Run
-  pub runs : IsAsked at app title run
+  pub runs : IsAsked asked app title run
   pub ends : run.end ≡ end
   pub text : report ≡ run_text app title run ++ end_state_text app (end_state_of_run app title run)
 
 -- a call that serves the run that is asked for and its end state, and answers how it ends
-abbrev pub ServesEndState : Option At → Option (List ℕ) → (read_failed : Bool) → (old new : Option (List ℕ)) → (write_failed : Bool)
+abbrev pub ServesEndState : Option NamedPoint → Option (List ℕ)
+    → (read_failed : Bool) → (old new : Option (List ℕ)) → (write_failed : Bool)
     → Result End ServeFault → Type 0
-ServesEndState at input read_failed old new write_failed outcome =
-    Serves End (IsEndStateReportOf at) (HasFault at) input read_failed old new write_failed outcome
+ServesEndState asked input read_failed old new write_failed outcome =
+    Serves End (IsEndStateReportOf asked) (HasFault asked) input read_failed old new write_failed outcome
 
 -- The same, with the answer whether it passes.
-abbrev pub EndStateServed : Option At → (input : Option (List ℕ))
+abbrev pub EndStateServed : Option NamedPoint → (input : Option (List ℕ))
     → (read_failed : Bool) → (old new : Option (List ℕ)) → (write_failed : Bool)
     → Result Bool ServeFault → Type 0
-EndStateServed at input read_failed old new write_failed =
-    IsServed is_pass (ServesEndState at input read_failed old new write_failed)
+EndStateServed asked input read_failed old new write_failed =
+    IsServed is_pass (ServesEndState asked input read_failed old new write_failed)

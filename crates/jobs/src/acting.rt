@@ -8,12 +8,13 @@ ghost use Rattle.requests.specs.Jobs.{is_unpaired};
 ghost use Rattle.jobs.specs.Acting.{RunServed, CampaignServed, Does, DoesOverFile, OpensAndDoes, ReadsFor, FailsToRead, Tells, fault_line, most_bytes, name_told, told, status_of};
 
 use crate::end_state::serve_end_state_at;
+use crate::exploring::serve_exploration;
 use crate::fault_line::tell;
 use byte_io::{FromReader, ReadFault, Sink, Source, read_all, read_at_most};
 use campaign::{Gate, NoGate, ServeFault, serve_of, serve_run_of};
 use model::End;
 use report::{Shard, View};
-use requests::{At, Job, Options};
+use requests::{Job, NamedPoint, Options};
 use std::alloc::Global;
 use std::fs::File;
 use std::io::{self, ErrorKind};
@@ -45,13 +46,13 @@ fn name_told<'a>(job: &Job<'a>, fault: JobFault) -> &'a str
     ensures { result.now ≡ name_told job.now fault }
 {
     match fault {
-        JobFault::Serve(ServeFault::UnknownHandler) => job.handler(),
+        JobFault::Serve(ServeFault::UnknownHandler(place)) => job.handler(place),
         _ => job.file(),
     }
 }
 
-/// The status of a job. It is 0 where its run passes, or all rows of its part of a campaign do, written or not, and 1 where it or some of
-/// them don't. It is 2 where a step and a handler don't go together, or the handler is unknown; and 3 where the file has a fault or too
+/// The status of a job. It is 0 where its run passes, or all rows of its part of a campaign do, written or not, or the runs of all
+/// placements, and 1 where it or some of them don't. It is 2 where a step and a handler don't go together, or the handler is unknown; and 3 where the file has a fault or too
 /// many points, or can't be read. It is 4 for want of memory, and 5 where the report can't be written.
 pub fn status_of(outcome: Result<bool, JobFault>) -> u8
     ensures { result ≡ status_of outcome }
@@ -59,7 +60,7 @@ pub fn status_of(outcome: Result<bool, JobFault>) -> u8
     match outcome {
         Ok(true) => 0,
         Ok(false) => 1,
-        Err(JobFault::Unpaired | JobFault::Serve(ServeFault::UnknownHandler)) => 2,
+        Err(JobFault::Unpaired | JobFault::Serve(ServeFault::UnknownHandler(_))) => 2,
         Err(
             JobFault::TooLarge
             | JobFault::Serve(
@@ -102,15 +103,15 @@ pub fn conclude<F: Sink>(job: &Job<'_>, faults: &mut F, outcome: Result<bool, Jo
 // Serves a run. Answers whether it passes.
 fn serve_run_at<W: Sink>(
     alloc: Global,
-    at: Option<At<'_>>,
+    point: Option<NamedPoint<'_>>,
     bytes: &[u8],
     writer: &mut W,
 ) -> Result<bool, ServeFault>
     requires { W.has_failed writer.old ≡ false }
-    ensures { RunServed at.entry (Some bytes.now) false
+    ensures { RunServed point.entry (Some bytes.now) false
         (W.held writer.old) (W.held writer.new) (W.has_failed writer.new) result }
 {
-    let end = serve_run_of(alloc, bytes, writer, at)?;
+    let end = serve_run_of(alloc, bytes, writer, point)?;
     Ok(matches!(end, End::Pass))
 }
 
@@ -154,15 +155,15 @@ fn serve_job<T: Threads + Wait + Sync, W: Sink, G: Gate + Sync>(
     let served = match job {
         Job::RunUnpaired { .. } => return Err(JobFault::Unpaired),
         Job::Run {
-            at,
+            point,
             state: false,
             ..
-        } => serve_run_at(alloc, *at, bytes, writer),
+        } => serve_run_at(alloc, *point, bytes, writer),
         Job::Run {
-            at,
+            point,
             state: true,
             ..
-        } => serve_end_state_at(alloc, *at, bytes, writer),
+        } => serve_end_state_at(alloc, *point, bytes, writer),
         Job::Campaign {
             view,
             shard,
@@ -172,6 +173,11 @@ fn serve_job<T: Threads + Wait + Sync, W: Sink, G: Gate + Sync>(
         } => serve_campaign(
             rt, alloc, *view, *shard, *options, *quiet, bytes, writer, gate,
         ),
+        Job::Explore {
+            injections,
+            handlers,
+            ..
+        } => serve_exploration(alloc, *injections, *handlers, bytes, writer),
     };
     Ok(served?)
 }

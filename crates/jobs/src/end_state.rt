@@ -8,11 +8,11 @@ ghost use Rattle.campaign.specs.Serving.{IsFileOf};
 ghost use Rattle.jobs.specs.EndStates.{EndStateServed, ServesEndState, end_state_of_run};
 
 use byte_io::Sink;
-use campaign::{ServeFault, app_in};
+use campaign::{ServeFault, app_in, point_named};
 use kernel::run_to_end_state;
 use model::{App, End, EndState, Memory, Meter, Plan, Point, Run};
 use report::{Title, write_run_and_end_state};
-use requests::At;
+use requests::NamedPoint;
 use std::alloc::Global;
 
 // The run of this plan, and its end state.
@@ -45,21 +45,18 @@ fn ended_row(alloc: Global, app: &App, point: &Point) -> Result<(bool, Run, EndS
 fn asked_run(
     alloc: Global,
     app: &App,
-    at: Option<At<'_>>,
+    asked: Option<NamedPoint<'_>>,
 ) -> Result<(Title, Run, EndState), ServeFault>
     ensures { MatchResult result
-        (λ asked. IsAsked at.entry app.now asked.0 asked.1 × (asked.2 ≡ end_state_of_run app.now asked.0 asked.1))
-        (IsRunFault at.entry app.now) }
+        (λ run. IsAsked asked.entry app.now run.0 run.1 × (run.2 ≡ end_state_of_run app.now run.0 run.1))
+        (IsRunFault asked.entry app.now) }
 {
-    let Some(at) = at else {
+    let Some(named) = asked else {
         let nothing = Plan::none(alloc);
         let (run, end_state) = ended_run(alloc, app, &nothing)?;
         return Ok((Title::Base, run, end_state));
     };
-    let Some(handler) = app.handler_named(at.handler) else {
-        return Err(ServeFault::UnknownHandler);
-    };
-    let point = Point::one(at.step, handler);
+    let point = point_named(app, &named)?;
     let (reached, run, end_state) = ended_row(alloc, app, &point)?;
     let title = Title::Row {
         number: 0,
@@ -74,14 +71,14 @@ fn serve_app<W: Sink>(
     alloc: Global,
     app: &App,
     writer: &mut W,
-    at: Option<At<'_>>,
+    asked: Option<NamedPoint<'_>>,
 ) -> Result<End, ServeFault>
     requires { W.has_failed writer.old ≡ false }
     ensures { (bytes : List ℕ) → IsFileOf bytes app.now
-        → ServesEndState at.entry (Some bytes) false (W.held writer.old) (W.held writer.new)
+        → ServesEndState asked.entry (Some bytes) false (W.held writer.old) (W.held writer.new)
         (W.has_failed writer.new) result }
 {
-    let (title, run, end_state) = asked_run(alloc, app, at)?;
+    let (title, run, end_state) = asked_run(alloc, app, asked)?;
     write_run_and_end_state(writer, app, title, &run, &end_state)?;
     Ok(run.end)
 }
@@ -91,27 +88,27 @@ fn serve_end_state<W: Sink>(
     alloc: Global,
     bytes: &[u8],
     writer: &mut W,
-    at: Option<At<'_>>,
+    asked: Option<NamedPoint<'_>>,
 ) -> Result<End, ServeFault>
     requires { W.has_failed writer.old ≡ false }
-    ensures { ServesEndState at.entry (Some bytes.now) false
+    ensures { ServesEndState asked.entry (Some bytes.now) false
         (W.held writer.old) (W.held writer.new) (W.has_failed writer.new) result }
 {
     let app = app_in(alloc, bytes)?;
-    serve_app(alloc, &app, writer, at)
+    serve_app(alloc, &app, writer, asked)
 }
 
 /// Serves a run, and its end state. Answers whether it passes.
 pub(crate) fn serve_end_state_at<W: Sink>(
     alloc: Global,
-    at: Option<At<'_>>,
+    asked: Option<NamedPoint<'_>>,
     bytes: &[u8],
     writer: &mut W,
 ) -> Result<bool, ServeFault>
     requires { W.has_failed writer.old ≡ false }
-    ensures { EndStateServed at.entry (Some bytes.now) false
+    ensures { EndStateServed asked.entry (Some bytes.now) false
         (W.held writer.old) (W.held writer.new) (W.has_failed writer.new) result }
 {
-    let end = serve_end_state(alloc, bytes, writer, at)?;
+    let end = serve_end_state(alloc, bytes, writer, asked)?;
     Ok(matches!(end, End::Pass))
 }

@@ -108,7 +108,7 @@ fn serve_pieces<'a>(name: &'a str, fault: ServeFault) -> Pieces<'a>
         ServeFault::Read => words_and_name("rtosim: cannot read", name),
         ServeFault::NotToml => words_alone("rtosim: not TOML"),
         ServeFault::Load(fault) => load_pieces(fault),
-        ServeFault::UnknownHandler => words_and_name("rtosim: unknown handler", name),
+        ServeFault::UnknownHandler(_) => words_and_name("rtosim: unknown handler", name),
         ServeFault::TooManyPoints => words_alone("rtosim: too many points"),
         ServeFault::Memory => words_alone("rtosim: out of memory"),
         ServeFault::Write => words_alone("rtosim: cannot write"),

@@ -4,10 +4,11 @@
 
 mod acting;
 mod end_state;
+mod exploring;
 mod fault_line;
 mod obeying;
 
 pub use acting::{JobFault, act, conclude, open_and_act, refuse, status_of};
 pub use fault_line::tell;
 pub use obeying::{conclude_error, obey};
-pub use requests::{Job, job_named};
+pub use requests::{Job, MostInjections, job_named};

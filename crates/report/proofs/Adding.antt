@@ -1,5 +1,5 @@
 -- Adding the texts of several items at a time, and those of a row's parts.
-use Rattle.std.proofs.Common.{◌≡◌, ℕ, List, ◌++◌, Option, sym, append_assoc}
+use Rattle.std.proofs.Common.{◌≡◌, ◌∙◌, ℕ, List, ◌++◌, Option, ap, sym, append_assoc}
 use Rattle.std.proofs.lemmas.Grind.{flat_map-append}
 use Rattle.std.specs.List.{flat_map}
 use Rattle.byte_io.specs.Bytes.{Sent, SentFront}
@@ -28,3 +28,8 @@ pub parts_of_run : {A : Type 0} (f : A → List ℕ) (head : List ℕ) (first ow
 parts_of_run f head first own rest =
     rw (flat_map-append f first (own ++ rest), flat_map-append f own rest)
     (sym (append_assoc head (flat_map f first) (flat_map f own ++ flat_map f rest)))
+
+-- Words are added to a text.
+pub added : (start text page words next : List ℕ) → page ≡ start ++ text → next ≡ page ++ words → next ≡ start ++ (text ++ words)
+added start text page words next so_far put =
+    put ∙ ap (λ (bytes : List ℕ). bytes ++ words) so_far ∙ append_assoc start text words

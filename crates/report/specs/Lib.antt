@@ -1,5 +1,6 @@
 pub mod Again
 pub mod Examples
+pub mod Found
 pub mod Fronts
 pub mod Shards
 pub mod Tens

@@ -3,6 +3,7 @@
 
 mod base_events;
 mod end_state;
+mod found;
 mod label;
 mod labels;
 mod laws;
@@ -17,6 +18,7 @@ mod writer;
 
 pub use base_events::{BaseEvents, Scribe};
 pub use end_state::write_run_and_end_state;
+pub use found::{add_found, add_placements_total};
 pub use laws::{
     heads_of_rows, lines_of_totals, plain_view, report_of_delay_one, report_of_each_form,
     report_of_each_hold, report_of_two_unlocks, reports_in_views, reports_of_campaigns,

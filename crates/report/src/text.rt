@@ -212,7 +212,8 @@ fn push_isr_op(page: &mut Page, app: &App, handler: HandlerId, op_index: u16)
     page.push_number(op_index as u32);
 }
 
-fn push_verdict(page: &mut Page, app: &App, end: End)
+// Adds how a run ends: at most 64 bytes.
+pub(crate) fn push_verdict(page: &mut Page, app: &App, end: End)
     requires { length page.old + 64 ≤ Page.SIZE }
     ensures text { page.new ≡ page.old ++ verdict_text app.now end }
     ensures size { length page.new ≤ length page.old + 64 }
@@ -250,15 +251,14 @@ fn push_injection(page: &mut Page, app: &App, injection: Injection)
     page.push_text(handler_name(app, injection.handler));
 }
 
-// Adds an injection point: one to three injections, with a space between two.
-fn push_point(page: &mut Page, app: &App, point: &Point)
-    requires { length page.old + 83 ≤ Page.SIZE }
-    ensures text { page.new ≡ page.old ++ point_text app.now point.now }
+// Adds injections: three at most, with a space between two.
+pub(crate) fn push_injections(page: &mut Page, app: &App, injections: &[Injection])
+    requires room { length page.old + 83 ≤ Page.SIZE }
+    requires few { length injections.now ≤ 3 }
+    ensures text { page.new ≡ page.old ++ point_text app.now injections.now }
     ensures size { length page.new ≤ length page.old + 83 }
 {
-    point.well_formed();
-    let injections = point.injections();
-    let Some((first, others)) = injections.as_slice().split_first() else {
+    let Some((first, others)) = injections.split_first() else {
         return;
     };
     push_injection(page, app, *first);
@@ -266,6 +266,16 @@ fn push_point(page: &mut Page, app: &App, point: &Point)
         page.push_array(b" ");
         push_injection(page, app, *other);
     }
+}
+
+// Adds an injection point.
+fn push_point(page: &mut Page, app: &App, point: &Point)
+    requires { length page.old + 83 ≤ Page.SIZE }
+    ensures text { page.new ≡ page.old ++ point_text app.now point.now }
+    ensures size { length page.new ≤ length page.old + 83 }
+{
+    point.well_formed();
+    push_injections(page, app, point.injections().as_slice());
 }
 
 // Adds what is said of a point that is not reached.

@@ -2,4 +2,6 @@ pub mod Commands
 mod Listed
 pub mod Matches
 pub mod Meaning
-mod Splitting
+mod Naming
+pub mod Pointing
+pub mod Splitting

@@ -1,10 +1,9 @@
 -- Lists of ends and shards, as they are read.
-use Rattle.std.proofs.Common.{◌≡◌, ◌≢◌, ◌<◌, ◌≤◌, ◌+◌, ◌&&◌, ◌||◌, ◌==◌, ◌↔◌, ℕ, Bool, true, false, eqb, List, [], ◌∷◌, ◌++◌}
-use Rattle.std.proofs.Common.{length, Option, Some, None, option_map, refl, sym, ap, ap₂, subst, ◌∙◌, arith}
+use Rattle.std.proofs.Common.{◌≡◌, ◌||◌, ℕ, Bool, true, false, List, [], ◌∷◌}
+use Rattle.std.proofs.Common.{Option, Some, None, option_map, refl, sym, ap, ◌∙◌}
 use Rattle.std.specs.Option.{option_and_then}
-use Rattle.std.specs.List.{slice_split}
 use Rattle.report.specs.declared.view.Ends.{Ends}
-use Rattle.requests.specs.Shown.{either, ends_listed, ends_named, ends_of, no_end}
+use Rattle.requests.specs.Shown.{either, ends_listed, ends_named, no_end}
 
 -- ---- ends
 

@@ -1,27 +1,30 @@
 -- What the matches of the words say of the job.
-use Rattle.std.proofs.Common.{◌≡◌, ◌∙◌, ap, refl, sym, subst, codes, inl, inr, List, [], ◌∷◌, ℕ, Option, Some, None, Result, Ok}
+use Rattle.std.proofs.Common.{◌≡◌, ◌≢◌, ◌∙◌, ap, refl, sym, subst, codes, inl, inr, List, [], ◌∷◌, ℕ, Option, Some, None, Result}
+use Rattle.std.proofs.Common.{Ok}
 use Rattle.std.proofs.Common.{Err, option_map, IsNone}
-use Rattle.std.specs.Prelude.{Bool, true, false, MatchResult, if◌then◌else◌}
-use Rattle.std.specs.Str.{bytes_eq}
+use Rattle.std.specs.Prelude.{Bool, true, IfSome, MatchResult}
 use Rattle.std.specs.Result.{result_ok}
 use Rattle.std.specs.Str.Parse.{ParsesUnsigned}
 use Rattle.clap.specs.Words.{TriesOne, App, Row, is_simple, takes, fault_of, is_simple_and_free, Kinds, subcommand_of}
-use Rattle.clap.specs.Words.{subcommand_rows_of, HasKind, HasMatchesOf, IsAmong, kind_of}
+use Rattle.clap.specs.Words.{subcommand_rows_of, first_of, one_of, HasKind, HasMatchesOf, IsAmong, kind_of}
 use Rattle.clap.specs.Kinds.{or_else}
 use Rattle.clap.specs.declared.error.Error.{Error}
 use Rattle.clap.specs.declared.error.kind.ErrorKind.{ErrorKind}
-use Rattle.clap.specs.declared.error.kind.ErrorKind.TheVariants.{OutOfMemory, ValueValidation}
+use Rattle.clap.specs.declared.error.kind.ErrorKind.TheVariants.{OutOfMemory}
 use Rattle.clap.specs.declared.parser.matches.ArgMatches.{ArgMatches}
 use Rattle.clap.proofs.OnLiterals.{clap_on_literals}
 use Rattle.requests.specs.declared.options.BadOption.{BadOption}
 use Rattle.requests.specs.declared.options.Options.{Options}
 use Rattle.requests.specs.Options.{bad_option}
-use Rattle.report.specs.Shards.{Shard}
-use Rattle.report.specs.declared.view.View.{View}
 use Rattle.requests.specs.declared.job.Job.{Job}
-use Rattle.requests.specs.declared.job.Job.TheVariants.{Campaign, Run, RunUnpaired}
-use Rattle.requests.specs.Words.{IsJobOf, IsNoNumber, NamesNoOptions, faults_of, faults_without, number_in, number_of, rtosim_app}
-use Rattle.requests.specs.Words.{shard_in_rows, value_faults, view_in}
+use Rattle.requests.specs.declared.job.Job.TheVariants.{Campaign, Explore, Run, RunUnpaired}
+use Rattle.grammar.specs.Points.{RawPair}
+use Rattle.requests.specs.declared.named_point.NamedPoint.{NamedPoint}
+use Rattle.requests.specs.Asked.{pairs_in, pairs_spelled}
+use Rattle.requests.specs.Words.{Asking, Base, Half, Injects, IsRunOf, IsRunWith, IsStepOf, NamesNoRun, Nothing, asked_by}
+use Rattle.requests.specs.Words.{asking, injecting, is_given, point_faults, spelled_faults}
+use Rattle.requests.specs.Words.{IsJobOf, IsNoNumber, NamesNoOptions, faults_of, number_in, number_of, rtosim_app}
+use Rattle.requests.specs.Words.{value_faults}
 
 pub taken_as : (a b : App) (words : List (List ℕ)) (P : Type 0) → a ≡ b → (takes a words ≡ true → P) → takes b words ≡ true → P
 taken_as a b words P same gives took = gives (rw same took)
@@ -49,21 +52,43 @@ kinds_as a words P same gives = subst (λ (x : App). is_simple_and_free x ≡ tr
 
 -- ---- the values of words that the command takes
 
-abbrev no_kinds : Kinds
-no_kinds = []
+-- What a job asks for is asked for in sound words.
+some_asked : (point : Option NamedPoint) → asked_by point ≢ Nothing
+some_asked None e = cc e
+some_asked (Some point) e = cc e
 
-none_if : (b : Bool) → (if b then [] else []) ≡ no_kinds
-none_if true = refl
-none_if false = refl
+no_spelled_fault : (o : Option (List RawPair)) (a : Asking) → injecting o ≡ a → a ≢ Nothing → spelled_faults o ≡ []
+no_spelled_fault (Some pairs) a is some = refl
+no_spelled_fault None a is some = absurd (some (sym is))
+
+no_point_fault : (point at handler : Option (List ℕ)) (step : Option ℕ) (a : Asking) → option_map number_of at ≡ step
+    → asking point step handler ≡ a → a ≢ Nothing → point_faults point at handler ≡ []
+no_point_fault None at handler step a is asked some = refl
+no_point_fault (Some point) None None None a is asked some = no_spelled_fault (pairs_spelled point) a asked some
+no_point_fault (Some point) None (Some handler) None a is asked some = absurd (some (sym asked))
+no_point_fault (Some point) None handler (Some step) a is asked some = absurd (cc is)
+no_point_fault (Some point) (Some at) handler None a is asked some = absurd (cc is)
+no_point_fault (Some point) (Some at) handler (Some step) a is asked some = absurd (some (sym asked))
 
 -- words that name a job have no fault
 no_fault : (named : Option (List ℕ × List Row)) (job : Job) → IsJobOf named job → value_faults named ≡ []
 no_fault None job is = absurd is
-no_fault (Some named) job (inl is) = rw is.0 refl
-no_fault (Some named) (Run file at state) (inr is) = absurd is.1
-no_fault (Some named) (RunUnpaired file) (inr is) = absurd is.1
-no_fault (Some named) (Campaign file view shard options quiet) (inr is) =
-    rw (is.1.1, is.1.2) (none_if (bytes_eq named.0 (codes "campaign")))
+no_fault (Some named) (Run file point state) (inl is) =
+    rw is.0 (no_point_fault (first_of (codes "point") named.1) (one_of (codes "at") named.1) (first_of (codes "handler") named.1)
+    is.1.1.0 (asked_by point) is.1.1.1.0 is.1.1.2 (some_asked point))
+no_fault (Some named) (RunUnpaired file) (inl is) =
+    rw is.0 (no_point_fault (first_of (codes "point") named.1) (one_of (codes "at") named.1) (first_of (codes "handler") named.1)
+    is.1.1.0 Half is.1.1.1.0 is.1.1.2 (λ e. cc e))
+no_fault (Some named) (Campaign file view shard options quiet) (inl is) = absurd is.1
+no_fault (Some named) (Explore file injections handlers) (inl is) = absurd is.1
+no_fault (Some named) (Run file point state) (inr (inl is)) = absurd is.1
+no_fault (Some named) (RunUnpaired file) (inr (inl is)) = absurd is.1
+no_fault (Some named) (Campaign file view shard options quiet) (inr (inl is)) = rw (is.0, is.1.1, is.1.2) refl
+no_fault (Some named) (Explore file injections handlers) (inr (inl is)) = absurd is.1
+no_fault (Some named) (Run file point state) (inr (inr is)) = absurd is.1
+no_fault (Some named) (RunUnpaired file) (inr (inr is)) = absurd is.1
+no_fault (Some named) (Campaign file view shard options quiet) (inr (inr is)) = absurd is.1
+no_fault (Some named) (Explore file injections handlers) (inr (inr is)) = rw (is.0, is.1.2) refl
 
 pub no_faults : (a : App) (words : List (List ℕ)) (job : Job) → a ≡ rtosim_app → IsJobOf (subcommand_of rtosim_app words) job
     → (is_simple_and_free a ≡ true → fault_of a words ≡ []) → faults_of words ≡ []
@@ -93,22 +118,45 @@ value_as a words m e same has gives is =
 pub memory_alone : (kinds : Kinds) (e : Error) → HasKind kinds e → kinds ≡ [] → kind_of e ≡ OutOfMemory
 memory_alone kinds e is none = elim (subst (λ (k : Kinds). HasKind k e) none is) [ inl memory ↦ memory | inr among ↦ absurd among ]
 
--- a value that is none
-pub bad_list : (named : Option (List ℕ × List Row)) (name : List ℕ) (rows : List Row)
-    → named ≡ Some (name, rows) → name ≡ codes "campaign" → view_in rows ≡ None
-    → value_faults named ≡ ValueValidation ∷ []
-bad_list named name rows is at none = rw (is, at, none) refl
+-- ---- the job of words of `run`
 
-pub bad_shard : (named : Option (List ℕ × List Row)) (name : List ℕ) (rows : List Row)
-    → named ≡ Some (name, rows) → name ≡ codes "campaign" → shard_in_rows rows ≡ None
-    → value_faults named ≡ ValueValidation ∷ []
-bad_shard named name rows is at none = rw (is, at) (without_shard (view_in rows) (shard_in_rows rows) none)
-  where
-    without_shard : (view : Option View) (shard : Option Shard) → shard ≡ None → faults_without view shard ≡ ValueValidation ∷ []
-    without_shard None None e = refl
-    without_shard (Some view) None e = refl
-    without_shard None (Some shard) e = refl
-    without_shard (Some view) (Some shard) e = absurd (cc e)
+pub run_as : (rows : List Row) (file : List ℕ) (state : Bool) (step : Option ℕ) (a : Asking) (r : Option Job)
+    → first_of (codes "FILE") rows ≡ Some file → is_given (first_of (codes "state") rows) ≡ state → IsStepOf rows step
+    → asking (first_of (codes "point") rows) step (first_of (codes "handler") rows) ≡ a → IsRunWith file state a r
+    → IfSome r (IsRunOf rows)
+run_as rows file state step Base None f s at asks is = tt
+run_as rows file state step Base (Some (Run name None told)) f s at asks is =
+    (rw is.0 f, (step, at, asks), rw is.1 s)
+run_as rows file state step Base (Some (Run name (Some point) told)) f s at asks is = absurd is
+run_as rows file state step Base (Some (RunUnpaired name)) f s at asks is = absurd is
+run_as rows file state step Base (Some (Campaign name view shard options quiet)) f s at asks is = absurd is
+run_as rows file state step Base (Some (Explore name injections handlers)) f s at asks is = absurd is
+run_as rows file state step (Injects pairs) None f s at asks is = tt
+run_as rows file state step (Injects pairs) (Some (Run name (Some point) told)) f s at asks is =
+    (rw is.0 f, (step, at, asks ∙ ap Injects (sym is.2)), rw is.1 s)
+run_as rows file state step (Injects pairs) (Some (Run name None told)) f s at asks is = absurd is
+run_as rows file state step (Injects pairs) (Some (RunUnpaired name)) f s at asks is = absurd is
+run_as rows file state step (Injects pairs) (Some (Campaign name view shard options quiet)) f s at asks is = absurd is
+run_as rows file state step (Injects pairs) (Some (Explore name injections handlers)) f s at asks is = absurd is
+run_as rows file state step Half None f s at asks is = tt
+run_as rows file state step Half (Some (RunUnpaired name)) f s at asks is = (rw is f, (step, at, asks))
+run_as rows file state step Half (Some (Run name point told)) f s at asks is = absurd is
+run_as rows file state step Half (Some (Campaign name view shard options quiet)) f s at asks is = absurd is
+run_as rows file state step Half (Some (Explore name injections handlers)) f s at asks is = absurd is
+run_as rows file state step Nothing None f s at asks is = tt
+run_as rows file state step Nothing (Some (Run name point told)) f s at asks is = absurd is
+run_as rows file state step Nothing (Some (RunUnpaired name)) f s at asks is = absurd is
+run_as rows file state step Nothing (Some (Campaign name view shard options quiet)) f s at asks is = absurd is
+run_as rows file state step Nothing (Some (Explore name injections handlers)) f s at asks is = absurd is
+
+pub no_run_as : (rows : List Row) (file : List ℕ) (state : Bool) (step : Option ℕ) (a : Asking) (r : Option Job)
+    → IsStepOf rows step → asking (first_of (codes "point") rows) step (first_of (codes "handler") rows) ≡ a
+    → IsRunWith file state a r → IsNone r → NamesNoRun rows
+no_run_as rows file state step Base None at asks is none = absurd is
+no_run_as rows file state step (Injects pairs) None at asks is none = absurd is
+no_run_as rows file state step Half None at asks is none = absurd is
+no_run_as rows file state step Nothing None at asks is none = inr (inr (step, at, asks))
+no_run_as rows file state step a (Some job) at asks is none = absurd (cc none)
 
 -- A text that is read as a number is one.
 pub number_read : {E : Type 0} (gives : List ℕ → Result ℕ E → Type 0) (text : Option (List ℕ)) (r : Result (Option ℕ) E)

@@ -14,8 +14,9 @@ use Rattle.clap.specs.declared.error.kind.ErrorKind.TheVariants.{ValueValidation
 use Rattle.clap.specs.declared.builder.arg.Arg.{Arg}
 use Rattle.clap.specs.declared.builder.command.Command.{Command}
 use Rattle.clap.specs.declared.builder.command.Command.TheViews.{out-Command as fields_of}
+use Rattle.model.specs.Points.{most_of_point}
 use Rattle.model.specs.Scripts.{last_point}
-use Rattle.requests.specs.declared.at.At.{At}
+use Rattle.requests.specs.declared.named_point.NamedPoint.{NamedPoint}
 use Rattle.requests.specs.declared.options.BadOption.{BadOption}
 use Rattle.requests.specs.declared.options.Options.{Options}
 use Rattle.requests.specs.Options.{bad_option}
@@ -25,7 +26,10 @@ use Rattle.report.specs.declared.view.Ends.{Ends}
 use Rattle.report.specs.declared.view.View.{View}
 use Rattle.requests.specs.Shown.{ends_of, shard_named}
 use Rattle.requests.specs.declared.job.Job.{Job}
-use Rattle.requests.specs.declared.job.Job.TheVariants.{Run, RunUnpaired, Campaign}
+use Rattle.requests.specs.declared.job.Job.TheVariants.{Run, RunUnpaired, Campaign, Explore}
+use Rattle.grammar.specs.Points.{RawPair}
+use Rattle.requests.specs.Asked.{pairs_in, pairs_spelled}
+use Rattle.requests.specs.Names.{are_names, names_of}
 
 -- ---- the command
 
@@ -55,8 +59,13 @@ flag_rule name = record (new_rule name) { long = Some name; action = Some SetTru
 abbrev pub state_rule : Rule
 state_rule = flag_rule (codes "state")
 
+abbrev pub point_rule : Rule
+point_rule = text_rule (codes "point")
+
 abbrev pub run_app : App
-run_app = with_rule (with_rule (with_rule (with_rule (new_app (codes "run")) file_rule) at_rule) handler_rule) state_rule
+run_app =
+    with_rule (with_rule (with_rule (with_rule (with_rule (new_app (codes "run")) file_rule) at_rule) handler_rule) point_rule)
+    state_rule
 
 abbrev pub quiet_rule : Rule
 quiet_rule = flag_rule (codes "quiet")
@@ -94,12 +103,21 @@ campaign_app =
     with_rule (with_rule (with_rule (with_rule (with_rule (with_rule (with_rule (with_rule (new_app (codes "campaign")) file_rule)
     only_rule) heads_rule) shard_rule) workers_rule) stride_rule) block_rule) quiet_rule
 
+abbrev pub injections_rule : Rule
+injections_rule = option_rule (codes "injections") (codes "1") 0 most_of_point
+
+abbrev pub handlers_rule : Rule
+handlers_rule = text_rule (codes "handlers")
+
+abbrev pub explore_app : App
+explore_app = with_rule (with_rule (with_rule (new_app (codes "explore")) file_rule) injections_rule) handlers_rule
+
 -- the program without its commands: one of them has to be named
 abbrev pub rtosim_top : App
 rtosim_top = on_top (λ s. record s { has_version = true; subcommand_required = true }) (new_app (codes "rtosim"))
 
 unfoldable pub rtosim_app : App
-rtosim_app = with_subcommand (with_subcommand rtosim_top run_app.top) campaign_app.top
+rtosim_app = with_subcommand (with_subcommand (with_subcommand rtosim_top run_app.top) campaign_app.top) explore_app.top
 
 -- The command is read as this one, and has no argument that its own commands have too.
 pub record IsCommandOf (app : App) (command : Command) : Type 0 where
@@ -133,26 +151,52 @@ abbrev pub is_given : Option Text → Bool
 is_given None = false
 is_given (Some text) = bytes_eq text (codes "true")
 
--- The words of `run` name the step and the handler of this injection; or they name neither, and there is none.
-abbrev pub NamesInjection : List Row → Option At → Type 0
-NamesInjection rows (Some at) = IsStepOf rows (Some at.step) × (first_of (codes "handler") rows ≡ Some at.handler.now)
-NamesInjection rows None = IsStepOf rows None × (first_of (codes "handler") rows ≡ None)
+-- what words ask for: the base run, a point of these injections, half of an injection, or what no job is
+pub data Asking : Type 0 where
+  Base : Asking
+  Injects : List RawPair → Asking
+  Half : Asking
+  Nothing : Asking
 
--- They name one of the two alone.
-abbrev pub NamesHalf : List Row → Type 0
-NamesHalf rows =
-    ((step : ℕ) × IsStepOf rows (Some step) × (first_of (codes "handler") rows ≡ None))
-    ⊎ ((handler : Text) × IsStepOf rows None × (first_of (codes "handler") rows ≡ Some handler))
+abbrev pub injecting : Option (List RawPair) → Asking
+injecting (Some pairs) = Injects pairs
+injecting None = Nothing
 
--- The job is to run the file that the words of `run` name, with the injection that they name. It writes the end state too, or
+-- what these ask for: the text of a point, a step, and a handler. A point goes with neither of the others.
+abbrev pub asking : (point : Option Text) → (step : Option ℕ) → (handler : Option Text) → Asking
+asking None None None = Base
+asking None (Some step) (Some handler) = Injects (record { step = step; handler = handler } ∷ [])
+asking None step handler = Half
+asking (Some point) None None = injecting (pairs_spelled point)
+asking (Some point) step handler = Nothing
+
+-- The words of `run` ask for this.
+abbrev pub Asks : List Row → Asking → Type 0
+Asks rows a =
+    (step : Option ℕ) × IsStepOf rows step × (asking (first_of (codes "point") rows) step (first_of (codes "handler") rows) ≡ a)
+
+-- what a run with this point asks for, or one without
+abbrev pub asked_by : Option NamedPoint → Asking
+asked_by None = Base
+asked_by (Some point) = Injects (pairs_in point.injections)
+
+-- The job is to run the file that the words of `run` name, with the injections that they ask for. It writes the end state too, or
 -- doesn't. Or it is that of words that name half of an injection.
 abbrev pub IsRunOf : List Row → Job → Type 0
-IsRunOf rows (Run file at state) =
-    (first_of (codes "FILE") rows ≡ Some file.now)
-    × NamesInjection rows at
-    × (is_given (first_of (codes "state") rows) ≡ state)
-IsRunOf rows (RunUnpaired file) = (first_of (codes "FILE") rows ≡ Some file.now) × NamesHalf rows
+IsRunOf rows (Run file point state) =
+    (first_of (codes "FILE") rows ≡ Some file.now) × Asks rows (asked_by point) × (is_given (first_of (codes "state") rows) ≡ state)
+IsRunOf rows (RunUnpaired file) = (first_of (codes "FILE") rows ≡ Some file.now) × Asks rows Half
 IsRunOf rows (Campaign file view shard options quiet) = ⊥
+IsRunOf rows (Explore file injections handlers) = ⊥
+
+-- the job of words of `run` that ask for this
+abbrev pub IsRunWith : (file : Text) → (state : Bool) → Asking → Option Job → Type 0
+IsRunWith file state Base (Some (Run name None told)) = (name.now ≡ file) × (told ≡ state)
+IsRunWith file state (Injects pairs) (Some (Run name (Some point) told)) =
+    (name.now ≡ file) × (told ≡ state) × (pairs_in point.injections ≡ pairs)
+IsRunWith file state Half (Some (RunUnpaired name)) = name.now ≡ file
+IsRunWith file state Nothing None = Unit {0}
+IsRunWith file state a job = ⊥
 
 -- the number of an option
 abbrev pub number_in : (name : Text) → List Row → Option ℕ
@@ -187,18 +231,41 @@ shard_in_rows rows = shard_of_words (first_of (codes "shard") rows)
 -- The job is the campaign of the file that the words of `campaign` name, with the view, the shard and the options that they name,
 -- quiet or not.
 abbrev pub IsCampaignOf : List Row → Job → Type 0
-IsCampaignOf rows (Run file at state) = ⊥
+IsCampaignOf rows (Run file point state) = ⊥
 IsCampaignOf rows (RunUnpaired file) = ⊥
 IsCampaignOf rows (Campaign file view shard options quiet) =
     (first_of (codes "FILE") rows ≡ Some file.now) × (view_in rows ≡ Some view)
     × (shard_in_rows rows ≡ Some shard) × AreOptionsOf rows options
     × (is_given (first_of (codes "quiet") rows) ≡ quiet)
+IsCampaignOf rows (Explore file injections handlers) = ⊥
+
+-- They are as many injections as the words of `explore` name, or as many as they have where these name none.
+abbrev pub AreInjectionsOf : List Row → ℕ → Type 0
+AreInjectionsOf rows injections = (number_in (codes "injections") rows ≡ Some injections) × (injections ≤ most_of_point)
+
+-- the list of handlers that is named, if it is one of names; where none is, there is no list
+abbrev pub handlers_in : Option Text → Option (Option Text)
+handlers_in None = Some None
+handlers_in (Some list) = if are_names (names_of list) then Some (Some list) else None
+
+abbrev pub handlers_in_rows : List Row → Option (Option Text)
+handlers_in_rows rows = handlers_in (first_of (codes "handlers") rows)
+
+-- The job is to explore the file that the words of `explore` name, with the injections and the handlers that they name.
+abbrev pub IsExploreOf : List Row → Job → Type 0
+IsExploreOf rows (Run file point state) = ⊥
+IsExploreOf rows (RunUnpaired file) = ⊥
+IsExploreOf rows (Campaign file view shard options quiet) = ⊥
+IsExploreOf rows (Explore file injections handlers) =
+    (first_of (codes "FILE") rows ≡ Some file.now) × AreInjectionsOf rows injections
+    × (handlers_in_rows rows ≡ Some (option_map (λ list. list.now) handlers))
 
 -- The job is what the words name, by the command and its own words.
 abbrev pub IsJobOf : Option (Text × List Row) → Job → Type 0
 IsJobOf None job = ⊥
 IsJobOf (Some named) job =
-    ((named.0 ≡ codes "run") × IsRunOf named.1 job) ⊎ ((named.0 ≡ codes "campaign") × IsCampaignOf named.1 job)
+    ((named.0 ≡ codes "run") × IsRunOf named.1 job)
+    ⊎ (((named.0 ≡ codes "campaign") × IsCampaignOf named.1 job) ⊎ ((named.0 ≡ codes "explore") × IsExploreOf named.1 job))
 
 -- There is a text, and it is no number.
 abbrev pub IsNoNumber : Option Text → Type 0
@@ -211,9 +278,9 @@ NamesNoStep rows =
     IsNoNumber (one_of (codes "at") rows)
     ⊎ ((step : ℕ) × (option_map number_of (one_of (codes "at") rows) ≡ Some step) × (last_point < step))
 
--- The words of `run` name no file, or no step.
+-- The words of `run` name no file, or no step, or ask for nothing that a job is.
 abbrev pub NamesNoRun : List Row → Type 0
-NamesNoRun rows = (first_of (codes "FILE") rows ≡ None) ⊎ NamesNoStep rows
+NamesNoRun rows = (first_of (codes "FILE") rows ≡ None) ⊎ (NamesNoStep rows ⊎ Asks rows Nothing)
 
 -- An option has no number.
 abbrev pub LacksNumber : (name : Text) → List Row → Type 0
@@ -239,26 +306,59 @@ abbrev pub NamesNoCampaign : List Row → Type 0
 NamesNoCampaign rows =
     (first_of (codes "FILE") rows ≡ None) ⊎ ((view_in rows ≡ None) ⊎ ((shard_in_rows rows ≡ None) ⊎ NamesNoOptions rows))
 
+-- The number of injections that the words of `explore` name is none, or out of its range.
+abbrev pub NamesNoInjections : List Row → Type 0
+NamesNoInjections rows =
+    LacksNumber (codes "injections") rows
+    ⊎ ((injections : ℕ) × (number_in (codes "injections") rows ≡ Some injections) × (most_of_point < injections))
+
+-- The words of `explore` name no file, no list of handlers, or no number of injections.
+abbrev pub NamesNoExplore : List Row → Type 0
+NamesNoExplore rows =
+    (first_of (codes "FILE") rows ≡ None) ⊎ ((handlers_in_rows rows ≡ None) ⊎ NamesNoInjections rows)
+
 -- The words name no job.
 abbrev pub NamesNoJob : Option (Text × List Row) → Type 0
 NamesNoJob None = Unit {0}
 NamesNoJob (Some named) =
     (named.0 ≡ codes "run" → NamesNoRun named.1) × (named.0 ≡ codes "campaign" → NamesNoCampaign named.1)
+    × (named.0 ≡ codes "explore" → NamesNoExplore named.1)
 
 -- ---- words that are refused
+
+abbrev pub spelled_faults : Option (List RawPair) → Kinds
+spelled_faults (Some pairs) = []
+spelled_faults None = ValueValidation ∷ []
+
+-- of what kind a fault is of a point, a step and a handler: the point is none, or one of the others is named too
+abbrev pub point_faults : (point : Option Text) → (at handler : Option Text) → Kinds
+point_faults None at handler = []
+point_faults (Some point) None None = spelled_faults (pairs_spelled point)
+point_faults (Some point) at handler = ValueValidation ∷ []
 
 -- of what kind a fault is where the view or the shard is none
 abbrev pub faults_without : Option View → Option Shard → Kinds
 faults_without (Some view) (Some shard) = []
 faults_without view shard = ValueValidation ∷ []
 
+-- of what kind a fault is where the handlers are none
+abbrev pub handlers_faults : Option (Option Text) → Kinds
+handlers_faults (Some handlers) = []
+handlers_faults None = ValueValidation ∷ []
+
+abbrev pub run_faults : List Row → Kinds
+run_faults rows = point_faults (first_of (codes "point") rows) (one_of (codes "at") rows) (first_of (codes "handler") rows)
+
 -- of what kind the fault of words is that the command takes
 abbrev pub value_faults : Option (Text × List Row) → Kinds
 value_faults None = []
 value_faults (Some named) =
-    if bytes_eq named.0 (codes "campaign") then faults_without (view_in named.1) (shard_in_rows named.1) else []
+    if bytes_eq named.0 (codes "campaign") then faults_without (view_in named.1) (shard_in_rows named.1)
+    else if bytes_eq named.0 (codes "explore") then handlers_faults (handlers_in_rows named.1)
+    else if bytes_eq named.0 (codes "run") then run_faults named.1
+    else []
 
--- Of what kinds the fault of the words may be: one of those that the command doesn't take, otherwise that of a list of ends or of a
--- shard. There is none where they name a job.
+-- Of what kinds the fault of the words may be: one of those that the command doesn't take, otherwise that of a list of ends, of a
+-- shard, of handlers or of a point. There is none where they name a job.
 abbrev pub faults_of : List (List ℕ) → Kinds
 faults_of words = or_else (fault_of rtosim_app words) (value_faults (subcommand_of rtosim_app words))

@@ -2,18 +2,20 @@
 ghost use Rattle.std.specs.Prelude.{◌≡◌};
 ghost use Rattle.requests.specs.Jobs.{file_of, handler_of, is_unpaired};
 
-use crate::at::At;
+use crate::most_injections::MostInjections;
+use crate::named_point::NamedPoint;
+use crate::names::name_at;
 use crate::options::Options;
 use report::{Shard, View};
 
 /// What the program is to do.
 #[derive(Clone, Copy, PartialEq, Eq)]
 pub enum Job<'a> {
-    /// Write the report of the run of this file's application: the base run, or row 0, with this injection. The end state is
+    /// Write the report of the run of this file's application: the base run, or row 0, with this point. The end state is
     /// written too, or isn't.
     Run {
         file: &'a str,
-        at: Option<At<'a>>,
+        point: Option<NamedPoint<'a>>,
         state: bool,
     },
     /// Nothing but to open this file: a run was asked for with a step and no handler, or with a handler and no step.
@@ -29,6 +31,13 @@ pub enum Job<'a> {
         options: Options,
         quiet: bool,
     },
+    /// Write what is found among all placements of at most so many injections of these handlers, whose names are joined by commas, or of
+    /// all handlers, in the run of this file's application.
+    Explore {
+        file: &'a str,
+        injections: MostInjections,
+        handlers: Option<&'a str>,
+    },
 }
 
 impl<'a> Job<'a> {
@@ -37,16 +46,26 @@ impl<'a> Job<'a> {
         ensures { result.now ≡ file_of self.now }
     {
         match self {
-            Job::Run { file, .. } | Job::RunUnpaired { file } | Job::Campaign { file, .. } => *file,
+            Job::Run { file, .. }
+            | Job::RunUnpaired { file }
+            | Job::Campaign { file, .. }
+            | Job::Explore { file, .. } => *file,
         }
     }
 
-    /// The name of the handler that it injects; empty where it has none.
-    pub fn handler(&self) -> &'a str
-        ensures { result.now ≡ handler_of self.now }
+    /// The name of the handler that its words name in this place, from 0; empty where they name none there.
+    pub fn handler(&self, place: usize) -> &'a str
+        ensures { result.now ≡ handler_of self.now place }
     {
         match self {
-            Job::Run { at: Some(at), .. } => at.handler,
+            Job::Run {
+                point: Some(point),
+                ..
+            } => point.handler(place),
+            Job::Explore {
+                handlers: Some(names),
+                ..
+            } => name_at(names, place),
             _ => "",
         }
     }
@@ -57,7 +76,7 @@ impl<'a> Job<'a> {
     {
         match self {
             Job::RunUnpaired { .. } => true,
-            Job::Run { .. } | Job::Campaign { .. } => false,
+            Job::Run { .. } | Job::Campaign { .. } | Job::Explore { .. } => false,
         }
     }
 }

@@ -3,11 +3,15 @@ ghost use Rattle.std.specs.Prelude.{◌≡◌, Some, codes, IfOk, IfErr, IfSome,
 ghost use Rattle.clap.specs.declared.builder.command.Command.TheViews.{out-Command as fields_of};
 ghost use Rattle.clap.specs.Words.{new_app, with_subcommand, takes, kind_of, subcommand_of, first_of, one_of, found_of, rows_of, subcommand_rows_of, FailsBy, HasKind};
 ghost use Rattle.clap.specs.declared.error.kind.ErrorKind.TheVariants.{OutOfMemory, ValueValidation};
-ghost use Rattle.requests.specs.Words.{file_rule, at_rule, handler_rule, state_rule, only_rule, heads_rule, shard_rule, quiet_rule, flag_rule, text_rule, option_rule, workers_rule, stride_rule, block_rule, run_app, campaign_app, rtosim_top, rtosim_app, texts_of, number_of, is_given, ends_in, view_in, shard_of_words, shard_in_rows, value_faults, faults_of, IsCommandOf, IsArgOf, IsStepOf, IsRunOf, AreOptionsOf, IsCampaignOf, IsJobOf, IsNoNumber, NamesNoStep, NamesNoRun, NamesNoOptions, NamesNoCampaign, NamesNoJob};
+ghost use Rattle.requests.specs.Asked.{pairs_in};
+ghost use Rattle.requests.specs.Words.{file_rule, at_rule, handler_rule, point_rule, state_rule, only_rule, heads_rule, shard_rule, quiet_rule, flag_rule, text_rule, option_rule, workers_rule, stride_rule, block_rule, run_app, campaign_app, explore_app, injections_rule, handlers_rule, rtosim_top, rtosim_app, texts_of, number_of, is_given, ends_in, view_in, shard_of_words, shard_in_rows, handlers_in, handlers_in_rows, handlers_faults, faults_without, value_faults, faults_of, IsCommandOf, IsArgOf, IsStepOf, IsRunOf, IsRunWith, asking, injecting, run_faults, AreOptionsOf, IsCampaignOf, AreInjectionsOf, IsExploreOf, IsJobOf, IsNoNumber, NamesNoStep, NamesNoRun, NamesNoOptions, NamesNoCampaign, NamesNoInjections, NamesNoExplore, NamesNoJob};
 
-use crate::at::At;
 use crate::job::Job;
+use crate::most_injections::MostInjections;
+use crate::named_point::NamedPoint;
+use crate::names::are_names;
 use crate::options::Options;
+use crate::point_words::point_spelled;
 use crate::shown::{ends_of, shard_named};
 use clap::error::ErrorKind;
 use clap::{Arg, ArgAction, ArgMatches, Command, Error, value_parser};
@@ -17,8 +21,9 @@ use std::convert::AsStr;
 use std::num::ParseIntError;
 
 const STATUSES: &str = "Exit status:
-  0  the run or every row passes, or help or the version was asked for
-  1  the run or some row ends in another way: its head line says how
+  0  the run passes, or every row or placement does; or help or the version
+     was asked for
+  1  the run, or some row or placement, ends in another way: its line says how
   2  the words of the command line are refused, or no handler has the name
   3  the file can't be read, is not TOML, describes no application, or has
      more than 1000000 points
@@ -30,6 +35,14 @@ const BAD_LIST: &str =
     "the value of '--only' is pass, check, misuse, ticks, steps, stuck or failing, or several of them joined by commas";
 
 const BAD_SHARD: &str = "the value of '--shard' is I/N, where N is 1 to 1000000 and I is 1 to N";
+
+// What is said of a point that is none, or that isn't alone.
+const BAD_POINT: &str =
+    "the value of '--point' is STEP HANDLER, once to three times, and it goes with neither '--at' nor '--handler'";
+
+// What is said of handlers that are none.
+const BAD_HANDLERS: &str =
+    "the value of '--handlers' is the name of a handler, or several different ones joined by commas";
 
 // The latest step before which a handler can be injected (profile).
 const MOST_STEP: u32 = 1_000_000;
@@ -106,6 +119,14 @@ fn handler_argument<'a>(alloc: Global) -> Arg<'a>
     )
 }
 
+fn point_argument<'a>(alloc: Global) -> Arg<'a>
+    ensures { IsArgOf point_rule result }
+{
+    valued_argument(alloc, "point", "POINT").help(
+        "Injections in the place of these two: 'STEP HANDLER STEP HANDLER ..'",
+    )
+}
+
 // An argument of this name that is given or not.
 fn flag_argument<'a>(alloc: Global, name: &'a str) -> Arg<'a>
     ensures { IsArgOf (flag_rule name.now) result }
@@ -151,6 +172,23 @@ fn block_argument<'a>(alloc: Global) -> Arg<'a>
     )
 }
 
+fn injections_argument<'a>(alloc: Global) -> Arg<'a>
+    ensures { IsArgOf injections_rule result }
+{
+    valued_argument(alloc, "injections", "K")
+        .value_parser(value_parser!(u32).range(..=i64::from(MostInjections::MOST)))
+        .default_value("1")
+        .help("Injections that a placement has at most, 0 to 3")
+}
+
+fn handlers_argument<'a>(alloc: Global) -> Arg<'a>
+    ensures { IsArgOf handlers_rule result }
+{
+    valued_argument(alloc, "handlers", "NAMES").help(
+        "Handlers that are injected, by their names, joined by commas; otherwise all",
+    )
+}
+
 // A command of this name without arguments, whose help says what it is about and ends with the statuses.
 fn described_command<'a>(alloc: Global, name: &'a str, about: &'a str) -> Command<'a>
     ensures reads { IsCommandOf (new_app name.now) result }
@@ -167,6 +205,7 @@ fn run_command<'a>(alloc: Global) -> Result<Command<'a>, AllocError>
         file_argument(alloc),
         at_argument(alloc),
         handler_argument(alloc),
+        point_argument(alloc),
         state_argument(alloc),
     ]?;
     described_command(
@@ -198,6 +237,22 @@ fn campaign_command<'a>(alloc: Global) -> Result<Command<'a>, AllocError>
     .args(arguments)
 }
 
+fn explore_command<'a>(alloc: Global) -> Result<Command<'a>, AllocError>
+    ensures { IfOk result (λ command. IsCommandOf explore_app command) }
+{
+    let arguments = vec![in alloc;
+        file_argument(alloc),
+        injections_argument(alloc),
+        handlers_argument(alloc),
+    ]?;
+    described_command(
+        alloc,
+        "explore",
+        "Counts how the runs with all placements of a few injections end",
+    )
+    .args(arguments)
+}
+
 // The program without its commands.
 fn program<'a>(alloc: Global) -> Command<'a>
     ensures reads { IsCommandOf rtosim_top result }
@@ -221,12 +276,21 @@ fn program_with_run<'a>(alloc: Global) -> Result<Command<'a>, AllocError>
     program(alloc).subcommand(run)
 }
 
-fn command<'a>(alloc: Global) -> Result<Command<'a>, AllocError>
-    ensures { IfOk result (λ command. IsCommandOf rtosim_app command) }
+// The program with the commands `run` and `campaign`.
+fn program_with_runs<'a>(alloc: Global) -> Result<Command<'a>, AllocError>
+    ensures { IfOk result (λ command. IsCommandOf (with_subcommand (with_subcommand rtosim_top run_app.top) campaign_app.top) command) }
 {
     let program = program_with_run(alloc)?;
     let campaign = campaign_command(alloc)?;
     program.subcommand(campaign)
+}
+
+fn command<'a>(alloc: Global) -> Result<Command<'a>, AllocError>
+    ensures { IfOk result (λ command. IsCommandOf rtosim_app command) }
+{
+    let program = program_with_runs(alloc)?;
+    let explore = explore_command(alloc)?;
+    program.subcommand(explore)
 }
 
 fn text<'a>(matches: &ArgMatches<'a>, id: &str) -> Option<&'a str>
@@ -256,6 +320,47 @@ fn step_of(matches: &ArgMatches<'_>) -> Option<Option<u32>>
     }
 }
 
+// The point that these words name, where a point and a handler are named or not. `None`: it is none, or one of the others is named too.
+fn point_among<'a>(point: &'a str, step: Option<u32>, handler: Option<&str>) -> Option<NamedPoint<'a>>
+    ensures { asking (Some point.entry.now) step (option_map (λ handler. handler.now) handler.entry)
+        ≡ injecting (option_map (λ point. pairs_in point.injections) result) }
+{
+    match (step, handler) {
+        (None, None) => point_spelled(point),
+        (None, Some(_)) | (Some(_), _) => None,
+    }
+}
+
+// The job of the command `run`, which this file and these words name.
+fn run_with<'a>(
+    file: &'a str,
+    state: bool,
+    point: Option<&'a str>,
+    step: Option<u32>,
+    handler: Option<&'a str>,
+) -> Option<Job<'a>>
+    ensures { IsRunWith file.entry.now state
+        (asking (option_map (λ point. point.now) point.entry) step (option_map (λ handler. handler.now) handler.entry)) result }
+{
+    match (point, step, handler) {
+        (None, None, None) => Some(Job::Run {
+            file,
+            point: None,
+            state,
+        }),
+        (None, Some(step), Some(handler)) => Some(Job::Run {
+            file,
+            point: Some(NamedPoint::one(step, handler)),
+            state,
+        }),
+        (None, Some(_), None) | (None, None, Some(_)) => Some(Job::RunUnpaired { file }),
+        (Some(point), step, handler) => {
+            let point = Some(point_among(point, step, handler)?);
+            Some(Job::Run { file, point, state })
+        }
+    }
+}
+
 // The job of the command `run`.
 fn run_job<'a>(matches: &ArgMatches<'a>) -> Option<Job<'a>>
     ensures job { IfSome result (IsRunOf (rows_of (found_of matches.now))) }
@@ -264,19 +369,13 @@ fn run_job<'a>(matches: &ArgMatches<'a>) -> Option<Job<'a>>
     let file = text(matches, "FILE")?;
     let step = step_of(matches)?;
     let state = is_given(matches, "state");
-    match (step, text(matches, "handler")) {
-        (None, None) => Some(Job::Run {
-            file,
-            at: None,
-            state,
-        }),
-        (Some(step), Some(handler)) => Some(Job::Run {
-            file,
-            at: Some(At { step, handler }),
-            state,
-        }),
-        _ => Some(Job::RunUnpaired { file }),
-    }
+    run_with(
+        file,
+        state,
+        text(matches, "point"),
+        step,
+        text(matches, "handler"),
+    )
 }
 
 // Whether a flag is given.
@@ -361,6 +460,42 @@ fn campaign_job<'a>(matches: &ArgMatches<'a>) -> Option<Job<'a>>
     })
 }
 
+// How many injections the words of `explore` name. `None`: it is no number, or out of its range.
+fn injections_of(matches: &ArgMatches<'_>) -> Option<MostInjections>
+    ensures injections { IfSome result (AreInjectionsOf (rows_of (found_of matches.now))) }
+    ensures none { IsNone result → NamesNoInjections (rows_of (found_of matches.now)) }
+{
+    match number(matches, "injections") {
+        Ok(Some(count)) => MostInjections::new(count),
+        _ => None,
+    }
+}
+
+// The handlers, where a list of them is named or not.
+fn handlers_in<'a>(list: Option<&'a str>) -> Option<Option<&'a str>>
+    ensures { option_map (λ list. option_map (λ list. list.now) list) result ≡ handlers_in (option_map (λ list. list.now) list.entry) }
+{
+    match list {
+        Some(list) if !are_names(list) => None,
+        list => Some(list),
+    }
+}
+
+// The job of the command `explore`.
+fn explore_job<'a>(matches: &ArgMatches<'a>) -> Option<Job<'a>>
+    ensures job { IfSome result (IsExploreOf (rows_of (found_of matches.now))) }
+    ensures none { IsNone result → NamesNoExplore (rows_of (found_of matches.now)) }
+{
+    let file = text(matches, "FILE")?;
+    let handlers = handlers_in(text(matches, "handlers"))?;
+    let injections = injections_of(matches)?;
+    Some(Job::Explore {
+        file,
+        injections,
+        handlers,
+    })
+}
+
 fn job_of<'a>(matches: &ArgMatches<'a>) -> Option<Job<'a>>
     ensures job { IfSome result (IsJobOf (subcommand_rows_of matches.now)) }
     ensures none { IsNone result → NamesNoJob (subcommand_rows_of matches.now) }
@@ -369,8 +504,50 @@ fn job_of<'a>(matches: &ArgMatches<'a>) -> Option<Job<'a>>
     match name {
         "run" => run_job(inner),
         "campaign" => campaign_job(inner),
+        "explore" => explore_job(inner),
         _ => None,
     }
+}
+
+// What is wrong with the point of words of `run`, if something is.
+fn bad_run_value(matches: &ArgMatches<'_>) -> Option<&'static str>
+    ensures { IsSome result → run_faults (rows_of (found_of matches.now)) ≡ ValueValidation ∷ [] }
+{
+    let point = text(matches, "point")?;
+    let Ok(None) = number(matches, "at") else {
+        return Some(BAD_POINT);
+    };
+    if text(matches, "handler").is_some() {
+        return Some(BAD_POINT);
+    }
+    match point_spelled(point) {
+        Some(_) => None,
+        None => Some(BAD_POINT),
+    }
+}
+
+// What is wrong with a value of words of `campaign`, if one is.
+fn bad_campaign_value(matches: &ArgMatches<'_>) -> Option<&'static str>
+    ensures { IsSome result → faults_without (view_in (rows_of (found_of matches.now))) (shard_in_rows (rows_of (found_of matches.now)))
+        ≡ ValueValidation ∷ [] }
+{
+    if view_of(matches).is_none() {
+        return Some(BAD_LIST);
+    }
+    if shard_of(matches).is_none() {
+        return Some(BAD_SHARD);
+    }
+    None
+}
+
+// What is wrong with a value of words of `explore`, if one is.
+fn bad_explore_value(matches: &ArgMatches<'_>) -> Option<&'static str>
+    ensures { IsSome result → handlers_faults (handlers_in_rows (rows_of (found_of matches.now))) ≡ ValueValidation ∷ [] }
+{
+    if handlers_in(text(matches, "handlers")).is_none() {
+        return Some(BAD_HANDLERS);
+    }
+    None
 }
 
 // What is wrong with a value of words that the command takes, if one is.
@@ -378,16 +555,12 @@ fn bad_value(matches: &ArgMatches<'_>) -> Option<&'static str>
     ensures { IsSome result → value_faults (subcommand_rows_of matches.now) ≡ ValueValidation ∷ [] }
 {
     let (name, inner) = matches.subcommand()?;
-    if name != "campaign" {
-        return None;
+    match name {
+        "campaign" => bad_campaign_value(inner),
+        "explore" => bad_explore_value(inner),
+        "run" => bad_run_value(inner),
+        _ => None,
     }
-    if view_of(inner).is_none() {
-        return Some(BAD_LIST);
-    }
-    if shard_of(inner).is_none() {
-        return Some(BAD_SHARD);
-    }
-    None
 }
 
 // The refusal of a value.
@@ -412,8 +585,8 @@ fn refusal(alloc: Global, matches: &ArgMatches<'_>) -> Error
 }
 
 /// The job that the words name; the first of them is the name of the program. At `Err` help or the version was asked
-/// for, the words are refused, or no memory is left, as the kind of the error says. Words that the command takes, and whose list of ends
-/// and shard are such, are refused only for want of memory.
+/// for, the words are refused, or no memory is left, as the kind of the error says. Words that the command takes, and whose list of ends,
+/// shard, handlers and point are such, are refused only for want of memory.
 pub fn job_named<'a, S: AsStr>(alloc: Global, words: &'a [S]) -> Result<Job<'a>, Error>
     ensures job { IfOk result (IsJobOf (subcommand_of rtosim_app (map S.text words.entry.now))) }
     ensures memory { IfErr result (λ e. takes rtosim_app (map S.text words.entry.now) ≡ true

@@ -1,4 +1,5 @@
-//! The program `rtosim`: runs an application file, and writes the trace of its run, or the report of its campaign.
+//! The program `rtosim`: runs an application file, and writes the trace of its run, the report of its campaign, or how the runs of all
+//! placements end.
 #![tactic(auto)]
 
 mod counter;
@@ -12,13 +13,13 @@ use std::num::NonZeroUsize;
 use std::process::ExitCode;
 use std::thread::{Threads, available_parallelism};
 
-// This many bytes of stack a campaign takes at most, and some more.
+// This many bytes of stack a campaign takes at most, and what explores less, and some more.
 const CAMPAIGN_STACK: usize = 598_016;
 
 // And any other job.
 const STACK: usize = 303_104;
 
-// Takes the stack of a campaign, and gives it back: it stays the program's. So where a limit on all memory leaves no room for it, the
+// Takes the stack of a campaign or of what explores, and gives it back: it stays the program's. So where a limit on all memory leaves no room for it, the
 // program ends before it has done anything, and otherwise the stack need not grow later. Answers 0 or 1, by what lies at `place`.
 #[inline(never)]
 fn take_campaign_stack(place: usize) -> u8 {
@@ -39,7 +40,7 @@ fn take_stack(place: usize) -> u8 {
 #[inline(never)]
 fn take_stack_for(words: &[String]) -> u8 {
     for word in words {
-        if word.as_str() == "campaign" {
+        if matches!(word.as_str(), "campaign" | "explore") {
             return take_campaign_stack(words.len());
         }
     }

@@ -10,7 +10,7 @@ pub returns-in_err-title : goal.returns-in_err-title
 returns-in_err-title g c input bytes known file =
     let told : c.from_residual.result ≡ Err c.in_err-title.field-0.0 = search rules in
     rw told
-    (serves_run_fault c.args.at input false (g.W.Sink.has_failed c.args.writer.now) (g.W.Sink.held c.args.writer.now)
+    (serves_run_fault c.args.asked input false (g.W.Sink.has_failed c.args.writer.now) (g.W.Sink.held c.args.writer.now)
     c.in_err-title.field-0.0 c.args.app.now (bytes, known, file) c.in_err-title.ensures refl c.requires)
 
 pub returns-in_err-write_run : goal.returns-in_err-write_run
@@ -18,7 +18,7 @@ returns-in_err-write_run g c input bytes known file =
     let app = c.args.app.now in
     let title = c.in_ok-title.title in
     let run = c.in_ok-title.run' in
-    let is : IsReportOf c.args.at bytes (run_text app title run) run.end =
+    let is : IsReportOf c.args.asked bytes (run_text app title run) run.end =
     record { app = app; file = file; title = title; run = run; runs = c.in_ok-title.ensures; ends = refl; text = refl } in
     let told : c.from_residual-in_err-write_run.result ≡ Err Write = search rules in
     rw told
@@ -29,7 +29,7 @@ returns g c input bytes known file =
     let app = c.args.app.now in
     let title = c.in_ok-title.title in
     let run = c.in_ok-title.run' in
-    let is : IsReportOf c.args.at bytes (run_text app title run) c.run.inside.end =
+    let is : IsReportOf c.args.asked bytes (run_text app title run) c.run.inside.end =
     record {
       app = app;
       file = file;

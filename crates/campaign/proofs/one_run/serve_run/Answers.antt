@@ -10,7 +10,7 @@ returns-in_err-app g c =
     let fault = c.in_err-app.field-0.0 in
     let told : c.from_residual.result ≡ Err fault = search rules in
     rw told
-    (serves_file_fault c.args.at (g.R.Source.left c.args.reader.now) _ _ _ fault
+    (serves_file_fault c.args.asked (g.R.Source.left c.args.reader.now) _ _ _ fault
     c.in_err-app.ensures.app (c.in_err-app.ensures.read ∙ same_read Application End fault)
     (same_write Application End fault ∙ c.in_err-app.ensures.write) c.requires.writes)
 
@@ -19,6 +19,6 @@ returns g c =
     let file = c.in_ok-app.ensures.app in
     let input = g.R.Source.left c.args.reader.now in
     subst (λ (failed : Bool).
-    ServesRun c.args.at input failed (g.W.Sink.held c.args.writer.now) (g.W.Sink.held c.serve_app.new.writer)
+    ServesRun c.args.asked input failed (g.W.Sink.held c.args.writer.now) (g.W.Sink.held c.serve_app.new.writer)
     (g.W.Sink.has_failed c.serve_app.new.writer) c.serve_app.result)
     (sym c.in_ok-app.ensures.read) (c.serve_app.ensures input file.0 file.1 file.2)

@@ -24,6 +24,6 @@ returns-clause-set c =
     let n = c.loop-number.number in
     set_all handlers c.loop-number.set.items n c.loop-number.invariant
     (λ handler among.
-    let low : handler < 16 = low_of c.marks_of-marks.result handler c.marks_of-marks.ensures.long
+    let low : handler < 17 = low_of c.marks_of-marks.result handler c.marks_of-marks.ensures.long
     ((c.marks_of-marks.ensures.marks handler).1 among) in
     let end = c.loop-number-test.false in omega (arith, low, end))

@@ -36,14 +36,21 @@ layers-preserved c = c.in_ok-advance.ensures c.layers.counter c.layers.invariant
 
 pub returns-then-is_empty : goal.returns-then-is_empty
 returns-then-is_empty c =
+    let seen : c.limits.inside.steps ≡ c.args.limits.now.steps = ap (λ (l : Limits). l.steps) c.limits.view_is in
+    let test = c.layers-test.true in
+    let are = c.well_formed-3.ensures in
+    let most = are.3 in
     tallied_if_empty c.args.app.now c.args.limits.now c.args.choices.now.handlers.items (length c.args.choices.now.levels.items)
-    c.layers.counter c.layers.layer.nodes.items c.layers.findings.items c.layers.invariant.0 c.requires.once
-    (c.is_empty.ensures c.if-is_empty.true) c.layers.invariant.1
+    c.layers.counter c.layers.layer.nodes.items c.layers.findings.items c.layers.invariant.0 c.requires.few_handlers c.requires.few
+    (omega (arith, seen, test, most)) c.requires.once (c.is_empty.ensures c.if-is_empty.true) c.layers.invariant.1
 
 pub returns : goal.returns
 returns c =
     let seen : c.limits.inside.steps ≡ c.args.limits.now.steps = ap (λ (l : Limits). l.steps) c.limits.view_is in
     let test = c.layers-test.false in
+    let end = c.layers.auto.counter-end in
+    let are = c.well_formed-3.ensures in
+    let most = are.3 in
     tallied_at_last c.args.app.now c.args.limits.now c.args.choices.now.handlers.items (length c.args.choices.now.levels.items)
-    c.layers.counter c.layers.layer.nodes.items c.layers.findings.items c.layers.invariant.0 c.requires.once
-    (omega (arith, seen, test)) c.layers.invariant.1
+    c.layers.counter c.layers.layer.nodes.items c.layers.findings.items c.layers.invariant.0 c.requires.few_handlers c.requires.few
+    (omega (arith, seen, test, end, most)) c.requires.once (omega (arith, seen, test)) c.layers.invariant.1

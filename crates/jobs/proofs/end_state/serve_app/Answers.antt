@@ -12,7 +12,7 @@ pub returns-in_err-title : goal.returns-in_err-title
 returns-in_err-title g c bytes file =
     let told : c.from_residual.result ≡ Err c.in_err-title.field-0.0 = search rules in
     rw told
-    (end_state_run_fault c.args.at (Some bytes) false (g.W.Sink.has_failed c.args.writer.now) (g.W.Sink.held c.args.writer.now)
+    (end_state_run_fault c.args.asked (Some bytes) false (g.W.Sink.has_failed c.args.writer.now) (g.W.Sink.held c.args.writer.now)
     c.in_err-title.field-0.0 c.args.app.now (bytes, refl, file) c.in_err-title.ensures refl c.requires)
 
 pub returns-in_err-write_run_and_end_state : goal.returns-in_err-write_run_and_end_state
@@ -20,7 +20,7 @@ returns-in_err-write_run_and_end_state g c bytes file =
     let app = c.args.app.now in
     let title = c.in_ok-title.title in
     let run = c.in_ok-title.run' in
-    let is : IsEndStateReportOf c.args.at bytes (run_text app title run ++ end_state_text app c.in_ok-title.end_state) run.end =
+    let is : IsEndStateReportOf c.args.asked bytes (run_text app title run ++ end_state_text app c.in_ok-title.end_state) run.end =
     record {
       app = app;
       file = file;
@@ -40,7 +40,7 @@ returns g c bytes file =
     let app = c.args.app.now in
     let title = c.in_ok-title.title in
     let run = c.in_ok-title.run' in
-    let is : IsEndStateReportOf c.args.at bytes
+    let is : IsEndStateReportOf c.args.asked bytes
     (run_text app title run ++ end_state_text app c.in_ok-title.end_state) c.run.inside.end =
     record {
       app = app;

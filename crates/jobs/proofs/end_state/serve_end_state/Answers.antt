@@ -11,7 +11,7 @@ returns-in_err-app g c =
     let fault = c.in_err-app.field-0.0 in
     let told : c.from_residual.result ≡ Err fault = search rules in
     rw told
-    (end_state_file_fault c.args.at (Some bytes) _ _ _ fault (bytes, refl, c.in_err-app.ensures.app)
+    (end_state_file_fault c.args.asked (Some bytes) _ _ _ fault (bytes, refl, c.in_err-app.ensures.app)
     (sym c.in_err-app.ensures.read ∙ same_read Application End fault)
     (same_write Application End fault ∙ c.in_err-app.ensures.write) c.requires)
 

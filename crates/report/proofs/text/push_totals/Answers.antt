@@ -1,11 +1,7 @@
 use Rattle.std.proofs.Common.{◌≡◌, ◌++◌, ◌∙◌, ℕ, List, ap, append_assoc}
 use Rattle.std.specs.Prelude.{codes, decimal}
+use Rattle.report.proofs.Adding.{added}
 use Rattle.report.proofs.text.push_totals.Goals as goal
-
--- Words are added to a text.
-added : (start text page words next : List ℕ) → page ≡ start ++ text → next ≡ page ++ words → next ≡ start ++ (text ++ words)
-added start text page words next so_far put =
-    put ∙ ap (λ (bytes : List ℕ). bytes ++ words) so_far ∙ append_assoc start text words
 
 -- Words and a number are.
 counted : (start text page words number next : List ℕ) → page ≡ start ++ text → next ≡ (page ++ words) ++ number

@@ -1,7 +1,6 @@
 use Rattle.std.specs.Prelude.{◌==◌}
-use Rattle.std.proofs.Common.{◌≡◌, ◌∙◌, ◌∷◌, [], List, ℕ, Option, Some, None, ap, sym, arith, rules, option_map}
+use Rattle.std.proofs.Common.{◌≡◌, ◌∙◌, [], List, ℕ, Some, None, ap, sym, arith, rules, option_map}
 use Rattle.std.specs.List.{slice_split}
-use Rattle.report.specs.declared.view.Ends.{Ends}
 use Rattle.requests.specs.Shown.{either, ends_listed, ends_named}
 use Rattle.requests.proofs.Listed.{with_more, with_none}
 use Rattle.requests.proofs.Splitting.{cut_parts, some_part}

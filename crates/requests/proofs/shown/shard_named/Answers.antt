@@ -1,6 +1,5 @@
-use Rattle.std.proofs.Common.{◌≡◌, ◌∙◌, ℕ, Option, Some, None, ap₂, refl, sym, rules}
-use Rattle.report.specs.Shards.{Shard}
-use Rattle.requests.specs.Shown.{shard_of, spelled}
+use Rattle.std.proofs.Common.{◌≡◌, ◌∙◌, ℕ, Option, None, ap₂, refl, sym, rules}
+use Rattle.requests.specs.Shown.{shard_of}
 use Rattle.requests.proofs.Splitting.{at_stroke, new_shard, no_count, no_number, without_stroke}
 use Rattle.requests.proofs.shown.shard_named.Goals as goal
 

@@ -1,4 +1,4 @@
-use Rattle.std.proofs.Common.{◌≡◌, ◌∙◌, sym, arith}
+use Rattle.std.proofs.Common.{◌∙◌, sym, arith}
 use Rattle.requests.proofs.Splitting.{parsed_none, parsed_some}
 use Rattle.requests.proofs.shown.spelled.Goals as goal
 

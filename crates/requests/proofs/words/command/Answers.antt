@@ -4,4 +4,4 @@ use Rattle.requests.proofs.words.command.Goals as goal
 
 pub returns : goal.returns
 unfolding rtosim_app
-returns c = with_command _ _ _ _ _ c.in_ok-program.ensures c.in_ok-campaign.ensures c.subcommand.ensures
+returns c = with_command _ _ _ _ _ c.in_ok-program.ensures c.in_ok-explore.ensures c.subcommand.ensures
