@@ -14,4 +14,4 @@ pub mod Blocks
 pub mod Awaited
 pub mod Handling
 pub mod Measuring
-pub mod Sections
+pub mod Inside

@@ -2,7 +2,7 @@ use Rattle.std.proofs.Common.{◌≡◌, ◌<◌, ◌∙◌, ℕ, suc, [], lengt
 use Rattle.model.specs.State.{State}
 use Rattle.model.specs.Step.{step}
 use Rattle.laws.specs.Sections.{alone}
-use Rattle.laws.proofs.Sections.{comes_at_the_exit, none_alone, pending_meanwhile, state_alone}
+use Rattle.laws.proofs.Inside.{comes_at_the_exit, none_alone, pending_meanwhile, state_alone}
 use Rattle.laws.proofs.sections.injections_in_a_section_wait.Goals as goal
 
 pub returns : goal.returns

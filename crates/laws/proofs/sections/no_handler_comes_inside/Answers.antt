@@ -1,4 +1,4 @@
-use Rattle.laws.proofs.Sections.{none_inside}
+use Rattle.laws.proofs.Inside.{none_inside}
 use Rattle.laws.proofs.sections.no_handler_comes_inside.Goals as goal
 
 pub returns : goal.returns

@@ -1,4 +1,4 @@
-use Rattle.laws.proofs.Sections.{pending_meanwhile}
+use Rattle.laws.proofs.Inside.{pending_meanwhile}
 use Rattle.laws.proofs.sections.pending_handlers_change_nothing.Goals as goal
 
 pub returns : goal.returns

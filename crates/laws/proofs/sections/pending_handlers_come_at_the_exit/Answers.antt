@@ -1,4 +1,4 @@
-use Rattle.laws.proofs.Sections.{comes_at_the_exit}
+use Rattle.laws.proofs.Inside.{comes_at_the_exit}
 use Rattle.laws.proofs.sections.pending_handlers_come_at_the_exit.Goals as goal
 
 pub returns : goal.returns
