@@ -167,7 +167,7 @@ def classes_in_a_browser(text):
 
 @case
 def the_code_of_a_page_shows_the_lines_and_cuts_no_text():
-    for name in ("overrun", "lost_wake_up", "opposite_locks", "late_answer"):
+    for name in ("overrun", "lost_wake_up", "lost_wake_up_cured", "opposite_locks", "late_answer"):
         file = f"{ROOT}/examples/{name}"
         text = page(file)
         data = data_of(text)
