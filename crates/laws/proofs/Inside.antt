@@ -248,14 +248,14 @@ cleared_again (x ∷ xs) (suc i) h =
 
 module _ (app : Application) (limits : Limits) (handler : ℕ) (s : State) (there : handler < length s.sources)
     (none : IsNonePending s) (shut : is_critical s ≡ false) where
-  xs : List Source
-  xs = set s.sources handler (record (source_at s handler) { pending = true })
+  abbrev marked : List Source
+  marked = set s.sources handler (record (source_at s handler) { pending = true })
 
   alone_pending : pending_of (pend handler s) ≡ handler ∷ []
   alone_pending =
-      let p : ℕ → Bool = λ source. (get_or xs source no_source).pending in
-      let long : length xs ≡ length s.sources = length-set s.sources handler (record (source_at s handler) { pending = true }) in
-      only_one p 0 (length xs) handler (omega arith) (omega arith)
+      let p : ℕ → Bool = λ source. (get_or marked source no_source).pending in
+      let long : length marked ≡ length s.sources = length-set s.sources handler (record (source_at s handler) { pending = true }) in
+      only_one p 0 (length marked) handler (omega arith) (omega arith)
       (ap (λ (x : Source). x.pending)
       (get_or-set_same s.sources handler (record (source_at s handler) { pending = true }) no_source there))
       (λ j apart.
@@ -279,13 +279,13 @@ module _ (app : Application) (limits : Limits) (handler : ℕ) (s : State) (ther
 
 -- ---- once
 
-marked_twice : (xs : List Source) (i : ℕ)
-    → set (set xs i (record (get_or xs i no_source) { pending = true })) i
-    (record (get_or (set xs i (record (get_or xs i no_source) { pending = true })) i no_source) { pending = true })
-    ≡ set xs i (record (get_or xs i no_source) { pending = true })
+marked_twice : (ys : List Source) (i : ℕ)
+    → set (set ys i (record (get_or ys i no_source) { pending = true })) i
+    (record (get_or (set ys i (record (get_or ys i no_source) { pending = true })) i no_source) { pending = true })
+    ≡ set ys i (record (get_or ys i no_source) { pending = true })
 marked_twice [] i = refl
-marked_twice (x ∷ xs) zero = refl
-marked_twice (x ∷ xs) (suc i) = ap (λ (ys : List Source). x ∷ ys) (marked_twice xs i)
+marked_twice (x ∷ ys) zero = refl
+marked_twice (x ∷ ys) (suc i) = ap (λ (zs : List Source). x ∷ zs) (marked_twice ys i)
 
 pub pended_once : (handler : ℕ) (s : State) → pend handler (pend handler s) ≡ pend handler s
 pended_once handler s = ap (λ (ys : List Source). record s { sources = ys }) (marked_twice s.sources handler)

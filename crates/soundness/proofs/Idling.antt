@@ -181,14 +181,14 @@ module _ (app : Application) where
   current-pend (x ∷ xs) s = current-pend xs (pend x s)
 
   -- Where no critical section is open, all that is pending comes before a step, and then what is injected.
-  begun_open : (handlers : List ℕ) (s : State) → is_critical s ≡ false → before_step app handlers s
+  pub begun_open : (handlers : List ℕ) (s : State) → is_critical s ≡ false → before_step app handlers s
       ≡ for_each (serve app) handlers (for_each (serve app) (pending_of s) (none_pending (record s { log = [] })))
   unfolding before_step serve_pending
   begun_open handlers s off =
       rw off (injected_as_served handlers (for_each (serve app) (pending_of s) (none_pending (record s { log = [] }))))
 
   -- Where one is open, it becomes pending.
-  begun_critical : (handlers : List ℕ) (s : State) → is_critical s ≡ true
+  pub begun_critical : (handlers : List ℕ) (s : State) → is_critical s ≡ true
       → before_step app handlers s ≡ for_each pend handlers (record s { log = [] })
   unfolding before_step
   begun_critical handlers s on = rw on refl
