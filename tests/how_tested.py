@@ -1,6 +1,8 @@
 """Cases of tests/check about docs/RELIABILITY.md: it has as many wrong bodies, random applications and stored outputs as there are."""
 import glob
+import os
 import re
+from typing import List
 
 from cases import case
 from claims import is_near
@@ -20,19 +22,17 @@ def said_of(what: str) -> str:
     return rows[0]
 
 
-def number_of(*forms: str) -> int:
-    """How many files have a name of one of these forms."""
-    return sum(len(glob.glob(f"{ROOT}/{it}", recursive=True)) for it in forms)
+def names(form: str) -> List[str]:
+    """The files of this form, by their paths from ROOT."""
+    return [os.path.relpath(it, ROOT) for it in glob.glob(f"{ROOT}/{form}", recursive=True)]
 
 
 def refused() -> int:
-    return sum(len(list(refused_texts(f"tests/refused/{it}")))
-               for it in (path.rpartition("/")[2] for path in glob.glob(f"{ROOT}/tests/refused/*.faults")))
+    return sum(len(list(refused_texts(it))) for it in names("tests/refused/*.faults"))
 
 
 def mistakes() -> int:
-    return sum(len(re.findall("(?m)^## ", text_of(f"tests/mistakes/{it}")))
-               for it in (path.rpartition("/")[2] for path in glob.glob(f"{ROOT}/tests/mistakes/*.mistakes")))
+    return sum(len(re.findall("(?m)^## ", text_of(it))) for it in names("tests/mistakes/*.mistakes"))
 
 
 def random_applications() -> int:
@@ -46,15 +46,20 @@ def rows_of_campaigns() -> int:
     return int(re.search(r"seen\.rows == ([\d_]+)", text_of(f"{COMPARISON}/campaigns.rt"))[1].replace("_", ""))
 
 
+def tests_of_crates() -> int:
+    return sum(text_of(it).count("#[test]") for it in names("crates/*/src/**/*.rt"))
+
+
 @case
 def how_it_is_tested_has_the_numbers_of_what_there_is():
     outputs = (f"{top}/**/*.{kind}" for top in ("tests/runs", "examples") for kind in ("out", "report"))
     for what, counted in (
-        ("wrong bodies", number_of("crates/*/must-fail/*.edit", "crates/*/wrong-bodies/*.edit")),
+        ("wrong bodies", len(names("crates/*/must-fail/*.edit") + names("crates/*/wrong-bodies/*.edit"))),
         ("random applications", random_applications()),
         ("rows of random campaigns", rows_of_campaigns()),
-        ("stored outputs", number_of(*outputs)),
+        ("stored outputs", sum(len(names(it)) for it in outputs)),
         ("files that are refused", refused()),
         ("mistakes in files", mistakes()),
+        ("tests of the crates", tests_of_crates()),
     ):
         assert is_near(said_of(what), counted), f"{what}: {said_of(what)} is said, {counted} are counted"
