@@ -1,7 +1,8 @@
 """Cases of tests/check about the documents: no sentence is too long, each link leads somewhere, README is short, and what it shows and
 counts is so; about documents and comments: their words are plain; and about definitions and proofs: no line is too wide.
 
-    tests/prose.py    prints each sentence that is too long, and each word that isn't plain, with its file and line"""
+    tests/prose.py    prints each sentence that is too long, and each word that isn't plain, with its file and line; and how often each
+                      document has each pattern that stops a reader"""
 import glob
 import os
 import re
@@ -16,6 +17,25 @@ README_LINES = 130
 BEGINS_A_BLOCK = re.compile(r"^\s*(#+|[-*]|\d+\.)\s")
 # Words that stop a reader: a program or a value prints, reports, says or shows; it is, lies or holds, and represents or means.
 NOT_PLAIN = re.compile(r"(?i)\b(tell|tells|telling|told|stands|stood|but for)\b")
+# Patterns that stop a native reader. Plainer are: if or when; after; returns; reaches; pending, must be; a waiting task,
+# a woken task; two sentences; likewise; active; forever or without a limit; during, unsuccessfully, usually. "where" is also for places.
+PATTERNS = {name: re.compile(rf"(?i)\b(?:{form})\b") for name, form in (
+    ("where", "where"), ("behind", "behind"), ("answers", "answer(?:s|ed)"), ("comes to", "(?:comes?|came) to"),
+    ("is to be", "(?:is|are) to be|still to come"), ("who waits", "who(?:ever)? (?:waits?|is|are|was|were|sleeps?)|(?:those|all|somebody) who"),
+    ("of which", "of which|of whom"), ("so it is", "so (?:it )?(?:is|does) (?:it|with|in|of)"), ("in force", "in force"), ("for ever", "for ever"),
+    ("whom", "whom(?:ever)?"), ("amid", "amid|in vain|mostly"), ("instead", "instead of .{0,200}because"),
+)}
+# How often a page that was rewritten in plain English has a pattern; one that isn't named here it never has.
+REACHED = {
+    "docs/CI.md": {"where": 1},
+    "docs/DECISIONS.md": {"where": 11, "behind": 2},
+    "docs/GLOSSARY.md": {"where": 8},
+    "docs/KERNEL.md": {"where": 10},
+    "docs/PACKAGE.md": {"where": 2},
+    "docs/RELIABILITY.md": {},
+    "docs/SCALING.md": {},
+    "docs/USING.md": {"where": 1},
+}
 STRING = re.compile(r'"(?:[^"\\]|\\.)*"')
 LINK = re.compile(r"\[[^]]*\]\(([^)\s]+)\)")
 # A stop, perhaps with what closes a bracket, a quotation or an emphasis, and a word that may begin a sentence.
@@ -100,6 +120,13 @@ def places_not_plain():
     return [f"{name}:{line}: {word}" for name, lines in texts for line, word in words_not_plain(lines)]
 
 
+def patterns_in(text):
+    """How often prose has each pattern that it has; code and the addresses of links don't count."""
+    plain = re.sub(r"`[^`]*`|\]\([^)]*\)", "", "\n".join(line for _, line in prose_lines(text)))
+    counted = {name: len(form.findall(plain)) for name, form in PATTERNS.items()}
+    return {name: number for name, number in counted.items() if number}
+
+
 def anchors(text):
     """Where a link into a document may lead: to its headings, in the form in which hosts of repositories name them."""
     headings = (line.lstrip("# ") for _, line in prose_lines(text) if line.startswith("#"))
@@ -126,6 +153,19 @@ def sentences_are_counted_by_their_words():
 @case
 def documents_and_comments_have_plain_words():
     equal(places_not_plain(), [])
+
+
+@case
+def pages_in_plain_english_stay_so():
+    for name, reached in REACHED.items():
+        more = {it: number for it, number in patterns_in(text_of(name)).items() if number > reached.get(it, 0)}
+        equal((name, more), (name, {}))
+
+
+@case
+def patterns_are_counted_in_prose():
+    equal(patterns_in("It waits for ever. Who waits\nis behind `those who wait`.\n\n    where\n"), {"behind": 1, "who waits": 1, "for ever": 1})
+    equal(patterns_in("[If](A.md#where-it-is) it answers, where it is."), {"where": 1, "answers": 1})
 
 
 @case
@@ -190,3 +230,5 @@ if __name__ == "__main__":
             print(f"{name}:{line}: {words(it)} words: {it}")
     for it in places_not_plain():
         print(it)
+    for name in documents():
+        print(f"{name}: {', '.join(f'{it} {number}' for it, number in patterns_in(text_of(name)).items())}")
