@@ -19,8 +19,9 @@ def keep(crate, said):
     """Records what was said of the crate, which is proved and built. Where that can't be written, the next build proves it anew."""
     record = f"{crate.folder}/{RECORD}"
     with contextlib.suppress(OSError):
+        its_sum = sum_of(crate)
         with open(f"{record}.new", "w", encoding="utf-8", errors="surrogateescape") as file:
-            file.write(f"{sum_of(crate)}\n{said}")
+            file.write(f"{its_sum}\n{said}")
         os.replace(f"{record}.new", record)
 
 

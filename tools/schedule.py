@@ -3,12 +3,12 @@
 A build takes no less than the longest chain of crates, each of which waits for the one before. The crate for which that chain waits is
 the first one. It gets half of the jobs at least, whatever else is being proved, and all that are free if that is more; but no more than
 it has lines for, and the program gets one. Every other crate gets one job, and gives way to the first one (`nice`). If the first one
-works with fewer jobs than it could use and processors become free later, it is begun anew with more, where that pays."""
+works with fewer jobs than it could use and processors become free later, it is begun anew with more, if that saves a minute."""
 
 # A crate of fewer lines for each job is proved no sooner by more.
 LINES_OF_A_JOB = 400
-# To begin anew doubles the jobs at least, so it pays as long as no more than this part of the time is over.
-PART_THAT_MAY_BE_LOST = 1 / 3
+# How many seconds are to be saved where a crate is begun anew.
+LEAST_SAVED = 60
 
 
 def lines_behind(crates):
@@ -27,13 +27,14 @@ def most_jobs(crate, at_once):
 
 
 class Schedule:
-    """Which crates are built, running and left. `running` has works, each with its crate, its jobs and its age in seconds."""
+    """Which crates are built, running and left. `running` has works: each has its crate, its jobs, whether the crate was the first one when
+    it began, its age in seconds, and whether it is given up."""
 
     def __init__(self, crates, at_once, built=()):
         self.at_once, self.behind = at_once, lines_behind(crates)
         self.built, self.running = set(built), []
         self.left = sorted((it for it in crates if it not in self.built), key=lambda it: -self.behind[it.name])
-        # The seconds of jobs that crates took which are built, and their lines.
+        # How many seconds of jobs the crates took that were the first one, and their lines.
         self.seconds, self.lines = 0, 0
 
     def ready(self):
@@ -62,17 +63,18 @@ class Schedule:
         self.running.remove(work)
         if is_built:
             self.built.add(work.crate)
+        if is_built and work.is_first:
             self.seconds += work.jobs * work.age()
             self.lines += work.crate.count(rb"\n")
 
     def anew(self):
-        """The first crate's work and the jobs by which to begin it anew; None where that doesn't pay."""
+        """The first crate's work and the jobs by which to begin it anew; None if that saves less than a minute."""
         work = next((it for it in self.running if it.crate is self.first()), None)
         if not work or self.ready() or work.is_given_up:
             return None
         jobs = min(most_jobs(work.crate, self.at_once), work.jobs + self.free())
-        return (work, jobs) if jobs >= 2 * work.jobs and work.age() < PART_THAT_MAY_BE_LOST * self.expected(work) else None
+        return (work, jobs) if self.expected(work.crate, work.jobs) - work.age() - self.expected(work.crate, jobs) >= LEAST_SAVED else None
 
-    def expected(self, work):
-        """How many seconds the work takes, by what others took for their lines."""
-        return self.seconds / max(1, self.lines) * work.crate.count(rb"\n") / work.jobs
+    def expected(self, crate, jobs):
+        """How many seconds a crate takes by so many jobs, by what others took for their lines."""
+        return self.seconds / max(1, self.lines) * crate.count(rb"\n") / jobs
