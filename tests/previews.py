@@ -158,14 +158,6 @@ def a_preview_whose_reader_leaves_ends_as_the_program_does(a):
 
 
 @case
-def a_first_build_says_that_a_preview_can_be_had(a):
-    first, *_ = a.start()[2].splitlines()
-    holds(first, "`bin/rtosim --preview WORDS` answers in a minute or two, and nothing of that is proved")
-    a.write("crates/low/src/lib.rt", "lower\n")
-    assert "preview" not in a.start()[2]
-
-
-@case
 def without_rt_a_preview_says_so(a):
     path = ":".join(it for it in a.environment["PATH"].split(":") if not os.path.exists(f"{it}/rt"))
     status, out, err = a.start("--preview", "x", env={**a.environment, "PATH": path})
