@@ -1,6 +1,7 @@
 """Cases of the launcher: what `run` and `campaign` ignore of an application is named on standard error, and nothing else changes."""
 import os
 import random
+import re
 import shutil
 import subprocess
 import sys
@@ -19,7 +20,7 @@ SAID = {
     TASK: [],
     f"{TASK}[campain]\npoints = []\n": [
         "line 5: [campain] is ignored: there is no such section; did you mean [campaign]?"],
-    f"begin = 3\n{TASK}": ["line 1: "begin" is ignored: there is no such key"],
+    f"begin = 3\n{TASK}": ['line 1: "begin" is ignored: there is no such key'],
     f"{TASK}prio = 2\n": ['line 5: task "a": "prio" is ignored: it is no key of [[task]]; did you mean "priority"?'],
     f"{TASK}length = 2\n": ['line 5: "length" is ignored, since it is below [[task]]; it belongs under [[queue]] or [daemon]'],
     f"[limits]\nsteps = 5\nstart = 3\n{TASK}": ['line 3: "start" is ignored, since it is below [limits]; it belongs above the first table'],
@@ -29,7 +30,7 @@ SAID = {
     f"{TASK}[limits]\nsteps = 5 # prio = 2\n\t'tics'=3\n": ['line 7: [limits]: "tics" is ignored: it is no key of [limits]; did you mean "ticks"?'],
     f"limits.step = 3\n{TASK}": ['line 1: [limits]: "step" is ignored: it is no key of [limits]; did you mean "steps"?'],
     f"limits = {{ steps = 3, step = 4 }}\n{TASK}": ['line 1: [limits]: "step" is ignored: it is no key of [limits]; did you mean "steps"?'],
-    f"\r\n{TASK}".replace("\n", "\r\n") + "[ campain ]\r\n": [
+    f"\n{TASK}[ campain ]\n".replace("\n", "\r\n"): [
         "line 6: [campain] is ignored: there is no such section; did you mean [campaign]?"],
     # what looks like a section or a key, and is a text or a comment
     f'{TASK}[campaign]\npoints = [ # [campain]\n  "0 uart", # prio = 2\n]\n': [],
@@ -56,7 +57,7 @@ def what_is_ignored_is_named_on_standard_error_and_nothing_else_changes(a):
         a.write(f"{a.room}/file.toml", text)
         for command in ("run", "campaign"):
             status, out, err = a.start(command, "file.toml", cwd=a.room)
-            equal((status, out, err), (1, f"{BUILT}<{command}>\n{text}".replace("\r\n", "\n"), said(lines, "file.toml")))
+            equal((status, out, err), (1, f"{BUILT}<{command}>\n{text}", said(lines, "file.toml")))
 
 
 IGNORED = f"{TASK}[campain]\n"
@@ -115,7 +116,7 @@ def the_program_is_asked_and_the_key_that_it_knows_is_not_named(a):
                                      'echo "base: pass in 3 steps, 3 ticks"\n')
     a.write(f"{a.stand_in}/plan", "")
     a.start()
-    program = a.read("crates/rtosim/out/rtosim").replace("echo made of low add report text main\n", "")
+    program = re.sub("(?m)^echo made of .*\n", "", a.read("crates/rtosim/out/rtosim"))
     a.write("crates/rtosim/out/rtosim", program)
     digest = subprocess.run([a.path("bin/built"), "sources"], stdout=subprocess.PIPE, text=True, check=True).stdout.strip()
     subprocess.run([a.path("bin/built"), "record", digest], check=True)
