@@ -125,6 +125,18 @@ def the_program_is_asked_and_the_key_that_it_knows_is_not_named(a):
 
 
 @case
+def the_companions_say_it_themselves(a):
+    a.write(f"{a.stand_in}/program", 'echo "$RTOSIM_WARNINGS" >>"$STAND_IN/warnings"\nexit 3\n')
+    a.start()
+    a.write(f"{a.room}/x", IGNORED)
+    for words in (("rtosim-check", "x"), ("rtosim-report", "classes", "--failing", "--application", "x"), ("rtosim-report", "show", "0", "--application", "x")):
+        a.write(f"{a.stand_in}/warnings", "")
+        err = a.start(*words[1:], launcher=a.path(f"bin/{words[0]}"), cwd=a.room)[2]
+        equal({*a.read(f"{a.stand_in}/warnings").split()}, {"no"})
+        assert f"rtosim: x: {LINE}" not in err, err
+
+
+@case
 def control_characters_reach_no_terminal(a):
     a.start()
     a.write(f"{a.room}/x\x1b", f'{TASK}"\\u001b" = 1\n')
