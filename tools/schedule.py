@@ -48,11 +48,15 @@ class Schedule:
         return self.at_once - sum(it.jobs for it in self.running)
 
     def beginning(self):
-        """The crates that begin now, each with its jobs: no more crates work at a time than there are jobs."""
+        """The crates that begin now, each with its jobs. No more crates work at a time than at_once says, and half as many jobs more, since
+        there is memory for that."""
         begin = self.ready()[: self.at_once - len(self.running)]
-        first = self.first() if begin else None
-        least, free = (self.at_once + 1) // 2, self.free() - len(begin) + 1
-        return [(it, min(most_jobs(it, self.at_once), max(least, free)) if it is first else 1) for it in begin]
+        if not begin:
+            return []
+        first, least, free = self.first(), (self.at_once + 1) // 2, self.free() - len(begin) + 1
+        of_first = [(it, min(most_jobs(it, self.at_once), max(least, free))) for it in begin if it is first]
+        room = self.free() + self.at_once // 2 - sum(jobs for _, jobs in of_first)
+        return of_first + [(it, 1) for it in begin if it is not first][: max(0, room)]
 
     def begin(self, work):
         if work.crate in self.left:
