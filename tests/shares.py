@@ -243,6 +243,18 @@ def a_library_that_is_not_as_it_was_built_is_proved_anew(a):
 
 
 @case
+def what_was_said_of_a_library_is_judged_again(a):
+    a.plan(WAIT)
+    interrupted(a)
+    record = f"{COPY}/crates/low/out/proved"
+    a.write(record, a.read(record).replace("logic=proved functions=2", "logic=proved functions=2 hides=1"))
+    a.plan("")
+    status, _, err = a.start()
+    equal((status, err.splitlines()[-1]), (70, "rtosim: there is no program to run, since rt ci refuses its sources"))
+    equal(goes_on(a), BUILT)
+
+
+@case
 def what_is_left_of_an_interrupted_build_is_no_repository(a):
     a.plan(WAIT)
     interrupted(a)
