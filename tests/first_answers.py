@@ -189,6 +189,18 @@ def without_an_answer_before_the_proof_the_proved_one_is_printed(a):
 
 
 @case
+def where_no_preview_can_be_made_that_is_named_and_the_proof_is_tried(a):
+    # (a copy of the sources doesn't fit, so the proof fails too)
+    script = 'ulimit -f 1; exec "$0" --preview-first /dev/stdin'
+    a.write("crates/low/src/big.rt", "x" * 9000)
+    status, out, err = a.start("-c", script, a.launcher, launcher="/bin/bash", input=b"given\n", restore_signals=False)
+    assert status == 70 and not out, (status, out, err)
+    lines = err.splitlines()
+    equal((lines[0], lines[3]), (BEFORE, FIRST_TIME))
+    holds(lines[1], "rtosim: no preview can be made: ")
+
+
+@case
 def an_answer_stays_unproved_where_the_proof_fails(a):
     a.plan_proofs("exit 1")
     status, out, err = a.start("--preview-first", "x")

@@ -86,6 +86,7 @@ def a_preview_reads_the_files_that_its_words_name(a):
         equal(told(it), "two\nrtosim-preview-1\n")
     equal(told("a=b", "program"), "three\nfour\nrtosim-preview-1\nrtosim-preview-2\n")
     equal(told("below", "--below", ".."), "")
+    equal(told("a=b", "./below/one.toml", "./below/one.toml", "program"), "three\none\none\nfour\nbelow\nrtosim-preview-1\nrtosim-preview-2\n")
 
 
 @case

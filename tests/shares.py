@@ -87,7 +87,7 @@ def any_other_crate_gives_way_to_the_one_for_which_the_longest_chain_waits(a):
     a.write(f"{a.stand_in}/nice", '#!/bin/sh\necho "$1 $2 $6" >>"$STAND_IN/gives-way"\nshift 2\nexec "$@"\n')
     os.chmod(f"{a.stand_in}/nice", 0o755)
     crates = "other:\nlow:\nmiddle: low\nupper: middle\nreport: upper other\nrtosim: report\n"
-    equal(proves_from_nothing(a, 2, crates, ""), 0)
+    equal(proves_from_nothing(a, 2, crates, "", {"other": 1}), 0)
     equal(a.read(f"{a.stand_in}/gives-way"), "-n 5 other\n")
 
 

@@ -33,10 +33,10 @@ def first_difference(stream, wanted):
     """Where what the stream gives first differs from the bytes that are wanted; None where it doesn't."""
     at = 0
     while part := stream.read(BYTES):
-        same = os.path.commonprefix([part, wanted[at : at + BYTES]])
-        at += len(same)
-        if len(same) < len(part):
-            return at
+        here = wanted[at : at + len(part)]
+        if part != here:
+            return at + len(os.path.commonprefix([part, here]))
+        at += len(part)
     return None if at == len(wanted) else at
 
 
@@ -51,10 +51,16 @@ class FirstAnswer:
     def give(self):
         """Prints the answer of a preview, if it has one."""
         say(BEFORE)
-        self.answer = previewing.answer(self.files)
+        self.answer = self.of_a_preview()
         self.has_written = pass_on(1, self.answer.out)
         pass_on(2, self.files.as_called(self.answer.err))
         say(UNPROVED if self.was_given() else NO_ANSWER)
+
+    def of_a_preview(self):
+        try:
+            return previewing.answer(self.files)
+        except OSError as error:
+            return previewing.Answer(b"", f"rtosim: no preview can be made: {error}\n".encode(errors="surrogateescape"), None)
 
     def was_given(self):
         return self.answer.status is not None

@@ -44,7 +44,7 @@ class Files:
     """The files that the words name, as copies in a folder."""
 
     def __init__(self, words, room):
-        self.room, self.copies, self.renamed = room, {}, {}
+        self.room, self.copies, self.renamed, self.read = room, {}, {}, 0
         self.words = [self.word_for(it) for it in words]
 
     def word_for(self, word):
@@ -61,7 +61,8 @@ class Files:
 
     def place_of(self, word):
         """Where a copy is of the file that the word names, if it names one that can be read: a file, a pipe, or what is typed."""
-        place = f"{self.room}/file-{len(self.copies)}"
+        self.read += 1
+        place = f"{self.room}/file-{self.read}"
         try:
             kind = os.stat(word).st_mode
             if not any(is_kind(kind) for is_kind in (stat.S_ISREG, stat.S_ISFIFO, stat.S_ISCHR)):
