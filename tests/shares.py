@@ -6,7 +6,7 @@ import signal
 import sys
 
 from cases import case, equal, holds
-from checkout import BUILT, COPY, PATIENCE, TESTS, WAIT, wait_until
+from checkout import BUILT, COPY, PATIENCE, TESTS, WAIT, is_alive, wait_until
 
 sys.path.insert(0, f"{TESTS}/../tools")
 import schedule
@@ -122,7 +122,7 @@ SLOW_LINE = '[ $3 != low ] || sleep 0.3'
 
 @case
 def the_first_crate_is_begun_anew_with_more_jobs_once_processors_become_free(a):
-    begins = 'mkdir "$STAND_IN/middle.begun" 2>/dev/null && exec sleep 1000'
+    begins = f'if mkdir "$STAND_IN/middle.begun" 2>/dev/null; then\n{WAIT}\nfi'
     waits = 'until [ -e "$STAND_IN/middle.begun" ]; do sleep 0.02; done'
     lowest = f'{SLOW_LINE}; case $3 in middle) {begins} ;; one|two) {waits} ;; esac'
     crates = "low:\nmiddle: low\none:\ntwo:\nreport: middle one two\nrtosim: report\n"
@@ -131,6 +131,8 @@ def the_first_crate_is_begun_anew_with_more_jobs_once_processors_become_free(a):
     equal([it for name, it in jobs if name == "middle"][-1], "3")
     equal(sorted({name for name, _ in jobs}), ["low", "middle", "one", "report", "rtosim", "two"])
     equal(a.read(f"{a.stand_in}/said").split().count("middle"), 1)
+    pids = a.read(f"{a.stand_in}/pids").split()
+    wait_until(lambda: not any(map(is_alive, pids)), "the first one has ended, with what it started")
 
 
 @case
