@@ -11,7 +11,7 @@ find_file() {
     file=
     while [ $# -gt 0 ]; do
         case $1 in
-        --at | --handler | --workers | --stride | --block | --only | --shard)
+        --at | --handler | --workers | --stride | --block | --only | --shard | --point)
             [ $# -gt 1 ] || return 1
             shift
             ;;
