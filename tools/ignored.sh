@@ -4,7 +4,7 @@
 #     look_for_ignored PROGRAM WORDS   the words begin with the command; PROGRAM is empty where none is built
 #
 # A plain application without any costs one call of awk (tools/plain_application.awk). Any other is read by Python. Nothing is said where
-# RTOSIM_WARNINGS is `no`, of FILE that is no file but a pipe, or where awk or Python lacks.
+# RTOSIM_WARNINGS is `no`, of FILE that is a pipe or has more than a megabyte, or where awk or Python lacks.
 
 # Sets `file` to FILE among these words, which follow the command; status 1 where they aren't words as the program takes them.
 find_file() {
