@@ -6,7 +6,7 @@ import signal
 import subprocess
 
 from cases import case, equal, holds
-from checkout import BUILT, NO_PROGRAM, PATIENCE, WAIT, is_alive, only_runs, wait_until
+from checkout import BUILT, NO_PROGRAM, PATIENCE, TESTS, WAIT, is_alive, only_runs, wait_until
 
 BEFORE = "rtosim: an answer that isn't proved comes in a minute or two, and then the proof"
 UNPROVED = "rtosim: the answer above isn't proved yet. The proof comes now; if it is interrupted, the next call goes on where it stopped"
@@ -22,7 +22,8 @@ def proved(text):
 
 
 def differs(how):
-    return f"rtosim: the proved program gives another answer, which differs {how}: the answer above isn't proved; the same call now prints the proved one"
+    what = f"rtosim: the proved program gives another answer, which differs {how}"
+    return f"{what}: the answer above isn't proved; the same call now prints the proved one"
 
 
 def calls(a):
@@ -254,6 +255,32 @@ def a_signal_ends_the_preview_the_proof_and_the_proved_program(a):
             os.remove(f"{a.stand_in}/waits")
             with contextlib.suppress(OSError):
                 os.rmdir(f"{a.stand_in}/has-run")
+
+
+@case
+def a_call_that_waits_for_another_build_answers_first_too(a):
+    a.plan_wait()
+    first = a.started("--proved", "first")
+    wait_until(a.has_begun, "the proof has begun")
+    second = a.started("--preview-first", "second")
+    equal([second.stdout.readline().decode() for _ in range(2)], [BUILT, "<second>\n"])
+    lines = [second.stderr.readline().decode().rstrip() for _ in range(3)]
+    equal(lines, [BEFORE, UNPROVED, "rtosim: another start is building the program: waiting for that"])
+    a.go()
+    equal(first.communicate(timeout=PATIENCE)[0].decode(), f"{BUILT}<first>\n")
+    out, err = second.communicate(timeout=PATIENCE)
+    equal((second.returncode, out, err.decode()), (0, b"", proved(f"{BUILT}<second>\n") + "\n"))
+    equal(calls(a).count("low"), 1)
+
+
+@case
+def the_guide_shows_what_is_printed(_):
+    with open(f"{TESTS}/../docs/USING.md", encoding="utf-8") as file:
+        text = file.read()
+    with open(f"{TESTS}/../examples/lost_wake_up.report", encoding="utf-8") as file:
+        report = file.read()
+    rows = report[: report.index("\n") + 1]
+    holds(text, f"{BEFORE}\n{rows}..\n{report.splitlines()[-1]}\n{UNPROVED}\n{FIRST_TIME}\n{proved(report)}\n")
 
 
 @case

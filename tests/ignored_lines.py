@@ -27,7 +27,8 @@ SAID = {
     f"{TASK}[[timer]]\nname = \"t\"\n": ["line 5: [[timer]] is ignored: software timers aren't simulated"],
     # keys and sections spelled as TOML allows
     f'{TASK}"prio" = 2\n': ['line 5: task "a": "prio" is ignored: it is no key of [[task]]; did you mean "priority"?'],
-    f"{TASK}[limits]\nsteps = 5 # prio = 2\n\t'tics'=3\n": ['line 7: [limits]: "tics" is ignored: it is no key of [limits]; did you mean "ticks"?'],
+    f"{TASK}[limits]\nsteps = 5 # prio = 2\n\t'tics'=3\n": [
+        'line 7: [limits]: "tics" is ignored: it is no key of [limits]; did you mean "ticks"?'],
     f"limits.step = 3\n{TASK}": ['line 1: [limits]: "step" is ignored: it is no key of [limits]; did you mean "steps"?'],
     f"limits = {{ steps = 3, step = 4 }}\n{TASK}": ['line 1: [limits]: "step" is ignored: it is no key of [limits]; did you mean "steps"?'],
     f"\n{TASK}[ campain ]\n".replace("\n", "\r\n"): [
@@ -129,7 +130,8 @@ def the_companions_say_it_themselves(a):
     a.write(f"{a.stand_in}/program", 'echo "$RTOSIM_WARNINGS" >>"$STAND_IN/warnings"\nexit 3\n')
     a.start()
     a.write(f"{a.room}/x", IGNORED)
-    for words in (("rtosim-check", "x"), ("rtosim-report", "classes", "--failing", "--application", "x"), ("rtosim-report", "show", "0", "--application", "x")):
+    of = ("--application", "x")
+    for words in (("rtosim-check", "x"), ("rtosim-report", "classes", "--failing", *of), ("rtosim-report", "show", "0", *of)):
         a.write(f"{a.stand_in}/warnings", "")
         err = a.start(*words[1:], launcher=a.path(f"bin/{words[0]}"), cwd=a.room)[2]
         equal({*a.read(f"{a.stand_in}/warnings").split()}, {"no"})
@@ -157,15 +159,15 @@ def without_awk_nothing_is_said_and_the_program_runs(a):
 
 def is_plain(text):
     """Whether a call of awk takes it for one in which nothing is ignored."""
-    with open(LOOKS, "rb"):
-        return subprocess.run(["awk", "-f", LOOKS], input=text.encode(), env={**os.environ, "LC_ALL": "C"}).returncode == 0
+    looked = subprocess.run(["awk", "-f", LOOKS], input=text.encode(), env={**os.environ, "LC_ALL": "C"}, check=False)
+    return looked.returncode == 0
 
 
 @case
 def an_application_that_is_taken_for_plain_has_nothing_that_is_ignored(a):
-    pieces = ["[[task]]\n", "[limits]\n", "[campaign]\n", "[campain]\n", 'name = "a"\n', "prio = 2\n", "ticks = 3\n", "points = [", '"0 a", ', "'0 a'", '"""',
-              "'''", "\\", '"', "'", "]", "\n", "# x\n", "# it's \"\n", " ", "=", "steps", "= 1\n", ",", "{", "}", '"prio" = 1\n', "limits.x = 1\n", '[limits]\n"steps" = 1\n',
-              'script = ["work 3", # y\n', '"work 4"]\n', "\r\n", "\t"]
+    pieces = ["[[task]]\n", "[limits]\n", "[campaign]\n", "[campain]\n", 'name = "a"\n', "prio = 2\n", "ticks = 3\n", "points = [",
+              '"0 a", ', "'0 a'", '"""', "'''", "\\", '"', "'", "]", "\n", "# x\n", "# it's \"\n", " ", "=", "steps", "= 1\n", ",", "{", "}",
+              '"prio" = 1\n', "limits.x = 1\n", '[limits]\n"steps" = 1\n', 'script = ["work 3", # y\n', '"work 4"]\n', "\r\n", "\t"]
     dice = random.Random(86)
     seen = set()
     for _ in range(1500):

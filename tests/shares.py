@@ -186,7 +186,8 @@ def goes_on(a, *unchanged):
     status, out, err = a.start()
     equal(status, 0)
     equal([it for it, _ in jobs_of_crates(a)], [it for it in ("low", "report", "rtosim") if it not in unchanged])
-    equal([it for it in err.splitlines() if "checked" in it], [f"rtosim: checked {it} of 3 crates" for it in ("low, 1", "report, 2", "rtosim, 3")])
+    checked = [f"rtosim: checked {it} of 3 crates" for it in ("low, 1", "report, 2", "rtosim, 3")]
+    equal([it for it in err.splitlines() if "checked" in it], checked)
     equal(os.listdir(a.path("crates/rtosim/out")).count("rlib"), 0)
     return out
 

@@ -20,6 +20,7 @@ UNPROVED = "the answer above isn't proved yet. The proof comes now; if it is int
 NO_ANSWER = "there is no answer before the proof, for what rt says above"
 STAYS_UNPROVED = "the answer above isn't proved"
 CHANGED = "the sources were changed after it"
+NOW_PROVED = "the same call now prints the proved one"
 CANNOT_WRITE, DIFFERS = 5, 70
 BYTES = 1 << 16
 
@@ -80,7 +81,7 @@ class FirstAnswer:
             return status if status >= 0 else 128 - status
         if difference := self.difference(how):
             also = f" ({CHANGED})" if self.sources() != self.before else ""
-            say(f"the proved program gives another answer, which differs {difference}{also}: {STAYS_UNPROVED}; the same call now prints the proved one")
+            say(f"the proved program gives another answer, which differs {difference}{also}: {STAYS_UNPROVED}; {NOW_PROVED}")
             return DIFFERS
         say(f"proved: the same {len(self.answer.out)} bytes")
         return self.answer.status if self.has_written else CANNOT_WRITE
