@@ -136,6 +136,23 @@ def another_answer_of_the_proved_program_is_a_fault(a):
 
 
 @case
+def want_of_memory_is_no_answer_before_the_proof_and_named_after_it(a):
+    no_memory = 'echo "rtosim: out of memory" >&2; exit 4'
+    # (as a program that writes nothing then)
+    silent = a.read(f"{a.stand_in}/says.sh").replace("echo made of", ": made of")
+    a.write(f"{a.stand_in}/says.sh", silent)
+    a.write(f"{a.stand_in}/program", TWO_RUNS.format(no_memory, "echo whole; exit 1"))
+    status, out, err = a.start("--preview-first")
+    equal((status, out), (1, "whole\n"))
+    equal(err.splitlines()[1:3], ["rtosim: out of memory", "rtosim: there is no answer before the proof, for what is said above"])
+    os.rmdir(f"{a.stand_in}/has-run")
+    os.remove(a.path("crates/rtosim/out/rtosim"))
+    a.write(f"{a.stand_in}/program", TWO_RUNS.format("echo whole", no_memory))
+    status, out, err = a.start("--preview-first")
+    equal((status, out, err.splitlines()[-1]), (70, "whole\n", differs("in its status, 4, since it has too little memory")))
+
+
+@case
 def of_an_answer_without_end_no_more_is_read_than_up_to_the_difference(a):
     gives_another_answer(a, "yes | head -n 100000", "exec yes no", f"from byte {len(BUILT)} on", "y\n" * 100000)
 
@@ -182,7 +199,7 @@ def without_an_answer_before_the_proof_the_proved_one_is_printed(a):
     a.write(f"{a.stand_in}/try", 'echo "run=no-answer runners=0 races=unchecked proved=no" >&2; echo partly; exit 6\n')
     status, out, err = a.start("--preview-first", "/dev/stdin", input=b"given\n")
     equal((status, out), (3, f"{BUILT}given\n"))
-    shown = ["run=no-answer runners=0 races=unchecked proved=no", "rtosim: there is no answer before the proof, for what rt says above"]
+    shown = ["run=no-answer runners=0 races=unchecked proved=no", "rtosim: there is no answer before the proof, for what is said above"]
     equal(err.splitlines(), [BEFORE, *shown, FIRST_TIME, *CHECKED, "said"])
     a.write("crates/low/src/lib.rt", "low\nmore\n")
     a.write(f"{a.stand_in}/program", "kill -TERM $$")

@@ -17,11 +17,11 @@ PROGRAM = f"{ROOT}/crates/rtosim/out/rtosim"
 LIMITED = '. "$0"; read_memory; limit_memory; exec "$@"'
 BEFORE = "an answer that isn't proved comes in a minute or two, and then the proof"
 UNPROVED = "the answer above isn't proved yet. The proof comes now; if it is interrupted, the next call goes on where it stopped"
-NO_ANSWER = "there is no answer before the proof, for what rt says above"
+NO_ANSWER = "there is no answer before the proof, for what is said above"
 STAYS_UNPROVED = "the answer above isn't proved"
 CHANGED = "the sources were changed after it"
 NOW_PROVED = "the same call now prints the proved one"
-CANNOT_WRITE, DIFFERS = 5, 70
+NO_MEMORY, CANNOT_WRITE, DIFFERS = 4, 5, 70
 BYTES = 1 << 16
 
 
@@ -58,10 +58,12 @@ class FirstAnswer:
         say(UNPROVED if self.was_given() else NO_ANSWER)
 
     def of_a_preview(self):
+        """Its answer. That it has no memory is none: the proved program may have enough."""
         try:
-            return previewing.answer(self.files)
+            answer = previewing.answer(self.files)
         except OSError as error:
             return previewing.Answer(b"", f"rtosim: no preview can be made: {error}\n".encode(errors="surrogateescape"), None)
+        return previewing.Answer(b"", answer.err, None) if answer.status == NO_MEMORY else answer
 
     def was_given(self):
         return self.answer.status is not None
@@ -92,6 +94,8 @@ class FirstAnswer:
             how = {**how, "stdout": subprocess.PIPE, "stderr": said}
             at, status = ending.run(limited(self.files.words), self.compare, **how)
             said.seek(0)
+            if status == NO_MEMORY:
+                return f"in its status, {NO_MEMORY}, since it has too little memory"
             if at is not None:
                 return f"from byte {at} on"
             if first_difference(said, self.answer.err) is not None:
