@@ -59,10 +59,14 @@ def do_pairs(words, output):
     """Writes the points of pairs. How many steps the base run has the program says."""
     from .application import read_application
     from .faults import WordsFault
+    from .job import say
     from .made import MadeReport
     from .pairs import write_pairs
 
-    known = read_application(words.application).handlers
+    application = read_application(words.application)
+    known = application.handlers
+    if application.has_campaign:
+        say(f"{plain(words.application)} has a [campaign], and a file has one: what is written takes its place")
     unknown = next((it for it in words.handler if it not in known), None)
     if unknown is not None:
         raise WordsFault(f"no handler is called {unknown}; the handlers are {', '.join(known) or 'none'}")
@@ -204,7 +208,8 @@ def step(word):
 
 def add_pairs(commands):
     parser = commands.add_parser("pairs", help="the points of two interrupts each, as a section for the end of an application")
-    parser.add_argument("application", metavar="FILE", help="the application")
+    parser.add_argument("file", nargs="?", metavar="FILE", help="the application")
+    parser.add_argument("--application", metavar="FILE", help="the same")
     parser.add_argument("--handler", action="append", required=True, metavar="H", help="the handler that comes twice; or two, in both orders")
     parser.add_argument("--within", type=step, default=10, metavar="N", help="the second comes at most N steps later (10)")
     parser.add_argument("--from", dest="first", type=step, default=0, metavar="STEP", help="the first one's least step (0)")
@@ -260,6 +265,10 @@ def parsed(words):
     add_pairs(commands)
     add_formats(commands)
     found = parser.parse_args(words)
+    if found.command == "pairs":
+        if (found.file is None) == (found.application is None):
+            parser.error("FILE is named once")
+        found.application = found.application or found.file
     if getattr(found, "campaign", False):
         found.about_a_run = False
     if getattr(found, "rows", False):
