@@ -254,6 +254,9 @@ class Statements(Api):
 
     def cases(self, node: object, path: Path, after: Continuation) -> None:
         labels, bodies, default = cases_of(node)
+        hidden = trees.hidden_label(it for it in trees.cut_at_labels(statements_of(node)) if not trees.is_label(it))
+        if hidden is not None:
+            raise self.refuse(hidden, "a case inside another statement of its `switch`", "the case in the block of the `switch` itself")
         key = f"switch@{self.spot(node)}"
         value = self.integer(self.evaluate(node.cond, path), node.cond)
         self.put(key, value, node, path)
@@ -350,29 +353,30 @@ class Same:
         self.coord = node.coord
 
 
+def statements_of(node: object) -> List[object]:
+    """What a `switch` has in its block."""
+    return (node.stmt.block_items or []) if trees.kind(node.stmt) == "Compound" else [node.stmt]
+
+
 def cases_of(node: object) -> Cases:
     """The labels of each group of cases, the statements from each on, and which of them is the default, which has its labels last."""
-    items = (node.stmt.block_items or []) if trees.kind(node.stmt) == "Compound" else [node.stmt]
     bodies: List[List[object]] = []
     labels: List[List[object]] = []
     default, is_open = None, False
-    for it in items:
-        name = trees.kind(it)
-        if name not in ("Case", "Default"):
+    for it in trees.cut_at_labels(statements_of(node)):
+        if not trees.is_label(it):
+            is_open = False
             for body in bodies:
                 body.append(it)
             continue
         if not is_open:
             bodies.append([])
             labels.append([])
-        if name == "Case":
+        if trees.kind(it) == "Case":
             labels[-1].append(it.expr)
         else:
             default = len(bodies) - 1
-        for body in bodies:
-            body.extend(it.stmts or [])
-        is_open = not it.stmts
+        is_open = True
     if default is not None:
         labels[default] = []
     return labels, bodies, default
-

@@ -1,5 +1,5 @@
 """Questions about trees of pycparser, which name their nodes by class."""
-from typing import Callable, Iterator, List, Optional, Set
+from typing import Callable, Iterable, Iterator, List, Optional, Sequence, Set
 
 
 def kind(node: object) -> str:
@@ -46,6 +46,31 @@ def escapes(node: object) -> Set[str]:
     if name in ("For", "While", "DoWhile"):
         return found & {"return", "goto"}
     return found - {"break"} if name == "Switch" else found
+
+
+def is_label(node: object) -> bool:
+    return kind(node) in ("Case", "Default")
+
+
+def cut_at_labels(nodes: Sequence[object]) -> Iterator[object]:
+    """The statements of a `switch`, each label as one of its own. The parser makes a block of a pragma and the label that follows it."""
+    for it in nodes:
+        is_block = kind(it) == "Compound" and kind((it.block_items or [None])[0]) == "Pragma" and any(map(is_label, it.block_items))
+        if is_block:
+            yield from cut_at_labels(it.block_items)
+        else:
+            yield it
+        if is_label(it):
+            yield from cut_at_labels(it.stmts or [])
+
+
+def hidden_label(nodes: Iterable[object]) -> Optional[object]:
+    """The first label of a `switch` inside one of these statements of it; None if there is none."""
+    for it in nodes:
+        found = it if is_label(it) else None if kind(it) == "Switch" else hidden_label(children(it))
+        if found is not None:
+            return found
+    return None
 
 
 def plain(node: object) -> object:
