@@ -201,6 +201,12 @@ void rtosim_mark(unsigned int number)
     if (++calls >= MOST_CALLS) stop("enough");
 }
 
+/* a function of the board, which writes to what it is given */
+void board_fill(void *to, unsigned size)
+{
+    for (unsigned at = 0; at < size; at++) ((unsigned char *)to)[at] = 77;
+}
+
 void configASSERT(int condition) { if (!condition) stop("check"); }
 void vTaskDelete(TaskHandle_t task) { (void)task; stop("pass"); }
 

@@ -2,8 +2,10 @@
 from typing import Dict, List, Optional, Sequence, Tuple
 
 from . import trees
+from .addresses import OPAQUE
 from .answers import NOTHING, Answers, answers
 from .api import Api
+from .calls import WITHOUT_OP
 from .constants import Type
 from .directives import number
 from .expressions import not_set
@@ -16,6 +18,7 @@ from .values import Known, Nothing, Value, constant
 
 AFTER_A_COMMENT = "/* rtosim: work 3 */ or /* rtosim: mark 3 */, after a statement"
 MOST_APART = 8
+HOLDS = ["rtosim", "holds"]
 Cases = Tuple[List[List[object]], List[List[object]], Optional[int]]
 MIRRORED = {"==": "==", "!=": "!=", "<": ">", "<=": ">=", ">": "<", ">=": "<="}
 
@@ -177,6 +180,8 @@ class Statements(Api):
     def do_Pragma(self, node: object, path: Path, rest: Optional[Continuation]) -> None:
         text = node.string or ""
         words = text.split()
+        if words == HOLDS:
+            return None
         if words[:1] != ["rtosim"]:
             return self.note(node, f"#pragma {text}: left out")
         if words[1:2] in (["work"], ["mark"]) and len(words) == 3 and number(words[2]) is not None:
@@ -205,8 +210,10 @@ class Statements(Api):
     def initial(self, node: object, type_: Type, path: Path) -> Optional[Known]:
         if node.init is None:
             return None
-        if type_ in ("an array", "a structure", "a union"):
-            raise self.refuse(node, f"{type_} has no op", "a local for each of its members")
+        if type_ in OPAQUE:
+            for it in trees.calls_of(node.init):
+                self.evaluate(it, path)
+            return None
         found = self.measured_from(node, node.init, path)
         return self.evaluate(node.init, path) if found is None else found
 
@@ -217,6 +224,9 @@ class Statements(Api):
 
     def do_If(self, node: object, path: Path, rest: Optional[Continuation]) -> None:
         ways = [[it] if it is not None else [] for it in (node.iftrue, node.iffalse)]
+        if is_said_to_hold(node) and self.is_lost(node.cond, path):
+            self.note(node, "a comment says that this holds")
+            return self.statements(ways[0], path, rest) if rest is not None else self.statement(node.iftrue, path, None)
         if rest is not None:
             yes, no = (self.later(lambda it, one=way: self.statements(one, it, rest)) for way in ways)
             return self.condition(node.cond, path, yes, no)
@@ -228,6 +238,18 @@ class Statements(Api):
             if not self.does_nothing(node, ways, path):
                 raise
         return None
+
+    def is_lost(self, condition: object, path: Path) -> bool:
+        """Whether a condition that calls nothing with an op isn't known."""
+        if not all(it in WITHOUT_OP or it in self.unit.directives.ignored or self.unit.has_no_op(it) for it in trees.calls_in(condition)):
+            return False
+        fork = path.fork(path.state.answers)
+        try:
+            with self.attempt(fork):
+                self.truth(self.evaluate(condition, fork), condition, fork)
+        except LostUse:
+            return True
+        return False
 
     def does_nothing(self, node: object, ways: List[List[object]], path: Path) -> bool:
         """Whether it makes no difference which branch is taken: none of them has an op."""
@@ -342,6 +364,12 @@ class Statements(Api):
         if node.name not in self.frame.jumps.labels:
             raise self.refuse(node, "`goto` goes to a label that is ahead, and out of no loop", "a loop, a branch, or a function with `return`")
         self.frame.jumps.labels[node.name](path)
+
+
+def is_said_to_hold(node: object) -> bool:
+    """Whether the branch of an `if` begins with the comment that says so."""
+    first = (node.iftrue.block_items or [None])[0] if trees.kind(node.iftrue) == "Compound" else None
+    return trees.kind(first) == "Pragma" and (first.string or "").split() == HOLDS
 
 
 class Same:

@@ -33,6 +33,15 @@ def calls_in(node: object) -> List[str]:
     return [name for name in map(called, walk(node)) if name]
 
 
+def calls_of(node: object) -> Iterator[object]:
+    """The calls in it that are in no other call, in the order of the text."""
+    if kind(node) == "FuncCall":
+        yield node
+        return
+    for it in children(node):
+        yield from calls_of(it)
+
+
 def escapes(node: object) -> Set[str]:
     """How this statement may leave what is around it: `break`, `continue`, `return`, `goto`."""
     name = kind(node)
