@@ -182,8 +182,13 @@ class Programs:
             f"buffer[n & 7] = {local};", f"context.total += {local};", "{ struct context *c = &context; c->last = v; }", f"{local} = sum(buffer, 4);",
             f"{{ int *to = &{local}; *to = {self.number()}; }}", "{ uint8_t *to = &v; to[0] = 7; }", "memset(buffer, 0, sizeof(buffer));",
             f"{local} = sizeof(buffer);", f"{local} = buffer[1];", "board_fill(&item, sizeof(item));", "ok = buffer != NULL && &context;",
+            "taskENTER_CRITICAL(); n += 2; taskEXIT_CRITICAL();", f"{{ taskENTER_CRITICAL(); {local} = {self.counted_in_section()}; taskEXIT_CRITICAL(); }}",
             f"{{ int copy[2] = {{ {local}, 1 }}; board_fill(copy, 4); }}",
         )
+
+    def counted_in_section(self) -> str:
+        """A call that may be used in a critical section."""
+        return self.one_of("uxQueueMessagesWaiting(jobs)", "uxQueueSpacesAvailable(box)", "xEventGroupGetBits(events)", "xEventGroupClearBits(events, 1)")
 
     def jumps(self, jumps: str) -> List[str]:
         """Statements that leave."""
