@@ -79,7 +79,7 @@ def do_show(job, output):
 
     run, base = job.wanted_run(job.words.row)
     has_colour = job.words.output is None and sys.stdout.isatty()
-    show.write_row(output, run, base, job.words.context, has_colour, job.endings.lines_of(run))
+    show.write_row(output, run, base, job.words.context, has_colour, job.endings.lines_of(run, base), job.source_map)
 
 
 def do_json(job, output):
@@ -87,7 +87,7 @@ def do_json(job, output):
 
     write = json_lines.write_run if job.made or not job.source.has_heads_alone() else json_lines.write_head
     for run in job.whole_runs():
-        write(output, run)
+        write(output, run, job.source_map)
 
 
 def do_junit(job, output):
@@ -144,6 +144,7 @@ def add_common(parser):
     help_text = "the application: of its texts, and without REPORT the program is run on it"
     parser.add_argument("--application", metavar="FILE", help=help_text)
     parser.add_argument("--base", metavar="REPORT", help="the report of the base run, as `rtosim run FILE` writes it")
+    parser.add_argument("--source", metavar="MAP", help="show lines of C, by the map that `rtosim-from-c --map` writes")
     add_options(parser)
 
 
@@ -153,7 +154,7 @@ def add_options(parser):
     parser.add_argument("--output", "-o", metavar="FILE", help="write to this file, when all of it is there")
     parser.add_argument("--whole", action="store_true", help="read all rows whole, also where they are too many, and of a page those that pass")
     parser.set_defaults(by=By.DEFAULT, row=None, about_a_run=False, accept=None, asks_for_states=False,
-                        allow_empty=False, folds=False)
+                        allow_empty=False, folds=False, source=None)
 
 
 def add_classes(commands):
