@@ -62,12 +62,14 @@ if [ "$2" = --help ]; then
     exit
 fi
 echo "$*" >>"$STAND_IN/calls"
+for it; do made=$it; done
 case $3 in
 report) . "$STAND_IN/proofs" ;;
 rtosim) . "$STAND_IN/plan"
     make_program ;;
 *) . "$STAND_IN/lowest" ;;
 esac
+[ $3 = rtosim ] || { mkdir -p "$made" && echo $3 >"$made/format"; }
 says $3
 """
 # What the stand-in for `rt try` does: it runs the program in a folder of its own, which has copies of the files that it is given.
@@ -155,9 +157,11 @@ def stand_ins():
     with open(f"{KIT}/bin/rt", encoding="utf-8") as rt, open(f"{KIT}/bin/rtlib.py", encoding="utf-8") as rtlib:
         tools = {"rt": RT + rt.read(), "rtlib.py": rtlib.read(), "rattle": RATTLE, "rattle-link": "#!/bin/sh\n"}
     plans = {"rt.sh": RT_SH, "says.sh": SAYS, "program": PROGRAM, "try": TRY, "version": f"{VERSION}\n"}
+    # (what is in the kit, by which rt knows it)
+    kit = {"WHAT": "a stand-in\n"}
     plans.update(dict.fromkeys(("plan", "proofs", "lowest", "help", "calls", "said"), ""))
     prelude = {"rattle/std/specs/Prelude.antt": "pub use mathlib.Core.Path.{◌≡◌}\n"}
-    return {**{f"bin/{it}": text for it, text in tools.items()}, "toolchain/bin/clang": READER_OF_CALLS, **plans, **prelude}
+    return {**{f"bin/{it}": text for it, text in tools.items()}, "toolchain/bin/clang": READER_OF_CALLS, **plans, **prelude, **kit}
 
 
 class Checkout:
@@ -211,7 +215,7 @@ class Checkout:
 
     def plan_words_of(self, log, status):
         """Has the stand-in say what rt once said of the crate report in a copy, and end with the status."""
-        copy = self.path("crates/rtosim/out/copy")
+        copy = self.path(COPY)
         self.write(f"{self.stand_in}/log", self.read(f"{TESTS}/rt_says/{log}").replace("ROOT", copy))
         self.plan_proofs(f'cat "$STAND_IN/log" >&2; exit {status}')
 
@@ -273,6 +277,7 @@ def keep_times(checkout):
     wait_until(are_kept, "times are kept")
 
 
+COPY = "crates/rtosim/out/rlib/copy"
 BUILT = "made of low add report text main\n"
 VERSION = "a stand-in for the kit"
 NO_PROGRAM = "rtosim: there is no program to run, since rt did not prove and build it"

@@ -1,6 +1,7 @@
 """Cases of the launcher: what `rt ci` refuses though rattle proves it is refused by bin/rtosim too; and rt proves alone where it is another
 than the launcher knows."""
 import os
+import shutil
 import signal
 
 from cases import case, case_named, equal, holds
@@ -209,6 +210,8 @@ def a_library_that_reaches_past_the_handles_is_refused(a):
 @case
 def from_nothing_tells_by_its_status_what_was_judged(a):
     def status():
+        for it in ("low", "report"):
+            shutil.rmtree(a.path(f"crates/{it}/out"), ignore_errors=True)
         proving = a.started("1", launcher=a.path("tools/from_nothing"), cwd=a.path("crates/rtosim"))
         proving.communicate(timeout=PATIENCE)
         return proving.returncode

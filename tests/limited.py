@@ -37,7 +37,7 @@ def make_checkout():
     """A checkout of the launcher alone, whose program is the tested one."""
     for it in ("bin", "tools", "crates/rtosim/out"):
         os.makedirs(f"checkout/{it}")
-    for it in ("bin/rtosim", "tools/memory.sh"):
+    for it in ("bin/rtosim", "tools/memory.sh", "tools/ignored.sh", "tools/plain_application.awk"):
         shutil.copy(f"{ROOT}/{it}", f"checkout/{it}")
     write("checkout/bin/built", "#!/bin/sh\n")
     os.chmod("checkout/bin/built", 0o755)

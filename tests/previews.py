@@ -86,6 +86,7 @@ def a_preview_reads_the_files_that_its_words_name(a):
         equal(told(it), "two\nrtosim-preview-1\n")
     equal(told("a=b", "program"), "three\nfour\nrtosim-preview-1\nrtosim-preview-2\n")
     equal(told("below", "--below", ".."), "")
+    equal(told("a=b", "./below/one.toml", "./below/one.toml", "program"), "three\none\none\nfour\nbelow\nrtosim-preview-1\nrtosim-preview-2\n")
 
 
 @case
@@ -155,14 +156,6 @@ def a_preview_whose_reader_leaves_ends_as_the_program_does(a):
     equal(a.started("--preview", "x", stdout=theirs).wait(timeout=PATIENCE), 5)
     equal(a.started("--preview", "x", stderr=theirs, stdout=subprocess.DEVNULL).wait(timeout=PATIENCE), 0)
     os.close(theirs)
-
-
-@case
-def a_first_build_says_that_a_preview_can_be_had(a):
-    first, *_ = a.start()[2].splitlines()
-    holds(first, "`bin/rtosim --preview WORDS` answers in a minute or two, and nothing of that is proved")
-    a.write("crates/low/src/lib.rt", "lower\n")
-    assert "preview" not in a.start()[2]
 
 
 @case

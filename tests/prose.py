@@ -216,6 +216,14 @@ def readme_shows_the_example_and_its_report():
 
 
 @case
+def readme_shows_lines_of_a_driver_in_c():
+    shown = [it.partition("  ") for it in "".join(fenced(text_of("README.md"), "c")).splitlines()]
+    driver = text_of("examples/c/shared_bus.c").splitlines()
+    equal([(number, driver[int(number) - 1]) for number, _, _ in shown], [(number, line) for number, _, line in shown])
+    assert len(shown) > 3, shown
+
+
+@case
 def the_definitions_to_begin_with_are_short():
     readme = text_of("README.md")
     first = ("Switching", "Time", "Objects", "Calls", "Step", "Run")

@@ -158,15 +158,23 @@ def a_program_that_runs_points_of_several_is_asked_by_them():
 def points_of_pairs_are_written():
     companion = stand_in(os.getcwd())
     file = f"{ROOT}/examples/lost_wake_up.toml"
-    text = good("pairs", file, "--handler", "uart", "--within", "2", "--from", "3", "--to", "4", companion=companion)
+    with open(file, encoding="utf-8") as it, open("driver.toml", "w", encoding="utf-8") as without:
+        without.write(it.read().replace('[campaign]\npoints = ["all uart"]\n', ""))
+    status, text, err = run("pairs", file, "--handler", "uart", "--within", "2", "--from", "3", "--to", "4", companion=companion)
+    equal((status, err.decode()), (0, f"rtosim-report: {file} has a [campaign], and a file has one: what is written takes its place\n"))
+    text = text.decode()
+    for words in (["driver.toml"], ["--application", "driver.toml"]):
+        equal(good("pairs", *words, "--handler", "uart", "--within", "2", "--from", "3", "--to", "4", companion=companion), text)
+    for words in (["driver.toml", "--application", "driver.toml"], []):
+        equal(run("pairs", *words, "--handler", "uart", companion=companion)[:2], (2, b""))
     equal(text, '[campaign]\npoints = [\n  "3 uart 3 uart", "3 uart 4 uart", "3 uart 5 uart",\n  "4 uart 4 uart", "4 uart 5 uart", "4 uart 6 uart",\n]\n')
-    whole = good("pairs", file, "--handler", "uart", companion=companion)
+    whole = good("pairs", "driver.toml", "--handler", "uart", "--to", "19", companion=companion)
     equal((whole.count('",'), whole.splitlines()[-2].split('",')[0]), (20 * 11, '  "19 uart 19 uart'))
     equal(list(map(Point.text, pairs_of(["a", "b"], range(7, 8), 1))), ["7 a 7 b", "7 b 7 a", "7 a 8 b", "7 b 8 a"])
     equal(list(map(Point.text, pairs_of(["a"], range(999_999, 1_000_001), 2)))[1:], ["999999 a 1000000 a", "1000000 a 1000000 a"])
     for words, part in ((["--handler", "usart"], "no handler is called usart; the handlers are uart"),
                         (["--handler", "uart", "--within", "999999"], "a campaign has at most 1,000,000 points")):
-        status, out, err = run("pairs", file, *words, companion=companion)
+        status, out, err = run("pairs", "driver.toml", *words, companion=companion)
         equal((status, out), (2, b""))
         holds(err.decode(), part)
 

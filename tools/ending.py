@@ -1,4 +1,5 @@
 """Has a signal that ends a command end what the command has started too: rt, and all that rt has started."""
+import contextlib
 import os
 import signal
 import subprocess
@@ -18,6 +19,27 @@ def end(process):
             process.wait(timeout=2)
         except (ProcessLookupError, subprocess.TimeoutExpired):
             pass
+
+
+def children():
+    """The processes that each process has started."""
+    found = {}
+    for it in filter(str.isdigit, os.listdir("/proc")):
+        with contextlib.suppress(OSError), open(f"/proc/{it}/stat", "rb") as file:
+            found.setdefault(int(file.read().rpartition(b")")[2].split()[1]), []).append(int(it))
+    return found
+
+
+def kill_all(pid):
+    """Kills a process and all that it started, where they are in the group of others. It is stopped first, so that it starts no more."""
+    with contextlib.suppress(ProcessLookupError):
+        os.kill(pid, signal.SIGSTOP)
+    started, found = children(), [pid]
+    for it in found:
+        found += started.get(it, [])
+    for it in found:
+        with contextlib.suppress(ProcessLookupError):
+            os.kill(it, signal.SIGKILL)
 
 
 def run(words, work, **how):

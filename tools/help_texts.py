@@ -3,7 +3,7 @@ import re
 from dataclasses import dataclass, field
 
 # Names of values that are files.
-FILES = ("FILE", "PATH", "REPORT", "OLD", "NEW")
+FILES = ("FILE", "FILE.c", "FOLDER", "MAP", "PATH", "REPORT", "OLD", "NEW")
 OPTION = re.compile(r"(?:-(?P<short>\w)|--(?P<long>[\w-]+))(?:[ =](?P<value><[^>]+>|\{[^}]+\}|[^\s,-][^\s,]*))?(?:, |$)")
 
 

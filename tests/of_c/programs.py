@@ -7,12 +7,26 @@ HEAD = """#include "FreeRTOS.h"
 #include "queue.h"
 #include "semphr.h"
 #include "event_groups.h"
+#include <string.h>
 
 static QueueHandle_t jobs, box;
 static SemaphoreHandle_t flag, count, bus;
 static EventGroupHandle_t events;
 static const int limit = 3;
 enum command { STOP, GO = 4, WAIT };
+struct context { int total; uint8_t last; };
+static struct context context;
+static uint8_t buffer[8];
+
+/* rtosim: ignore board_* */
+void board_fill(void *to, unsigned size);
+
+static int sum(const uint8_t *data, int size)
+{
+    int found = 0;
+    for (int i = 0; i < size; i++) found += data[i];
+    return found;
+}
 """
 CREATES = """
     jobs = xQueueCreate(3, sizeof(int));
@@ -149,7 +163,7 @@ class Programs:
         simple: List[Callable[[], str]] = [
             lambda: f"{self.one_of(*INTEGERS)} = {self.asking()};", lambda: f"{self.one_of(*INTEGERS)} = {self.integer()};",
             lambda: f"{self.asking()};", lambda: f"{self.one_of('a', 'b', 'n', 'v')}{self.one_of('++', '--', ' += 2', ' |= 5', ' *= 3')};",
-            lambda: f"rtosim_mark({self.number()});", lambda: f"rtosim_mark((uint8_t){self.one_of('a', 'n', 'v')});", self.passing,
+            lambda: f"rtosim_mark({self.number()});", lambda: f"rtosim_mark((uint8_t){self.one_of('a', 'n', 'v')});", self.passing, self.apart,
             lambda: f"configASSERT({self.condition(1)});", lambda: f"ok = {self.condition()};",
             lambda: f"if ({self.condition()}) {self.one_of(*self.jumps(jumps))};",
         ]
@@ -160,6 +174,21 @@ class Programs:
 
     def passing(self) -> str:
         return self.one_of("rtosim_work(2);", "vTaskDelay(1);", "/* rtosim: work 1 */", "taskYIELD();", "/* rtosim: mark 6 */")
+
+    def apart(self) -> str:
+        """A statement about memory that isn't followed, or about a local by its address."""
+        local = self.one_of("a", "b", "item")
+        return self.one_of(
+            f"buffer[n & 7] = {local};", f"context.total += {local};", "{ struct context *c = &context; c->last = v; }", f"{local} = sum(buffer, 4);",
+            f"{{ int *to = &{local}; *to = {self.number()}; }}", "{ uint8_t *to = &v; to[0] = 7; }", "memset(buffer, 0, sizeof(buffer));",
+            f"{local} = sizeof(buffer);", f"{local} = buffer[1];", "board_fill(&item, sizeof(item));", "ok = buffer != NULL && &context;",
+            "taskENTER_CRITICAL(); n += 2; taskEXIT_CRITICAL();", f"{{ taskENTER_CRITICAL(); {local} = {self.counted_in_section()}; taskEXIT_CRITICAL(); }}",
+            f"{{ int copy[2] = {{ {local}, 1 }}; board_fill(copy, 4); }}",
+        )
+
+    def counted_in_section(self) -> str:
+        """A call that may be used in a critical section."""
+        return self.one_of("uxQueueMessagesWaiting(jobs)", "uxQueueSpacesAvailable(box)", "xEventGroupGetBits(events)", "xEventGroupClearBits(events, 1)")
 
     def jumps(self, jumps: str) -> List[str]:
         """Statements that leave."""

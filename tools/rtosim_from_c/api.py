@@ -3,15 +3,16 @@ from typing import Dict, Optional
 
 from . import trees
 from .answers import NUMBERS, NONE, Answers, answers, failing, condition_for, only
-from .calls import (CALLS, CREATORS, MASKS_OF_HANDLERS, NO_OP, TASK_CREATORS, YIELDS_OF_HANDLERS, Answer, Argument, Call, Result, Who)
+from .calls import (CALLS, CREATORS, IN_SECTIONS, MASKS_OF_HANDLERS, NO_OP, SILENT, TASK_CREATORS, WITHOUT_OP, YIELDS_OF_HANDLERS, Answer, Argument, Call,
+                    Result, Who)
 from .expressions import Expressions
+from .families import Family
 from .integers import INT, UNSIGNED, Integer
 from .paths import Path
-from .refusals import Lost, LostUse
-from .values import Handle, Known, Nothing, Piece, Reference, Stamp, Value, constant, converted, is_received, lost, the_answer
+from .refusals import Lost, LostUse, Place, Refusal
+from .values import Address, Handle, Known, Nothing, Piece, Reference, Stamp, Value, constant, converted, is_received, lost, the_answer
 
 FOREVER = 4294967295
-SILENT = ("printf", "puts", "putchar")
 KINDS = {
     Argument.QUEUE: ("queue",), Argument.SEMAPHORE: ("binary", "counting", "mutex"), Argument.GROUP: ("group",), Argument.TASK: ("task",),
 }
@@ -27,13 +28,13 @@ class Api(Expressions):
         name = trees.called(node)
         if name is None:
             raise self.refuse(node, "a call by a pointer to a function has no op", "a call of the function by its name")
-        if name in self.unit.directives.ignored or name in SILENT and name not in self.unit.functions:
+        if name in self.unit.directives.ignored or name in WITHOUT_OP and name not in self.unit.functions:
             return self.left_out(name, node, path)
         if name in CALLS:
             return self.call(CALLS[name], node, path)
         if name in self.unit.functions:
             key = self.result_key(node)
-            return self.taken(key, path, node) if key in path.state.locals else self.followed(node, path)
+            return self.taken(key, path, node) if key in path.state.locals else self.followed_or_left_out(node, path)
         return self.other_call(name, node, path)
 
     def other_call(self, name: str, node: object, path: Path) -> Known:
@@ -44,7 +45,9 @@ class Api(Expressions):
             self.evaluate_calls(node, path)
             self.note(node, f"{name}: every handler ends so here")
             return Nothing()
-        if name in MASKS_OF_HANDLERS and self.is_handler:
+        if name in MASKS_OF_HANDLERS and not self.is_handler:
+            raise self.refuse(node, f"{name} is for a handler", "taskENTER_CRITICAL() and taskEXIT_CRITICAL()")
+        if name in MASKS_OF_HANDLERS:
             self.evaluate_calls(node, path)
             self.note(node, f"{name}: no handler comes during another here")
             return constant(0)
@@ -55,13 +58,26 @@ class Api(Expressions):
         if name in NO_OP:
             what, instead = NO_OP[name]
             raise self.refuse(node, f"{name}: {what}", instead)
-        raise self.refuse(node, f"`{name}` isn't in this file", f"its body, rtosim_work(n) for the ticks that it takes, or --ignore {name}")
+        raise not_here(name, self.place(node))
 
     def left_out(self, name: str, node: object, path: Path) -> Known:
-        """A call that has no effect on tasks. What its arguments call is called all the same."""
+        """A call that has no effect on tasks. What its arguments call is called all the same. Locals whose addresses it takes aren't known."""
         self.evaluate_calls(node, path)
+        if name not in SILENT:
+            self.let_arguments_go(node, path)
         self.note(node, f"{name} is left out")
-        return lost(INT, Lost(f"what {name} returns isn't known"))
+        given = self.unit.directives.ignored.returns(name) if name in self.unit.directives.ignored else ""
+        return self.given(name, given, node) if given else lost(INT, Lost(f"what {name} returns isn't known", instead=f"--ignore {name}=NUMBER"))
+
+    def given(self, name: str, text: str, node: object) -> Value:
+        """What a function that is left out returns: a number, or the name of a constant."""
+        found = self.unit.constants.numbers.get(text)
+        if found is not None:
+            return found
+        try:
+            return constant(int(text, 0))
+        except ValueError:
+            raise self.refuse(node, f"`{text}`, which {name} is to return, is no number", f"--ignore {name}=NUMBER") from None
 
     def evaluate_calls(self, node: object, path: Path) -> None:
         """Calls among the arguments of a call that has no op."""
@@ -79,6 +95,8 @@ class Api(Expressions):
         if call.who is Who.HANDLER and not self.is_handler or call.who is Who.TASK and self.is_handler:
             whose = "a handler" if call.who is Who.HANDLER else "a task"
             instead = f"{call.function}FromISR" if f"{call.function}FromISR" in CALLS else "the call of the other one of the two"
+            if call.family is Family.CRITICAL:
+                instead = "nothing: no handler comes during another one"
             raise self.refuse(node, f"{call.function} is for {whose}", instead)
         self.need(call.family, node, f"{call.function} ({call.op.split()[0]})", call.instead)
         words = trees.arguments(node)
@@ -93,12 +111,22 @@ class Api(Expressions):
         if op == "work {number}" and texts["number"] == "0":
             return Nothing()
         self.take_daemon(op)
+        self.take_section(call.function, op, node, path)
         self.op(op.format(**texts), node, path)
         return self.answered(call, values, texts, node, path)
 
     def take_daemon(self, op: str) -> None:
         if self.is_handler and op.split()[0] in ("set", "clear"):
             self.uses_daemon = True
+
+    def take_section(self, function: str, op: str, node: object, path: Path) -> None:
+        """Counts critical sections, and warns of what is misuse in one, or outside of all."""
+        word, sections = op.split()[0], path.state.sections
+        if sections > 0 and word not in IN_SECTIONS:
+            self.note(node, f"{function} in a critical section: the run ends here with a misuse", True)
+        if sections == 0 and word == "exit_critical":
+            self.note(node, f"{function} without a critical section: the run ends here with a misuse", True)
+        path.state = path.state.in_sections((word == "enter_critical") - (word == "exit_critical"))
 
     def text(self, argument: Argument, values: Dict[Argument, Known], node: object, path: Path) -> str:
         """The argument as a word of the op; empty if it is none."""
@@ -143,6 +171,8 @@ class Api(Expressions):
 
     def item(self, value: Known, queue: Handle, node: object, path: Path) -> str:
         """The item at an address, cut to the size of the queue's items."""
+        if isinstance(value, Address):
+            raise self.refuse(node, "a structure or an array as an item has no op", "an integer that says what it is")
         if not isinstance(value, Reference):
             raise self.refuse(node, "an item is read at the address of a local", "a local that has it, and `&` with its name")
         kept = self.fitted(self.integer(self.read_local(value.local, node, path), node), self.item_type(queue), node, path)
@@ -276,6 +306,12 @@ class Api(Expressions):
             raise self.refuse(node, "this check can't be said by the last answer", "the check right after the call that it is about")
         self.op(f"expect {text}", node, path)
         path.end()
+
+
+def not_here(name: str, place: Place) -> Refusal:
+    """Why a call of a function without a body is refused."""
+    return Refusal(place, f"`{name}` isn't in this file",
+                   f"its body, rtosim_work(n) for the ticks that it takes, or --ignore {name}; NAME=NUMBER says what it returns")
 
 
 def is_delay_of(node: object, name: Optional[str]) -> bool:

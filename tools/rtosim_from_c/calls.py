@@ -185,10 +185,19 @@ CREATORS: Dict[str, Tuple[str, ...]] = {
 TASK_CREATORS = ("xTaskCreate", "xTaskCreateStatic")
 SETUP = ("main", "app_main")
 
+# What writes for people, and what writes to memory, of which a script has none.
+SILENT = ("printf", "puts", "putchar")
+OF_MEMORY = ("memset", "memcpy", "memmove", "memcmp", "strlen", "strcmp", "strncmp", "strcpy", "strncpy", "strcat", "strchr", "strstr",
+             "snprintf", "sprintf")
+WITHOUT_OP = (*SILENT, *OF_MEMORY)
 # What a handler says to the scheduler at its end: here each handler ends so.
 YIELDS_OF_HANDLERS = ("portYIELD_FROM_ISR", "portEND_SWITCHING_ISR")
 # What masks interrupts in a handler: no handler of a script interrupts another one.
-MASKS_OF_HANDLERS = ("taskENTER_CRITICAL_FROM_ISR", "taskEXIT_CRITICAL_FROM_ISR")
+MASKS_OF_HANDLERS = ("taskENTER_CRITICAL_FROM_ISR", "taskEXIT_CRITICAL_FROM_ISR", "portSET_INTERRUPT_MASK_FROM_ISR",
+                     "portCLEAR_INTERRUPT_MASK_FROM_ISR")
+# Ops that may be used while a critical section is open. Any other is misuse.
+IN_SECTIONS = frozenset(("mark", "time", "stamp", "since", "waiting", "spaces", "bits", "clear", "enter_critical", "exit_critical", "notify_clear",
+                         "notify_value_clear"))
 
 A_DELAY = "a task of its own that waits with vTaskDelay or vTaskDelayUntil"
 A_QUEUE = "a queue"
@@ -214,3 +223,7 @@ NO_OP: Dict[str, Tuple[str, str]] = {
     "uxQueueMessagesWaitingFromISR": ("a handler can't ask how many items wait", "xQueuePeekFromISR"),
     "xTaskGetTickCountFromISR": ("a handler can't ask for the time", "the time in the task that it wakes"),
 }
+
+# All functions that the translator knows.
+KNOWN = frozenset((*CALLS, *CREATORS, *TASK_CREATORS, *YIELDS_OF_HANDLERS, *MASKS_OF_HANDLERS, *NO_OP, *WITHOUT_OP, "configASSERT",
+                   "vTaskDelete", "vTaskStartScheduler", "xTaskGetCurrentTaskHandle"))

@@ -29,7 +29,7 @@ def parsed(words: Optional[Sequence[str]]) -> argparse.Namespace:
     parser.add_argument("--campaign", action="store_true", help="run the campaign, with the words of `rtosim campaign` that follow")
     parser.add_argument("--run", action="store_true", help="run the base run, with the words of `rtosim run` that follow")
     parser.add_argument("--handler", action="append", default=[], metavar="NAME", help="this function is an interrupt handler too")
-    parser.add_argument("--ignore", action="append", default=[], metavar="NAME", help="this function or variable has no effect")
+    parser.add_argument("--ignore", action="append", default=[], metavar="NAME[=NUMBER]", help="this function or variable has no effect; the function returns NUMBER")
     parser.add_argument("-I", dest="folders", action="append", default=[], metavar="FOLDER", help="where headers are")
     parser.add_argument("-D", dest="macros", action="append", default=[], metavar="NAME=VALUE", help="a macro")
     parser.add_argument("--program", default=PROGRAM, metavar="PATH", help="another program than bin/rtosim")

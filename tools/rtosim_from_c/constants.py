@@ -73,10 +73,25 @@ class Constants:
 
     def of_one(self, node: object) -> Optional[Value]:
         if node.op == "sizeof":
-            type_ = self.type_of(node.expr)
-            return constant(-(-type_.bits // 8), UNSIGNED) if isinstance(type_, Integer) else None
+            size = self.size_of(node.expr)
+            return constant(size, UNSIGNED) if size is not None else None
         inner = self.value(node.expr)
         return known(unary(node.op, inner, ALL)) if inner is not None and node.op in "+-~!" else None
+
+    def size_of(self, node: object) -> Optional[int]:
+        """The bytes of a declaration or a type, where that is a number or an array of numbers."""
+        type_ = self.type_of(node) if node is not None else None
+        if isinstance(type_, Integer):
+            return -(-type_.bits // 8)
+        if type_ != "an array":
+            return None
+        array = node
+        while trees.kind(array) != "ArrayDecl":
+            array = array.type
+        inner, count = self.size_of(array.type), self.value(array.dim) if array.dim is not None else None
+        if array.dim is None and trees.kind(getattr(node, "init", None)) == "InitList":
+            count = constant(len(node.init.exprs))
+        return inner * count.constant() if inner is not None and count is not None else None
 
     def take_enum(self, node: object) -> None:
         """The names of an enumeration."""

@@ -13,7 +13,7 @@ from .refusals import Lost, LostUse, Note, Place, Refusal
 from .source import place_of
 from .unit import Handler, Task, Unit
 from .integers import BOOL
-from .values import Known, Nothing, Stored, Value, constant, converted, truth
+from .values import Address, Handle, Known, Nothing, Reference, Stored, Text, Value, constant, converted, truth
 
 MOST_STATEMENTS = 20_000
 
@@ -26,6 +26,9 @@ class Core:
         self.is_handler = isinstance(owner, Handler)
         self.notes: Dict[Note, None] = {}
         self.types: Dict[str, Type] = {}
+        self.declarations: Dict[str, object] = {}
+        # locals whose addresses go where they aren't followed
+        self.escaped: Set[str] = set()
         self.splits: Set[Tuple[str, Place]] = set()
         self.parted: Set[str] = set()
         self.in_memory: Set[str] = set()
@@ -112,7 +115,7 @@ class Core:
 
     def truth(self, value: Known, node: object, path: Path) -> Answers:
         """The last answers for which the value isn't 0."""
-        value = converted(self.integer(value, node).among(path.state.answers), BOOL)
+        value = converted(self.yes_or_no(value, node).among(path.state.answers), BOOL)
         self.known(value, node, path)
         return truth(value, path.state.answers)
 
@@ -126,11 +129,15 @@ class Core:
             raise LostUse(self.place(node), why)
         return found
 
+    def yes_or_no(self, value: Known, node: object) -> Value:
+        """A value as a condition: an address is no NULL."""
+        return constant(1) if isinstance(value, (Address, Reference, Text)) else self.integer(value, node)
+
     def integer(self, value: Known, node: object) -> Value:
         """A value as a number; a handle is no NULL."""
         if isinstance(value, (Value, Stored)):
             return value
-        if type(value).__name__ == "Handle":
+        if isinstance(value, Handle):
             return constant(1)
         raise self.refuse(node, "this is no integer", "integers, and handles of objects and tasks")
 

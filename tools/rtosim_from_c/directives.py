@@ -1,14 +1,40 @@
 """Comments for rtosim outside of functions: points, base interrupts, limits, and what has no effect."""
 from dataclasses import dataclass, field
-from typing import Callable, Dict, List, Optional, Set, Tuple
+from fnmatch import fnmatchcase
+from typing import Callable, Dict, Iterable, List, Optional, Set, Tuple, Union
 
 from .refusals import Place, Refusal
 
 FORMS = (
-    "points TEXT, TEXT ..", "interrupt TICK HANDLER", "handler FUNCTION ..", "ignore NAME ..", "limits ticks N", "limits steps N", "start N",
+    "points TEXT, TEXT ..", "interrupt TICK HANDLER", "handler FUNCTION ..", "ignore NAME NAME=NUMBER ..", "limits ticks N", "limits steps N", "start N",
     "tickless",
 )
 INSTEAD = "one of: " + "; ".join(f"/* rtosim: {it} */" for it in FORMS)
+
+
+class Ignored:
+    """Names of functions and variables that have no effect on tasks, as patterns; and what such a function returns, where that is given."""
+
+    def __init__(self, texts: Iterable[str] = ()) -> None:
+        self.patterns: Dict[str, str] = {}
+        self.update(texts)
+
+    def update(self, texts: Iterable[str]) -> None:
+        """Takes texts as `NAME` or `NAME=NUMBER`; a NAME may have `*` and `?`."""
+        for it in texts:
+            name, _, value = it.partition("=")
+            self.patterns[name] = value
+
+    def __contains__(self, name: str) -> bool:
+        return self.pattern(name) is not None
+
+    def pattern(self, name: str) -> Optional[str]:
+        """The pattern of a name: the last one that fits, since later ones may say more of some."""
+        return next((it for it in reversed(list(self.patterns)) if fnmatchcase(name, it)), None)
+
+    def returns(self, name: str) -> str:
+        """What is given for what a function returns; nothing if that isn't known."""
+        return self.patterns[self.pattern(name) or ""]
 
 
 @dataclass
@@ -18,7 +44,7 @@ class Directives:
     points: List[Tuple[str, Place]] = field(default_factory=list)
     interrupts: List[Tuple[int, str, Place]] = field(default_factory=list)
     handlers: Set[str] = field(default_factory=set)
-    ignored: Set[str] = field(default_factory=set)
+    ignored: Ignored = field(default_factory=Ignored)
     limits: Dict[str, int] = field(default_factory=dict)
     start: Optional[int] = None
     is_tickless: bool = False
@@ -48,7 +74,7 @@ def take_interrupt(found: Directives, rest: str, place: Place) -> bool:
     return True
 
 
-def take_names(of: Callable[[Directives], Set[str]]) -> Callable[[Directives, str, Place], bool]:
+def take_names(of: Callable[[Directives], Union[Set[str], Ignored]]) -> Callable[[Directives, str, Place], bool]:
     def take(found: Directives, rest: str, _: Place) -> bool:
         of(found).update(rest.split())
         return bool(rest)

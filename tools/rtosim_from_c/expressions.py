@@ -3,33 +3,31 @@ from dataclasses import replace
 from typing import Callable, List, Optional, Sequence
 
 from . import trees
+from .answers import NONE, answers
+from .addresses import OPAQUE, Addresses, is_address, never_null
 from .constants import POINTER, literal
-from .core import Core
 from .families import Family
 from .frames import Frame, Jumps
 from .integers import BOOL, INT, Integer
 from .paths import Path
-from .refusals import Lost, Refusal
-from .values import (Handle, Known, Nothing, Reference, Stamp, Text, Value, binary, constant, converted, lost, unary)
+from .refusals import Lost, LostUse, Refusal
+from .values import (GREATEST, LOST, Address, Handle, Known, Nothing, Piece, Stamp, Text, Value, binary, constant, converted, lost, unary)
 
 IN_PLACE = {
-    "ArrayRef": ("an array", "a queue, whose items are kept in order"),
-    "StructRef": ("a structure", "a variable for each of its members"),
     "CompoundLiteral": ("a value without a name", "a local"),
     "InitList": ("a list of values", "a local for each of them"),
 }
 WRITTEN = {"=": None, "+=": "+", "-=": "-", "*=": "*", "/=": "/", "%=": "%", "&=": "&", "|=": "|", "^=": "^", "<<=": "<<", ">>=": ">>"}
 NOT_SET = Lost("this local has no value yet")
+# The size of a structure: a number that isn't 0.
+SOME_SIZE = Value(POINTER, (Piece(NONE, GREATEST, LOST, 0, Lost("the size of this isn't known", instead="a number"), answers((1, GREATEST))),))
 
 
-class Expressions(Core):
+class Expressions(Addresses):
     """What an expression is, and the ops that it takes."""
 
     def evaluate(self, node: object, path: Path) -> Known:
         name = trees.kind(node)
-        member = self.unit.handle(self.frame.function, node) if name == "StructRef" else None
-        if member is not None:
-            return member
         if name in IN_PLACE:
             raise self.refuse(node, f"{IN_PLACE[name][0]} has no op", IN_PLACE[name][1])
         method = getattr(self, f"of_{name}", None)
@@ -47,6 +45,9 @@ class Expressions(Core):
 
     def of_ID(self, node: object, path: Path) -> Known:
         key = self.frame.local(node.name)
+        opaque = self.opaque(node.name)
+        if opaque is not None:
+            return opaque
         if key is not None:
             return self.read_local(key, node, path)
         if node.name in self.unit.constants.numbers:
@@ -85,30 +86,18 @@ class Expressions(Core):
         if node.op == "&":
             return self.address(node, path)
         if node.op == "sizeof":
-            found = self.unit.constants.value(node)
-            if found is None:
-                raise self.refuse(node, "the size of this isn't known", "a number")
-            return found
-        value = self.evaluate(node.expr, path)
+            return self.size(node.expr) or SOME_SIZE
         if node.op == "*":
-            if not isinstance(value, Reference):
-                raise self.refuse(node, "a pointer has no op", "a variable by its name")
-            return self.read_local(value.local, node, path)
-        if isinstance(value, Handle) and node.op == "!":
+            return self.content(self.whole(node, path), node, path)
+        value = self.evaluate(node.expr, path)
+        if never_null(value) and node.op == "!":
             return constant(0)
+        if is_address(value):
+            return self.unknown("an address as a number isn't known")
         return self.unary(node, self.integer(value, node), path)
 
     def unary(self, node: object, value: Value, path: Path) -> Value:
         return unary(node.op, value, path.state.answers)
-
-    def address(self, node: object, path: Path) -> Known:
-        inner = node.expr
-        key = self.frame.local(inner.name) if trees.kind(inner) == "ID" else None
-        if key is not None:
-            return Reference(key)
-        if trees.kind(inner) == "UnaryOp" and inner.op == "*":
-            return self.evaluate(inner.expr, path)
-        raise self.refuse(node, "an address has no op", "a local of its own, whose address a call may take")
 
     def of_TernaryOp(self, node: object, path: Path) -> Known:
         key = f"?@{self.spot(node)}"
@@ -154,6 +143,8 @@ class Expressions(Core):
         left, right = self.evaluate_all([node.left, node.right], path)
         if isinstance(left, Handle) or isinstance(right, Handle):
             return self.compared_handles(node, left, right, path)
+        if is_address(left) or is_address(right):
+            return self.pointer_arithmetic(node, left, right, path)
         return self.arithmetic(node, self.integer(left, node.left), self.integer(right, node.right), path)
 
     def arithmetic(self, node: object, left: Value, right: Value, path: Path) -> Value:
@@ -178,7 +169,7 @@ class Expressions(Core):
             self.put(key, constant(int(not is_and)), node, fork)
 
         def right(fork: Path) -> None:
-            value = self.integer(self.evaluate(node.right, fork), node.right)
+            value = self.yes_or_no(self.evaluate(node.right, fork), node.right)
             self.put(key, replace(converted(value, BOOL), type=INT), node, fork)
 
         def part(end: Callable[[Path], None]) -> None:
@@ -203,6 +194,8 @@ class Expressions(Core):
 
     def read_local(self, key: str, node: object, path: Path) -> Known:
         found = path.state.locals.get(key)
+        if key in self.escaped:
+            return self.unknown(f"`{key.split('@')[0]}` may be changed through its address")
         if found is None:
             raise self.refuse(node, "this local has no value here")
         return found
@@ -211,11 +204,14 @@ class Expressions(Core):
         """A new local of the innermost block."""
         key = f"{name}@{self.spot(node)}"
         self.frame.scopes[-1][name] = key
-        self.types[key] = type_
+        self.types[key], self.declarations[key] = type_, node
         return key
 
     def write_local(self, key: str, value: Known, node: object, path: Path) -> Known:
         type_ = self.types[key]
+        if type_ in OPAQUE:
+            self.note(node, f"`{key.split('@')[0]}` isn't followed: this write is left out")
+            return value
         if isinstance(value, Value):
             if isinstance(type_, Integer):
                 value = self.fitted(value, type_, node, path)
@@ -241,15 +237,15 @@ class Expressions(Core):
             value = self.evaluate(node.rvalue, path) if value is None else value
         else:
             left, right = self.evaluate_all([node.lvalue, node.rvalue], path)
-            value = self.arithmetic(Written(operator, node), self.integer(left, node), self.integer(right, node), path)
+            written = Written(operator, node)
+            if is_address(left):
+                value = self.pointer_arithmetic(written, left, right, path)
+            else:
+                value = self.arithmetic(written, self.integer(left, node), self.integer(right, node), path)
         return self.write(node.lvalue, value, node, path)
 
     def write(self, target: object, value: Known, node: object, path: Path) -> Known:
         """Gives what is named a new value."""
-        if trees.kind(target) == "UnaryOp" and target.op == "*":
-            inner = self.evaluate(target.expr, path)
-            if isinstance(inner, Reference):
-                return self.write_local(inner.local, value, node, path)
         name = trees.dotted(target)
         key = self.frame.local(name) if name is not None else None
         if key is not None:
@@ -258,7 +254,9 @@ class Expressions(Core):
             self.note(node, f"`{name}` is `{value.name}` from reset on")
             return value
         if trees.kind(target) != "ID":
-            raise self.refuse(target, "only variables that have a name are written", "a variable for each of them")
+            return self.write_there(self.whole(target, path), value, node, path)
+        if self.unit.constants.type_of(self.unit.globals.get(target.name)) in (*OPAQUE, "a pointer"):
+            return self.write_there(Address(target.name), value, node, path)
         return self.write_global(target, self.integer(value, node), node, path)
 
     def step(self, node: object, path: Path) -> Known:
@@ -266,7 +264,10 @@ class Expressions(Core):
         if self.is_ignored(node.expr):
             return self.leave_out_write(node.expr, None, path)
         key = f"before@{self.spot(node)}"
-        before = self.integer(self.evaluate(node.expr, path), node)
+        there = self.evaluate(node.expr, path)
+        if is_address(there):
+            return self.write(node.expr, self.pointer_arithmetic(Written("+", node), there, constant(1), path), node, path)
+        before = self.integer(there, node)
         self.put(key, before, node, path)
         after = self.arithmetic(Written(node.op.strip("p")[0], node), before, constant(1), path)
         written = self.write(node.expr, after, node, path)
@@ -281,6 +282,8 @@ class Expressions(Core):
         type_ = self.unit.constants.type_of(self.unit.globals[node.name])
         if self.is_ignored(node):
             return lost(INT, Lost(f"`{node.name}` is left out, so its value isn't known"))
+        if type_ == "a pointer":
+            return self.unknown(f"what `{node.name}` is isn't known")
         if not isinstance(type_, Integer):
             raise self.never_created(node, type_)
         self.need(Family.VARIABLES, node, f"a variable that tasks and handlers share, `{node.name}`", self.instead_of_global(node.name))
@@ -337,8 +340,23 @@ class Expressions(Core):
         if len(parameters) != len(keys):
             raise self.refuse(node, f"{len(keys)} arguments for {len(parameters)} parameters")
         for parameter, kept in zip(parameters, keys):
-            key = self.declare(parameter.name, self.unit.constants.type_of(parameter), parameter)
+            type_ = self.unit.constants.type_of(parameter)
+            key = self.declare(parameter.name, "a pointer" if type_ == "an array" else type_, parameter)
             self.write_local(key, self.taken(kept, path, node), node, path)
+
+    def followed_or_left_out(self, node: object, path: Path) -> Known:
+        """What a call of a function of the file returns. One that has no op is left out if it can't be followed."""
+        name = trees.called(node)
+        if not self.unit.has_no_op(name):
+            return self.followed(node, path)
+        try:
+            with self.attempt(path):
+                return self.followed(node, path)
+        except LostUse:
+            self.let_arguments_go(node, path)
+            self.keep_all(trees.arguments(node), path)
+            self.note(node, f"`{name}` has no op: left out")
+            return self.unknown(f"what {name} returns isn't known")
 
     def followed(self, node: object, path: Path) -> Known:
         """What a call of a function of the file returns."""

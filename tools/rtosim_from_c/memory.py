@@ -5,13 +5,13 @@ from typing import Dict, List, Optional, Tuple
 
 from . import trees
 from .answers import GREATEST, NONE, NUMBERS, Answers, answers, only
-from .expressions import Written
+from .expressions import NOT_SET, Written
 from .families import Family
 from .integers import BOOL, COMPARISONS, INT, UNSIGNED, Integer, common, promoted
 from .items import If, Op
 from .loops import Loops
 from .paths import Path
-from .refusals import Lost
+from .refusals import Lost, LostUse
 from .values import ANSWER, LOST, NUMBER, Handle, Known, Stored, Value, binary, constant, converted, the_answer
 
 SIZE = 1 << 32
@@ -107,10 +107,19 @@ class Memory(Loops):
             return super().put(key, value, node, path)
         type_ = self.types.get(key)
         stored = self.variable(key, type_ if isinstance(type_, Integer) else value.type)
-        if not all(it.kind == LOST for it in value.among(path.state.answers).pieces):
+        now = value.among(path.state.answers)
+        if not all(it.kind == LOST for it in now.pieces):
             self.store(stored, value, node, path)
+        elif now.lost() != NOT_SET:
+            return self.put_lost(key, value, now.lost(), node, path)
         path.state = path.state.with_local(key, stored)
         return None
+
+    def put_lost(self, key: str, value: Value, why: Lost, node: object, path: Path) -> None:
+        """A value that isn't known: it may be known in a variable the next time."""
+        if why.local is not None:
+            raise LostUse(self.place(node), why)
+        return super().put(key, value, node, path)
 
     def read_local(self, key: str, node: object, path: Path) -> Known:
         found = super().read_local(key, node, path)

@@ -7,7 +7,7 @@ from typing import Dict, List, Optional, Sequence
 
 from rtosim_report.faults import Fault
 
-from .refusals import Place, Refusal
+from .refusals import Place, Refusal, SeveralRefusals
 
 HEADERS = os.path.join(os.path.dirname(os.path.realpath(__file__)), "headers")
 # Texts and characters, so that a comment inside one isn't seen; comments, of which those for rtosim are kept.
@@ -15,6 +15,9 @@ PIECE = re.compile(r"""("(?:\\.|[^"\\\n])*"|'(?:\\.|[^'\\\n])*')|/\*(.*?)\*/|//(
 TOKEN = re.compile(r"""[A-Za-z_]\w*|\d[\w.]*|"(?:\\.|[^"\\])*"|'(?:\\.|[^'\\])*'|[-+<>&|=!]=|&&|\|\||<<|>>|\+\+|--|->|\S""")
 COMMENT_FOR_RTOSIM = re.compile(r"\s*rtosim:\s*(.*?)\s*", re.DOTALL)
 CPP_FAULT = re.compile(r"(.*?):(\d+):(\d+): (?:fatal )?error: (.*)")
+INCLUDE = re.compile(r'\s*#\s*include\s*([<"])([^">]+)[">]')
+NO_HEADER = "leave it out for rtosim by `#ifndef RTOSIM`, put a stub of it beside the file, or name its folder with -I"
+UNKNOWN_TYPE = "a type that isn't declared is read as a name: include its header"
 STATUS_LACKING = 70
 
 
@@ -116,7 +119,7 @@ def preprocessed(name: str, folders: Sequence[str], macros: Sequence[str], lines
     except OSError:
         raise Lacking("there is no cpp: on Debian, `apt-get install cpp`") from None
     if ran.returncode:
-        raise refusal_of_cpp(ran.stderr.decode("utf-8", "replace"))
+        raise refusal_of_cpp(ran.stderr.decode("utf-8", "replace"), missing_headers(words, marked, name))
     made = ran.stdout.decode("utf-8", "surrogateescape")
     lines.keep(made)
     return made
@@ -126,14 +129,26 @@ def escaped(name: str) -> str:
     return name.replace("\\", "\\\\").replace('"', '\\"')
 
 
-def refusal_of_cpp(said: str) -> Exception:
+def missing_headers(words: Sequence[str], text: str, name: str) -> List[Refusal]:
+    """The headers that the file includes and that aren't there, as far as `cpp` finds them without the others."""
+    ran = subprocess.run([*words, "-M", "-MG"], input=text.encode("utf-8", "surrogateescape"), stdout=subprocess.PIPE, stderr=subprocess.PIPE)
+    listed = set(ran.stdout.decode("utf-8", "surrogateescape").replace("\\\n", " ").split())
+    found = []
+    for number, line in enumerate(text.splitlines()):
+        header = INCLUDE.match(line)
+        if header and header[2] in listed and not os.path.exists(header[2]):
+            found.append(Refusal(Place(name, number, header.start(1) + 1), f"cpp: {header[2]}: No such file or directory", NO_HEADER))
+    return found
+
+
+def refusal_of_cpp(said: str, missing: List[Refusal]) -> Exception:
     for line in said.splitlines():
         fault = CPP_FAULT.match(line)
         if fault:
-            instead = ""
-            if "No such file" in fault[4]:
-                instead = "leave it out for rtosim by `#ifndef RTOSIM`, put a stub of it beside the file, or name its folder with -I"
-            return Refusal(Place(fault[1], int(fault[2]), int(fault[3])), f"cpp: {fault[4]}", instead)
+            is_header = "No such file" in fault[4]
+            first = Refusal(Place(fault[1], int(fault[2]), int(fault[3])), f"cpp: {fault[4]}", NO_HEADER if is_header else "")
+            others = [it for it in missing if is_header and (it.place.file, it.place.line) != (first.place.file, first.place.line)]
+            return SeveralRefusals([first, *others])
     return Fault(f"cpp: {said.strip() or 'it failed'}")
 
 
@@ -156,15 +171,44 @@ def parsed(text: str, name: str, lines: Lines) -> object:
     except Exception as why:
         if type(why).__name__ not in ("ParseError", "LexError"):
             raise
-        raise refusal_of_parser(str(why), name, lines) from None
+        raise refusal_of_parser(str(why), name, lines, text) from None
 
 
-def refusal_of_parser(said: str, name: str, lines: Lines) -> Refusal:
+def first_unread(text: str, name: str) -> Optional[Place]:
+    """Where the first declaration begins that isn't read, of a text that the parser refuses without a place."""
+    starts, depth, file, number = [], 0, name, 0
+    kept = text.splitlines(keepends=True)
+    for at, line in enumerate(kept):
+        marker = re.match(r'# (\d+) "((?:[^"\\]|\\.)*)"', line)
+        if marker:
+            file, number = re.sub(r"\\(.)", r"\1", marker[2]), int(marker[1])
+            continue
+        depth += line.count("{") - line.count("}")
+        if depth == 0 and line.rstrip().endswith((";", "}")):
+            starts.append((at + 1, Place(file, number, 1)))
+        number += 1
+    low, high = 0, len(starts) - 1
+    while low < high:
+        middle = (low + high) // 2
+        low, high = (middle + 1, high) if is_read("".join(kept[: starts[middle][0]])) else (low, middle)
+    return starts[low][1] if starts else None
+
+
+def is_read(text: str) -> bool:
+    try:
+        parser().parse(text, "")
+        return True
+    except Exception:
+        return False
+
+
+def refusal_of_parser(said: str, name: str, lines: Lines, text: str) -> Refusal:
     found = re.match(r"(.*?):(\d+)(?::(\d+))?: (.*)", said, re.DOTALL)
     if not found:
-        return Refusal(Place(name, 1, 1), f"no C that pycparser reads: {said.split(': ', 1)[-1]}")
+        place = first_unread(text, name) or Place(name, 1, 1)
+        return Refusal(place, f"no C that pycparser reads, up to here: {said.split(': ', 1)[-1]}", UNKNOWN_TYPE)
     place = lines.place(found[1], int(found[2]), int(found[3] or 1))
-    return Refusal(place, f"no C that pycparser reads: {found[4]}", "a type that isn't declared is read as a name: include its header")
+    return Refusal(place, f"no C that pycparser reads: {found[4]}", UNKNOWN_TYPE)
 
 
 def place_of(node: object, lines: Lines, calls: tuple = ()) -> Optional[Place]:

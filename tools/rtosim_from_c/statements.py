@@ -2,8 +2,10 @@
 from typing import Dict, List, Optional, Sequence, Tuple
 
 from . import trees
+from .addresses import OPAQUE
 from .answers import NOTHING, Answers, answers
 from .api import Api
+from .calls import WITHOUT_OP
 from .constants import Type
 from .directives import number
 from .expressions import not_set
@@ -16,6 +18,7 @@ from .values import Known, Nothing, Value, constant
 
 AFTER_A_COMMENT = "/* rtosim: work 3 */ or /* rtosim: mark 3 */, after a statement"
 MOST_APART = 8
+HOLDS = ["rtosim", "holds"]
 Cases = Tuple[List[List[object]], List[List[object]], Optional[int]]
 MIRRORED = {"==": "==", "!=": "!=", "<": ">", "<=": ">=", ">": "<", ">=": "<="}
 
@@ -177,9 +180,12 @@ class Statements(Api):
     def do_Pragma(self, node: object, path: Path, rest: Optional[Continuation]) -> None:
         text = node.string or ""
         words = text.split()
+        if words == HOLDS:
+            return None
         if words[:1] != ["rtosim"]:
             return self.note(node, f"#pragma {text}: left out")
         if words[1:2] in (["work"], ["mark"]) and len(words) == 3 and number(words[2]) is not None:
+            self.take_section(f"rtosim: {words[1]}", words[1], node, path)
             return self.op(" ".join(words[1:]), node, path)
         self.unit.directives.take(text[len("rtosim"):], self.place(node))
         return None
@@ -205,8 +211,10 @@ class Statements(Api):
     def initial(self, node: object, type_: Type, path: Path) -> Optional[Known]:
         if node.init is None:
             return None
-        if type_ in ("an array", "a structure", "a union"):
-            raise self.refuse(node, f"{type_} has no op", "a local for each of its members")
+        if type_ in OPAQUE:
+            for it in trees.calls_of(node.init):
+                self.evaluate(it, path)
+            return None
         found = self.measured_from(node, node.init, path)
         return self.evaluate(node.init, path) if found is None else found
 
@@ -217,6 +225,9 @@ class Statements(Api):
 
     def do_If(self, node: object, path: Path, rest: Optional[Continuation]) -> None:
         ways = [[it] if it is not None else [] for it in (node.iftrue, node.iffalse)]
+        if is_said_to_hold(node) and self.is_lost(node.cond, path):
+            self.note(node, "a comment says that this holds")
+            return self.statements(ways[0], path, rest) if rest is not None else self.statement(node.iftrue, path, None)
         if rest is not None:
             yes, no = (self.later(lambda it, one=way: self.statements(one, it, rest)) for way in ways)
             return self.condition(node.cond, path, yes, no)
@@ -228,6 +239,18 @@ class Statements(Api):
             if not self.does_nothing(node, ways, path):
                 raise
         return None
+
+    def is_lost(self, condition: object, path: Path) -> bool:
+        """Whether a condition that calls nothing with an op isn't known."""
+        if not all(it in WITHOUT_OP or it in self.unit.directives.ignored or self.unit.has_no_op(it) for it in trees.calls_in(condition)):
+            return False
+        fork = path.fork(path.state.answers)
+        try:
+            with self.attempt(fork):
+                self.truth(self.evaluate(condition, fork), condition, fork)
+        except LostUse:
+            return True
+        return False
 
     def does_nothing(self, node: object, ways: List[List[object]], path: Path) -> bool:
         """Whether it makes no difference which branch is taken: none of them has an op."""
@@ -254,6 +277,9 @@ class Statements(Api):
 
     def cases(self, node: object, path: Path, after: Continuation) -> None:
         labels, bodies, default = cases_of(node)
+        hidden = trees.hidden_label(it for it in trees.cut_at_labels(statements_of(node)) if not trees.is_label(it))
+        if hidden is not None:
+            raise self.refuse(hidden, "a case inside another statement of its `switch`", "the case in the block of the `switch` itself")
         key = f"switch@{self.spot(node)}"
         value = self.integer(self.evaluate(node.cond, path), node.cond)
         self.put(key, value, node, path)
@@ -341,6 +367,12 @@ class Statements(Api):
         self.frame.jumps.labels[node.name](path)
 
 
+def is_said_to_hold(node: object) -> bool:
+    """Whether the branch of an `if` begins with the comment that says so."""
+    first = (node.iftrue.block_items or [None])[0] if trees.kind(node.iftrue) == "Compound" else None
+    return trees.kind(first) == "Pragma" and (first.string or "").split() == HOLDS
+
+
 class Same:
     """`==` at the place of another node."""
 
@@ -350,29 +382,30 @@ class Same:
         self.coord = node.coord
 
 
+def statements_of(node: object) -> List[object]:
+    """What a `switch` has in its block."""
+    return (node.stmt.block_items or []) if trees.kind(node.stmt) == "Compound" else [node.stmt]
+
+
 def cases_of(node: object) -> Cases:
     """The labels of each group of cases, the statements from each on, and which of them is the default, which has its labels last."""
-    items = (node.stmt.block_items or []) if trees.kind(node.stmt) == "Compound" else [node.stmt]
     bodies: List[List[object]] = []
     labels: List[List[object]] = []
     default, is_open = None, False
-    for it in items:
-        name = trees.kind(it)
-        if name not in ("Case", "Default"):
+    for it in trees.cut_at_labels(statements_of(node)):
+        if not trees.is_label(it):
+            is_open = False
             for body in bodies:
                 body.append(it)
             continue
         if not is_open:
             bodies.append([])
             labels.append([])
-        if name == "Case":
+        if trees.kind(it) == "Case":
             labels[-1].append(it.expr)
         else:
             default = len(bodies) - 1
-        for body in bodies:
-            body.extend(it.stmts or [])
-        is_open = not it.stmts
+        is_open = True
     if default is not None:
         labels[default] = []
     return labels, bodies, default
-

@@ -2,6 +2,10 @@
 from dataclasses import dataclass, field
 from typing import Dict, List, Sequence, Tuple, Union
 
+from . import trees
+from .addresses import Escaped
+from .api import not_here
+from .calls import CALLS, Who
 from .families import PROGRAM, Target
 from .frames import Frame, Jumps
 from .integers import INT
@@ -66,6 +70,8 @@ class Translation(Memory):
                 if self.is_flat:
                     raise
                 self.is_flat = True
+            except Escaped:
+                continue
             except LostUse as why:
                 if not self.learns(why.lost):
                     raise
@@ -78,12 +84,14 @@ class Translation(Memory):
         path = Path(State())
 
         def end(fork: Path, _: object = None) -> None:
+            if fork.state.sections > 0:
+                self.note(definition, f"`{self.owner.name}` may end in a critical section: the run ends then with a misuse", True)
             ends.append(fork.state)
             fork.end()
         self.frame = Frame(self.owner.function, Jumps(end), ({},))
-        keys = ["parameter"] if parameters_of(definition) else []
-        if keys:
-            path.state = path.state.with_local("parameter", OF_HANDLER if self.is_handler else self.owner.parameter)
+        keys = [f"parameter {at}" for at in range(len(parameters_of(definition)))]
+        for it in keys[:1 + (len(keys) - 1) * self.is_handler]:
+            path.state = path.state.with_local(it, OF_HANDLER if self.is_handler else self.owner.parameter)
         self.bind(definition, keys, definition, path)
         with self.using(self.frame.inner()):
             self.statements(definition.body.block_items or [], path, end)
@@ -143,7 +151,7 @@ def translated_once(unit: Unit, target: Target) -> Tuple[Application, List[Refus
         try:
             script = translation.script()
         except Refusal as refusal:
-            refusals.append(refusal)
+            refusals += [refusal, *(not_here(name, place) for name, place in unit.calls_of_others(owner.function))]
             continue
         (found.handlers if translation.is_handler else found.tasks).append(script)
         found.uses_daemon |= translation.uses_daemon
@@ -156,6 +164,10 @@ def warnings_of(found: Application) -> List[Note]:
     """What of the whole is likely not meant."""
     notes = [Note(None, f"`{it}` is called by no task and no handler: left out") for it in found.unit.unreached()
              if found.unit.functions[it].decl.coord.file not in found.unit.of_headers]
+    for name in found.unit.unreached():
+        of_handlers = [it for it in trees.calls_in(found.unit.functions[name]) if it in CALLS and CALLS[it].who is Who.HANDLER]
+        if of_handlers:
+            notes.append(Note(None, f"`{name}` calls {of_handlers[0]}, and is no handler: --handler {name} makes it one", True))
     if all(it.is_endless for it in found.tasks):
         notes.append(Note(None, "every task is endless, so no run can pass: add a task that ends, with a configASSERT of what is to hold",
                           True))
@@ -163,10 +175,11 @@ def warnings_of(found: Application) -> List[Note]:
 
 
 def without_doubles(refusals: Sequence[Refusal]) -> List[Refusal]:
+    """Each refusal once; of a function that isn't in the file its first call alone."""
     found: Dict[tuple, Refusal] = {}
     for it in refusals:
         place = it.place
-        found.setdefault((place and (place.file, place.line, place.column), it.what), it)
+        found.setdefault((None if "isn't in this file" in it.what else place and (place.file, place.line, place.column), it.what), it)
     return sorted(found.values(), key=lambda it: (it.place is None, it.place and (it.place.line, it.place.column)))
 
 

@@ -1,5 +1,5 @@
 """Questions about trees of pycparser, which name their nodes by class."""
-from typing import Callable, Iterator, List, Optional, Set
+from typing import Callable, Iterable, Iterator, List, Optional, Sequence, Set
 
 
 def kind(node: object) -> str:
@@ -33,6 +33,15 @@ def calls_in(node: object) -> List[str]:
     return [name for name in map(called, walk(node)) if name]
 
 
+def calls_of(node: object) -> Iterator[object]:
+    """The calls in it that are in no other call, in the order of the text."""
+    if kind(node) == "FuncCall":
+        yield node
+        return
+    for it in children(node):
+        yield from calls_of(it)
+
+
 def escapes(node: object) -> Set[str]:
     """How this statement may leave what is around it: `break`, `continue`, `return`, `goto`."""
     name = kind(node)
@@ -46,6 +55,31 @@ def escapes(node: object) -> Set[str]:
     if name in ("For", "While", "DoWhile"):
         return found & {"return", "goto"}
     return found - {"break"} if name == "Switch" else found
+
+
+def is_label(node: object) -> bool:
+    return kind(node) in ("Case", "Default")
+
+
+def cut_at_labels(nodes: Sequence[object]) -> Iterator[object]:
+    """The statements of a `switch`, each label as one of its own. The parser makes a block of a pragma and the label that follows it."""
+    for it in nodes:
+        is_block = kind(it) == "Compound" and kind((it.block_items or [None])[0]) == "Pragma" and any(map(is_label, it.block_items))
+        if is_block:
+            yield from cut_at_labels(it.block_items)
+        else:
+            yield it
+        if is_label(it):
+            yield from cut_at_labels(it.stmts or [])
+
+
+def hidden_label(nodes: Iterable[object]) -> Optional[object]:
+    """The first label of a `switch` inside one of these statements of it; None if there is none."""
+    for it in nodes:
+        found = it if is_label(it) else None if kind(it) == "Switch" else hidden_label(children(it))
+        if found is not None:
+            return found
+    return None
 
 
 def plain(node: object) -> object:

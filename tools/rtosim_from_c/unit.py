@@ -5,9 +5,9 @@ from typing import Dict, FrozenSet, Iterator, List, Optional, Sequence, Set, Tup
 
 from . import trees
 from .answers import Answers, answers, only
-from .calls import CALLS, CREATORS, SETUP, TASK_CREATORS
+from .calls import CALLS, CREATORS, KNOWN, SETUP, TASK_CREATORS, WITHOUT_OP
 from .constants import Constants
-from .directives import Directives
+from .directives import Directives, Ignored
 from .integers import Integer
 from .naming import Names, fitting, of_handler
 from .refusals import Note, Place, Refusal
@@ -52,7 +52,7 @@ class Unit:
 
     def __init__(self, tree: object, lines: Lines, handlers: Sequence[str] = (), ignored: Sequence[str] = ()):
         self.lines, self.names, self.constants = lines, Names(), Constants()
-        self.directives = Directives(handlers=set(handlers), ignored=set(ignored))
+        self.directives = Directives(handlers=set(handlers), ignored=Ignored(ignored))
         self.functions: Dict[str, object] = {}
         self.globals: Dict[str, object] = {}
         self.objects: List[Object] = []
@@ -73,6 +73,7 @@ class Unit:
         self.tests: Dict[object, FrozenSet[str]] = {}
         self.name_lines: Dict[object, Dict[str, List[int]]] = {}
         self.bits: Optional[Answers] = None
+        self.silent: Dict[str, bool] = {}
         self.declare(tree)
         for find in (self.find_objects, self.find_handlers, self.find_tasks, self.find_gives):
             find()
@@ -310,8 +311,10 @@ class Unit:
                 if name == "xSemaphoreGive" and self.gives(function, node):
                     continue
                 if name in CALLS:
-                    self.refusals.append(Refusal(self.place(node), f"{name} before the scheduler starts",
-                                                 "the same at the beginning of a task"))
+                    instead = "the same at the beginning of a task"
+                    if "app_main" in self.functions:
+                        instead += "; what app_main does as a task, in a task of its own"
+                    self.refusals.append(Refusal(self.place(node), f"{name} before the scheduler starts", instead))
 
     def gives(self, function: str, call: object) -> bool:
         handle = self.handle(function, trees.plain(trees.arguments(call)[0]))
@@ -349,6 +352,29 @@ class Unit:
                 found.append(name)
                 waiting += [it for it in reversed(trees.calls_in(self.functions[name])) if it in self.functions]
         return found
+
+    def calls_of_others(self, root: str) -> Iterator[Tuple[str, Place]]:
+        """The functions without a body that a function calls, itself or by others, each with its place; not those of FreeRTOS."""
+        for name in self.reached([root]):
+            for node in trees.walk(self.functions[name].body):
+                called = trees.called(node)
+                if called and not (called in self.functions or called in self.directives.ignored or called in KNOWN):
+                    yield called, self.place(node)
+
+    def has_no_op(self, name: str) -> bool:
+        """Whether nothing that a function does is an op: it only computes, with its own locals."""
+        if name not in self.functions:
+            return False
+        if name not in self.silent:
+            nodes = [it for function in self.reached([name]) for it in trees.walk(self.functions[function].body)]
+            called = {it for it in map(trees.called, nodes) if it}
+            is_alone = all(it in self.functions or it in self.directives.ignored or it in WITHOUT_OP for it in called)
+            named = {it.name for it in nodes if trees.kind(it) == "ID"}
+            shared = [it for it in named if it in self.globals and isinstance(self.constants.type_of(self.globals[it]), Integer)]
+            has_comment = any(trees.kind(it) == "Pragma" for it in nodes)
+            is_own = all(it in self.constants.numbers or it in self.directives.ignored for it in shared)
+            self.silent[name] = is_alone and is_own and not has_comment
+        return self.silent[name]
 
     def ordered_functions(self) -> List[str]:
         """All functions, those of `main` first, in the order of their calls."""

@@ -81,6 +81,13 @@ class Reference:
 
 
 @dataclass(frozen=True)
+class Address:
+    """The address of what a script has nothing of, an array or a structure, by its name."""
+
+    name: str
+
+
+@dataclass(frozen=True)
 class Stamp:
     """The time of a `stamp`, the one of this number."""
 
@@ -105,7 +112,7 @@ class Nothing:
     """What a `void` function returns."""
 
 
-Known = Union[Value, Handle, Reference, Stamp, Stored, Text, Nothing]
+Known = Union[Value, Handle, Reference, Address, Stamp, Stored, Text, Nothing]
 
 
 def joined(pieces: Iterable[Piece]) -> Tuple[Piece, ...]:

@@ -83,6 +83,7 @@ class Application(NamedTuple):
     interrupt_ticks: List[int] = []
     objects: List[str] = []
     ignored: List[str] = []
+    has_campaign: bool = False
 
     def script(self, name) -> Optional[Script]:
         return self.tasks.get(name) or self.handlers.get(name)
@@ -129,7 +130,8 @@ def read_application(name):
     return Application({it.name: it for it in tasks}, {it.name: it for it in handlers},
                        script_of(daemon, "") if isinstance(daemon, dict) else None, document.get("tickless") is True,
                        number_of(document, "start"), sorted({number_of(it, "tick") for it in entries(document, "interrupt")}),
-                       [str(it.get("name")) for section in OBJECTS for it in entries(document, section)], ignored)
+                       [str(it.get("name")) for section in OBJECTS for it in entries(document, section)], ignored,
+                       isinstance(document.get("campaign"), dict))
 
 
 def document_of(text) -> Tuple[dict, List[str]]:

@@ -196,7 +196,7 @@ class Classifier:
             name = self.name_as_base(run) + failed_words
         else:
             name = lasting_words(run.head.verdict, words)
-        return OutcomeClass(run.head, key is None, words, name, is_by_cause, failed_words, self.endings.lines_of(run))
+        return OutcomeClass(run.head, key is None, words, name, is_by_cause, failed_words, self.endings.lines_of(run, self.base, failed))
 
     def name_as_base(self, run):
         return AS_BASE if run.head.verdict.passes else f"{AS_BASE}: {self.causes.end_of(run)}"

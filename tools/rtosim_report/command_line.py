@@ -59,10 +59,14 @@ def do_pairs(words, output):
     """Writes the points of pairs. How many steps the base run has the program says."""
     from .application import read_application
     from .faults import WordsFault
+    from .job import say
     from .made import MadeReport
     from .pairs import write_pairs
 
-    known = read_application(words.application).handlers
+    application = read_application(words.application)
+    known = application.handlers
+    if application.has_campaign:
+        say(f"{plain(words.application)} has a [campaign], and a file has one: what is written takes its place")
     unknown = next((it for it in words.handler if it not in known), None)
     if unknown is not None:
         raise WordsFault(f"no handler is called {unknown}; the handlers are {', '.join(known) or 'none'}")
@@ -75,7 +79,7 @@ def do_show(job, output):
 
     run, base = job.wanted_run(job.words.row)
     has_colour = job.words.output is None and sys.stdout.isatty()
-    show.write_row(output, run, base, job.words.context, has_colour, job.endings.lines_of(run))
+    show.write_row(output, run, base, job.words.context, has_colour, job.endings.lines_of(run, base), job.source_map)
 
 
 def do_json(job, output):
@@ -83,7 +87,7 @@ def do_json(job, output):
 
     write = json_lines.write_run if job.made or not job.source.has_heads_alone() else json_lines.write_head
     for run in job.whole_runs():
-        write(output, run)
+        write(output, run, job.source_map)
 
 
 def do_junit(job, output):
@@ -140,6 +144,7 @@ def add_common(parser):
     help_text = "the application: of its texts, and without REPORT the program is run on it"
     parser.add_argument("--application", metavar="FILE", help=help_text)
     parser.add_argument("--base", metavar="REPORT", help="the report of the base run, as `rtosim run FILE` writes it")
+    parser.add_argument("--source", metavar="MAP", help="show lines of C, by the map that `rtosim-from-c --map` writes")
     add_options(parser)
 
 
@@ -149,7 +154,7 @@ def add_options(parser):
     parser.add_argument("--output", "-o", metavar="FILE", help="write to this file, when all of it is there")
     parser.add_argument("--whole", action="store_true", help="read all rows whole, also where they are too many, and of a page those that pass")
     parser.set_defaults(by=By.DEFAULT, row=None, about_a_run=False, accept=None, asks_for_states=False,
-                        allow_empty=False, folds=False)
+                        allow_empty=False, folds=False, source=None)
 
 
 def add_classes(commands):
@@ -204,7 +209,8 @@ def step(word):
 
 def add_pairs(commands):
     parser = commands.add_parser("pairs", help="the points of two interrupts each, as a section for the end of an application")
-    parser.add_argument("application", metavar="FILE", help="the application")
+    parser.add_argument("file", nargs="?", metavar="FILE", help="the application")
+    parser.add_argument("--application", metavar="FILE", help="the same")
     parser.add_argument("--handler", action="append", required=True, metavar="H", help="the handler that comes twice; or two, in both orders")
     parser.add_argument("--within", type=step, default=10, metavar="N", help="the second comes at most N steps later (10)")
     parser.add_argument("--from", dest="first", type=step, default=0, metavar="STEP", help="the first one's least step (0)")
@@ -260,6 +266,10 @@ def parsed(words):
     add_pairs(commands)
     add_formats(commands)
     found = parser.parse_args(words)
+    if found.command == "pairs":
+        if (found.file is None) == (found.application is None):
+            parser.error("FILE is named once")
+        found.application = found.application or found.file
     if getattr(found, "campaign", False):
         found.about_a_run = False
     if getattr(found, "rows", False):

@@ -3,6 +3,7 @@ the answer is; of a misuse what is wrong with it; of a run that is stuck, or com
 from typing import List, Optional
 
 from .end_state import EndState, Status, TaskState, state_of
+from .moments import Moments
 from .progress import Walker, holds
 from .report import Kind, event_of
 
@@ -21,25 +22,45 @@ PLAIN = {Status.RUNS: "runs", Status.READY: "is Ready", Status.AWAKE: "is Awake"
 
 
 class Endings:
-    """Words for the ends of runs of an application that is known. `ask` has the program write the state at the end of a row, or answers
-    None."""
+    """Words for the ends of runs of an application that is known, and the lines of C where these are. `ask` has the program write the
+    state at the end of a row, or returns None."""
 
-    def __init__(self, application, ask=lambda head: None):
-        self.application, self.ask = application, ask
+    def __init__(self, application, ask=lambda head: None, source_map=None):
+        self.application, self.ask, self.source_map = application, ask, source_map
+        self.moments = Moments(application, source_map) if application is not None and source_map is not None else None
 
-    def lines_of(self, run) -> List[str]:
-        """The lines for this run; none where it passes, or where no more is known than its head says."""
+    def lines_of(self, run, base=None, failed=()) -> List[str]:
+        """The lines for this run, in which these calls of handlers failed; none where it passes, or where no more is known than its
+        head says."""
+        if run.head.verdict.passes:
+            return []
+        moments = self.moments.lines_of(run, base) if self.moments else []
+        return [*moments, *self.source_of_failed(failed), *self.lines_of_end(run)]
+
+    def lines_of_end(self, run):
         kind = run.head.verdict.kind
+        if kind == "check":
+            return self.lines_of_check(run) + self.source_of_verdict(run.head.verdict)
+        if kind == "misuse":
+            return self.lines_of_misuse(run.head.verdict) + self.source_of_verdict(run.head.verdict)
         if self.application is None:
             return []
-        if kind == "check":
-            return self.lines_of_check(run)
-        if kind == "misuse":
-            return self.lines_of_misuse(run.head.verdict)
         state = (state_of(run.state) or self.ask(run.head)) if kind in NEVER_DONE else None
         return [] if state is None else self.lines_of_state(kind, state)
 
+    def source_of_verdict(self, verdict):
+        found = self.source_map.line(verdict.task, verdict.numbers[0]) if self.source_map else None
+        return [found.shown] if found else []
+
+    def source_of_failed(self, failed):
+        """The lines of C of calls of handlers that failed."""
+        events = [event_of((b"0", b"0", it)) for it in failed] if self.source_map else []
+        found = [(it.name, self.source_map.line(it.name, it.op, it.word)) for it in events]
+        return [f"{name}: {line.shown}" for name, line in found if line]
+
     def lines_of_check(self, run):
+        if self.application is None:
+            return []
         verdict = run.head.verdict
         op = self.application.op(verdict.task, verdict.numbers[0])
         found = self.failed_answer(run) if op is not None and op.word == CHECKS else None
@@ -50,7 +71,7 @@ class Endings:
 
     def lines_of_misuse(self, verdict):
         index, code = verdict.numbers
-        op = self.application.op(verdict.task, index)
+        op = self.application.op(verdict.task, index) if self.application else None
         return [f'{verdict.text}: "{op.text}", {MISUSES[code]}'] if op is not None and code in MISUSES else []
 
     def failed_answer(self, run):
@@ -67,7 +88,13 @@ class Endings:
     def lines_of_state(self, kind, state: EndState):
         left = [it for it in state.tasks if it.status is not Status.ENDED and not self.is_idle_daemon(it)]
         words = ", ".join(self.words_of_task(it, state) for it in left)
-        return [f"{kind}: {words}"] * bool(words) + [f"deadlock: {words_of_circle(it)}" for it in self.circles(state)]
+        deadlocks = [f"deadlock: {words_of_circle(it)}" for it in self.circles(state)]
+        return [f"{kind}: {words}"] * bool(words) + self.source_of_tasks(left) + deadlocks
+
+    def source_of_tasks(self, tasks: List[TaskState]):
+        """The line of C of each task."""
+        found = [(it.name, self.source_map.line(it.name, it.op)) for it in tasks] if self.source_map else []
+        return [f"{name}: {line.shown}" for name, line in found if line]
 
     def is_idle_daemon(self, it: TaskState):
         return self.is_daemon(it.name) and it.status is Status.WAITS and it.op == OP_OF_RECEIVE

@@ -13,6 +13,7 @@ from .known import Failure, failures_of
 from .made import MadeReport, Plan
 from .reading import Tally, ViewReader, lone_run_of
 from .source import file_source, standard_input, state_source
+from .source_map import read_map
 from .table import Given
 from .words import takes_points, words_of_point
 
@@ -37,13 +38,14 @@ class Job:
         self.made = MadeReport(self.application, words.workers, words.whole) if is_made else None
         self.source = None if is_made else self.open_source()
         self.texts = self.read_texts() if self.application is not None and has_texts else None
+        self.source_map = self.read_source_map()
         self.base = None
         # The head of the base run of a report without rows, what it says at its end, and the name of its failure.
         self.lone_run, self.ending, self.lone_name = None, [], ""
         # What the total line counts, and what there is to say of rows that aren't looked at whole.
         self.total, self.notes = Tally(), []
         self.asked = 0 if is_made and words.asks_for_states else MOST_ASKED
-        self.endings = Endings(self.texts, self.ask_for_state)
+        self.endings = Endings(self.texts, self.ask_for_state, self.source_map)
 
     @property
     def given(self):
@@ -64,6 +66,15 @@ class Job:
         found = read_application(self.application)
         for it in found.ignored:
             say(f"{plain(self.application)}: {plain(it)}")
+        return found
+
+    def read_source_map(self):
+        """The lines of C of the ops, which are those of the application where that is known."""
+        if self.words.source is None:
+            return None
+        found = read_map(self.words.source)
+        if self.texts is not None:
+            found.check(self.texts, self.application)
         return found
 
     # -- what is judged
@@ -215,7 +226,7 @@ class Job:
         """The classes. What the first row says at its end is looked for in those that were made of heads."""
         for it in classes:
             if self.made and it.is_by_head and not it.verdict.passes and self.words.by is not By.VERDICT and not it.ending:
-                it.ending = self.endings.lines_of(self.made.row(it.first.row))
+                it.ending = self.endings.lines_of(self.made.row(it.first.row), self.base)
         return classes
 
     # -- one run
@@ -247,10 +258,13 @@ class Job:
         run, base = self.wanted_run(self.words.row)
         if run is not None:
             found = timeline.of_row(run, base, self.texts)
-            found.ending = self.endings.lines_of(run)
-            return found
+            return self.with_words(found, run)
         if base is None or base.head is None:
             raise WordsFault("the report does not have the base run: --row N, --base or --application")
         found = timeline.of_base(base, self.texts)
-        found.ending = self.endings.lines_of(base.run())
+        return self.with_words(found, base.run())
+
+    def with_words(self, found, run):
+        """The timeline of a run with what that says at its end, and with the lines of C of its calls."""
+        found.ending, found.source_map = self.endings.lines_of(run, self.base), self.source_map
         return found

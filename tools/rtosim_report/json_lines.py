@@ -5,19 +5,19 @@ import json
 from .report import Kind, event_of
 
 
-def write_head(output, run):
+def write_head(output, run, source_map=None):
     """The object of a run of which the head alone is known: it has no events."""
-    output.write_bytes(head_fields(run.head).encode() + b"}\n")
+    output.write_bytes(head_fields(run.head, source_map).encode() + b"}\n")
 
 
-def write_run(output, run):
+def write_run(output, run, source_map=None):
     """The run's object. Events are put together from texts that are kept, as most of them come again and again."""
     fields = fields_of
-    events = b"},{".join([b'"step":%b,"tick":%b,%b' % (step, tick, fields(what)) for step, tick, what in run.checked_lines()])
-    output.write_bytes(b"%b,\"events\":[%b]}\n" % (head_fields(run.head).encode(), b"{%b}" % events if events else b""))
+    events = b"},{".join([b'"step":%b,"tick":%b,%b' % (step, tick, fields(what, source_map)) for step, tick, what in run.checked_lines()])
+    output.write_bytes(b"%b,\"events\":[%b]}\n" % (head_fields(run.head, source_map).encode(), b"{%b}" % events if events else b""))
 
 
-def head_fields(head):
+def head_fields(head, source_map=None):
     if head.row is None:
         point, reached = "null", "null"
     else:
@@ -26,20 +26,21 @@ def head_fields(head):
         reached = "true" if head.is_reached else "false"
     return (
         f'{{"row":{"null" if head.row is None else head.row},"point":{point},"reached":{reached},'
-        f'"verdict":{verdict_fields(head.verdict)},"steps":{head.steps},"ticks":{head.ticks}'
+        f'"verdict":{verdict_fields(head.verdict, source_map)},"steps":{head.steps},"ticks":{head.ticks}'
     )
 
 
 @functools.lru_cache(maxsize=1 << 12)
-def verdict_fields(verdict):
+def verdict_fields(verdict, source_map=None):
     fields = {"kind": verdict.kind}
     if verdict.task is not None:
         fields.update(zip(("task", "op", "code"), (verdict.task, *verdict.numbers)))
+        add_source(fields, source_map, verdict.task, verdict.numbers[0])
     return json.dumps(fields, separators=(",", ":"))
 
 
 @functools.lru_cache(maxsize=1 << 16)
-def fields_of(what):
+def fields_of(what, source_map=None):
     """The fields of an event but its step and its tick."""
     event = event_of((b"0", b"0", what))
     fields = {"event": event.kind.value}
@@ -50,4 +51,12 @@ def fields_of(what):
     else:
         who = "task" if event.kind is Kind.CALL else "handler"
         fields.update({who: event.name, "op": event.op, "word": event.word, "answer": event.answer})
+        add_source(fields, source_map, event.name, event.op, event.word)
     return json.dumps(fields, separators=(",", ":"))[1:-1].encode()
+
+
+def add_source(fields, source_map, name, index, word=None):
+    """Adds the place of an op's line of C, where that is known."""
+    found = source_map.line(name, index, word) if source_map else None
+    if found is not None:
+        fields["source"] = found.place

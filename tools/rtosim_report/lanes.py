@@ -4,10 +4,11 @@ Times are boundaries: boundary b is before step b, and boundary N after the last
 import bisect
 import enum
 from dataclasses import dataclass, field
-from typing import Dict, List, Tuple
+from typing import Dict, List, Optional, Tuple
 
 from .op_times import Stretch
 from .report import Event, Head, Injection, Kind
+from .source_map import SourceLine, SourceMap
 
 
 class Doing(enum.Enum):
@@ -122,6 +123,7 @@ class Timeline:
     is_presumed: bool = False
     # What the run says at its end, in words.
     ending: List[str] = field(default_factory=list)
+    source_map: Optional[SourceMap] = None
 
     @property
     def steps(self):
@@ -131,6 +133,20 @@ class Timeline:
     def outlasts_printed_ticks(self):
         """Whether it is so long that a printed tick comes again."""
         return self.head.ticks >= 1 << 32
+
+    def line_of(self, note) -> Optional[SourceLine]:
+        """The line of C of a call, where that is known."""
+        return self.source_map.line(note.event.name, note.event.op, note.event.word) if self.source_map else None
+
+    def told(self, note) -> str:
+        """What is reported, with the number of its line of C where that is known."""
+        found = self.line_of(note)
+        return f"{note.told} {self.source_map.short(found)}" if found else note.told
+
+    def source_lines(self) -> List[SourceLine]:
+        """The lines of C of all calls that are reported, each once, in the order of their first steps."""
+        found = (self.line_of(it) for it in sorted(self.notes, key=lambda it: (it.boundary, not it.is_injected)))
+        return list({(it.file, it.line): it for it in found if it}.values())
 
     def title(self):
         words = self.head.text()

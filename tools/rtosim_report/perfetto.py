@@ -55,7 +55,7 @@ def events_of(timeline, times, tracks):
             "ts": stamp(start), "dur": round(stamp(end) - stamp(start), 3), "args": steps,
         }
     for note in timeline.notes:
-        yield instant(note, stamp(note.boundary), tracks[note.lane])
+        yield instant(note, stamp(note.boundary), tracks[note.lane], timeline.line_of(note))
     for it in timeline.injections:
         yield {
             "ph": "i", "name": f"{it.handler} injected", "cat": "injection", "s": "g", "pid": PROCESS,
@@ -71,11 +71,13 @@ def window_name(window):
     return WINDOWS[window.kind]
 
 
-def instant(note, stamp, track):
+def instant(note, stamp, track, source):
     event = note.event
     args = {"step": event.step, "tick": event.tick}
     if event.kind is not Kind.MARK:
         args.update(op=event.op, answer=event.answer)
+    if source is not None:
+        args["source"] = source.shown
     return {
         "ph": "i", "name": note.told, "cat": event.kind.value, "s": "t", "pid": PROCESS, "tid": track,
         "ts": stamp, "args": args,

@@ -5,7 +5,7 @@ from dataclasses import dataclass
 from typing import Optional
 
 from .injections import own_stretches, position_of, without
-from .report import Line
+from .report import Line, event_of
 
 LONGEST_COMPARED = 3000
 EMPTY = "(not known)"
@@ -104,12 +104,20 @@ def text_of(line):
     return b" ".join(line).decode("ascii") if line else ""
 
 
-def write_row(output, run, base, context=None, has_colour=False, ending=()):
-    """The two heads, the pairs, what the row says at its end, and what the marks mean."""
+def source_of(line, source_map):
+    """The line of C of a line of a report, if it is that of a call."""
+    event = event_of(line)
+    return source_map.column(source_map.line(event.name, event.op, event.word))
+
+
+def write_row(output, run, base, context=None, has_colour=False, ending=(), source_map=None):
+    """The two heads, the pairs, with a map also their lines of C, what the row says at its end, and what the marks mean."""
     pairs = all_pairs(run, base)
     base_head = base.head.text() if base and base.head else "base: not known whole"
     width = max([len(base_head)] + [len(text_of(it.base)) for it in pairs])
-    output.line(f"  {base_head.ljust(width)}  {run.head.text()}")
+    row_width = max([len(run.head.text())] + [len(text_of(it.row)) for it in pairs]) if source_map else 0
+    main = source_map.main if source_map else ""
+    output.line(f"  {base_head.ljust(width)}  {run.head.text().ljust(row_width)}  {main}".rstrip())
     folded = 0
     for it, is_shown in zip(pairs, shown(pairs, context)):
         if not is_shown:
@@ -117,7 +125,8 @@ def write_row(output, run, base, context=None, has_colour=False, ending=()):
             continue
         write_folded(output, folded)
         folded = 0
-        line = f"{it.mark.value} {text_of(it.base).ljust(width)}  {text_of(it.row)}".rstrip()
+        source = source_of(it.row or it.base, source_map) if source_map else ""
+        line = f"{it.mark.value} {text_of(it.base).ljust(width)}  {text_of(it.row).ljust(row_width)}  {source}".rstrip()
         colour = COLOURS.get(it.mark) if has_colour else None
         output.line(f"\x1b[{colour}m{line}\x1b[0m" if colour else line)
     write_folded(output, folded)

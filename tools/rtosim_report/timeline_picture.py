@@ -15,6 +15,8 @@ WIDEST_STEP, NARROWEST_STEP, MOST_BANDS, MOST_DETAILS = 54, 6, 16, 3
 LABEL_ROW, BAR, LANE_GAP, AXIS, BAND_GAP = 14, 14, 12, 40, 18
 # A row of the axis, and one of what the run says at its end.
 AXIS_ROW, ENDING_ROW = 14, 16
+# So many lines of C are shown below a picture.
+MOST_SOURCE_LINES = 24
 LEAST_VISIBLE = 0.75
 STYLES = [
     (".runs", "fill:#2f6fce", "fill:#5c9bf5"),
@@ -60,8 +62,9 @@ class Layout:
     lane_tops: List[float]
     band_height: float
     axis: float
-    # What the run says at its end, cut into lines.
+    # What the run says at its end, cut into lines; and the lines of C of its calls.
     ending: List[str]
+    source: List[str]
 
     @property
     def bands(self):
@@ -101,6 +104,10 @@ class Layout:
 
     @property
     def height(self):
+        return self.source_top + ENDING_ROW * len(self.source)
+
+    @property
+    def source_top(self):
         return self.band_top(self.bands) + 22 + ENDING_ROW * len(self.ending)
 
 
@@ -120,7 +127,17 @@ def layout_of(timeline):
     axis = AXIS + AXIS_ROW * timeline.outlasts_printed_ticks
     room = int((left + PLOT + RIGHT - 24) / drawing.CHARACTER)
     ending = [line for it in timeline.ending for line in textwrap.wrap(it, room, break_on_hyphens=False)]
-    return Layout(timeline, left, spans_of(timeline), tops, at + axis, axis, ending)
+    return Layout(timeline, left, spans_of(timeline), tops, at + axis, axis, ending, source_of(timeline, room))
+
+
+def source_of(timeline, room):
+    """The lines of C of the calls, below the name of the file; nothing if no map has them."""
+    found = timeline.source_lines()
+    if not found:
+        return []
+    texts = [f"{timeline.source_map.short(it)} {it.text}" for it in found[:MOST_SOURCE_LINES]]
+    more = [f"and {len(found) - MOST_SOURCE_LINES} more"] if len(found) > MOST_SOURCE_LINES else []
+    return [it if len(it) <= room else f"{it[:room - 3]} .." for it in (timeline.source_map.main, *texts, *more)]
 
 
 def spans_of(timeline):
@@ -160,6 +177,8 @@ def write(output, timeline):
     write_legend(output, layout)
     for at, text in enumerate(layout.ending):
         output.line(drawing.label(12, layout.band_top(layout.bands) + 8 + ENDING_ROW * at, text, "fails"))
+    for at, text in enumerate(layout.source):
+        output.line(drawing.label(12, layout.source_top - 14 + ENDING_ROW * at, text, "" if at else "quiet"))
     drawing.end(output)
 
 
@@ -294,7 +313,7 @@ def write_marks(output, layout, index, band, notes, labels):
     """The marks of one band. Those that can't be seen apart are one."""
     marked, top = float("-inf"), layout.bar_top(band, index)
     for (step, is_injected), group in groupby(notes, key=lambda it: (it.step, it.is_injected)):
-        told = ", ".join(it.told for it in group)
+        told = ", ".join(layout.timeline.told(it) for it in group)
         at = layout.across(band, step + (0 if is_injected else 0.5))
         if at - marked < LEAST_VISIBLE:
             labels.fold(told)

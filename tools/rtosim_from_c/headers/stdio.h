@@ -2,8 +2,12 @@
 #ifndef RTOSIM_STDIO_H
 #define RTOSIM_STDIO_H
 
+#include <stddef.h>
+
 int printf(const char *format, ...);
 int puts(const char *text);
 int putchar(int character);
+int snprintf(char *to, size_t size, const char *format, ...);
+int sprintf(char *to, const char *format, ...);
 
 #endif

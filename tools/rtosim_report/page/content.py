@@ -86,7 +86,11 @@ class Content:
         lines = sum(it.row is not None for it in pairs)
         if lines > MOST_LINES:
             return {**content, "tooLong": lines}
-        return {**content, "lanes": self.lanes_content(timeline.of_row(run, self.job.base, self.job.texts))}
+        return {**content, "lanes": self.lanes_content(self.with_source(timeline.of_row(run, self.job.base, self.job.texts)))}
+
+    def with_source(self, found):
+        found.source_map = self.job.source_map
+        return found
 
     def shared(self, pairs):
         """How many lines at the beginning are those of the base run, which the page has once."""
@@ -112,7 +116,7 @@ class Content:
         return {
             "steps": found.steps, "names": [[it.name, it.kind.value] for it in found.lanes],
             "bars": [[lanes[it.lane], it.start, it.end, it.doing.name.lower(), it.call] for it in found.bars],
-            "notes": [[lanes[it.lane], it.step, int(it.is_injected), text(it.told)] for it in found.notes],
+            "notes": [[lanes[it.lane], it.step, int(it.is_injected), text(found.told(it))] for it in found.notes],
             "windows": [[lanes[it.lane], it.start, it.end, it.kind.name.lower()] for it in found.windows],
             "endings": [[lanes[lane], at] for lane, at in found.endings], "injections": [[it.step, it.handler] for it in found.injections],
             "clock": [clock.start, clock.boundaries, clock.ticks],
@@ -128,7 +132,7 @@ class Content:
             return {**content, "tooLong": len(base.lines)}
         content["lines"] = self.lines_content(base.lines)
         if base.head is not None:
-            content["lanes"] = self.lanes_content(timeline.of_base(base, self.job.texts))
+            content["lanes"] = self.lanes_content(self.with_source(timeline.of_base(base, self.job.texts)))
         return content
 
     def class_content(self, it, colour):
@@ -153,12 +157,20 @@ class Content:
         scripts = [*texts.tasks.values(), *texts.handlers.values()] if texts else []
         return [[it.name, it.name in texts.tasks, [op.text for op in it.ops]] for it in scripts]
 
+    def source_content(self):
+        """The file that was translated, and of each task and handler the lines of C of its ops."""
+        found = self.job.source_map
+        if found is None:
+            return None
+        return {"main": found.main, "lines": {name: list(map(found.column, ops)) for name, ops in found.owners()}}
+
     def write(self, output):
         """The object, one key a line. The texts are last, when all of them are known."""
         colours = colours_of(self.classes)
         points = self.points
         parts = {
             "title": self.title, "rows": self.rows, "command": self.command_content(), "scripts": self.scripts_content(),
+            "source": self.source_content(),
             "base": self.base_content(), "classes": [self.class_content(it, colours[it.number]) for it in self.classes],
             "handlers": list(points.handlers.numbers), "points": list(points.stretches), "several": points.several,
             "missed": points.missed,

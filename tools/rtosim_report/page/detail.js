@@ -59,12 +59,14 @@ function pairsOf(first) {
 function tableOf(pairs, heads) {
   const body = element("tbody");
   for (const { mark, base, row } of pairs) {
-    const cells = [mark, base ? base.text : "", row ? row.text : ""].map(text => element("td", {}, text));
+    const source = data.source ? [(row || base).source || ""] : [];
+    const cells = [mark, base ? base.text : "", row ? row.text : "", ...source].map(text => element("td", {}, text));
     const line = element("tr", { class: STYLES[mark] || "", title: MEANING[mark], "data-step": row ? row.step : "" }, ...cells);
     if (row) line.addEventListener("mouseenter", () => moveCursor(row.step, false));
     body.append(line);
   }
-  const head = element("tr", {}, ...["", ...heads].map(text => element("th", { scope: "col" }, text)));
+  const titles = ["", ...heads, ...(data.source ? [data.source.main] : [])];
+  const head = element("tr", {}, ...titles.map(text => element("th", { scope: "col" }, text)));
   return element("table", { id: "lines" }, element("thead", {}, head), body);
 }
 
@@ -76,12 +78,18 @@ function baseTable() {
   return tableOf(linesOf(data.base.lines).map(row => ({ mark: " ", base: null, row })), ["", data.base.head || "the base run"]);
 }
 
+function sourceBeside(name, op) {
+  const text = sourceOf(name, op);
+  return text ? [element("span", { class: "source quiet" }, text)] : [];
+}
+
 function scripts() {
   const box = element("div", { class: "scripts scroll", id: "scripts" });
   if (!data.scripts.length) box.append(element("p", { class: "quiet" }, "scripts are shown with --application"));
   for (const [name, isTask, ops] of data.scripts) {
     box.append(element("div", {}, `${isTask ? "task" : "handler"} ${name}`));
-    box.append(element("ol", { start: 0, "data-task": name }, ...ops.map(op => element("li", {}, op))));
+    const lines = ops.map((op, at) => element("li", {}, element("span", {}, op), ...sourceBeside(name, at)));
+    box.append(element("ol", { start: 0, "data-task": name }, ...lines));
   }
   return box;
 }
@@ -155,7 +163,8 @@ function markScripts(run, step) {
     line.setAttribute("aria-current", list.dataset.task === runner ? "step" : "true");
     if (list.dataset.task === runner) current = line;
   }));
-  const text = current ? `; ${runner} is in op ${[...current.parentElement.children].indexOf(current)}, ${current.textContent}` : "";
+  const op = current ? [...current.parentElement.children].indexOf(current) : 0, source = current && sourceOf(runner, op);
+  const text = current ? `; ${runner} is in op ${op}, ${current.firstChild.textContent}${source ? `, line ${source}` : ""}` : "";
   document.getElementById("at").textContent = `step ${step}, tick ${(run.clock[0] + tickAt(run.clock, step)) % 2 ** 32}: ${runner || "nobody known"} runs${text}`;
   if (current) scrollWithin(document.getElementById("scripts"), current);
 }

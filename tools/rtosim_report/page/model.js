@@ -74,9 +74,20 @@ function linesOf(numbers) {
   const found = [];
   for (let at = 0; at < numbers.length; at += 3) {
     const [step, tick, text] = numbers.slice(at, at + 3);
-    found.push({ step, text: `${step} ${tick} ${data.texts[text]}` });
+    found.push({ step, text: `${step} ${tick} ${data.texts[text]}`, source: sourceOfEvent(data.texts[text]) });
   }
   return found;
+}
+
+// The line of C of an op, if a map has it.
+function sourceOf(name, op) {
+  const lines = data.source && data.source.lines[name];
+  return lines && lines[op] || "";
+}
+
+function sourceOfEvent(text) {
+  const [kind, name, op] = text.split(" ");
+  return kind === "call" || kind === "isr" ? sourceOf(name, Number(op)) : "";
 }
 
 function element(name, attributes = {}, ...children) {

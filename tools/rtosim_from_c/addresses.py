@@ -1,0 +1,147 @@
+"""Arrays, structures and what pointers lead to: a script has nothing of it. It is passed on, what is written there is left out, and what is
+read isn't known; so it is refused where it decides something. A local whose address goes there isn't known either."""
+from typing import Optional, Union
+
+from . import trees
+from .constants import POINTER
+from .core import Core
+from .integers import INT, Integer
+from .paths import Path
+from .refusals import Lost
+from .values import Address, Handle, Known, Reference, Value, constant, lost
+
+OPAQUE = ("an array", "a structure", "a union")
+A_CONSTANT = "a constant in its place, by `#ifdef RTOSIM`; or, as the first in the branch of an `if`, /* rtosim: holds */"
+SOMEWHERE = "what a pointer leads to"
+
+
+class Escaped(Exception):
+    """The address of a local goes where it isn't followed: the translation begins anew, with the local not known."""
+
+
+class Addresses(Core):
+    """Expressions with addresses."""
+
+    def opaque(self, name: str) -> Optional[Address]:
+        """The array or the structure of this name; None if it is none."""
+        key = self.frame.local(name)
+        declaration = self.unit.globals.get(name)
+        type_ = self.types.get(key) if key is not None else self.unit.constants.type_of(declaration) if declaration is not None else None
+        return Address(name) if type_ in OPAQUE else None
+
+    def address(self, node: object, path: Path) -> Known:
+        inner = node.expr
+        name = inner.name if trees.kind(inner) == "ID" else None
+        if name is not None and self.opaque(name) is None:
+            key = self.frame.local(name)
+            if key is not None:
+                return Reference(key)
+            if not self.is_left_out(name):
+                raise self.refuse(node, "an address has no op", "a local of its own, whose address a call may take")
+        return Address(name) if name is not None else self.whole(inner, path)
+
+    def is_left_out(self, name: str) -> bool:
+        """Whether a global is no integer that the script could have."""
+        declaration = self.unit.globals.get(name)
+        is_integer = declaration is not None and isinstance(self.unit.constants.type_of(declaration), Integer)
+        return name in self.unit.directives.ignored or not is_integer and declaration is not None
+
+    def whole(self, node: object, path: Path) -> Union[Address, Reference]:
+        """Where a member, an element or what a pointer leads to is."""
+        name = trees.kind(node)
+        if name == "StructRef" and node.type == ".":
+            return self.member(self.whole(node.name, path), node)
+        if name == "StructRef":
+            return self.member(self.led_to(self.evaluate(node.name, path), node, path), node)
+        if name == "ArrayRef":
+            inner = self.led_to(self.evaluate(node.name, path), node, path)
+            index = self.evaluate(node.subscript, path)
+            if isinstance(inner, Reference) and not (isinstance(index, Value) and index.constant() == 0):
+                raise self.refuse(node, "what is beside a local isn't known", "an array")
+            return inner
+        if name == "UnaryOp" and node.op == "*":
+            return self.led_to(self.evaluate(node.expr, path), node, path)
+        found = self.opaque(node.name) if name == "ID" else None
+        return found or Address(SOMEWHERE)
+
+    def member(self, inner: Union[Address, Reference], node: object) -> Address:
+        if isinstance(inner, Reference):
+            raise self.refuse(node, "a part of a local has no op", "a local of its own")
+        return inner if inner.name == SOMEWHERE else Address(f"{inner.name}.{node.field.name}")
+
+    def led_to(self, value: Known, node: object, path: Path) -> Union[Address, Reference]:
+        if isinstance(value, (Address, Reference)):
+            return value
+        if isinstance(value, Value) and value.among(path.state.answers).constant() == 0:
+            raise self.refuse(node, "this pointer is NULL")
+        return Address(SOMEWHERE)
+
+    def content(self, where: Union[Address, Reference], node: object, path: Path) -> Known:
+        """What is read there."""
+        if isinstance(where, Reference):
+            return self.read_local(where.local, node, path)
+        found = self.unit.handles.get(("", where.name)) or self.unit.handles.get((self.frame.function, where.name))
+        return found or self.unknown(f"{shown(where)} isn't known here")
+
+    def unknown(self, why: str) -> Value:
+        return lost(INT, Lost(why, instead=A_CONSTANT))
+
+    def of_StructRef(self, node: object, path: Path) -> Known:
+        found = self.unit.handle(self.frame.function, node)
+        return self.content(self.whole(node, path), node, path) if found is None else found
+
+    def of_ArrayRef(self, node: object, path: Path) -> Known:
+        return self.content(self.whole(node, path), node, path)
+
+    def write_there(self, where: Union[Address, Reference], value: Known, node: object, path: Path) -> Known:
+        """A write to what isn't followed is left out."""
+        if isinstance(where, Reference):
+            return self.write_local(where.local, value, node, path)
+        self.let_go(value)
+        self.note(node, f"{shown(where)} isn't followed: this write is left out")
+        return value
+
+    def let_go(self, value: Known) -> None:
+        """The address of a local goes where it isn't followed."""
+        if isinstance(value, Reference) and value.local not in self.escaped:
+            self.escaped.add(value.local)
+            raise Escaped()
+
+    def let_arguments_go(self, call: object, path: Path) -> None:
+        """The locals whose addresses a call takes that is left out."""
+        for argument in trees.arguments(call):
+            for it in trees.walk(argument):
+                key = self.frame.local(it.name) if trees.kind(it) == "ID" else None
+                self.let_go(path.state.locals.get(key) if key is not None else None)
+                inner = it.expr if trees.kind(it) == "UnaryOp" and it.op == "&" else None
+                key = self.frame.local(inner.name) if trees.kind(inner) == "ID" else None
+                if key is not None and self.types.get(key) not in OPAQUE:
+                    self.let_go(Reference(key))
+
+    def pointer_arithmetic(self, node: object, left: Known, right: Known, path: Path) -> Known:
+        """Of an address: with NULL it is compared, and what is beside it is as little known as itself."""
+        one, other = (left, right) if isinstance(left, (Address, Reference)) else (right, left)
+        if node.op in ("==", "!=") and isinstance(other, Value) and other.among(path.state.answers).constant() == 0:
+            return constant(int(node.op == "!="))
+        if node.op in ("+", "-") and isinstance(one, Address) and isinstance(other, Value):
+            return one
+        return self.unknown("an address as a number isn't known")
+
+    def size(self, node: object) -> Optional[Value]:
+        """The size of a name's type, where that is a number or an array of numbers."""
+        key = self.frame.local(node.name) if trees.kind(node) == "ID" else None
+        declaration = self.declarations.get(key) if key is not None else self.unit.globals.get(getattr(node, "name", None))
+        found = self.unit.constants.size_of(declaration) if trees.kind(node) == "ID" else self.unit.constants.size_of(node)
+        return None if found is None else constant(found, POINTER)
+
+
+def shown(where: Address) -> str:
+    return where.name if where.name == SOMEWHERE else f"`{where.name}`"
+
+
+def is_address(value: Known) -> bool:
+    return isinstance(value, (Address, Reference))
+
+
+def never_null(value: Known) -> bool:
+    return isinstance(value, (Address, Handle, Reference))

@@ -1,0 +1,1 @@
+#include "../event_groups.h"

@@ -1,0 +1,67 @@
+"""At which moments of the C the interrupts of a row come: after which call of the task that runs, and before which."""
+from typing import Iterator, List, Optional
+
+from .injections import groups_of, position_of
+from .report import IDLE
+from .whereabouts import CALL, Place, Whereabouts
+
+
+class Moments:
+    """The moments of rows of an application whose lines of C are known."""
+
+    def __init__(self, application, source_map):
+        self.application, self.source_map = application, source_map
+        self.whereabouts: Optional[Whereabouts] = None
+
+    def lines_of(self, run, base) -> List[str]:
+        """In words each moment at which interrupts come; nothing of the base run and of a row that isn't reached."""
+        if run.head.point is None or not run.head.is_reached:
+            return []
+        if self.whereabouts is None or self.whereabouts.base is not base:
+            self.whereabouts = Whereabouts(self.application, base)
+        return list(self.words_of_row(run))
+
+    def words_of_row(self, run) -> Iterator[str]:
+        place, size = self.whereabouts.place_before(run)
+        lines, at = run.lines(), run.text.count(b"\n", 0, size)
+        for step, injections in groups_of(run.head.point):
+            position = position_of(lines, step)
+            if step >= run.head.steps:
+                return
+            take(place, lines[at:position])
+            at = position
+            names = list(dict.fromkeys(it.handler for it in injections))
+            who = f"{' and '.join(names)} come{'s' * (len(names) == 1)}"
+            yield from self.words_of_moment(who, self.runner(lines[:position]), place)
+
+    def runner(self, lines) -> Optional[str]:
+        """Who runs after these lines."""
+        last = next((what for _, _, what in reversed(lines) if what.startswith(b"run ")), None)
+        return self.application.first_runner() if last is None else last[4:].decode()
+
+    def words_of_moment(self, who: str, runner: Optional[str], place: Place) -> Iterator[str]:
+        """After which call of the task that runs, and before which, as far as that is known. A call is over when it is complete."""
+        if runner not in self.application.tasks:
+            yield f"{who} while {'idle' if runner in (IDLE, None) else runner} runs"
+            return
+        last = self.source_map.line(runner, place.last.get(runner))
+        following = self.source_map.line(runner, next_call(place, runner))
+        if last is not None:
+            yield f"{who} after {last.shown}"
+        if following is not None:
+            yield f"{'and' if last else who} before {following.shown}"
+
+
+def take(place: Place, lines) -> None:
+    """Goes on by these lines."""
+    for _, _, what in lines:
+        parts = CALL.fullmatch(what)
+        if parts:
+            place.take(parts.groups())
+
+
+def next_call(place: Place, name: str) -> Optional[int]:
+    """The index of the call that a task completes next; None where that isn't known."""
+    walker = place.walkers[name]
+    walker = None if walker is None else walker.copied()
+    return walker.at if walker is not None and walker.to_call() and not walker.has_ended else None
