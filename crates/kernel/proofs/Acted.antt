@@ -45,7 +45,6 @@ room_for_one room enough = omega arith
 pub room_for_two : (room : ℕ) → 65 ≤ room → 2 ≤ room
 room_for_two room enough = omega arith
 
-
 -- the same of an op that is known by its form
 module _ (app : Application) (old new : Machine) (old_log new_log : Logged) (task : ℕ) (op form : Op) (is : op ≡ form)
     (none : old.sched.suspensions ≡ 0) (fine : (s : State) → own_misuse s task form ≡ None)

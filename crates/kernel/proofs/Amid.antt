@@ -342,7 +342,8 @@ module _ (app : Application) (limits : Limits) (k new : Machine) (task : ℕ) (o
     pub on_amid : is_over app limits s ≡ false → is_over app limits (step app limits [] s) ≡ false
     unfolding done begun_now
     on_amid going =
-        not_over_by app limits task s (none_by k s calm h) (act_current app limits s.current (record s { log = [] })) refl ends_nobody
+        not_over_by app limits task s (none_by k s calm h) (act_current app limits s.current (record s { log = [] })) refl
+        ends_nobody
         (sym (stopped_is new done at_done.stands) ∙ ap (λ (x : Machine). x.stopped) placed.1 ∙ stopped_is k s h)
         (sym (elapsed_is new done at_done.stands) ∙ ap (λ (x : Machine). x.clock.age + x.clock.held) placed.1 ∙ elapsed_is k s h)
         (sym (current_is (record new { steps = new.steps + 1 }) (step app limits [] s) stands_amid) ∙ still_runs)

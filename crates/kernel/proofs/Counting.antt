@@ -229,8 +229,10 @@ steps-act app i (Suspend j) s = (keeps-call_suspend app i j s).steps
 steps-act app i (Resume j) s = (keeps-call_resume app i j s).steps
 steps-act app i SuspendAll s = steps-suspends_all app i s
 steps-act app i ResumeAll s = steps-resumes_all app i s
-steps-act app i EnterCritical s = (keeps-go_to app i ((progress_at s i).op_index + 1) (progress_at s i) (record s { sections = s.sections + 1 })).steps
-steps-act app i ExitCritical s = (keeps-go_to app i ((progress_at s i).op_index + 1) (progress_at s i) (record s { sections = s.sections - 1 })).steps
+steps-act app i EnterCritical s =
+    (keeps-go_to app i ((progress_at s i).op_index + 1) (progress_at s i) (record s { sections = s.sections + 1 })).steps
+steps-act app i ExitCritical s =
+    (keeps-go_to app i ((progress_at s i).op_index + 1) (progress_at s i) (record s { sections = s.sections - 1 })).steps
 steps-act app i (NextCommand o) s = steps-next_command app i o (call_at s i).phase s
 steps-act app i Obey s = steps-obey app i (command_at s i) (call_at s i).phase s
 

@@ -354,7 +354,8 @@ each_more : (deed : ℕ → State → State) (a n : ℕ) (s : State)
 each_more deed a zero s = ap (λ (k : ℕ). deed k s) (let z : a ≡ a + 0 = omega arith in z)
 each_more deed a (suc n) s =
     each_more deed (a + 1) n (deed a s)
-    ∙ ap (λ (k : ℕ). deed k (for_each deed (range_with_len (a + 1) n) (deed a s))) (let e : a + 1 + n ≡ a + suc n = omega arith in e)
+    ∙ ap (λ (k : ℕ). deed k (for_each deed (range_with_len (a + 1) n) (deed a s)))
+    (let e : a + 1 + n ≡ a + suc n = omega arith in e)
 
 pub each_next : (deed : ℕ → State → State) (n : ℕ) (s : State)
     → for_each deed (range_with_len 0 (n + 1)) s ≡ deed n (for_each deed (range_with_len 0 n) s)

@@ -135,69 +135,101 @@ pub no_other : {X : Type 0} (op : Op) → may_switch op ≡ false → ((n : ℕ)
     → ((c : AnswerCondition) → op ≢ If c) → (op ≢ Else) → (op ≢ EndIf) → (op ≢ Break) → (op ≢ Stamp) → (op ≢ Since)
     → ((o : ℕ) → op ≢ MessagesWaiting o) → ((o : ℕ) → op ≢ SpacesAvailable o) → ((group mask : ℕ) → op ≢ ClearBits group mask)
     → ((group : ℕ) → op ≢ GetBits group) → (op ≢ SuspendAll) → (op ≢ ResumeAll) → (op ≢ EnterCritical) → (op ≢ ExitCritical) → X
-no_other (Work n) t work time mark expect repeat end_ if_ else_ end_if break_ stamp_ since_ messages spaces clear get suspend_ resume_ enter exit =
+no_other (Work n) t work time mark expect repeat end_ if_ else_ end_if break_ stamp_ since_ messages spaces clear get suspend_
+    resume_ enter exit =
     absurd (work n refl)
-no_other (Delay n) t work time mark expect repeat end_ if_ else_ end_if break_ stamp_ since_ messages spaces clear get suspend_ resume_ enter exit =
+no_other (Delay n) t work time mark expect repeat end_ if_ else_ end_if break_ stamp_ since_ messages spaces clear get suspend_
+    resume_ enter exit =
     absurd (cc)
-no_other (DelayUntil n) t work time mark expect repeat end_ if_ else_ end_if break_ stamp_ since_ messages spaces clear get suspend_ resume_ enter exit =
+no_other (DelayUntil n) t work time mark expect repeat end_ if_ else_ end_if break_ stamp_ since_ messages spaces clear get suspend_
+    resume_ enter exit =
     absurd (cc)
-no_other Yield t work time mark expect repeat end_ if_ else_ end_if break_ stamp_ since_ messages spaces clear get suspend_ resume_ enter exit =
+no_other Yield t work time mark expect repeat end_ if_ else_ end_if break_ stamp_ since_ messages spaces clear get suspend_ resume_
+    enter exit =
     absurd (cc)
-no_other Time t work time mark expect repeat end_ if_ else_ end_if break_ stamp_ since_ messages spaces clear get suspend_ resume_ enter exit =
+no_other Time t work time mark expect repeat end_ if_ else_ end_if break_ stamp_ since_ messages spaces clear get suspend_ resume_
+    enter exit =
     absurd (time refl)
-no_other (Mark n) t work time mark expect repeat end_ if_ else_ end_if break_ stamp_ since_ messages spaces clear get suspend_ resume_ enter exit =
+no_other (Mark n) t work time mark expect repeat end_ if_ else_ end_if break_ stamp_ since_ messages spaces clear get suspend_
+    resume_ enter exit =
     absurd (mark n refl)
-no_other (Expect a) t work time mark expect repeat end_ if_ else_ end_if break_ stamp_ since_ messages spaces clear get suspend_ resume_ enter exit =
+no_other (Expect a) t work time mark expect repeat end_ if_ else_ end_if break_ stamp_ since_ messages spaces clear get suspend_
+    resume_ enter exit =
     absurd (expect a refl)
-no_other (Repeat n) t work time mark expect repeat end_ if_ else_ end_if break_ stamp_ since_ messages spaces clear get suspend_ resume_ enter exit =
+no_other (Repeat n) t work time mark expect repeat end_ if_ else_ end_if break_ stamp_ since_ messages spaces clear get suspend_
+    resume_ enter exit =
     absurd (repeat n refl)
-no_other EndLoop t work time mark expect repeat end_ if_ else_ end_if break_ stamp_ since_ messages spaces clear get suspend_ resume_ enter exit =
+no_other EndLoop t work time mark expect repeat end_ if_ else_ end_if break_ stamp_ since_ messages spaces clear get suspend_
+    resume_ enter exit =
     absurd (end_ refl)
-no_other (If c) t work time mark expect repeat end_ if_ else_ end_if break_ stamp_ since_ messages spaces clear get suspend_ resume_ enter exit =
+no_other (If c) t work time mark expect repeat end_ if_ else_ end_if break_ stamp_ since_ messages spaces clear get suspend_ resume_
+    enter exit =
     absurd (if_ c refl)
-no_other Else t work time mark expect repeat end_ if_ else_ end_if break_ stamp_ since_ messages spaces clear get suspend_ resume_ enter exit =
+no_other Else t work time mark expect repeat end_ if_ else_ end_if break_ stamp_ since_ messages spaces clear get suspend_ resume_
+    enter exit =
     absurd (else_ refl)
-no_other EndIf t work time mark expect repeat end_ if_ else_ end_if break_ stamp_ since_ messages spaces clear get suspend_ resume_ enter exit =
+no_other EndIf t work time mark expect repeat end_ if_ else_ end_if break_ stamp_ since_ messages spaces clear get suspend_ resume_
+    enter exit =
     absurd (end_if refl)
-no_other Break t work time mark expect repeat end_ if_ else_ end_if break_ stamp_ since_ messages spaces clear get suspend_ resume_ enter exit =
+no_other Break t work time mark expect repeat end_ if_ else_ end_if break_ stamp_ since_ messages spaces clear get suspend_ resume_
+    enter exit =
     absurd (break_ refl)
-no_other Stamp t work time mark expect repeat end_ if_ else_ end_if break_ stamp_ since_ messages spaces clear get suspend_ resume_ enter exit =
+no_other Stamp t work time mark expect repeat end_ if_ else_ end_if break_ stamp_ since_ messages spaces clear get suspend_ resume_
+    enter exit =
     absurd (stamp_ refl)
-no_other Since t work time mark expect repeat end_ if_ else_ end_if break_ stamp_ since_ messages spaces clear get suspend_ resume_ enter exit =
+no_other Since t work time mark expect repeat end_ if_ else_ end_if break_ stamp_ since_ messages spaces clear get suspend_ resume_
+    enter exit =
     absurd (since_ refl)
-no_other (Await o a w) t work time mark expect repeat end_ if_ else_ end_if break_ stamp_ since_ messages spaces clear get suspend_ resume_ enter exit =
+no_other (Await o a w) t work time mark expect repeat end_ if_ else_ end_if break_ stamp_ since_ messages spaces clear get suspend_
+    resume_ enter exit =
     absurd (cc)
-no_other (Do o a) t work time mark expect repeat end_ if_ else_ end_if break_ stamp_ since_ messages spaces clear get suspend_ resume_ enter exit =
+no_other (Do o a) t work time mark expect repeat end_ if_ else_ end_if break_ stamp_ since_ messages spaces clear get suspend_
+    resume_ enter exit =
     absurd (cc)
-no_other (GiveMutex o) t work time mark expect repeat end_ if_ else_ end_if break_ stamp_ since_ messages spaces clear get suspend_ resume_ enter exit =
+no_other (GiveMutex o) t work time mark expect repeat end_ if_ else_ end_if break_ stamp_ since_ messages spaces clear get suspend_
+    resume_ enter exit =
     absurd (cc)
-no_other (MessagesWaiting o) t work time mark expect repeat end_ if_ else_ end_if break_ stamp_ since_ messages spaces clear get suspend_ resume_ enter exit =
+no_other (MessagesWaiting o) t work time mark expect repeat end_ if_ else_ end_if break_ stamp_ since_ messages spaces clear get
+    suspend_ resume_ enter exit =
     absurd (messages o refl)
-no_other (SpacesAvailable o) t work time mark expect repeat end_ if_ else_ end_if break_ stamp_ since_ messages spaces clear get suspend_ resume_ enter exit =
+no_other (SpacesAvailable o) t work time mark expect repeat end_ if_ else_ end_if break_ stamp_ since_ messages spaces clear get
+    suspend_ resume_ enter exit =
     absurd (spaces o refl)
-no_other (SetBits g m) t work time mark expect repeat end_ if_ else_ end_if break_ stamp_ since_ messages spaces clear get suspend_ resume_ enter exit =
+no_other (SetBits g m) t work time mark expect repeat end_ if_ else_ end_if break_ stamp_ since_ messages spaces clear get suspend_
+    resume_ enter exit =
     absurd (cc)
-no_other (ClearBits g m) t work time mark expect repeat end_ if_ else_ end_if break_ stamp_ since_ messages spaces clear get suspend_ resume_ enter exit =
+no_other (ClearBits g m) t work time mark expect repeat end_ if_ else_ end_if break_ stamp_ since_ messages spaces clear get
+    suspend_ resume_ enter exit =
     absurd (clear g m refl)
-no_other (GetBits g) t work time mark expect repeat end_ if_ else_ end_if break_ stamp_ since_ messages spaces clear get suspend_ resume_ enter exit =
+no_other (GetBits g) t work time mark expect repeat end_ if_ else_ end_if break_ stamp_ since_ messages spaces clear get suspend_
+    resume_ enter exit =
     absurd (get g refl)
-no_other (WaitBits g c w) t work time mark expect repeat end_ if_ else_ end_if break_ stamp_ since_ messages spaces clear get suspend_ resume_ enter exit =
+no_other (WaitBits g c w) t work time mark expect repeat end_ if_ else_ end_if break_ stamp_ since_ messages spaces clear
+    get suspend_ resume_ enter exit =
     absurd (cc)
-no_other (Suspend j) t work time mark expect repeat end_ if_ else_ end_if break_ stamp_ since_ messages spaces clear get suspend_ resume_ enter exit =
+no_other (Suspend j) t work time mark expect repeat end_ if_ else_ end_if break_ stamp_ since_ messages spaces clear get suspend_
+    resume_ enter exit =
     absurd (cc)
-no_other (Resume j) t work time mark expect repeat end_ if_ else_ end_if break_ stamp_ since_ messages spaces clear get suspend_ resume_ enter exit =
+no_other (Resume j) t work time mark expect repeat end_ if_ else_ end_if break_ stamp_ since_ messages spaces clear get suspend_
+    resume_ enter exit =
     absurd (cc)
-no_other SuspendAll t work time mark expect repeat end_ if_ else_ end_if break_ stamp_ since_ messages spaces clear get suspend_ resume_ enter exit =
+no_other SuspendAll t work time mark expect repeat end_ if_ else_ end_if break_ stamp_ since_ messages spaces clear get suspend_
+    resume_ enter exit =
     absurd (suspend_ refl)
-no_other ResumeAll t work time mark expect repeat end_ if_ else_ end_if break_ stamp_ since_ messages spaces clear get suspend_ resume_ enter exit =
+no_other ResumeAll t work time mark expect repeat end_ if_ else_ end_if break_ stamp_ since_ messages spaces clear get suspend_
+    resume_ enter exit =
     absurd (resume_ refl)
-no_other EnterCritical t work time mark expect repeat end_ if_ else_ end_if break_ stamp_ since_ messages spaces clear get suspend_ resume_ enter exit =
+no_other EnterCritical t work time mark expect repeat end_ if_ else_ end_if break_ stamp_ since_ messages spaces clear get suspend_
+    resume_ enter exit =
     absurd (enter refl)
-no_other ExitCritical t work time mark expect repeat end_ if_ else_ end_if break_ stamp_ since_ messages spaces clear get suspend_ resume_ enter exit =
+no_other ExitCritical t work time mark expect repeat end_ if_ else_ end_if break_ stamp_ since_ messages spaces clear get suspend_
+    resume_ enter exit =
     absurd (exit refl)
-no_other (NextCommand o) t work time mark expect repeat end_ if_ else_ end_if break_ stamp_ since_ messages spaces clear get suspend_ resume_ enter exit =
+no_other (NextCommand o) t work time mark expect repeat end_ if_ else_ end_if break_ stamp_ since_ messages spaces clear get
+    suspend_ resume_ enter exit =
     absurd (cc)
-no_other Obey t work time mark expect repeat end_ if_ else_ end_if break_ stamp_ since_ messages spaces clear get suspend_ resume_ enter exit =
+no_other Obey t work time mark expect repeat end_ if_ else_ end_if break_ stamp_ since_ messages spaces clear get suspend_ resume_
+    enter exit =
     absurd (cc)
 
 -- ---- ops that begin or end a hold, where no task holds the scheduler

@@ -41,7 +41,8 @@ module _ (app : Application) (limits : Limits) (k new : Machine) (calm : NonePen
     (does : (s : State) → AtAny k [] s → AtAny new told (act_current app limits s.current s))
     (held : 0 < new.sched.depth) (s : State) (h : Stands k s) where
   came : AtAny new told (unless_held settle (act_current app limits (before_step app [] s).current (before_step app [] s)))
-  came = still_held new told _ held (does (before_step app [] s) (begun_with_none app s (none_by k s calm h) k [] (begun k [] s h refl)))
+  came = still_held new told _ held
+      (does (before_step app [] s) (begun_with_none app s (none_by k s calm h) k [] (begun k [] s h refl)))
 
   pub steps_held : new.steps ≡ k.steps
   steps_held = steps_still app limits [] s k new told h came
@@ -79,7 +80,8 @@ module _ (app : Application) (limits : Limits) (k new : Machine) (task : ℕ) (o
       letting app k new task op at.current at.at at.awake (for_bits w.begins) w.takes.remains w.takes.reached n
 
   -- It ends no run.
-  pub on_begun : NonePends k → (after : Machine) (s : State) → Stands k s → after.sched ≡ new.sched → Stands after (step app limits [] s)
+  pub on_begun : NonePends k → (after : Machine) (s : State) → Stands k s → after.sched ≡ new.sched → Stands after
+      (step app limits [] s)
       → is_over app limits s ≡ false → is_over app limits (step app limits [] s) ≡ false
   on_begun calm after s h same there = by_form w.begins where
     now : progress_in k.progress task ≡ progress_at s task
@@ -105,7 +107,8 @@ module _ (app : Application) (limits : Limits) (k new : Machine) (task : ℕ) (o
         ∙ at.current
 
     by_form : Begins k op → is_over app limits s ≡ false → is_over app limits (step app limits [] s) ≡ false
-    by_form (Sets group mask same) = not_over_set app limits task op s (none_by k s calm h) runs is reached none group mask same still
+    by_form (Sets group mask same) = not_over_set app limits task op s (none_by k s calm h) runs is reached none group mask same
+        still
     by_form (Waits group condition ticks same unmet) =
         not_over_wait app limits task op s (none_by k s calm h) runs is reached none group condition ticks same
         (unmet (record s { log = [] }) (all_placed k w.takes.agrees [] _ (begun k [] s h refl)).stands) still

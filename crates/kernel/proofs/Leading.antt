@@ -1,5 +1,6 @@
 -- Kernels to which each run comes that has come to an earlier one, and into which nothing is injected any more.
-use Rattle.std.proofs.Common.{◌+◌, ◌≡◌, ◌<◌, ◌≤◌, ℕ, suc, false, List, [], ◌++◌, None, Some, length, ap, sym, subst, ◌∙◌, arith, append-nil, refl}
+use Rattle.std.proofs.Common.{◌+◌, ◌≡◌, ◌<◌, ◌≤◌, ℕ, suc, false, List, [], ◌++◌, None, Some, length, ap, sym, subst, ◌∙◌, arith}
+use Rattle.std.proofs.Common.{append-nil, refl}
 use Rattle.std.proofs.lemmas.List.{append_assoc, append_cancel_left}
 use Rattle.model.specs.declared.event.Event.{Event}
 use Rattle.model.specs.declared.event.End.{End}
@@ -94,7 +95,8 @@ module _ (app : Application) (limits : Limits) where
   module _ (formed : IsWellFormed app) (are : AreLimits limits.ticks limits.steps) (old new : Machine)
       (on : (s : State) → Stands old s → None ≡ end_of app limits s)
       (stands : (s : State) → Stands old s → Stands new (step app limits [] s)) where
-    goes_there : (plan : List Injection) → IsPast app limits old plan → end_of app limits (state_after app limits plan old.steps) ≡ None
+    goes_there : (plan : List Injection) → IsPast app limits old plan → end_of app limits (state_after app limits plan old.steps)
+        ≡ None
     goes_there plan is = sym (on (state_after app limits plan old.steps) is.way.stands)
 
     stands_there : (plan : List Injection) → IsPast app limits old plan
@@ -135,7 +137,8 @@ module _ (app : Application) (limits : Limits) where
               on = omega (arith, one);
               way = λ other its. way_there other its;
               events = λ other its.
-                  let log : List Event = (step app limits (injected other old.steps) (state_after app limits other old.steps)).log in
+                  let log : List Event = (step app limits (injected other old.steps) (state_after app limits other old.steps)).log
+                  in
                   let same : own ≡ log = append_cancel_left before own log (sym kept ∙ told_there other its) in
                   ap (λ (n : ℕ). events_after app limits other n) (one_there other its)
                   ∙ ap (λ (es : List Event). events_after app limits other old.steps ++ es) (sym same);

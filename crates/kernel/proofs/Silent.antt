@@ -269,7 +269,8 @@ module _ (app : Application) (limits : Limits) (task object : ℕ) (access : Acc
       → is_over app limits (step app limits [] s) ≡ false
   not_over_silently s plain runs is reached none still going =
       let begun : State = record s { log = [] } in
-      not_over_by app limits task s plain (await app task object access ticks phase begun) (acts_silently begun runs is reached none)
+      not_over_by app limits task s plain (await app task object access ticks phase begun)
+      (acts_silently begun runs is reached none)
       (on-await app task object access ticks phase begun silent) (stopped-await app task object access ticks phase begun silent)
       (lasts-await app task object access ticks phase begun).elapsed
       still going
@@ -305,7 +306,8 @@ module _ (app : Application) (limits : Limits) (task : ℕ) (s : State) (plain :
       still going
 
 -- So it is where a call of a task on an event group begins.
-module _ (app : Application) (limits : Limits) (task : ℕ) (op : Op) (s : State) (plain : IsNonePending s) (runs : s.current ≡ Some task)
+module _ (app : Application) (limits : Limits) (task : ℕ) (op : Op) (s : State) (plain : IsNonePending s)
+    (runs : s.current ≡ Some task)
     (is : op_at app task (progress_at s task).op_index ≡ Some op) (reached : (call_at s task).phase ≡ Start)
     (none : is_held_by_task s ≡ false) where
   anew : State

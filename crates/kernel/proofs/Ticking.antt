@@ -230,7 +230,8 @@ module _ (app : Application) (limits : Limits) (count : ℕ) (k : Machine)
       let b : AtAny k [] r = begun k [] s h refl in
       let end : At after [] (unless_held settle (act_current app limits r.current r)) =
       acted r (record { stands = placed_by k r q.depth b.stands; log = b.log }) k.sched.current refl q.works in
-      subst (λ (x : State). At after [] (unless_held settle (act_current app limits x.current x))) (sym (begun_alone app s (none_by k s q.none h))) end
+      subst (λ (x : State). At after [] (unless_held settle (act_current app limits x.current x)))
+      (sym (begun_alone app s (none_by k s q.none h))) end
 
   passed : (s : State) → Stands k s → Stands (record after { steps = k.steps + 1 }) (step app limits [] s)
   passed s h =

@@ -10,7 +10,8 @@ use Rattle.machine.specs.Can.{IsUnderWay, NonePends}
 use Rattle.kernel.specs.Over.{is_over}
 use Rattle.kernel.specs.Rows.{events_from}
 
--- The run with this plan is under way at the kernel. Before this step the plan has no more injections, nothing is pending, and the run
+-- The run with this plan is under way at the kernel. Before this step the plan has no more injections, nothing is pending, and the
+-- run
 -- ends only where it is over.
 pub record IsFree (app : Application) (limits : Limits) (until : ℕ) (k : Machine) (plan : List Injection) : Type 0 where
   pub way : IsUnderWay app plan limits k

@@ -140,12 +140,7 @@ fn step_with_handlers<L: Log>(
 /// One step of the run, without handlers and with nothing pending. Its events go to a log that has none of this step yet. It answers what
 /// may come behind it (`pass_more`).
 #[inline(never)]
-fn step_alone<L: Log>(
-    machine: &mut Machine,
-    app: &App,
-    limits: &Limits,
-    log: &mut L,
-) -> Following
+fn step_alone<L: Log>(machine: &mut Machine, app: &App, limits: &Limits, log: &mut L) -> Following
     requires going { CanStep app.now limits.now machine.old }
     requires none { NonePends machine.old }
     requires begun { (L.logged log.old).told ≡ [] }

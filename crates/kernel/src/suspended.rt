@@ -279,13 +279,7 @@ fn misuse(machine: &Machine, task: TaskId, op: &Op) -> Option<Misuse>
 
 /// What an op does while a task holds the scheduler, unless it is a misuse.
 #[inline(always)]
-fn act_unless_misuse<L: Log>(
-    machine: &mut Machine,
-    app: &App,
-    task: TaskId,
-    op: &Op,
-    log: &mut L,
-)
+fn act_unless_misuse<L: Log>(machine: &mut Machine, app: &App, task: TaskId, op: &Op, log: &mut L)
     requires room { 64 ≤ (L.logged log.old).room }
     requires can { CanHold app.now machine.old task op.now }
     requires some { 0 < machine.old.sched.suspensions }

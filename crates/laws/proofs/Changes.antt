@@ -35,7 +35,8 @@ use Rattle.model.specs.State.{ticket_of, wake_time_of, no_call, task_at, progres
 use Rattle.model.specs.State.{with_task, with_call, with_object, with_bits, take_ticket, for_one, for_each, no_task, printed}
 use Rattle.model.specs.Order.{tasks_of, task_of, first}
 use Rattle.model.specs.Switching.{make_ready, to_back, dispatch, choose, choice, is_same, is_ready, yield_now, is_outranked}
-use Rattle.model.specs.Switching.{is_sharing, preempt, slice, settle, is_off, unless_held, write, is_held, is_critical, is_scheduler_suspended}
+use Rattle.model.specs.Switching.{is_sharing, preempt, slice, settle, is_off, unless_held, write, is_held, is_critical}
+use Rattle.model.specs.Switching.{is_scheduler_suspended}
 use Rattle.model.specs.Waiting.{waiters, awakened, awake_status, is_locked, wake_one, wake_best, wait_in, set_deadline, is_expired}
 use Rattle.model.specs.Waiting.{end_hold, unlock_object, unlock}
 use Rattle.model.specs.Objects.{possible, answer_to, object_after, list_woken, list_for, fulfil, attempt}

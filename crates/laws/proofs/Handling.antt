@@ -14,7 +14,8 @@ use Rattle.model.specs.Answers.{holds}
 use Rattle.model.specs.Application.{Application, Limits, commands_of, ops_of}
 use Rattle.model.specs.Blocks.{edge_of_isr, isr_edges_of, past_branch}
 use Rattle.model.specs.Daemon.{item_of}
-use Rattle.model.specs.Handlers.{handle, serve, inject, pend, pending_of, none_pending, serve_pending, isr, isr_answer, isr_each, isr_jump, is_failed}
+use Rattle.model.specs.Handlers.{handle, serve, inject, pend, pending_of, none_pending, serve_pending, isr, isr_answer, isr_each}
+use Rattle.model.specs.Handlers.{isr_jump, is_failed}
 use Rattle.model.specs.Objects.{attempt, fulfil, list_woken, object_after, possible}
 use Rattle.model.specs.Ops.{fail}
 use Rattle.model.specs.Order.{first, task_of, tasks_of}
@@ -22,7 +23,8 @@ use Rattle.model.specs.Run.{end_of}
 use Rattle.model.specs.State.{State, for_each, for_one, object_at, status_at, with_object}
 use Rattle.model.specs.Step.{act_current, before_step}
 use Rattle.model.specs.Suspension.{can_resume, resume}
-use Rattle.model.specs.Switching.{choice, choose, dispatch, is_held, is_critical, is_outranked, is_ready, is_same, preempt, to_back, yield_now}
+use Rattle.model.specs.Switching.{choice, choose, dispatch, is_held, is_critical, is_outranked, is_ready, is_same, preempt, to_back}
+use Rattle.model.specs.Switching.{yield_now}
 use Rattle.model.specs.Time.{due, wake_due}
 use Rattle.model.specs.Waiting.{is_locked, waiters, wake_best, wake_one}
 use Rattle.model.proofs.Sorting.{by_test}

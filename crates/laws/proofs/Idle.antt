@@ -338,7 +338,8 @@ idle-judge : (i op_index : ℕ) (s : State) → IdleAlone s → IdleAlone (judge
 idle-judge i op_index s h = by_judgement IdleAlone i op_index s h (λ kind. h)
 
 idle-act : (app : Application) (i : ℕ) (op : Op) (s : State) → s.current ≡ Some i → IdleAlone (act app i op s)
-unfolding answer go_to open_loop close_turn skip_branch leave_loop stamp since clear call_suspend call_resume suspend_all with_sections
+unfolding answer go_to open_loop close_turn skip_branch leave_loop stamp since clear call_suspend call_resume suspend_all
+    with_sections
 idle-act app i (Work n) s r = idle-work app i (use_up app i n s) (current-use_up app i n s ∙ r)
 idle-act app i (Delay n) s r = idle-delay app i n s r
 idle-act app i (DelayUntil n) s r =

@@ -1,6 +1,8 @@
 -- While a critical section is open no step looks at what is pending, and no handler comes. Then what is pending comes.
-use Rattle.std.proofs.Common.{◌≡◌, ◌≢◌, ◌<◌, ◌≤◌, ◌+◌, ◌-◌, ◌∙◌, ◌++◌, ◌&&◌, ℕ, zero, suc, Bool, true, false, eqb, leb, ltb, List, [], ◌∷◌}
-use Rattle.std.proofs.Common.{length, map, get_or, set, drop, min, Option, Some, None, refl, ap, ap₂, sym, subst, arith, get_or-set_same}
+use Rattle.std.proofs.Common.{◌≡◌, ◌≢◌, ◌<◌, ◌≤◌, ◌+◌, ◌-◌, ◌∙◌, ◌++◌, ◌&&◌, ℕ, zero, suc, Bool, true, false, eqb, leb, ltb, List}
+use Rattle.std.proofs.Common.{[], ◌∷◌}
+use Rattle.std.proofs.Common.{length, map, get_or, set, drop, min, Option, Some, None, refl, ap, ap₂, sym, subst, arith}
+use Rattle.std.proofs.Common.{get_or-set_same}
 use Rattle.std.proofs.Common.{get_or-set_other}
 use Rattle.std.specs.List.{AllByRecursion, filter, range_with_len}
 use Rattle.std.proofs.Math.ListN.{length-set}
@@ -24,7 +26,8 @@ use Rattle.model.specs.Ops.{go_to, answer, called, expect, open_loop, next_turn,
 use Rattle.model.specs.Ops.{stamp, since, with_sections}
 use Rattle.model.specs.Groups.{clear}
 use Rattle.model.specs.Handlers.{serve, inject, pend, pending_of, none_pending}
-use Rattle.model.specs.Step.{is_ended, end_misuse, misused, judge, act, act_unless, is_barred, misuse, act_if, act_current, before_step}
+use Rattle.model.specs.Step.{is_ended, end_misuse, misused, judge, act, act_unless, is_barred, misuse, act_if, act_current}
+use Rattle.model.specs.Step.{before_step}
 use Rattle.model.specs.Step.{step}
 use Rattle.model.specs.Invariant.{IsNonePending, IsState, RunsIn}
 use Rattle.model.proofs.Sorting.{by_test}
@@ -254,7 +257,8 @@ module _ (app : Application) (limits : Limits) (handler : ℕ) (s : State) (ther
   alone_pending : pending_of (pend handler s) ≡ handler ∷ []
   alone_pending =
       let p : ℕ → Bool = λ source. (get_or marked source no_source).pending in
-      let long : length marked ≡ length s.sources = length-set s.sources handler (record (source_at s handler) { pending = true }) in
+      let long : length marked ≡ length s.sources = length-set s.sources handler (record (source_at s handler) { pending = true })
+      in
       only_one p 0 (length marked) handler (omega arith) (omega arith)
       (ap (λ (x : Source). x.pending)
       (get_or-set_same s.sources handler (record (source_at s handler) { pending = true }) no_source there))

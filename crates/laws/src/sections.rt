@@ -26,7 +26,7 @@ pub fn pending_handlers_come_at_the_exit()
         → step app limits [] (pend handler s) ≡ step app limits (handler ∷ []) s }
 {}
 
-/// So a handler that is injected inside a section, before which nothing is pending, comes before the first step behind it, and nothing
+/// So a handler that is injected inside a section, before which nothing is pending, comes before the first step after it, and nothing
 /// else of the run differs from the one in which it is injected there.
 pub fn injections_in_a_section_wait()
     ensures { (app : Application) → IsWellFormed app → (limits : Limits) (handler steps : ℕ) (s : State) → IsState app s

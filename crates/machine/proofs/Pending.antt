@@ -1,5 +1,6 @@
 -- Which interrupts are pending, in the kernel and in each state that it represents.
-use Rattle.std.proofs.Common.{◌≡◌, ◌≢◌, ◌∙◌, ◌<◌, ◌≤◌, ◌+◌, ◌-◌, ℕ, zero, suc, Bool, true, false, eqb, List, [], ◌∷◌, get_or, set, length, map}
+use Rattle.std.proofs.Common.{◌≡◌, ◌≢◌, ◌∙◌, ◌<◌, ◌≤◌, ◌+◌, ◌-◌, ℕ, zero, suc, Bool, true, false, eqb, List, [], ◌∷◌, get_or, set}
+use Rattle.std.proofs.Common.{length, map}
 use Rattle.std.proofs.Common.{ltb, ltb-false, Option, Some, None, refl, ap, sym, subst, arith, get_or-set_same, get_or-set_other}
 use Rattle.std.specs.List.{filter, range_with_len, list_any}
 use Rattle.std.proofs.Math.ListN.{length-set}
@@ -143,7 +144,8 @@ are_pended v xs i are l = record {
       (λ t.
       let e : source ≡ i = eqb-same source i t in
       rw e (get_or-set_same v.pending i true false (let full = are.full in let few = are.few in omega arith)
-      ∙ sym (ap (λ (x : Source). x.pending) (get_or-set_same xs i (record (get_or xs i no_source) { pending = true }) no_source l))))
+      ∙ sym
+      (ap (λ (x : Source). x.pending) (get_or-set_same xs i (record (get_or xs i no_source) { pending = true }) no_source l))))
       (λ t.
       let apart : source ≢ i = (λ e. let u : eqb source i ≡ true = ap (λ (k : ℕ). eqb k i) e ∙ eqb-refl i in absurd (cc)) in
       get_or-set_other v.pending i source true false apart

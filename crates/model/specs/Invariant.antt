@@ -16,7 +16,8 @@ use Rattle.model.specs.declared.loops.Loop.{Loop}
 use Rattle.model.specs.Application.{Application, script_of, op_at}
 use Rattle.model.specs.Blocks.{Nests, edges_of, loops_in}
 use Rattle.model.specs.Scripts.{priorities}
-use Rattle.model.specs.State.{State, Task, Source, Progress, Object, Status, Wait, Waiting, Awake, Asleep, Suspended, Ended, wait_if_awake}
+use Rattle.model.specs.State.{State, Task, Source, Progress, Object, Status, Wait, Waiting, Awake, Asleep, Suspended, Ended}
+use Rattle.model.specs.State.{wait_if_awake}
 use Rattle.model.specs.State.{ticket_of, task_at, status_at, progress_at, call_at, object_at}
 use Rattle.model.specs.Switching.{is_ready, is_held, is_held_by_task, is_scheduler_suspended}
 use Rattle.model.specs.Waiting.{is_locked}

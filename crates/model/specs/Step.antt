@@ -15,7 +15,8 @@ use Rattle.model.specs.declared.event.Misuse.{Misuse}
 use Rattle.model.specs.declared.event.Misuse.TheVariants.{WhileSuspended, NotSuspended, NotHolder, EndedSuspended, WhileCritical}
 use Rattle.model.specs.declared.event.Misuse.TheVariants.{NotCritical, EndedCritical}
 use Rattle.model.specs.Application.{Application, Definition, Handler, Limits, op_at}
-use Rattle.model.specs.State.{State, Task, Object, Status, Ended, no_progress, no_object, no_source, status_at, progress_at, call_at}
+use Rattle.model.specs.State.{State, Task, Object, Status, Ended, no_progress, no_object, no_source, status_at, progress_at}
+use Rattle.model.specs.State.{call_at}
 use Rattle.model.specs.State.{object_at, bits_at, for_one, for_each, printed}
 use Rattle.model.specs.Switching.{write, is_same, make_ready, choice, yield_now, settle, is_scheduler_suspended, is_critical}
 use Rattle.model.specs.Switching.{unless_held}
@@ -82,7 +83,8 @@ may_switch (NextCommand object) = true
 may_switch Obey = true
 may_switch _ = false
 
--- It has no place in a critical section either, in which nothing may switch or wait, no tick comes, and no other hold begins or ends.
+-- It has no place in a critical section either, in which nothing may switch or wait, no tick comes, and no other hold begins or
+-- ends.
 abbrev pub is_barred : Op → Bool
 is_barred (Work n) = true
 is_barred SuspendAll = true
@@ -139,7 +141,8 @@ abbrev pub act_current : Application → Limits → Option ℕ → State → Sta
 act_current app limits None s = idle app limits s
 act_current app limits (Some task) s = act_if app task (op_at app task (progress_at s task).op_index) s
 
--- These handlers are injected, one after another. While a critical section is open they become pending. Otherwise they come, and before
+-- These handlers are injected, one after another. While a critical section is open they become pending. Otherwise they come, and
+-- before
 -- them those that are pending.
 abbrev pub come_before : Application → List ℕ → State → State
 come_before app handlers s =

@@ -39,7 +39,11 @@ module _ (k : Machine) (log : List Event) (s : State) (h : At k log s) where
       → At (record k { sched = v }) log (record s { suspensions = n })
   with_suspensions v n on =
       record {
-        stands = record { sched = on; rest = rest_unseen h.stands.rest on.table refl h.stands.rest.sections h.stands.rest.steps h.stands.rest.stopped };
+        stands = record {
+          sched = on;
+          rest = rest_unseen h.stands.rest on.table refl h.stands.rest.sections h.stands.rest.steps
+              h.stands.rest.stopped;
+        };
         log = h.log;
       }
 
@@ -48,7 +52,10 @@ module _ (k : Machine) (log : List Event) (s : State) (h : At k log s) where
       → At (record k { sched = v; sections = m }) log (record s { sections = n })
   with_open v m n on same =
       record {
-        stands = record { sched = on; rest = rest_unseen h.stands.rest on.table refl same h.stands.rest.steps h.stands.rest.stopped };
+        stands = record {
+          sched = on;
+          rest = rest_unseen h.stands.rest on.table refl same h.stands.rest.steps h.stands.rest.stopped;
+        };
         log = h.log;
       }
 

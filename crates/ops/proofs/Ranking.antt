@@ -150,7 +150,8 @@ gave app new log s i o calm is h = subst (At new log) (sym (acts_calm app i (Giv
 
 -- or by another
 pub gave_nothing : (app : Application) (new : Machine) (log : List Event) (s : State) (i o : ℕ) (kind : Misuse)
-    → is_held_by_task s ≡ false → own_misuse s i (GiveMutex o) ≡ Some kind → At new log (misused i (progress_at s i).op_index kind s)
+    → is_held_by_task s ≡ false → own_misuse s i (GiveMutex o) ≡ Some kind → At new log
+    (misused i (progress_at s i).op_index kind s)
     → At new log (act_unless app i (misuse s i (GiveMutex o)) (GiveMutex o) s)
 gave_nothing app new log s i o kind calm is h =
     rw (misuse_calm s i (GiveMutex o) calm ∙ is) h

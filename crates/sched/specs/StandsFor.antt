@@ -8,7 +8,7 @@ use Rattle.lists.specs.Lists.{has_node, without}
 use Rattle.task_lists.specs.Priorities.{with_priorities}
 use Rattle.sched.specs.Schedule.{Schedule, is_suspended, lined_up, priority_in}
 
--- how often tasks hold the scheduler in a state: by `suspend_all`, and by critical sections, which a schedule doesn't tell apart
+-- how often tasks hold the scheduler in a state: by `suspend_all`, and by critical sections, which are alike for a schedule
 abbrev pub task_holds_of : State → ℕ
 task_holds_of s = s.suspensions + s.sections
 

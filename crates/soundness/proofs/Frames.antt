@@ -77,7 +77,16 @@ keeps_both a b c h k =
 
 pub keeps-with_task : (i : ℕ) (t : Task) (s : State) → Keeps s (with_task i t s)
 keeps-with_task i t s =
-    record { time = refl; elapsed = refl; steps = refl; tasks = length-set s.tasks i t; hold = refl; suspension = refl; sources = refl }
+    record {
+      time = refl;
+      elapsed = refl;
+      steps = refl;
+      tasks = length-set s.tasks i t;
+      hold = refl;
+      suspension = refl;
+      sources =
+          refl;
+    }
 
 pub keeps-take_ticket : (i : ℕ) (f : ℕ → Status) (s : State) → Keeps s (take_ticket i f s)
 keeps-take_ticket i f s =
@@ -155,7 +164,16 @@ unfolding answer
 keeps-answer app i a s =
     let p : Progress = record (progress_at s i) { answer = a } in
     let k = keeps-go_to app i (p.op_index + 1) p (write (called i p.op_index a) s) in
-    record { time = k.time; elapsed = k.elapsed; steps = k.steps; tasks = k.tasks; hold = k.hold; suspension = k.suspension; sources = k.sources }
+    record {
+      time = k.time;
+      elapsed = k.elapsed;
+      steps = k.steps;
+      tasks = k.tasks;
+      hold = k.hold;
+      suspension =
+          k.suspension;
+      sources = k.sources;
+    }
 
 pub keeps-use_up : (app : Application) (i n : ℕ) (s : State) → Keeps s (use_up app i n s)
 unfolding use_up
@@ -265,7 +283,16 @@ keeps-fulfil caller o a s =
     let t : State = with_object o (object_after caller a (object_at s o)) s in
     let k : Keeps t (for_one wake_best (list_woken caller o a) t) =
     keeps-for_one wake_best (list_woken caller o a) t (λ list. keeps-wake_best list t) in
-    record { time = k.time; elapsed = k.elapsed; steps = k.steps; tasks = k.tasks; hold = k.hold; suspension = k.suspension; sources = k.sources }
+    record {
+      time = k.time;
+      elapsed = k.elapsed;
+      steps = k.steps;
+      tasks = k.tasks;
+      hold = k.hold;
+      suspension =
+          k.suspension;
+      sources = k.sources;
+    }
 
 pub keeps-attempt : (caller : Option ℕ) (o : ℕ) (a : Access) (s : State) → Keeps s (attempt caller o a s)
 unfolding attempt
@@ -323,7 +350,16 @@ keeps-disinherit i s = by_test (eqb (mutexes_held s i) 0)
     (λ t. rw t (keeps s))
 
 pub keeps-with_object : (o : ℕ) (x : Object) (s : State) → Keeps s (with_object o x s)
-keeps-with_object o x s = record { time = refl; elapsed = refl; steps = refl; tasks = refl; hold = refl; suspension = refl; sources = refl }
+keeps-with_object o x s = record {
+  time = refl;
+  elapsed = refl;
+  steps = refl;
+  tasks = refl;
+  hold = refl;
+  suspension =
+      refl;
+  sources = refl;
+}
 
 pub keeps-give_mutex : (app : Application) (i o : ℕ) (s : State) → Keeps s (give_mutex app i o s)
 unfolding give_mutex
@@ -365,7 +401,16 @@ keeps-do_now app i o a s =
 -- ---- event groups, and tasks suspended and resumed
 
 pub keeps-with_bits : (group bits : ℕ) (s : State) → Keeps s (with_bits group bits s)
-keeps-with_bits group bits s = record { time = refl; elapsed = refl; steps = refl; tasks = refl; hold = refl; suspension = refl; sources = refl }
+keeps-with_bits group bits s = record {
+  time = refl;
+  elapsed = refl;
+  steps = refl;
+  tasks = refl;
+  hold = refl;
+  suspension =
+      refl;
+  sources = refl;
+}
 
 keeps-wake_with_bits : (bits i : ℕ) (s : State) → Keeps s (wake_with_bits i bits s)
 keeps-wake_with_bits bits i s =
@@ -455,7 +500,16 @@ pub keeps-obeyed : (app : Application) (i : ℕ) (clear : Bool) (bits : ℕ) (s 
 unfolding obeyed
 keeps-obeyed app i clear bits s =
     let k = keeps-go_to app i 0 (record (progress_at s i) { answer = Some bits }) (write (what.Obeyed i clear bits) s) in
-    record { time = k.time; elapsed = k.elapsed; steps = k.steps; tasks = k.tasks; hold = k.hold; suspension = k.suspension; sources = k.sources }
+    record {
+      time = k.time;
+      elapsed = k.elapsed;
+      steps = k.steps;
+      tasks = k.tasks;
+      hold = k.hold;
+      suspension =
+          k.suspension;
+      sources = k.sources;
+    }
 
 pub keeps-clear_by_daemon : (app : Application) (i group mask : ℕ) (s : State) → Keeps s (clear_by_daemon app i group mask s)
 unfolding clear_by_daemon
@@ -492,7 +546,16 @@ keeps-isr app handler op_index isr_op.Else s = keeps s
 keeps-isr app handler op_index isr_op.EndIf s = keeps s
 
 pub keeps-fail : (check : End) (s : State) → Keeps s (fail check s)
-keeps-fail check s = record { time = refl; elapsed = refl; steps = refl; tasks = refl; hold = refl; suspension = refl; sources = refl }
+keeps-fail check s = record {
+  time = refl;
+  elapsed = refl;
+  steps = refl;
+  tasks = refl;
+  hold = refl;
+  suspension = refl;
+  sources =
+      refl;
+}
 
 keeps-isr_each : (app : Application) (handler op_index over : ℕ) (answer : Option ℕ) (ops : List IsrOp) (s : State)
     → Keeps s (isr_each app handler op_index over answer ops s)

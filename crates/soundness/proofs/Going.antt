@@ -20,7 +20,8 @@ use Rattle.model.specs.State.{State, Task, Progress, Status, Ready, Awake, Waiti
 use Rattle.model.specs.State.{ticket_if_ready, wake_time_of, task_at, status_at, progress_at, object_at, bits_at, with_bits}
 use Rattle.model.specs.State.{for_each, printed, no_task}
 use Rattle.model.specs.Order.{Entry, tasks_of}
-use Rattle.model.specs.Switching.{make_ready, is_ready, slice, preempt, is_scheduler_suspended, is_critical, is_held, is_held_by_task}
+use Rattle.model.specs.Switching.{make_ready, is_ready, slice, preempt, is_scheduler_suspended, is_critical, is_held}
+use Rattle.model.specs.Switching.{is_held_by_task}
 use Rattle.model.specs.Switching.{unless_held, write}
 use Rattle.model.specs.Time.{wake_due, due, is_due, delayed_list, advance, increment_tick, apply_one, apply_held}
 use Rattle.model.specs.Ops.{go_to, moved_to, answer, use_up, expect, open_loop, next_turn, turn, close_turn, branch, skip_branch}

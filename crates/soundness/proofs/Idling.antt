@@ -7,7 +7,8 @@ use Rattle.model.specs.Application.{Application}
 use Rattle.model.specs.State.{State, Task, Status, Ready, Awake, Waiting, Asleep, WaitingForBits, Suspended, Ended, ticket_if_ready}
 use Rattle.model.specs.State.{wake_time_of, task_at, status_at, for_one, for_each, no_task}
 use Rattle.model.specs.Order.{Key, Entry, key, entry, keyed, first, task_of}
-use Rattle.model.specs.Switching.{ready_key, ready_list, is_ready, is_above, is_outranked, is_same, is_held, is_critical, to_back, choice}
+use Rattle.model.specs.Switching.{ready_key, ready_list, is_ready, is_above, is_outranked, is_same, is_held, is_critical, to_back}
+use Rattle.model.specs.Switching.{choice}
 use Rattle.model.specs.Switching.{choose, dispatch, yield_now, preempt, unless_held}
 use Rattle.model.specs.Handlers.{handle, serve, inject, pend, pending_of, none_pending, serve_pending}
 use Rattle.model.specs.Step.{before_step}

@@ -143,7 +143,8 @@ never false x y (Some z) e = absurd (cc)
 pub not_barred : (s : State) (i : ℕ) (op : Op) → is_critical s ≡ true → misuse s i op ≡ None → is_barred op ≡ false
 not_barred s i op open_ n = by_test (is_barred op)
     (λ t.
-    absurd (never (is_scheduler_suspended s && may_switch op) WhileSuspended WhileCritical (own_misuse s i op) (rw (open_, t) at n)))
+    absurd (never (is_scheduler_suspended s && may_switch op) WhileSuspended WhileCritical (own_misuse s i op)
+    (rw (open_, t) at n)))
     (λ t. t)
 
 pub switches_not : (s : State) (i : ℕ) (op : Op) → is_held_by_task s ≡ true → misuse s i op ≡ None → may_switch op ≡ false

@@ -13,7 +13,8 @@ use Rattle.model.specs.Step.{nobody_ready, ready_at_reset, with_ops}
 use Rattle.model.specs.Invariant.{Suspension, suspension_of}
 use Rattle.soundness.proofs.Frames.{keeps-settle, keeps-unless_held, keeps-all_ready}
 use Rattle.soundness.proofs.Frames.{keeps-before_step}
-use Rattle.soundness.proofs.Passing.{elapsed-act, elapsed-idle, held-act, held-idle, most-idle, sections-idle, sources-act, sources-idle, suspensions-act, suspensions-idle, task_holds, task_holds-act, task_holds_by}
+use Rattle.soundness.proofs.Passing.{elapsed-act, elapsed-idle, held-act, held-idle, most-idle, sections-idle, sources-act}
+use Rattle.soundness.proofs.Passing.{sources-idle, suspensions-act, suspensions-idle, task_holds, task_holds-act, task_holds_by}
 use Rattle.soundness.proofs.Judging.{judged}
 
 -- ---- an op, or idle
@@ -157,7 +158,8 @@ pub elapsed-reset : (app : Application) → (reset app).elapsed ≡ 0
 unfolding reset ready_at_reset
 elapsed-reset app = (keeps-all_ready (with_ops 0 app.tasks) (nobody_ready app)).elapsed ∙ elapsed-nobody app
 
-suspension-nobody : (app : Application) → suspension_of (nobody_ready app) ≡ record { suspensions = 0; held_ticks = 0; sections = 0 }
+suspension-nobody : (app : Application) → suspension_of (nobody_ready app) ≡ record
+    { suspensions = 0; held_ticks = 0; sections = 0 }
 unfolding nobody_ready
 suspension-nobody app = refl
 

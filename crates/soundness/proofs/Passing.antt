@@ -46,7 +46,8 @@ use Rattle.soundness.proofs.Frames.{keeps-clear_by_daemon, keeps-interrupt}
 
 -- ---- a call in its phases lets no time pass
 
--- No tick comes, as many `suspend_all` are in force, as many ticks are held, as many critical sections are open, and what is kept of
+-- No tick comes, as many `suspend_all` are in force, as many ticks are held, as many critical sections are open, and what is kept
+-- of
 -- the interrupt sources stays.
 pub record Lasts (old new : State) : Type 0 where
   pub elapsed : new.elapsed ≡ old.elapsed
@@ -57,7 +58,12 @@ pub lasts : (s t : State) → Keeps s t → Lasts s t
 lasts s t k = record { elapsed = k.elapsed; suspension = k.suspension; sources = k.sources }
 
 lasts_both : (a b c : State) → Lasts a b → Keeps b c → Lasts a c
-lasts_both a b c h k = record { elapsed = k.elapsed ∙ h.elapsed; suspension = k.suspension ∙ h.suspension; sources = k.sources ∙ h.sources }
+lasts_both a b c h k = record {
+  elapsed = k.elapsed ∙ h.elapsed;
+  suspension = k.suspension ∙ h.suspension;
+  sources =
+      k.sources ∙ h.sources;
+}
 
 pub lasts-unlock : (s : State) → Lasts s (unlock s)
 unfolding unlock
@@ -92,7 +98,12 @@ lasts-await app i o a ticks Start s =
 lasts-await app i o a ticks Try s = lasts s _ (keeps-try app i o a s)
 lasts-await app i o a ticks Decide s = lasts-decide i o a s
 lasts-await app i o a ticks Place s = record { elapsed = refl; suspension = refl; sources = refl }
-lasts-await app i o a ticks Unlock s = let k = lasts-unlock s in record { elapsed = k.elapsed; suspension = k.suspension; sources = k.sources }
+lasts-await app i o a ticks Unlock s = let k = lasts-unlock s in record {
+  elapsed = k.elapsed;
+  suspension = k.suspension;
+  sources =
+      k.sources;
+}
 lasts-await app i o a ticks Leave s = lasts-leave_call i s
 
 pub lasts-begin_set : (i group mask : ℕ) (s : State) → Lasts s (begin_set i group mask s)

@@ -1,6 +1,7 @@
 -- Nothing is pending after a step before which no critical section is open. And a step into which nothing is injected, before which
 -- nothing is pending, begins with nothing.
-use Rattle.std.proofs.Common.{arith, true, eqb, ◌≡◌, ◌≢◌, ◌<◌, ◌≤◌, ◌∙◌, ℕ, zero, suc, Bool, false, List, [], ◌∷◌, ◌++◌, map, get_or, refl, ap, sym, subst}
+use Rattle.std.proofs.Common.{arith, true, eqb, ◌≡◌, ◌≢◌, ◌<◌, ◌≤◌, ◌∙◌, ℕ, zero, suc, Bool, false, List, [], ◌∷◌, ◌++◌, map}
+use Rattle.std.proofs.Common.{get_or, refl, ap, sym, subst}
 use Rattle.std.specs.List.{AllByRecursion, filter, range_with_len}
 use Rattle.std.specs.Prelude.{length}
 use Rattle.model.specs.declared.plan.Injection.{Injection}

@@ -1,5 +1,6 @@
 -- What each phase of a call that waits makes of a state.
-use Rattle.std.proofs.Common.{ap₂, ◌≡◌, ◌≢◌, ◌<◌, ◌||◌, ℕ, true, false, leb, ltb, ltb-false, arith, length, Option, Some, None, refl, ap}
+use Rattle.std.proofs.Common.{ap₂, ◌≡◌, ◌≢◌, ◌<◌, ◌||◌, ℕ, true, false, leb, ltb, ltb-false, arith, length, Option, Some, None}
+use Rattle.std.proofs.Common.{refl, ap}
 use Rattle.std.proofs.Common.{sym, subst, ◌∙◌, get_or-set_same, get_or-set_other}
 use Rattle.std.specs.Prelude.{Bool}
 use Rattle.std.specs.Option.{IfSome, option_map, is_some, unwrap_or}

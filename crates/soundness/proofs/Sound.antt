@@ -17,7 +17,8 @@ use Rattle.model.specs.Application.{Application, script_of, op_at, op_count}
 use Rattle.model.specs.Answers.{holds}
 use Rattle.model.specs.Blocks.{edge_of, jump_from}
 use Rattle.model.specs.Scripts.{IsWellFormed}
-use Rattle.model.specs.State.{State, Task, Source, Progress, Status, Wait, Ready, Awake, Waiting, Asleep, WaitingForBits, Suspended, Ended}
+use Rattle.model.specs.State.{State, Task, Source, Progress, Status, Wait, Ready, Awake, Waiting, Asleep, WaitingForBits, Suspended}
+use Rattle.model.specs.State.{Ended}
 use Rattle.model.specs.State.{ticket_if_ready, ticket_of, wake_time_of, no_call, task_at, progress_at, status_at, with_task}
 use Rattle.model.specs.State.{take_ticket, for_one, for_each, no_task}
 use Rattle.model.specs.Order.{Entry, tasks_of}

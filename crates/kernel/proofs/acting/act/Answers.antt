@@ -216,7 +216,8 @@ returns-in-ResumeAll-clause-does g c =
     rw c.in-ResumeAll.is (does_any 65 _ _ _ _ _ can.tick.advance.agrees (record {
       at = λ s h.
           misused_at c.args.app.now c.misuse.new.self _ s c.args.task ResumeAll NotSuspended
-          (not_suspended s c.args.task (not_by_task c.args.machine.now s (Placed h.stands) c.requires.awake)) (c.misuse.ensures _ s h);
+          (not_suspended s c.args.task (not_by_task c.args.machine.now s (Placed h.stands) c.requires.awake))
+          (c.misuse.ensures _ s h);
       few = omega arith;
       before = refl;
     }))

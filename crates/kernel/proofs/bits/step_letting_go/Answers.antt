@@ -18,7 +18,10 @@ overflow_add-machine g c =
     let limits = c.requires.going.0 in
     let going = c.requires.going.1 in
     let a =
-    c.settle.ensures.at _ ((c.let_go.ensures limits).at _ (begun_with_none c.args.app.now going.state (none_by c.args.machine.now going.state c.requires.none going.stands) c.args.machine.now
+    c.settle.ensures.at _
+    ((c.let_go.ensures limits).at _
+    (begun_with_none c.args.app.now going.state (none_by c.args.machine.now going.state c.requires.none going.stands)
+    c.args.machine.now
     _ (begun c.args.machine.now (g.L.Log.logged c.args.log.now).told going.state going.stands c.requires.begun))) in
     let still =
     steps_still c.args.app.now limits [] going.state c.args.machine.now
@@ -32,7 +35,9 @@ overflow_add-machine g c =
 pub returns-clause-stands : goal.returns-clause-stands
 returns-clause-stands g c = λ limits s h.
     let a =
-    c.settle.ensures.at _ ((c.let_go.ensures limits).at _ (begun_with_none c.args.app.now s (none_by c.args.machine.now s c.requires.none h) c.args.machine.now
+    c.settle.ensures.at _
+    ((c.let_go.ensures limits).at _ (begun_with_none c.args.app.now s (none_by c.args.machine.now s c.requires.none h)
+    c.args.machine.now
     _ (begun c.args.machine.now (g.L.Log.logged c.args.log.now).told s h c.requires.begun))) in
     let still =
     steps_still c.args.app.now limits [] s c.args.machine.now c.settle.new.self (g.L.Log.logged c.settle.new.log).told h a in

@@ -50,13 +50,15 @@ pub returns-clause-does : goal.returns-clause-does
 unfolding serve_pending
 returns-clause-does g c =
     let so = c.loop-number.invariant in
-    let all : c.loop-number.number ≡ 17 = (let a = c.loop-number.auto.number-end in let b = c.loop-number-test.false in omega arith) in
+    let all : c.loop-number.number ≡ 17 = (let a = c.loop-number.auto.number-end in let b = c.loop-number-test.false in omega arith)
+    in
     record {
       at = λ s h.
           let were : pending_of s ≡ filter (λ source. is_pending c.take_pending-pending.result source) (range_with_len 0 17) =
           c.take_pending-pending.ensures.were s h.stands in
           subst (AtAny c.loop-number.machine (g.L.Log.logged c.loop-number.log).told)
-          (ap (λ (n : ℕ). for_each (serve_if c.args.app.now c.take_pending-pending.result) (range_with_len 0 n) (none_pending s)) all
+          (ap (λ (n : ℕ). for_each (serve_if c.args.app.now c.take_pending-pending.result) (range_with_len 0 n) (none_pending s))
+          all
           ∙ sym (each_if (serve c.args.app.now) (λ source. is_pending c.take_pending-pending.result source) (range_with_len 0 17)
           (none_pending s))
           ∙ ap (λ (is : List ℕ). for_each (serve c.args.app.now) is (none_pending s)) (sym were))

@@ -31,7 +31,9 @@ overflow_add-machine g c =
     leaves c.args.app.now limits c.args.machine.now c.leave_call.new.machine c.args.task c.requires.leaving
     can (g.L.Log.logged c.args.log.now) (g.L.Log.logged c.leave_call.new.log) c.leave_call.ensures in
     let a =
-    c.settle.ensures.at _ (does.at _ (begun_with_none c.args.app.now going.state (none_by c.args.machine.now going.state c.requires.none going.stands) c.args.machine.now _
+    c.settle.ensures.at _
+    (does.at _ (begun_with_none c.args.app.now going.state (none_by c.args.machine.now going.state c.requires.none going.stands)
+    c.args.machine.now _
     (begun c.args.machine.now (g.L.Log.logged c.args.log.now).told going.state going.stands c.requires.begun))) in
     let still =
     steps_still c.args.app.now limits [] going.state c.args.machine.now
@@ -54,7 +56,8 @@ returns-clause-stands g c = λ limits s h.
     leaves c.args.app.now limits c.args.machine.now c.leave_call.new.machine c.args.task c.requires.leaving
     can (g.L.Log.logged c.args.log.now) (g.L.Log.logged c.leave_call.new.log) c.leave_call.ensures in
     let a =
-    c.settle.ensures.at _ (does.at _ (begun_with_none c.args.app.now s (none_by c.args.machine.now s c.requires.none h) c.args.machine.now _
+    c.settle.ensures.at _
+    (does.at _ (begun_with_none c.args.app.now s (none_by c.args.machine.now s c.requires.none h) c.args.machine.now _
     (begun c.args.machine.now (g.L.Log.logged c.args.log.now).told s h c.requires.begun))) in
     let still =
     steps_still c.args.app.now limits [] s c.args.machine.now c.settle.new.self (g.L.Log.logged c.settle.new.log).told h a in

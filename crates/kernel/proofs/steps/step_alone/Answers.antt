@@ -25,7 +25,9 @@ pub overflow_add-machine : goal.overflow_add-machine
 overflow_add-machine g c =
     let going = c.requires.going in
     let a =
-    c.settle.ensures.at _ (c.act_current-following.ensures.at _ (begun_with_none c.args.app.now going.state (none_by c.args.machine.now going.state c.requires.none going.stands)
+    c.settle.ensures.at _
+    (c.act_current-following.ensures.at _
+    (begun_with_none c.args.app.now going.state (none_by c.args.machine.now going.state c.requires.none going.stands)
     c.args.machine.now _
     (begun c.args.machine.now (g.L.Log.logged c.args.log.now).told going.state going.stands c.requires.begun))) in
     let still =
@@ -42,7 +44,8 @@ overflow_add-machine-2 g c =
     let going = c.requires.going in
     let a =
     c.settle-2.ensures.at _ (c.act_current-following.ensures.at _
-    (begun_with_none c.args.app.now going.state (none_by c.args.machine.now going.state c.requires.none going.stands) c.args.machine.now _
+    (begun_with_none c.args.app.now going.state (none_by c.args.machine.now going.state c.requires.none going.stands)
+    c.args.machine.now _
     (begun c.args.machine.now (g.L.Log.logged c.args.log.now).told going.state going.stands c.requires.begun))) in
     let still =
     steps_still c.args.app.now c.args.limits.now [] going.state c.args.machine.now
@@ -56,7 +59,8 @@ overflow_add-machine-2 g c =
 pub returns-then-eq-clause-stands : goal.returns-then-eq-clause-stands
 returns-then-eq-clause-stands g c = λ s h.
     let a =
-    c.settle.ensures.at _ (c.act_current-following.ensures.at _ (begun_with_none c.args.app.now s (none_by c.args.machine.now s c.requires.none h)
+    c.settle.ensures.at _
+    (c.act_current-following.ensures.at _ (begun_with_none c.args.app.now s (none_by c.args.machine.now s c.requires.none h)
     c.args.machine.now _
     (begun c.args.machine.now (g.L.Log.logged c.args.log.now).told s h c.requires.begun))) in
     let still =

@@ -23,7 +23,8 @@ overflow_add-machine-then-eq-3 g c =
     let a =
     c.settle.ensures.at _ ((acts c.args.app.now c.args.limits.now c.args.machine.now c.args.task c.requires.at.current
     c.args.op.now c.requires.at.at c.act-following.new.machine _ _ c.act-following.ensures.does).at
-    _ (begun_with_none c.args.app.now going.state (none_by c.args.machine.now going.state c.requires.none going.stands) c.args.machine.now _
+    _ (begun_with_none c.args.app.now going.state (none_by c.args.machine.now going.state c.requires.none going.stands)
+    c.args.machine.now _
     (begun c.args.machine.now (g.L.Log.logged c.args.log.now).told going.state going.stands c.requires.begun))) in
     let still =
     steps_still c.args.app.now c.args.limits.now [] going.state c.args.machine.now
@@ -62,7 +63,8 @@ overflow_add-machine-2 g c =
     let a =
     c.settle-2.ensures.at _ ((acts c.args.app.now c.args.limits.now c.args.machine.now c.args.task c.requires.at.current
     c.args.op.now c.requires.at.at c.act-following.new.machine _ _ c.act-following.ensures.does).at
-    _ (begun_with_none c.args.app.now going.state (none_by c.args.machine.now going.state c.requires.none going.stands) c.args.machine.now _
+    _ (begun_with_none c.args.app.now going.state (none_by c.args.machine.now going.state c.requires.none going.stands)
+    c.args.machine.now _
     (begun c.args.machine.now (g.L.Log.logged c.args.log.now).told going.state going.stands c.requires.begun))) in
     let still =
     steps_still c.args.app.now c.args.limits.now [] going.state c.args.machine.now

@@ -26,7 +26,8 @@ overflow_add-machine g c =
     let going = c.requires.going in
     let a =
     c.settle.ensures.at _ (c.act_otherwise-following.ensures.does.at _
-    (begun_with_none c.args.app.now going.state (none_by c.args.machine.now going.state c.requires.none going.stands) c.args.machine.now _
+    (begun_with_none c.args.app.now going.state (none_by c.args.machine.now going.state c.requires.none going.stands)
+    c.args.machine.now _
     (begun c.args.machine.now (g.L.Log.logged c.args.log.now).told going.state going.stands c.requires.begun))) in
     let still =
     steps_still c.args.app.now c.args.limits.now [] going.state c.args.machine.now

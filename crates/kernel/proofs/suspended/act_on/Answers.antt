@@ -65,7 +65,9 @@ returns-in-ResumeAll g c = rw c.in-ResumeAll.is (does_up 2 64 _ _ _ _ _ (omega a
 pub returns-in_default : goal.returns-in_default
 returns-in_default g c =
     let not = c.in_default in
-    no_other c.args.op.now (never_switches c.args.machine.now c.args.task c.args.op.now c.requires.can.agrees c.requires.some c.requires.fine)
+    no_other c.args.op.now (never_switches c.args.machine.now c.args.task c.args.op.now c.requires.can.agrees c.requires.some
+    c.requires.fine)
     not.not-Work not.not-Time not.not-Mark not.not-Expect not.not-Repeat
     not.not-End not.not-If not.not-Else not.not-EndIf not.not-Break not.not-Stamp not.not-Since not.not-MessagesWaiting
-    not.not-SpacesAvailable not.not-ClearBits not.not-GetBits not.not-SuspendAll not.not-ResumeAll not.not-EnterCritical not.not-ExitCritical
+    not.not-SpacesAvailable not.not-ClearBits not.not-GetBits not.not-SuspendAll not.not-ResumeAll not.not-EnterCritical
+    not.not-ExitCritical

@@ -18,5 +18,6 @@ unfolding to_back dispatch choose yield_now preempt slice settle wait_in set_dea
     increment_tick handle serve inject interrupt tick_interrupt idle sleep set_previous_wake go_to answer use_up delay
     delay_until expect open_loop close_turn fulfil attempt set_priority inherit after_timeout disinherit give_mutex try
     decide leave_call do_now set begin_set clear answer_bits wait_for_bits begin_bits_wait check received take_command
-    obeyed clear_by_daemon suspend resume call_suspend call_resume judge serve_pending before_step step nobody_ready ready_at_reset reset
+    obeyed clear_by_daemon suspend resume call_suspend call_resume judge serve_pending before_step step nobody_ready ready_at_reset
+    reset
 returns c = (refl, (refl, (refl, (refl, (refl, (refl, (refl, (refl, (refl, (refl, tt))))))))))

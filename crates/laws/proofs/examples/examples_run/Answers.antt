@@ -16,7 +16,8 @@ use Rattle.laws.proofs.examples.examples_run.Goals as goal
 pub returns : goal.returns
 unfolding to_back dispatch choose yield_now preempt slice settle wait_in set_deadline wake_best unlock wake_due advance
     increment_tick interrupt tick_interrupt idle sleep set_previous_wake go_to answer use_up delay delay_until expect open_loop
-    close_turn fulfil inherit after_timeout try decide leave_call judge serve_pending before_step step nobody_ready ready_at_reset reset
+    close_turn fulfil inherit after_timeout try decide leave_call judge serve_pending before_step step nobody_ready ready_at_reset
+    reset
 returns c = (
   is_run round_robin.app [] round_robin.app.limits round_robin.run refl refl refl refl,
   (

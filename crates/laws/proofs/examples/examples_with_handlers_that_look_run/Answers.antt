@@ -22,7 +22,8 @@ pub returns : goal.returns
 unfolding to_back dispatch choose yield_now preempt slice settle wait_in set_deadline wake_best unlock wake_due advance
     increment_tick jump handle serve inject interrupt tick_interrupt idle sleep set_previous_wake go_to answer use_up delay
     delay_until expect stamp since open_loop close_turn branch skip_branch leave_loop fulfil attempt inherit after_timeout
-    try decide leave_call suspend_all resume_scheduler resume_all judge serve_pending before_step step nobody_ready ready_at_reset reset
+    try decide leave_call suspend_all resume_scheduler resume_all judge serve_pending before_step step nobody_ready ready_at_reset
+    reset
 returns c = (
   is_run comes_at_its_tick.app comes_at_its_tick.plan comes_at_its_tick.app.limits comes_at_its_tick.run refl refl refl refl,
   (

@@ -16,7 +16,8 @@ use Rattle.laws.proofs.examples.examples_with_stamps_run.Goals as goal
 
 pub returns : goal.returns
 unfolding to_back dispatch choose yield_now preempt slice settle wait_in set_deadline wake_best unlock wake_due advance
-    apply_one increment_tick jump handle serve inject interrupt tick_interrupt idle sleep set_previous_wake go_to answer use_up delay
+    apply_one increment_tick jump handle serve inject interrupt tick_interrupt idle sleep set_previous_wake go_to answer use_up
+    delay
     delay_until expect stamp since open_loop close_turn branch skip_branch leave_loop fulfil attempt inherit after_timeout try
     decide leave_call suspend_all resume_scheduler resume_all judge serve_pending before_step step nobody_ready ready_at_reset reset
 returns c = (

@@ -18,5 +18,6 @@ had most number none long = record {
 }
 
 pub returns : goal.returns
-unfolding choose dispatch preempt settle handle inject serve serve_pending go_to before_step judge nobody_ready ready_at_reset reset step
+unfolding choose dispatch preempt settle handle inject serve serve_pending go_to before_step judge nobody_ready ready_at_reset reset
+    step
 returns c = record { none = had 0 1 refl refl; one = had 1 3 refl refl; two = had 2 6 refl refl; three = had 3 10 refl refl }

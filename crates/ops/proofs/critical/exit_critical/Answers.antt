@@ -11,7 +11,7 @@ complete-requires c =
     let some = c.requires.open in
     let same = h.rest.sections in
     let left = with_open c.args.machine.now s.log s (record { stands = h; log = refl }) c.resume_all.new.self _ (s.sections - 1)
-        (c.resume_all.ensures.section s h.sched (omega arith)) (ap (λ n. n - 1) same) in
+    (c.resume_all.ensures.section s h.sched (omega arith)) (ap (λ n. n - 1) same) in
     runs_by c.args.machine.now _ c.args.task s (record s { sections = s.sections - 1 }) c.requires.runs h left.stands refl refl
 
 pub returns : goal.returns

@@ -22,7 +22,8 @@ pub returns-in-Ok : goal.returns-in-Ok
 returns-in-Ok g c = record {
   at = λ s h.
       gave c.args.app.now c.let_go.new.machine _ s c.args.task c.args.object
-      (not_by_task c.args.machine.now s (Placed h.stands) c.requires.can.tick.advance.awake) (c.in-Ok.ensures.allowed s None h.stands.rest.objects)
+      (not_by_task c.args.machine.now s (Placed h.stands) c.requires.can.tick.advance.awake)
+      (c.in-Ok.ensures.allowed s None h.stands.rest.objects)
       (c.let_go.ensures.at _ (stored_at c.args.machine.now _ s h c.args.object _
       c.give_mutex.new.self (c.in-Ok.ensures.stands s None h.stands.rest.objects)));
   few = c.let_go.ensures.few;
@@ -33,7 +34,8 @@ pub returns-in-Err : goal.returns-in-Err
 returns-in-Err g c = record {
   at = λ s h.
       gave_nothing c.args.app.now c.misuse.new.self _ s c.args.task c.args.object NotHolder
-      (not_by_task c.args.machine.now s (Placed h.stands) c.requires.can.tick.advance.awake) (c.in-Err.ensures.misuse s None h.stands.rest.objects)
+      (not_by_task c.args.machine.now s (Placed h.stands) c.requires.can.tick.advance.awake)
+      (c.in-Err.ensures.misuse s None h.stands.rest.objects)
       (c.misuse.ensures _ s (subst
       (λ (q : Objects). At (record c.args.machine.now { objects = q }) (g.L.Log.logged c.args.log.now).told s)
       (sym c.in-Err.ensures.refused) h));
