@@ -369,6 +369,15 @@ def long_script():
     return tasks, f"base: pass in 32 steps, 0 ticks\n{lines}".encode()
 
 
+def many_states():
+    """An application of 16 handlers, each of which leaves an item of its own, and how the runs of all placements end. Of up to two
+    injections before two steps there are 1 + 16 * 2 + 16 * 16 * 3."""
+    queues = "".join(f'[[queue]]\nname = "q{it}"\nlength = 2\n' for it in range(16))
+    handlers = "".join(HANDLER.replace('"h"', f'"h{it}"').replace("[]", f'["send q{it} 1"]') for it in range(16))
+    report = "pass: 801 placements, least is none in 2 steps, 1 ticks\ntotal 801\n"
+    return queues + handlers + TASK.replace('"mark 7"', '"work 1", "mark 7"'), report.encode()
+
+
 def each_with_falling_memory(step):
     """How often no memory was left: of a campaign, of a run of many events, of a large file."""
     rows = 3000
@@ -399,22 +408,24 @@ def with_little_memory_for_words_the_answer_is_whole_or_says_so():
         assert refused > 5, refused
 
 
-def with_little_memory_in_all(job, path, whole):
+def with_little_memory_in_all(job, path, whole, *words):
     """What a job answers with little memory, its stack included, except for its report and that no memory is left."""
     # (where the stack begins is random, so the least differs from start to start, by a page or two)
     first = least(resource.RLIMIT_AS, 64, (0,), job, "application.toml") + 16
-    found = answers(resource.RLIMIT_AS, first, 16, whole, job, path)
+    found = answers(resource.RLIMIT_AS, first, 16, whole, job, path, *words)
     assert found.count(OUT_OF_MEMORY) > 5, found.count(OUT_OF_MEMORY)
     return [it for it in found if it not in (OUT_OF_MEMORY, whole)]
 
 
 @case
 def with_little_memory_in_all_the_answer_is_whole_or_says_so():
-    rows, (text, events) = 3000, many_events()
-    for path, content in (("application.toml", TASK), ("campaign.toml", campaign_of(rows)), ("events.toml", text)):
+    rows, (text, events), (states, ends) = 3000, many_events(), many_states()
+    files = {"application.toml": TASK, "campaign.toml": campaign_of(rows), "events.toml": text, "states.toml": states}
+    for path, content in files.items():
         write(path, content)
     equal(with_little_memory_in_all("campaign", "campaign.toml", (0, rows_report(rows), b"")), [])
     equal(with_little_memory_in_all("run", "events.toml", (0, events, b"")), [])
+    equal(with_little_memory_in_all("explore", "states.toml", (0, ends, b""), "--injections", "2"), [])
 
 
 @case

@@ -163,6 +163,9 @@ fn serve_app<W: Sink>(
 
 /// Explores the application of the file of these bytes: finds how the runs with all placements of at most so many injections of these
 /// handlers end, and writes the report. Answers whether each placement passes.
+///
+/// It is out of line, since other jobs are to take no stack for its kernel.
+#[inline(never)]
 pub(crate) fn serve_exploration<W: Sink>(
     alloc: Global,
     most: MostInjections,
