@@ -101,6 +101,18 @@ def a_preview_reads_its_standard_input_and_pipes(a):
 
 
 @case
+def a_file_of_which_no_copy_can_be_made_is_no_file_that_can_not_be_read(a):
+    a.write(f"{a.room}/x", "x" * 9000)
+    script = 'ulimit -f 1; exec "$0" "$1" "$2"'
+    for word in ("--preview", "--preview-first"):
+        how = {"launcher": "/bin/bash", "restore_signals": False}
+        status, out, err = a.start("-c", script, a.launcher, word, f"{a.room}/x", **how)
+        equal((status, out, a.calls()), (70, "", 0))
+        holds(err.splitlines()[-1], "File too large")
+    equal(os.listdir(a.temporary), [])
+
+
+@case
 def a_preview_calls_a_file_as_its_user_does(a):
     a.write(f"{a.stand_in}/program", 'echo "no such word: $1" >&2')
     a.write(f"{a.room}/x", "x")

@@ -61,17 +61,19 @@ class Files:
 
     def place_of(self, word):
         """Where a copy is of the file that the word names, if it names one that can be read: a file, a pipe, or what is typed."""
-        self.read += 1
-        place = f"{self.room}/file-{self.read}"
         try:
             kind = os.stat(word).st_mode
             if not any(is_kind(kind) for is_kind in (stat.S_ISREG, stat.S_ISFIFO, stat.S_ISCHR)):
                 return None
-            with open(word, "rb") as file, open(place, "wb") as copy:
-                copy.write(file.read(MOST_READ))
-            return place
+            with open(word, "rb") as file:
+                text = file.read(MOST_READ)
         except (OSError, ValueError):
             return None
+        self.read += 1
+        place = f"{self.room}/file-{self.read}"
+        with open(place, "wb") as copy:
+            copy.write(text)
+        return place
 
     def as_called(self, text):
         """The text with the words in the place of the names that the program was given."""

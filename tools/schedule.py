@@ -77,7 +77,8 @@ class Schedule:
         if not work or self.ready() or work.is_given_up:
             return None
         jobs = min(most_jobs(work.crate, self.at_once), work.jobs + self.free())
-        return (work, jobs) if self.expected(work.crate, work.jobs) - work.age() - self.expected(work.crate, jobs) >= LEAST_SAVED else None
+        left = self.expected(work.crate, work.jobs) - work.age()
+        return (work, jobs) if left - self.expected(work.crate, jobs) >= LEAST_SAVED else None
 
     def expected(self, crate, jobs):
         """How many seconds a crate takes by so many jobs, by what others took for their lines."""

@@ -19,6 +19,33 @@ pub(crate) struct Stepper {
     pub(crate) log: StepLog,
 }
 
+// From the kernel of a node, at which the stepper's is, its plans go on with these handlers before the step.
+fn step_from(
+    alloc: Global,
+    app: &App,
+    limits: &Limits,
+    node: &Node,
+    now: &[HandlerId],
+    stepper: &mut Stepper,
+    next: &mut Layer,
+) -> Result<(), Memory>
+    requires here { stepper.old.kernel ≡ node.now.kernel.value }
+    requires goes { GoesOn app.now limits.now node.now.kernel.value }
+    requires few { length node.now.least + length now.now ≤ 3 }
+    requires room { count_of next.old.nodes.items + node.now.count < 2 ^ 128 }
+    ensures gains { OnOk result (GainsBy app.now limits.now node.now (now.now ∷ []) next.old.nodes.items next.new.nodes.items) }
+    ensures count { OnOk result (count_of next.new.nodes.items ≡ count_of next.old.nodes.items + node.now.count) }
+{
+    app.well_formed();
+    limits.well_formed();
+    let least = node.least.followed_by(node.kernel.steps(), now);
+    let mut meter = Meter::new();
+    stepper
+        .kernel
+        .step(app, now, limits, &mut meter, &mut stepper.log);
+    next.add(alloc, app, &stepper.kernel, node.count, least)
+}
+
 // From the kernel of a node its plans go on with these handlers before the step.
 fn step_by(
     alloc: Global,
@@ -35,15 +62,8 @@ fn step_by(
     ensures gains { OnOk result (GainsBy app.now limits.now node.now (now.now ∷ []) next.old.nodes.items next.new.nodes.items) }
     ensures count { OnOk result (count_of next.new.nodes.items ≡ count_of next.old.nodes.items + node.now.count) }
 {
-    app.well_formed();
-    limits.well_formed();
     stepper.kernel.restore(&node.kernel);
-    let least = node.least.followed_by(node.kernel.steps(), now);
-    let mut meter = Meter::new();
-    stepper
-        .kernel
-        .step(app, now, limits, &mut meter, &mut stepper.log);
-    next.add(alloc, app, &stepper.kernel, node.count, least)
+    step_from(alloc, app, limits, node, now, stepper, next)
 }
 
 // From the kernel of a node its plans go on with each of these choices, of so many handlers.
@@ -96,6 +116,34 @@ fn go_on(
     Ok(())
 }
 
+// From the kernel of a node, at which the stepper's is, its plans go on: with no handler, if they have no injection left, otherwise with
+// each choice of as many as they have.
+fn go_on_from(
+    alloc: Global,
+    app: &App,
+    limits: &Limits,
+    choices: &Choices,
+    node: &Node,
+    stepper: &mut Stepper,
+    next: &mut Layer,
+) -> Result<(), Memory>
+    requires here { stepper.old.kernel ≡ node.now.kernel.value }
+    requires goes { GoesOn app.now limits.now node.now.kernel.value }
+    requires levels { AreLevels choices.now.handlers.items choices.now.levels.items }
+    requires few { length choices.now.levels.items ≤ 4 }
+    requires left { length node.now.least < length choices.now.levels.items }
+    requires room { count_of next.old.nodes.items
+        + length (nows_of choices.now.handlers.items (length choices.now.levels.items) node.now.least) * node.now.count < 2 ^ 128 }
+    ensures { OnOk result (GainsBy app.now limits.now node.now
+        (nows_of choices.now.handlers.items (length choices.now.levels.items) node.now.least)
+        next.old.nodes.items next.new.nodes.items) }
+{
+    if choices.levels.len() - node.least.len() == 1 {
+        return step_from(alloc, app, limits, node, &[], stepper, next);
+    }
+    go_on(alloc, app, limits, choices, node, stepper, next)
+}
+
 // The plans of a node go on, or are found with their end.
 fn pass(
     alloc: Global,
@@ -129,7 +177,7 @@ fn pass(
                 end,
             },
         ),
-        None => go_on(alloc, app, limits, choices, node, stepper, next),
+        None => go_on_from(alloc, app, limits, choices, node, stepper, next),
     }
 }
 

@@ -42,7 +42,7 @@ fn all_found(
         if layer.is_empty() {
             return Ok(findings);
         }
-        let mut next = Layer::new(alloc, layer.nodes.len());
+        let mut next = layer.after(alloc);
         advance(
             alloc,
             app,
@@ -53,6 +53,7 @@ fn all_found(
             &mut findings,
             &mut next,
         )?;
+        next.take_memory(layer);
         layer = next;
     }
     Ok(findings)

@@ -1,5 +1,5 @@
 //! The kernels that runs have come to before a step.
-ghost use Rattle.std.specs.Prelude.{◌≡◌, ◌<◌, ◌+◌, ◌^◌, [], true, length, IfSome, OnOk};
+ghost use Rattle.std.specs.Prelude.{◌≡◌, ◌<◌, ◌+◌, ◌^◌, [], true, length, IfOk, IfSome, OnOk};
 ghost use Rattle.explorer.specs.Layers.{Gains, count_of};
 ghost use Rattle.explorer.specs.Nodes.{IsAlike, IsJoined, IsPut};
 
@@ -7,6 +7,7 @@ use crate::placement::Placement;
 use kernel::{Kernel, Snapshot};
 use model::{App, Memory};
 use std::alloc::Global;
+use std::mem::swap;
 
 // The number that a place has where no node is.
 const NO_NODE: u32 = u32::MAX;
@@ -28,6 +29,8 @@ pub(crate) struct Node {
 pub(crate) struct Layer {
     pub(crate) nodes: Vec<Node>,
     heads: Vec<u32>,
+    // The memory of kernels that are of no more use.
+    spare: Vec<Box<Snapshot>>,
 }
 
 impl Layer {
@@ -39,6 +42,28 @@ impl Layer {
         Layer {
             nodes: Vec::new(alloc),
             heads: vec![in alloc; NO_NODE; places].unwrap_or(Vec::new(alloc)),
+            spare: Vec::new(alloc),
+        }
+    }
+
+    /// One without kernels that comes after this one, and takes the memory that this one has spare.
+    pub(crate) fn after(&mut self, alloc: Global) -> Layer
+        ensures empty { result.nodes.items ≡ [] }
+        ensures kept { self.new.nodes ≡ self.old.nodes }
+    {
+        let mut next = Layer::new(alloc, self.nodes.len());
+        swap(&mut next.spare, &mut self.spare);
+        next
+    }
+
+    /// Takes the memory of the kernels of another one, which is of no more use.
+    pub(crate) fn take_memory(&mut self, mut other: Layer)
+        ensures { self.new.nodes ≡ self.old.nodes }
+    {
+        while let Some(node) = other.nodes.pop() {
+            if self.spare.push(node.kernel).is_err() {
+                return;
+            }
         }
     }
 
@@ -85,6 +110,19 @@ impl Layer {
         }
     }
 
+    // A snapshot of the kernel, in spare memory, if there is some.
+    fn snapshot(&mut self, alloc: Global, kernel: &Kernel) -> Result<Box<Snapshot>, Memory>
+        ensures kernel { IfOk result (λ snapshot. snapshot.value ≡ kernel.now) }
+        ensures kept { self.new.nodes ≡ self.old.nodes }
+    {
+        if let Some(mut snapshot) = self.spare.pop() {
+            if kernel.save(&mut snapshot) {
+                return Ok(snapshot);
+            }
+        }
+        kernel.boxed_snapshot(alloc)
+    }
+
     // One node more.
     fn put(
         &mut self,
@@ -99,7 +137,7 @@ impl Layer {
         let place = self.place(hint);
         let number = u32::try_from(self.nodes.len()).unwrap_or(NO_NODE);
         let after = self.heads.get(place).copied().unwrap_or(NO_NODE);
-        let snapshot = kernel.boxed_snapshot(alloc)?;
+        let snapshot = self.snapshot(alloc, kernel)?;
         self.nodes.push(Node {
             kernel: snapshot,
             count,

@@ -11,6 +11,7 @@ pub mod Looking
 pub mod LookingExamples
 pub mod MutexExamples
 pub mod PlacementExamples
+pub mod SectionExamples
 pub mod Sections
 pub mod StampExamples
 pub mod TicklessExamples

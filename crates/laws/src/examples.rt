@@ -9,6 +9,7 @@ ghost use Rattle.laws.specs.TicklessExamples.{tickless_examples};
 ghost use Rattle.laws.specs.BranchExamples.{branch_examples};
 ghost use Rattle.laws.specs.EndlessExamples.{endless_examples};
 ghost use Rattle.laws.specs.LookingExamples.{looking_examples};
+ghost use Rattle.laws.specs.SectionExamples.{section_examples};
 ghost use Rattle.laws.specs.StampExamples.{stamp_examples};
 ghost use Rattle.laws.specs.EndStateExamples.{StandsSo, end_states};
 
@@ -92,6 +93,14 @@ pub fn examples_with_handlers_that_look_run()
 /// the tick, and while the scheduler is held; one that measures as much as an answer can be; one that misses its deadline.
 pub fn examples_with_stamps_run()
     ensures { AllByRecursion RunsWith stamp_examples }
+{}
+
+/// Each application of the table of examples with critical sections runs as the table says. A handler that is injected inside comes after
+/// the outer exit, also while the scheduler is suspended; before the step of idle; and never, if the run is over then. Pending handlers
+/// come in the order of the file, once. Time that would pass inside, a scheduler that is resumed inside, an exit too many and a script that
+/// ends inside are misuses; where another one fits too, that one counts.
+pub fn examples_with_sections_run()
+    ensures { AllByRecursion RunsWith section_examples }
 {}
 
 /// The state after the steps of each of these is what the table says: a receive that has tried, that waits and isn't in its list yet, that

@@ -24,7 +24,8 @@ pub use examples::{
     end_states_of_examples, examples_run, examples_with_a_daemon_run, examples_with_branches_run,
     examples_with_endless_tasks_run, examples_with_handlers_run,
     examples_with_handlers_that_look_run, examples_with_holds_run, examples_with_mutexes_run,
-    examples_with_stamps_run, rows_of_one_receive, rows_of_two_injections, tickless_examples_run,
+    examples_with_sections_run, examples_with_stamps_run, rows_of_one_receive,
+    rows_of_two_injections, tickless_examples_run,
 };
 pub use looking::{
     failed_checks_end_the_handler, first_failed_check_counts, handlers_do_one_branch,

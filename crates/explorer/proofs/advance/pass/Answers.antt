@@ -7,8 +7,8 @@ use Rattle.explorer.proofs.Passing.{goes_if, passes_ended, passes_going}
 use Rattle.explorer.proofs.Results.{on_ok}
 use Rattle.explorer.proofs.advance.pass.Goals as goal
 
-pub go_on-requires-clause-goes : goal.go_on-requires-clause-goes
-go_on-requires-clause-goes c =
+pub go_on_from-requires-clause-goes : goal.go_on_from-requires-clause-goes
+go_on_from-requires-clause-goes c =
     let k = c.args.node.now.kernel.value in
     let restored : c.restore.new.self ≡ k = c.restore.ensures ∙ c.deref.ensures in
     let ends : (s : State) → Stands k s → c.ended.result ≡ end_of c.args.app.now c.args.limits.now s =
@@ -23,12 +23,12 @@ returns-in-None c =
     let ends : (s : State) → Stands k s → c.ended.result ≡ end_of c.args.app.now c.args.limits.now s =
     subst (λ (j : Machine). (s : State) → Stands j s → c.ended.result
     ≡ end_of c.args.app.now c.args.limits.now s) restored c.ended.ensures in
-    on_ok c.go_on.result
+    on_ok c.go_on_from.result
     (λ gains.
     passes_going c.args.app.now c.args.limits.now c.args.choices.now.handlers.items (length c.args.choices.now.levels.items)
-    c.args.node.now c.ended.result ends c.in-None.is c.args.next.now.nodes.items c.go_on.new.next.nodes.items
+    c.args.node.now c.ended.result ends c.in-None.is c.args.next.now.nodes.items c.go_on_from.new.next.nodes.items
     c.args.findings.now.items gains)
-    c.go_on.ensures
+    c.go_on_from.ensures
 
 pub returns-in-Some : goal.returns-in-Some
 returns-in-Some c =

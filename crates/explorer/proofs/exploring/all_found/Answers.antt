@@ -1,7 +1,9 @@
-use Rattle.std.proofs.Common.{◌≡◌, List, [], ap, arith, length, subst}
+use Rattle.std.proofs.Common.{◌≡◌, ◌+◌, Global, List, Vec, [], ap, arith, length, subst, sym}
 use Rattle.model.specs.declared.plan.Injection.{Injection}
 use Rattle.model.specs.Application.{Limits}
+use Rattle.explorer.specs.declared.layer.Node.{Node}
 use Rattle.explorer.specs.Layers.{Gains}
+use Rattle.explorer.specs.Tallies.{IsLayer}
 use Rattle.explorer.proofs.FirstAndLast.{first_layer, tallied_at_last, tallied_if_empty}
 use Rattle.explorer.proofs.exploring.all_found.Goals as goal
 
@@ -14,7 +16,10 @@ advance-requires-clause-ready c =
     record {
       n = c.layers.counter;
       all = c.layers.invariant.0;
-      layer = c.layers.invariant.1;
+      layer =
+          subst (λ (ns : Vec Node Global). IsLayer c.args.app.now c.args.limits.now c.args.choices.now.handlers.items
+          (length c.args.choices.now.levels.items) c.layers.counter ns.items c.layers.findings.items c.layers.invariant.0)
+          (sym c.after-next.ensures.kept) c.layers.invariant.1;
       some = c.requires.some;
       early = omega (arith, seen, test);
       few = c.requires.few_handlers;
@@ -32,7 +37,17 @@ layers-init c = (
 )
 
 pub layers-preserved : goal.layers-preserved
-layers-preserved c = c.in_ok-advance.ensures c.layers.counter c.layers.invariant.0 c.layers.invariant.1
+layers-preserved c =
+    let before =
+    subst (λ (ns : Vec Node Global). IsLayer c.args.app.now c.args.limits.now c.args.choices.now.handlers.items
+    (length c.args.choices.now.levels.items) c.layers.counter ns.items c.layers.findings.items c.layers.invariant.0)
+    (sym c.after-next.ensures.kept) c.layers.invariant.1 in
+    let after = c.in_ok-advance.ensures c.layers.counter c.layers.invariant.0 before in (
+      after.0,
+      subst (λ (ns : Vec Node Global). IsLayer c.args.app.now c.args.limits.now c.args.choices.now.handlers.items
+          (length c.args.choices.now.levels.items) (c.layers.counter + 1) ns.items c.advance.new.findings.items after.0)
+          (sym c.take_memory.ensures) after.1,
+    )
 
 pub returns-then-is_empty : goal.returns-then-is_empty
 returns-then-is_empty c =

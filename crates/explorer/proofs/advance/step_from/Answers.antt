@@ -10,12 +10,11 @@ use Rattle.explorer.specs.Layers.{AreAt, followed}
 use Rattle.explorer.proofs.Carrying.{carries_same}
 use Rattle.explorer.proofs.Results.{on_ok}
 use Rattle.explorer.proofs.Stepping.{can, stepped}
-use Rattle.explorer.proofs.advance.step_by.Goals as goal
+use Rattle.explorer.proofs.advance.step_from.Goals as goal
 
 pub step-requires-clause-going : goal.step-requires-clause-going
 step-requires-clause-going c =
-    let restored : c.restore.new.self ≡ c.args.node.now.kernel.value = c.restore.ensures ∙ c.deref.ensures in
-    subst (CanStep c.args.app.now c.args.limits.now) (sym restored)
+    subst (CanStep c.args.app.now c.args.limits.now) (sym c.requires.here)
     (can c.args.app.now c.well_formed-2.ensures c.args.limits.now c.well_formed-3.ensures c.args.node.now.kernel.value
     c.requires.goes)
 
@@ -25,15 +24,14 @@ returns-clause-gains c =
     let limits = c.args.limits.now in
     let node = c.args.node.now in
     let now = c.args.now.now in
-    let restored : c.restore.new.self ≡ node.kernel.value = c.restore.ensures ∙ c.deref.ensures in
     on_ok c.add.result
     (λ gains n plans more carries at.
     let stands : (s : State) → Stands node.kernel.value s → Stands c.step.new.self (step app limits now s) =
     subst (λ (k : Machine). (s : State) → Stands k s → Stands c.step.new.self
-    (step app limits now s)) restored c.step.ensures.stands in
+    (step app limits now s)) c.requires.here c.step.ensures.stands in
     let least : node.least ++ before_this n now ≡ c.followed_by-least.result =
     ap (λ (m : ℕ). node.least ++ before_this m now)
-    (sym at.here ∙ sym (c.steps.ensures ∙ ap (λ (k : Machine). k.steps) c.deref-2.ensures)) ∙ sym c.followed_by-least.ensures in
+    (sym at.here ∙ sym (c.steps.ensures ∙ ap (λ (k : Machine). k.steps) c.deref.ensures)) ∙ sym c.followed_by-least.ensures in
     let next : AreAt app limits (n + 1) c.step.new.self node.count c.followed_by-least.result (followed n more now) =
     subst (λ (l : List Injection). AreAt app limits (n + 1) c.step.new.self node.count l (followed n more now)) least
     (stepped app c.well_formed-2.ensures limits c.well_formed-3.ensures node.kernel.value c.requires.goes n at.here now
