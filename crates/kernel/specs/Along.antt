@@ -1,5 +1,5 @@
--- How the kernel goes on along the runs that come to it. The code doesn't know which of them it goes along, so it does the same
--- for each.
+-- How the kernel goes on along the runs that come to it. The code doesn't know which of them it goes along, so
+-- it does the same for each.
 use Rattle.std.specs.Prelude.{◌≡◌, ◌<◌, ◌≤◌, ℕ, false, List, [], ◌++◌, None}
 use Rattle.model.specs.declared.event.Event.{Event}
 use Rattle.model.specs.declared.plan.Injection.{Injection}
@@ -10,9 +10,8 @@ use Rattle.machine.specs.Can.{IsUnderWay, NonePends}
 use Rattle.kernel.specs.Over.{is_over}
 use Rattle.kernel.specs.Rows.{events_from}
 
--- The run with this plan is under way at the kernel. Before this step the plan has no more injections, nothing is pending, and the
--- run
--- ends only where it is over.
+-- The run with this plan is under way at the kernel. Before this step the plan has no more injections, nothing is pending, and
+-- the run ends only where it is over.
 pub record IsFree (app : Application) (limits : Limits) (until : ℕ) (k : Machine) (plan : List Injection) : Type 0 where
   pub way : IsUnderWay app plan limits k
   pub alone : (n : ℕ) → k.steps ≤ n → n < until → injected plan n ≡ []

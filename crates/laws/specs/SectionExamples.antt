@@ -73,8 +73,8 @@ after_the_outer_exit = record {
   };
 }
 
--- While the scheduler is suspended too, the handler comes after the exit, and the task that it wakes runs when the scheduler is
--- resumed.
+-- While the scheduler is suspended too, the handler comes after the exit, and the task that it wakes runs when
+-- the scheduler is resumed.
 abbrev pub inside_a_suspension : Injected
 inside_a_suspension = record {
   app = with_handler (Queue 1 ∷ []) (sends 0 4 ∷ []) (

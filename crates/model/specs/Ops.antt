@@ -16,8 +16,8 @@ use Rattle.model.specs.Time.{sleep, set_previous_wake}
 
 -- ---- an op is complete
 
--- the task at this op, of which nothing is done; past the last op, whatever that was, it is Ended, and keeps its mutexes
--- (profile)
+-- the task at this op, of which nothing is done; past the last op, whatever that was, it is Ended, and keeps its
+-- mutexes (profile)
 abbrev pub moved_to : ℕ → ℕ → Progress → Task → Task
 moved_to count op_index p t = record t {
   progress = record p { op_index = op_index; used = 0; call = no_call };

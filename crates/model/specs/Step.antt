@@ -83,8 +83,8 @@ may_switch (NextCommand object) = true
 may_switch Obey = true
 may_switch _ = false
 
--- It has no place in a critical section either, in which nothing may switch or wait, no tick comes, and no other hold begins or
--- ends.
+-- It has no place in a critical section either, in which nothing may switch or wait, no tick comes, and no other
+-- hold begins or ends.
 abbrev pub is_barred : Op → Bool
 is_barred (Work n) = true
 is_barred SuspendAll = true
@@ -141,9 +141,8 @@ abbrev pub act_current : Application → Limits → Option ℕ → State → Sta
 act_current app limits None s = idle app limits s
 act_current app limits (Some task) s = act_if app task (op_at app task (progress_at s task).op_index) s
 
--- These handlers are injected, one after another. While a critical section is open they become pending. Otherwise they come, and
--- before
--- them those that are pending.
+-- These handlers are injected, one after another. While a critical section is open they become pending. Otherwise those come that are
+-- pending, and then these.
 abbrev pub come_before : Application → List ℕ → State → State
 come_before app handlers s =
     if is_critical s then for_each pend handlers s else for_each (inject app) handlers (serve_pending app s)

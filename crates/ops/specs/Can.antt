@@ -121,9 +121,8 @@ CanWaitBits k task ticks Start = CanDecide k task × IsShort ticks × (k.clock.n
 CanWaitBits k task ticks Leave = CanLeave k task
 CanWaitBits k task ticks _ = CanDecide k task
 
--- While a task holds the scheduler, by `suspend_all` or in a critical section, and no call does: the task runs and can do this op,
--- and
--- one more of each of these and of the held ticks can be counted.
+-- While a task holds the scheduler, by `suspend_all` or in a critical section, and no call does: the task runs and can do this
+-- op, and one more of each of these and of the held ticks can be counted.
 pub record CanHold (app : Application) (k : Machine) (task : ℕ) (op : Op) : Type 0 where
   pub runs : Runs k task
   pub agrees : Agrees k
