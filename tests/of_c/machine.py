@@ -17,7 +17,7 @@ class Machine:
         self.items: Dict[str, List[int]] = {it.name: [] for it in objects}
         self.counts = {it.name: 1 if it.kind == "mutex" else it.numbers.get("initial", 0) for it in objects}
         self.ops = [it.split() for it in ops]
-        self.now = self.at = self.stamp = self.steps = 0
+        self.now = self.at = self.stamp = self.steps = self.sections = 0
         self.answer: Optional[int] = None
         self.loops: List[List[int]] = []
         self.trace: List[str] = []
@@ -116,6 +116,14 @@ class Machine:
     def do_expect(self, *words: str) -> None:
         if not self.holds(words):
             raise Over("check")
+
+    def do_enter_critical(self) -> None:
+        self.sections += 1
+
+    def do_exit_critical(self) -> None:
+        if self.sections == 0:
+            raise Over("misuse")
+        self.sections -= 1
 
     def do_stamp(self) -> None:
         self.stamp = self.now

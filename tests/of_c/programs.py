@@ -184,6 +184,7 @@ class Programs:
             f"buffer[n & 7] = {local};", f"context.total += {local};", "{ struct context *c = &context; c->last = v; }", f"{local} = sum(buffer, 4);",
             f"{{ int *to = &{local}; *to = {self.number()}; }}", "{ uint8_t *to = &v; to[0] = 7; }", "memset(buffer, 0, sizeof(buffer));",
             f"{local} = sizeof(buffer);", f"{local} = buffer[1];", "board_fill(&item, sizeof(item));", "ok = buffer != NULL && &context;",
+            "taskENTER_CRITICAL(); n += 2; taskEXIT_CRITICAL();", f"{{ taskENTER_CRITICAL(); {local} = {self.counted_in_section()}; taskEXIT_CRITICAL(); }}",
             f"{{ int copy[2] = {{ {local}, 1 }}; board_fill(copy, 4); }}",
         )
 
@@ -195,6 +196,10 @@ class Programs:
             f"{local} = xTaskGetTickCount() - {from_};", f"if (xTaskGetTickCount() - {from_} > {self.one_of('0', '2', '5')}) rtosim_mark(9);",
             f"configASSERT(xTaskGetTickCount() - {from_} < 9);", f"ok = xTaskGetTickCount() - {from_} == 2 && {self.flagging()};",
         )
+
+    def counted_in_section(self) -> str:
+        """A call that may be used in a critical section."""
+        return self.one_of("uxQueueMessagesWaiting(jobs)", "uxQueueSpacesAvailable(box)", "xEventGroupGetBits(events)", "xEventGroupClearBits(events, 1)")
 
     def jumps(self, jumps: str) -> List[str]:
         """Statements that leave."""

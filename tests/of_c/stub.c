@@ -18,7 +18,7 @@ struct task { TaskFunction_t function; const char *name; void *parameters; };
 
 static struct object objects[16];
 static struct task tasks[MOST_TASKS];
-static unsigned object_count, task_count, calls, now;
+static unsigned object_count, task_count, calls, now, sections;
 static jump_buffer leaves;
 
 static void stop(const char *why)
@@ -188,6 +188,8 @@ void vTaskDelay(TickType_t ticks)
 }
 
 void taskYIELD(void) { traced("yield", 0); }
+void taskENTER_CRITICAL(void) { sections++; }
+void taskEXIT_CRITICAL(void) { if (sections-- == 0) stop("misuse"); }
 void vTaskSuspendAll(void) { traced("suspend_all", 0); }
 BaseType_t xTaskResumeAll(void) { traced("resume_all", 0); return pdFALSE; }
 
@@ -223,7 +225,7 @@ void vTaskStartScheduler(void)
 {
     for (unsigned at = 0; at < task_count; at++) {
         for (unsigned it = 0; it < object_count; it++) objects[it].count = objects[it].initial;
-        now = calls = 0;
+        now = calls = sections = 0;
         printf("== %s\n", tasks[at].name);
         if (_setjmp(leaves) == 0) {
             tasks[at].function(tasks[at].parameters);

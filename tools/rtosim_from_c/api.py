@@ -3,9 +3,10 @@ from typing import Dict, Optional
 
 from . import trees
 from .answers import NUMBERS, NONE, Answers, answers, failing, condition_for, only
-from .calls import (CALLS, CREATORS, MASKS_OF_HANDLERS, NO_OP, SILENT, TASK_CREATORS, WITHOUT_OP, YIELDS_OF_HANDLERS, Answer, Argument, Call,
+from .calls import (CALLS, CREATORS, IN_SECTIONS, MASKS_OF_HANDLERS, NO_OP, SILENT, TASK_CREATORS, WITHOUT_OP, YIELDS_OF_HANDLERS, Answer, Argument, Call,
                     Result, Who)
 from .expressions import Expressions
+from .families import Family
 from .integers import INT, UNSIGNED, Integer
 from .paths import Path
 from .refusals import Lost, LostUse, Place, Refusal
@@ -44,7 +45,9 @@ class Api(Expressions):
             self.evaluate_calls(node, path)
             self.note(node, f"{name}: every handler ends so here")
             return Nothing()
-        if name in MASKS_OF_HANDLERS and self.is_handler:
+        if name in MASKS_OF_HANDLERS and not self.is_handler:
+            raise self.refuse(node, f"{name} is for a handler", "taskENTER_CRITICAL() and taskEXIT_CRITICAL()")
+        if name in MASKS_OF_HANDLERS:
             self.evaluate_calls(node, path)
             self.note(node, f"{name}: no handler comes during another here")
             return constant(0)
@@ -92,6 +95,8 @@ class Api(Expressions):
         if call.who is Who.HANDLER and not self.is_handler or call.who is Who.TASK and self.is_handler:
             whose = "a handler" if call.who is Who.HANDLER else "a task"
             instead = f"{call.function}FromISR" if f"{call.function}FromISR" in CALLS else "the call of the other one of the two"
+            if call.family is Family.CRITICAL:
+                instead = "nothing: no handler comes during another one"
             raise self.refuse(node, f"{call.function} is for {whose}", instead)
         self.need(call.family, node, f"{call.function} ({call.op.split()[0]})", call.instead)
         words = trees.arguments(node)
@@ -106,12 +111,22 @@ class Api(Expressions):
         if op == "work {number}" and texts["number"] == "0":
             return Nothing()
         self.take_daemon(op)
+        self.take_section(call.function, op, node, path)
         self.op(op.format(**texts), node, path)
         return self.answered(call, values, texts, node, path)
 
     def take_daemon(self, op: str) -> None:
         if self.is_handler and op.split()[0] in ("set", "clear"):
             self.uses_daemon = True
+
+    def take_section(self, function: str, op: str, node: object, path: Path) -> None:
+        """Counts critical sections, and warns of what is misuse in one, or outside of all."""
+        word, sections = op.split()[0], path.state.sections
+        if sections > 0 and word not in IN_SECTIONS:
+            self.note(node, f"{function} in a critical section: the run ends here with a misuse", True)
+        if sections == 0 and word == "exit_critical":
+            self.note(node, f"{function} without a critical section: the run ends here with a misuse", True)
+        path.state = path.state.in_sections((word == "enter_critical") - (word == "exit_critical"))
 
     def text(self, argument: Argument, values: Dict[Argument, Known], node: object, path: Path) -> str:
         """The argument as a word of the op; empty if it is none."""

@@ -193,7 +193,11 @@ WITHOUT_OP = (*SILENT, *OF_MEMORY)
 # What a handler says to the scheduler at its end: here each handler ends so.
 YIELDS_OF_HANDLERS = ("portYIELD_FROM_ISR", "portEND_SWITCHING_ISR")
 # What masks interrupts in a handler: no handler of a script interrupts another one.
-MASKS_OF_HANDLERS = ("taskENTER_CRITICAL_FROM_ISR", "taskEXIT_CRITICAL_FROM_ISR")
+MASKS_OF_HANDLERS = ("taskENTER_CRITICAL_FROM_ISR", "taskEXIT_CRITICAL_FROM_ISR", "portSET_INTERRUPT_MASK_FROM_ISR",
+                     "portCLEAR_INTERRUPT_MASK_FROM_ISR")
+# Ops that may be used while a critical section is open. Any other is misuse.
+IN_SECTIONS = frozenset(("mark", "time", "stamp", "since", "waiting", "spaces", "bits", "clear", "enter_critical", "exit_critical", "notify_clear",
+                         "notify_value_clear"))
 
 A_DELAY = "a task of its own that waits with vTaskDelay or vTaskDelayUntil"
 A_QUEUE = "a queue"

@@ -11,11 +11,13 @@ from .values import Known, Stamp, after_an_answer, either, lost
 
 @dataclass(frozen=True)
 class State:
-    """Which last answers are possible, and what each local is then. `stamp` is the number of the last `stamp`."""
+    """Which last answers are possible, and what each local is then. `stamp` is the number of the last `stamp`, `sections` how many
+    critical sections are open; -1 if that isn't known."""
 
     answers: Answers = only(NONE)
     locals: Dict[str, Known] = field(default_factory=dict)
     stamp: int = 0
+    sections: int = 0
 
     def with_local(self, name: str, value: Known) -> "State":
         return replace(self, locals={**self.locals, name: value})
@@ -34,6 +36,10 @@ class State:
         """After the `stamp` of this number; one of the turn before isn't the last any more."""
         earlier = {name: earlier_time(name) for name, it in self.locals.items() if it == Stamp(number)}
         return replace(self, stamp=number, locals={**self.locals, **earlier})
+
+    def in_sections(self, more: int) -> "State":
+        """With one critical section more, or one less."""
+        return self if self.sections < 0 else replace(self, sections=max(0, self.sections + more))
 
     def without(self, name: str) -> "State":
         return replace(self, locals={key: it for key, it in self.locals.items() if key != name})
@@ -59,7 +65,8 @@ def merged_two(first: State, second: State) -> State:
     for name, it in locals_.items():
         if isinstance(it, Stamp) and is_last_stamp(first, name) != is_last_stamp(second, name):
             locals_[name] = earlier_time(name)
-    return State(first.answers | second.answers, locals_, stamp)
+    sections = first.sections if first.sections == second.sections else -1
+    return State(first.answers | second.answers, locals_, stamp, sections)
 
 
 def earlier_time(name: str) -> Known:
@@ -74,7 +81,8 @@ def is_last_stamp(state: State, name: str) -> bool:
 
 def is_same(first: State, second: State) -> bool:
     """Whether the same is known in both."""
-    if (first.answers, first.stamp, first.locals.keys()) != (second.answers, second.stamp, second.locals.keys()):
+    known_of = lambda it: (it.answers, it.stamp, it.sections, it.locals.keys())
+    if known_of(first) != known_of(second):
         return False
     among = lambda state, it: it.among(state.answers) if hasattr(it, "among") else it
     return all(among(first, it) == among(second, second.locals[name]) for name, it in first.locals.items())

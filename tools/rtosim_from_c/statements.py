@@ -185,6 +185,7 @@ class Statements(Api):
         if words[:1] != ["rtosim"]:
             return self.note(node, f"#pragma {text}: left out")
         if words[1:2] in (["work"], ["mark"]) and len(words) == 3 and number(words[2]) is not None:
+            self.take_section(f"rtosim: {words[1]}", words[1], node, path)
             return self.op(" ".join(words[1:]), node, path)
         self.unit.directives.take(text[len("rtosim"):], self.place(node))
         return None

@@ -83,6 +83,8 @@ class Translation(Memory):
         path = Path(State())
 
         def end(fork: Path, _: object = None) -> None:
+            if fork.state.sections > 0:
+                self.note(definition, f"`{self.owner.name}` may end in a critical section: the run ends then with a misuse", True)
             ends.append(fork.state)
             fork.end()
         self.frame = Frame(self.owner.function, Jumps(end), ({},))

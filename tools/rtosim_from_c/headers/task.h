@@ -32,6 +32,8 @@ void taskENTER_CRITICAL(void);
 void taskEXIT_CRITICAL(void);
 UBaseType_t taskENTER_CRITICAL_FROM_ISR(void);
 void taskEXIT_CRITICAL_FROM_ISR(UBaseType_t state);
+UBaseType_t portSET_INTERRUPT_MASK_FROM_ISR(void);
+void portCLEAR_INTERRUPT_MASK_FROM_ISR(UBaseType_t state);
 void taskDISABLE_INTERRUPTS(void);
 void taskENABLE_INTERRUPTS(void);
 

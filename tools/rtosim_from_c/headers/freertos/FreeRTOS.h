@@ -3,7 +3,15 @@
 #define RTOSIM_FREERTOS_FREERTOS_H
 
 #include "../FreeRTOS.h"
+#include "../task.h"
 
+/* critical sections take a spinlock there, which one core doesn't need */
+typedef int portMUX_TYPE;
+#define portMUX_INITIALIZER_UNLOCKED 0
+#define portENTER_CRITICAL(lock) taskENTER_CRITICAL()
+#define portEXIT_CRITICAL(lock) taskEXIT_CRITICAL()
+#define portENTER_CRITICAL_ISR(lock) ((void)taskENTER_CRITICAL_FROM_ISR())
+#define portEXIT_CRITICAL_ISR(lock) taskEXIT_CRITICAL_FROM_ISR(0)
 #define IRAM_ATTR
 #define DRAM_ATTR
 #define portTICK_RATE_MS portTICK_PERIOD_MS
