@@ -131,6 +131,9 @@ class Machine:
     def do_since(self) -> None:
         self.answer = self.now - self.stamp  # without a line, as the stub has none
 
+    def do_time(self) -> None:
+        self.answer = self.now  # as `since`
+
     def do_delay(self, ticks: str) -> None:
         self.answered("delay", 0)
         self.now += int(ticks)

@@ -69,7 +69,9 @@ class Programs:
 
     def locals(self) -> str:
         a, b, n, v = (self.one_of("0", "1", "2", "3", "5") for _ in range(4))
-        return f"    int a = {a}, b = {b}, item = 0;\n    unsigned n = {n};\n    uint8_t v = {v};\n    bool ok = false;\n"
+        integers = f"    int a = {a}, b = {b}, item = 0;\n    unsigned n = {n};\n    uint8_t v = {v};\n    bool ok = false;\n"
+        first = self.one_of("0", "xTaskGetTickCount()", "1")
+        return f"{integers}    TickType_t t = 0, u = {first};\n"
 
     # -- calls
 
@@ -163,7 +165,7 @@ class Programs:
         simple: List[Callable[[], str]] = [
             lambda: f"{self.one_of(*INTEGERS)} = {self.asking()};", lambda: f"{self.one_of(*INTEGERS)} = {self.integer()};",
             lambda: f"{self.asking()};", lambda: f"{self.one_of('a', 'b', 'n', 'v')}{self.one_of('++', '--', ' += 2', ' |= 5', ' *= 3')};",
-            lambda: f"rtosim_mark({self.number()});", lambda: f"rtosim_mark((uint8_t){self.one_of('a', 'n', 'v')});", self.passing, self.apart,
+            lambda: f"rtosim_mark({self.number()});", lambda: f"rtosim_mark((uint8_t){self.one_of('a', 'n', 'v')});", self.passing, self.apart, self.timing,
             lambda: f"configASSERT({self.condition(1)});", lambda: f"ok = {self.condition()};",
             lambda: f"if ({self.condition()}) {self.one_of(*self.jumps(jumps))};",
         ]
@@ -184,6 +186,15 @@ class Programs:
             f"{local} = sizeof(buffer);", f"{local} = buffer[1];", "board_fill(&item, sizeof(item));", "ok = buffer != NULL && &context;",
             "taskENTER_CRITICAL(); n += 2; taskEXIT_CRITICAL();", f"{{ taskENTER_CRITICAL(); {local} = {self.counted_in_section()}; taskEXIT_CRITICAL(); }}",
             f"{{ int copy[2] = {{ {local}, 1 }}; board_fill(copy, 4); }}",
+        )
+
+    def timing(self) -> str:
+        """A time that is measured from, or that is read."""
+        from_, local = self.one_of("t", "t", "u"), self.one_of("a", "n")
+        return self.one_of(
+            f"{from_} = xTaskGetTickCount();", f"{from_} = xTaskGetTickCount();", "u = t;", f"{local} = xTaskGetTickCount();",
+            f"{local} = xTaskGetTickCount() - {from_};", f"if (xTaskGetTickCount() - {from_} > {self.one_of('0', '2', '5')}) rtosim_mark(9);",
+            f"configASSERT(xTaskGetTickCount() - {from_} < 9);", f"ok = xTaskGetTickCount() - {from_} == 2 && {self.flagging()};",
         )
 
     def counted_in_section(self) -> str:

@@ -250,11 +250,13 @@ class Api(Expressions):
     def measured_from(self, target: object, value: Optional[object], path: Path) -> Optional[Known]:
         """`x = xTaskGetTickCount()`: a stamp if the function measures from `x`, and nothing if `x` is its wake time."""
         call = trees.plain(value) if value is not None else None
-        if call is None or trees.called(call) != "xTaskGetTickCount" or self.is_handler:
-            return None
         name = getattr(target, "name", None)
         name = name if isinstance(name, str) else None
         body = self.unit.functions[self.frame.function].body
+        if call is not None and self.is_reset(call, name, body, path):
+            return Stamp(0)
+        if call is None or trees.called(call) != "xTaskGetTickCount" or self.is_handler:
+            return None
         if trees.find(body, lambda it: is_delay_of(it, name)) is not None:
             self.note(call, f"`{name}`: the first period of a task counts from reset", True)
             return lost(UNSIGNED, Lost("the wake time of a task isn't known", instead="xTaskGetTickCount() for the time of now"))
@@ -264,6 +266,16 @@ class Api(Expressions):
         number = self.stamps.setdefault(self.place(call), len(self.stamps) + 1)
         path.state = path.state.stamped(number)
         return Stamp(number)
+
+    def is_reset(self, value: object, name: Optional[str], body: object, path: Path) -> bool:
+        """Whether a local is given 0 as a time that is measured from: the task's stamp at reset, if that is at tick 0."""
+        found = self.unit.constants.value(value)
+        if found is None or found.constant() != 0 or name is None or path.state.stamp or self.unit.directives.start or self.is_handler:
+            return False
+        measures = [it for it in trees.walk(body) if is_measure_of(it, name)]
+        given = [it for it in trees.walk(body) if trees.kind(it) == "Assignment" and getattr(it.lvalue, "name", None) == name
+                 and trees.called(trees.plain(it.rvalue)) == "xTaskGetTickCount"]
+        return bool(measures) and self.unit.mentions(body, name) == len(measures) + len(given)
 
     def measured(self, node: object, path: Path) -> Value:
         self.op("since", node, path)

@@ -11,6 +11,7 @@ from .values import Value, binary, constant, converted, unary
 HANDLES = {"QueueHandle_t": "queue", "SemaphoreHandle_t": "semaphore", "EventGroupHandle_t": "group", "TaskHandle_t": "task"}
 ESCAPES = {"n": 10, "t": 9, "r": 13, "0": 0, "\\": 92, "'": 39, '"': 34, "a": 7, "b": 8, "f": 12, "v": 11}
 SUFFIX = re.compile(r"[uUlL]*$")
+ESCAPE = re.compile(r"\\(?:x[0-9a-fA-F]+|[0-7]{1,3}|.)")
 POINTER = Integer(64, False)
 # What a declaration may be of: integers, a handle by its kind, or another thing by its name.
 Type = Union[Integer, str]
@@ -89,8 +90,8 @@ class Constants:
         while trees.kind(array) != "ArrayDecl":
             array = array.type
         inner, count = self.size_of(array.type), self.value(array.dim) if array.dim is not None else None
-        if array.dim is None and trees.kind(getattr(node, "init", None)) == "InitList":
-            count = constant(len(node.init.exprs))
+        if array.dim is None:
+            count = count_of(getattr(node, "init", None))
         return inner * count.constant() if inner is not None and count is not None else None
 
     def take_enum(self, node: object) -> None:
@@ -104,6 +105,15 @@ class Constants:
                 next_one = value.constant() or 0
             self.numbers[it.name] = constant(next_one)
             next_one += 1
+
+
+def count_of(initial: object) -> Optional[Value]:
+    """How many elements an array has that is declared with these."""
+    if trees.kind(initial) == "InitList" and not any(trees.kind(it) == "NamedInitializer" for it in initial.exprs):
+        return constant(len(initial.exprs))
+    if trees.kind(initial) == "Constant" and initial.value.startswith('"'):
+        return constant(len(ESCAPE.sub("x", initial.value[1:-1])) + 1)
+    return None
 
 
 def known(value: Value) -> Optional[Value]:

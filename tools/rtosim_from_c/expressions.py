@@ -336,7 +336,7 @@ class Expressions(Addresses):
 
     def bind(self, definition: object, keys: List[str], node: object, path: Path) -> None:
         """Gives the parameters the values that are kept under these keys."""
-        parameters = parameters_of(definition)
+        parameters = trees.parameters_of(definition)
         if len(parameters) != len(keys):
             raise self.refuse(node, f"{len(keys)} arguments for {len(parameters)} parameters")
         for parameter, kept in zip(parameters, keys):
@@ -376,12 +376,6 @@ class Written:
 
     def __init__(self, op: str, node: object):
         self.op, self.coord = op, node.coord
-
-
-def parameters_of(definition: object) -> List[object]:
-    """The parameters of a function, without a lone `void`."""
-    found = definition.decl.type.args.params if definition.decl.type.args else []
-    return [it for it in found if getattr(it, "name", None)]
 
 
 def not_set(type_: object) -> Value:

@@ -3,9 +3,10 @@ from dataclasses import dataclass, field, replace
 from typing import Dict, Iterable, List, Optional
 
 from .answers import Answers, only, NONE, NOTHING
+from .integers import UNSIGNED
 from .items import Item
 from .refusals import Lost, Place
-from .values import Known, after_an_answer, either
+from .values import Known, Stamp, after_an_answer, either, lost
 
 
 @dataclass(frozen=True)
@@ -32,7 +33,9 @@ class State:
         return replace(self, answers=answers, locals=kept)
 
     def stamped(self, number: int) -> "State":
-        return replace(self, stamp=number)
+        """After the `stamp` of this number; one of the turn before isn't the last any more."""
+        earlier = {name: earlier_time(name) for name, it in self.locals.items() if it == Stamp(number)}
+        return replace(self, stamp=number, locals={**self.locals, **earlier})
 
     def in_sections(self, more: int) -> "State":
         """With one critical section more, or one less."""
@@ -52,14 +55,28 @@ def merged(states: Iterable[State]) -> Optional[State]:
 
 def merged_two(first: State, second: State) -> State:
     names = [name for name in first.locals if name in second.locals]
+    stamp = max(first.stamp, second.stamp)
     locals_ = {
-        name: either(first.locals[name], first.answers, second.locals[name], second.answers,
-                     Lost(f"`{name.split('@')[0]}` has different values on two ways to this place", name))
+        name: Stamp(stamp) if is_last_stamp(first, name) and is_last_stamp(second, name) else
+        either(first.locals[name], first.answers, second.locals[name], second.answers,
+               Lost(f"`{name.split('@')[0]}` has different values on two ways to this place", name))
         for name in names
     }
-    stamp = first.stamp if first.stamp == second.stamp else -1
+    for name, it in locals_.items():
+        if isinstance(it, Stamp) and is_last_stamp(first, name) != is_last_stamp(second, name):
+            locals_[name] = earlier_time(name)
     sections = first.sections if first.sections == second.sections else -1
     return State(first.answers | second.answers, locals_, stamp, sections)
+
+
+def earlier_time(name: str) -> Known:
+    why = f"`{name.split('@')[0]}` may be an earlier time than the last one, and a task measures from its last time only"
+    return lost(UNSIGNED, Lost(why, instead="one time that is measured from, until it is read"))
+
+
+def is_last_stamp(state: State, name: str) -> bool:
+    """Whether a local has the time of the last `stamp`."""
+    return state.locals[name] == Stamp(state.stamp)
 
 
 def is_same(first: State, second: State) -> bool:

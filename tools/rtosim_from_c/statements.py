@@ -12,7 +12,7 @@ from .expressions import not_set
 from .frames import Continuation, Frame
 from .integers import COMPARISONS, Integer
 from .items import Break, Repeat, chosen, has_break
-from .paths import Path
+from .paths import Path, merged
 from .refusals import LostUse, Place
 from .values import Known, Nothing, Value, constant
 
@@ -253,14 +253,20 @@ class Statements(Api):
         return False
 
     def does_nothing(self, node: object, ways: List[List[object]], path: Path) -> bool:
-        """Whether it makes no difference which branch is taken: none of them has an op."""
-        if trees.calls_in(node.cond) or self.unit.escapes(node):
+        """Whether it makes no difference which branch is taken: none of them has an op. What the condition calls is called all the same."""
+        if self.unit.escapes(node) or trees.find(node.cond, decides_or_writes) is not None:
             return False
-        forks = [path.fork(path.state.answers) for _ in ways]
+        trial = path.fork(path.state.answers)
+        for it in trees.calls_of(node.cond):
+            self.evaluate(it, trial)
+        forks = [trial.fork(trial.state.answers) for _ in ways]
         for fork, way in zip(forks, ways):
             self.statements(way, fork, lambda it: None)
-        if any(it.items or it.state.answers != path.state.answers or it.state.locals != path.state.locals for it in forks):
+        after = merged(it.state for it in forks)
+        if any(it.items or it.state.answers != trial.state.answers for it in forks) or after is None:
             return False
+        path.items += trial.items
+        path.state = after
         self.note(node, "no op depends on this: left out")
         return True
 
@@ -371,6 +377,12 @@ def is_said_to_hold(node: object) -> bool:
     """Whether the branch of an `if` begins with the comment that says so."""
     first = (node.iftrue.block_items or [None])[0] if trees.kind(node.iftrue) == "Compound" else None
     return trees.kind(first) == "Pragma" and (first.string or "").split() == HOLDS
+
+
+def decides_or_writes(node: object) -> bool:
+    """Whether an expression leaves out a part of itself, or gives something a new value."""
+    name = trees.kind(node)
+    return name in ("TernaryOp", "Assignment") or name in ("BinaryOp", "UnaryOp") and node.op in ("&&", "||", "++", "--", "p++", "p--")
 
 
 class Same:

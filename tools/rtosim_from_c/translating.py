@@ -11,7 +11,6 @@ from .frames import Frame, Jumps
 from .integers import INT
 from .items import If, Item, Line, Repeat, lines_of, takes_time
 from .memory import Memory
-from .expressions import parameters_of
 from .paths import Path, State
 from .refusals import Lost, LostUse, Note, Refusal, SeveralRefusals
 from .source import Lines, parsed, preprocessed
@@ -89,7 +88,7 @@ class Translation(Memory):
             ends.append(fork.state)
             fork.end()
         self.frame = Frame(self.owner.function, Jumps(end), ({},))
-        keys = [f"parameter {at}" for at in range(len(parameters_of(definition)))]
+        keys = [f"parameter {at}" for at in range(len(trees.parameters_of(definition)))]
         for it in keys[:1 + (len(keys) - 1) * self.is_handler]:
             path.state = path.state.with_local(it, OF_HANDLER if self.is_handler else self.owner.parameter)
         self.bind(definition, keys, definition, path)

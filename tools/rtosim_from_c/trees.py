@@ -28,6 +28,12 @@ def arguments(call: object) -> List[object]:
     return list(call.args.exprs) if call.args is not None else []
 
 
+def parameters_of(definition: object) -> List[object]:
+    """The parameters of a function, without a lone `void`."""
+    found = definition.decl.type.args.params if definition.decl.type.args else []
+    return [it for it in found if getattr(it, "name", None)]
+
+
 def calls_in(node: object) -> List[str]:
     """The functions that are called in it, in the order of the text."""
     return [name for name in map(called, walk(node)) if name]

@@ -8,11 +8,12 @@ from .answers import Answers, answers, only
 from .calls import CALLS, CREATORS, KNOWN, SETUP, TASK_CREATORS, WITHOUT_OP
 from .constants import Constants
 from .directives import Directives, Ignored
+from .given import Given
 from .integers import Integer
 from .naming import Names, fitting, of_handler
 from .refusals import Note, Place, Refusal
 from .source import HEADERS, Lines, place_of
-from .values import Handle, Known, Value, constant
+from .values import Address, Handle, Known, Value, constant
 
 SETS_OF_BITS = ("xEventGroupSetBits", "xEventGroupSetBitsFromISR")
 ALL_BITS = (1 << 24) - 1
@@ -100,6 +101,7 @@ class Unit:
         self.assigned = {trees.assigned(it) for function in self.functions.values() for it in trees.walk(function)}
         for name, it in list(self.globals.items()):
             self.declare_constant(name, it)
+        self.given = Given(self.functions, frozenset(self.globals))
 
     def declare_global(self, declaration: object) -> None:
         name = declaration.name
@@ -133,11 +135,17 @@ class Unit:
                 target, call = created(node)
                 named.add(id(call))
                 if call is not None and trees.called(call) in CREATORS:
-                    self.create(function, target, call)
+                    for it in self.targets(function, node, target):
+                        self.create(function, it, call)
                 elif call is not None and trees.called(call) == "xTaskGetCurrentTaskHandle":
                     self.named_by_callers.append((function, target))
                 elif trees.called(node) in CREATORS and id(node) not in named:
                     self.create(function, None, node)
+
+    def targets(self, function: str, node: object, target: Optional[str]) -> Sequence[Optional[str]]:
+        """The names that are given what a call creates: several if a function does so with what it is given."""
+        found = self.given.names(function, node.lvalue) if target is None and trees.kind(node) == "Assignment" else [target]
+        return found or [None]
 
     def create(self, function: str, target: Optional[str], call: object) -> None:
         place = self.place(call)
@@ -251,6 +259,8 @@ class Unit:
     def find_task(self, scope: str, call: object) -> None:
         name, words = trees.called(call), trees.arguments(call)
         place = self.place(call)
+        if len(self.given.calls.get(scope, [])) > 1:
+            raise Refusal(place, f"`{scope}` creates a task, and is called more than once", "an xTaskCreate for each task")
         function = words[0] if words else None
         function = function.expr if trees.kind(function) == "UnaryOp" else trees.plain(function)
         if trees.kind(function) != "ID" or function.name not in self.functions:
@@ -272,9 +282,10 @@ class Unit:
         """The variable that has the task's handle."""
         if trees.called(call) == "xTaskCreate":
             last = trees.plain(words[5])
-            target = trees.dotted(last.expr) if trees.kind(last) == "UnaryOp" else None
-            if target is None:
+            targets = self.given.names(scope, last.expr) if trees.kind(last) == "UnaryOp" else []
+            if len(targets) != 1:
                 return
+            target = targets[0]
         else:
             whole = trees.find(self.functions[scope], lambda it: created(it)[1] is call)
             target = created(whole)[0] if whole is not None else None
@@ -286,9 +297,12 @@ class Unit:
         if found is not None:
             return found
         value: Union[Value, None] = self.constants.value(node)
-        if value is None:
-            raise Refusal(self.place(node), "this parameter of a task is no constant and no handle", "a number, NULL, or a handle")
-        return value
+        if value is not None:
+            return value
+        found = self.given.leads_to(scope, node)
+        if len(found) == 1:
+            return Address(found[0])
+        raise Refusal(self.place(node), "this parameter of a task isn't known", "a number, NULL, a handle, or the address of a structure of the file")
 
     def name_caller(self, function: str, target: Optional[str]) -> None:
         """A global that a task gives its own handle."""
