@@ -141,8 +141,8 @@ abbrev pub act_current : Application → Limits → Option ℕ → State → Sta
 act_current app limits None s = idle app limits s
 act_current app limits (Some task) s = act_if app task (op_at app task (progress_at s task).op_index) s
 
--- These handlers are injected, one after another. While a critical section is open they become pending. Otherwise those come that are
--- pending, and then these.
+-- These handlers are injected, one after another. While a critical section is open they become pending. Otherwise those come that
+-- are pending, and then these.
 abbrev pub come_before : Application → List ℕ → State → State
 come_before app handlers s =
     if is_critical s then for_each pend handlers s else for_each (inject app) handlers (serve_pending app s)
