@@ -23,7 +23,7 @@ use Rattle.report.specs.declared.view.View.{View}
 use Rattle.requests.specs.declared.named_point.NamedPoint.{NamedPoint}
 use Rattle.campaign.specs.declared.file.ServeFault.{ServeFault}
 use Rattle.campaign.specs.declared.file.ServeFault.TheVariants.{Read, NotToml, Load, UnknownHandler, TooManyPoints, Memory, Write}
-use Rattle.campaign.specs.Serving.{Answers, Serves, Known, IsDocument, IsFileOf, HasFileFault}
+use Rattle.campaign.specs.Serving.{Answers, Serves, Known, IsDocument, IsFileOf, HasFileFault, Streams, streams_of}
 use Rattle.campaign.specs.Faults.{IsCampaignFault, IsRunFault, of_loading, of_reading}
 use Rattle.campaign.specs.Serving.{is_read_fault, is_write_fault}
 use Rattle.campaign.specs.OneRun.{HasFault, ServesRun}
@@ -113,7 +113,7 @@ module _ {A : Type 0} (IsReport : (bytes report : List ℕ) → A → Type 0)
   -- a fault, at which nothing is written
   pub serves_fault : (old : Option (List ℕ)) (f : ServeFault) → ((bytes : List ℕ) × Known input bytes × HasFaultOf bytes f)
       → rf ≡ is_read_fault {A = A} (Err f) → is_write_fault {A = A} (Err f) ≡ false
-      → wf ≡ false → Serves A IsReport HasFaultOf input rf old old wf (Err f)
+      → wf ≡ false → Serves A IsReport HasFaultOf (streams_of input rf old old wf) (Err f)
   serves_fault old Read h r w e = record { answers = (h, Keeps-refl old); read = r; write = e }
   serves_fault old NotToml h r w e = record { answers = (h, Keeps-refl old); read = r; write = e }
   serves_fault old (Load fault) h r w e = record { answers = (h, Keeps-refl old); read = r; write = e }
@@ -125,29 +125,29 @@ module _ {A : Type 0} (IsReport : (bytes report : List ℕ) → A → Type 0)
   -- a beginning of a report
   pub serves_front : (old new : Option (List ℕ)) (bytes report : List ℕ) (answer : A)
       → Known input bytes → IsReport bytes report answer → SentFront old new report → rf ≡ false → wf ≡ true
-      → Serves A IsReport HasFaultOf input rf old new wf (Err Write)
+      → Serves A IsReport HasFaultOf (streams_of input rf old new wf) (Err Write)
   serves_front old new bytes report answer known is sent r w =
       record { answers = (bytes, known, report, answer, is, sent); read = r; write = w }
 
 -- What is said of the bytes of an input is said of another, of which no more is known.
 
 module _ {A : Type 0} (IsReport : (bytes report : List ℕ) → A → Type 0) (HasFaultOf : (bytes : List ℕ) → ServeFault → Type 0)
-    (input other : Option (List ℕ)) (as_known : (bytes : List ℕ) → Known input bytes → Known other bytes) where
-  answers_as_known : (old new : Option (List ℕ)) (outcome : Result A ServeFault)
-      → Answers IsReport HasFaultOf input old new outcome → Answers IsReport HasFaultOf other old new outcome
-  answers_as_known old new (Ok answer) h = (h.0, as_known h.0 h.1, h.2, h.3, h.4)
-  answers_as_known old new (Err Write) h = (h.0, as_known h.0 h.1, h.2, h.3, h.4, h.5)
-  answers_as_known old new (Err Read) h = ((h.0.0, as_known h.0.0 h.0.1, h.0.2), h.1)
-  answers_as_known old new (Err NotToml) h = ((h.0.0, as_known h.0.0 h.0.1, h.0.2), h.1)
-  answers_as_known old new (Err (Load fault)) h = ((h.0.0, as_known h.0.0 h.0.1, h.0.2), h.1)
-  answers_as_known old new (Err (UnknownHandler place)) h = ((h.0.0, as_known h.0.0 h.0.1, h.0.2), h.1)
-  answers_as_known old new (Err TooManyPoints) h = ((h.0.0, as_known h.0.0 h.0.1, h.0.2), h.1)
-  answers_as_known old new (Err Memory) h = ((h.0.0, as_known h.0.0 h.0.1, h.0.2), h.1)
+    (streams : Streams) (other : Option (List ℕ))
+    (as_known : (bytes : List ℕ) → Known streams.input bytes → Known other bytes) where
+  answers_as_known : (outcome : Result A ServeFault)
+      → Answers IsReport HasFaultOf streams outcome → Answers IsReport HasFaultOf (record streams { input = other }) outcome
+  answers_as_known (Ok answer) h = (h.0, as_known h.0 h.1, h.2, h.3, h.4)
+  answers_as_known (Err Write) h = (h.0, as_known h.0 h.1, h.2, h.3, h.4, h.5)
+  answers_as_known (Err Read) h = ((h.0.0, as_known h.0.0 h.0.1, h.0.2), h.1)
+  answers_as_known (Err NotToml) h = ((h.0.0, as_known h.0.0 h.0.1, h.0.2), h.1)
+  answers_as_known (Err (Load fault)) h = ((h.0.0, as_known h.0.0 h.0.1, h.0.2), h.1)
+  answers_as_known (Err (UnknownHandler place)) h = ((h.0.0, as_known h.0.0 h.0.1, h.0.2), h.1)
+  answers_as_known (Err TooManyPoints) h = ((h.0.0, as_known h.0.0 h.0.1, h.0.2), h.1)
+  answers_as_known (Err Memory) h = ((h.0.0, as_known h.0.0 h.0.1, h.0.2), h.1)
 
-  pub serves_as_known : (rf : Bool) (old new : Option (List ℕ)) (wf : Bool) (outcome : Result A ServeFault)
-      → Serves A IsReport HasFaultOf input rf old new wf outcome → Serves A IsReport HasFaultOf other rf old new wf outcome
-  serves_as_known rf old new wf outcome h =
-      record { answers = answers_as_known old new outcome h.answers; read = h.read; write = h.write }
+  pub serves_as_known : (outcome : Result A ServeFault)
+      → Serves A IsReport HasFaultOf streams outcome → Serves A IsReport HasFaultOf (record streams { input = other }) outcome
+  serves_as_known outcome h = record { answers = answers_as_known outcome h.answers; read = h.read; write = h.write }
 
 -- ---- one run
 
@@ -176,7 +176,7 @@ run_fault at bytes app Write file h = absurd h
 pub serves_file_fault : (at : Option NamedPoint) (input : Option (List ℕ)) (rf wf : Bool) (old : Option (List ℕ)) (f : ServeFault)
     → ((bytes : List ℕ) × Known input bytes × HasFileFault bytes f)
     → rf ≡ is_read_fault {A = End} (Err f) → is_write_fault {A = End} (Err f) ≡ false
-    → wf ≡ false → ServesRun at input rf old old wf (Err f)
+    → wf ≡ false → ServesRun at (streams_of input rf old old wf) (Err f)
 serves_file_fault at input rf wf old f h r w e = serves_fault _ _ input rf wf old f (h.0, h.1, file_fault at h.0 f h.2) r w e
 
 run_reads : (at : Option NamedPoint) (app : Application) (f : ServeFault)
@@ -203,7 +203,7 @@ run_writes at app Write h = absurd h
 pub serves_run_fault : (at : Option NamedPoint) (input : Option (List ℕ))
     (rf wf : Bool) (old : Option (List ℕ)) (f : ServeFault) (app : Application)
     → ((bytes : List ℕ) × Known input bytes × IsFileOf bytes app) → IsRunFault at app f
-    → rf ≡ false → wf ≡ false → ServesRun at input rf old old wf (Err f)
+    → rf ≡ false → wf ≡ false → ServesRun at (streams_of input rf old old wf) (Err f)
 serves_run_fault at input rf wf old f app file h r e =
     serves_fault _ _ input rf wf old f (file.0, file.1, run_fault at file.0 app f file.2 h)
     (r ∙ sym (run_reads at app f h)) (run_writes at app f h) e
@@ -236,7 +236,7 @@ pub campaign_serves_file_fault : (view : View) (shard : Shard)
     (input : Option (List ℕ)) (rf wf : Bool) (old : Option (List ℕ)) (f : ServeFault)
     → ((bytes : List ℕ) × Known input bytes × HasFileFault bytes f)
     → rf ≡ is_read_fault {A = Totals} (Err f) → is_write_fault {A = Totals} (Err f) ≡ false
-    → wf ≡ false → ServesCampaign view shard input rf old old wf (Err f)
+    → wf ≡ false → ServesCampaign view shard (streams_of input rf old old wf) (Err f)
 campaign_serves_file_fault view shard input rf wf old f h r w e =
     serves_fault _ _ input rf wf old f (h.0, h.1, campaign_file_fault h.0 f h.2) r w e
 
@@ -262,7 +262,7 @@ campaign_writes app Write h = absurd h
 pub campaign_serves_rows_fault : (view : View) (shard : Shard) (input : Option (List ℕ))
     (rf wf : Bool) (old : Option (List ℕ)) (f : ServeFault) (app : Application)
     → ((bytes : List ℕ) × Known input bytes × IsFileOf bytes app) → IsCampaignFault app f
-    → rf ≡ false → wf ≡ false → ServesCampaign view shard input rf old old wf (Err f)
+    → rf ≡ false → wf ≡ false → ServesCampaign view shard (streams_of input rf old old wf) (Err f)
 campaign_serves_rows_fault view shard input rf wf old f app file h r e =
     serves_fault _ _ input rf wf old f (file.0, file.1, campaign_fault file.0 app f file.2 h)
     (r ∙ sym (campaign_reads app f h)) (campaign_writes app f h) e

@@ -1,6 +1,6 @@
 -- What the campaign of a file comes to: the report of one row for each of its points, or of a part of these, as a view shows it; or
 -- the fault that prevents it.
-use Rattle.std.specs.Prelude.{◌≡◌, ◌<◌, ◌≤◌, ℕ, Bool, List, [], length, Option, Result}
+use Rattle.std.specs.Prelude.{◌≡◌, ◌<◌, ◌≤◌, ℕ, List, [], length, Result}
 use Rattle.model.specs.Application.{Application}
 use Rattle.model.specs.Scripts.{most_points}
 use Rattle.model.specs.Run.{Run, IsRun}
@@ -11,7 +11,7 @@ use Rattle.report.specs.Views.{report_text}
 use Rattle.report.specs.declared.view.View.{View}
 use Rattle.campaign.specs.declared.file.ServeFault.{ServeFault}
 use Rattle.campaign.specs.declared.file.ServeFault.TheVariants.{TooManyPoints}
-use Rattle.campaign.specs.Serving.{IsFileOf, HasFileFault, Serves}
+use Rattle.campaign.specs.Serving.{IsFileOf, HasFileFault, Serves, Streams}
 
 -- The rows are those of a part of the application's own points, which are few enough, under its own limits; `all` means every
 -- step of the base run.
@@ -47,8 +47,5 @@ HasCampaignFault bytes TooManyPoints = (app : Application) × IsFileOf bytes app
 HasCampaignFault bytes fault = HasFileFault bytes fault
 
 -- a call that serves a part of the campaign of a file, as the view shows it, and answers that part's totals
-abbrev pub ServesCampaign : View → Shard → Option (List ℕ)
-    → (read_failed : Bool) → (old new : Option (List ℕ)) → (write_failed : Bool)
-    → Result Totals ServeFault → Type 0
-ServesCampaign view shard input read_failed old new write_failed outcome =
-    Serves Totals (IsCampaignOf view shard) HasCampaignFault input read_failed old new write_failed outcome
+abbrev pub ServesCampaign : View → Shard → Streams → Result Totals ServeFault → Type 0
+ServesCampaign view shard streams outcome = Serves Totals (IsCampaignOf view shard) HasCampaignFault streams outcome

@@ -12,7 +12,7 @@ use Rattle.requests.specs.Asked.{names_in, pairs_in}
 use Rattle.campaign.specs.declared.file.ServeFault.{ServeFault}
 use Rattle.campaign.specs.declared.file.ServeFault.TheVariants.{UnknownHandler}
 use Rattle.campaign.specs.Named.{IsFirstUnknown, injection_named}
-use Rattle.campaign.specs.Serving.{IsFileOf, HasFileFault, Serves}
+use Rattle.campaign.specs.Serving.{IsFileOf, HasFileFault, Serves, Streams}
 
 -- The run that is asked for, under the limits of the file itself, and what its report is of: the base run, and where a
 -- point is asked for, row 0. The handlers of the point's injections have the names.
@@ -44,8 +44,5 @@ pub record IsReportOf (asked : Option NamedPoint) (bytes report : List ℕ) (end
   pub text : report ≡ run_text app title run
 
 -- a call that serves the run that is asked for, and answers how it ends
-abbrev pub ServesRun : Option NamedPoint → Option (List ℕ)
-    → (read_failed : Bool) → (old new : Option (List ℕ)) → (write_failed : Bool)
-    → Result End ServeFault → Type 0
-ServesRun asked input read_failed old new write_failed outcome =
-    Serves End (IsReportOf asked) (HasFault asked) input read_failed old new write_failed outcome
+abbrev pub ServesRun : Option NamedPoint → Streams → Result End ServeFault → Type 0
+ServesRun asked streams outcome = Serves End (IsReportOf asked) (HasFault asked) streams outcome

@@ -3,7 +3,7 @@ ghost use Rattle.std.specs.Prelude.{◌≡◌, ℕ, List, [], Option, Some, fals
 ghost use Rattle.model.specs.Run.{IsRun, IsRow};
 ghost use Rattle.campaign.specs.Faults.{IsRunFault};
 ghost use Rattle.campaign.specs.OneRun.{IsAsked, ServesRun};
-ghost use Rattle.campaign.specs.Serving.{IsFileOf, Known};
+ghost use Rattle.campaign.specs.Serving.{IsFileOf, Known, streams_of};
 
 use crate::file::{ServeFault, app_in, app_of};
 use crate::named::point_named;
@@ -66,8 +66,8 @@ fn serve_app<W: Sink>(
 ) -> Result<End, ServeFault>
     requires { W.has_failed writer.old ≡ false }
     ensures { (input : Option (List ℕ)) (bytes : List ℕ) → Known input bytes → IsFileOf bytes app.now
-        → ServesRun asked.entry input false (W.held writer.old) (W.held writer.new)
-        (W.has_failed writer.new) result }
+        → ServesRun asked.entry (streams_of input false
+        (W.held writer.old) (W.held writer.new) (W.has_failed writer.new)) result }
 {
     let (title, run) = asked_run(alloc, app, asked)?;
     write_run(writer, app, title, &run)?;
@@ -87,8 +87,8 @@ pub fn serve_run<R: Source, W: Sink>(
 ) -> Result<End, ServeFault>
     requires reads { R.has_failed reader.old ≡ false }
     requires writes { W.has_failed writer.old ≡ false }
-    ensures { ServesRun asked.entry (R.left reader.old) (R.has_failed reader.new)
-        (W.held writer.old) (W.held writer.new) (W.has_failed writer.new) result }
+    ensures { ServesRun asked.entry (streams_of (R.left reader.old) (R.has_failed reader.new)
+        (W.held writer.old) (W.held writer.new) (W.has_failed writer.new)) result }
 {
     let app = app_of(alloc, reader)?;
     serve_app(alloc, &app, writer, asked)
@@ -102,8 +102,8 @@ pub fn serve_run_of<W: Sink>(
     asked: Option<NamedPoint<'_>>,
 ) -> Result<End, ServeFault>
     requires { W.has_failed writer.old ≡ false }
-    ensures { ServesRun asked.entry (Some bytes.now) false
-        (W.held writer.old) (W.held writer.new) (W.has_failed writer.new) result }
+    ensures { ServesRun asked.entry (streams_of (Some bytes.now) false
+        (W.held writer.old) (W.held writer.new) (W.has_failed writer.new)) result }
 {
     let app = app_in(alloc, bytes)?;
     serve_app(alloc, &app, writer, asked)

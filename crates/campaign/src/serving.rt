@@ -5,7 +5,7 @@ ghost use Rattle.campaign.specs.Campaigns.{ServesCampaign};
 ghost use Rattle.campaign.specs.Faults.{IsCampaignFault};
 ghost use Rattle.campaign.specs.Shown.{IsShownOf};
 ghost use Rattle.campaign.specs.Seen.{AreSeen};
-ghost use Rattle.campaign.specs.Serving.{IsFileOf, Known};
+ghost use Rattle.campaign.specs.Serving.{IsFileOf, Known, streams_of};
 ghost use Rattle.shelf.specs.Shelves.{IsShelf};
 
 use crate::file::{ServeFault, app_in, app_of};
@@ -128,8 +128,8 @@ fn serve_app<T: Threads + Wait + Sync, W: Sink, G: Gate + Sync>(
 ) -> Result<Totals, ServeFault>
     requires { W.has_failed writer.old ≡ false }
     ensures { (input : Option (List ℕ)) (bytes : List ℕ) → Known input bytes → IsFileOf bytes app.now
-        → ServesCampaign view shard input false (W.held writer.old) (W.held writer.new)
-        (W.has_failed writer.new) result }
+        → ServesCampaign view shard (streams_of input false
+        (W.held writer.old) (W.held writer.new) (W.has_failed writer.new)) result }
 {
     let threads = options.workers.clamp(1, Options::MOST_WORKERS) as usize;
     let report = report_of(rt, alloc, app, view, shard, options, gate)?;
@@ -157,8 +157,8 @@ pub fn serve<T: Threads + Wait + Sync, R: Source, W: Sink>(
 ) -> Result<Totals, ServeFault>
     requires reads { R.has_failed reader.old ≡ false }
     requires writes { W.has_failed writer.old ≡ false }
-    ensures { ServesCampaign view shard (R.left reader.old) (R.has_failed reader.new)
-        (W.held writer.old) (W.held writer.new) (W.has_failed writer.new) result }
+    ensures { ServesCampaign view shard (streams_of (R.left reader.old) (R.has_failed reader.new)
+        (W.held writer.old) (W.held writer.new) (W.has_failed writer.new)) result }
 {
     let app = app_of(alloc, reader)?;
     serve_app(rt, alloc, &app, writer, view, shard, options, &NoGate)
@@ -176,8 +176,8 @@ pub fn serve_of<T: Threads + Wait + Sync, W: Sink, G: Gate + Sync>(
     gate: &G,
 ) -> Result<Totals, ServeFault>
     requires { W.has_failed writer.old ≡ false }
-    ensures { ServesCampaign view shard (Some bytes.now) false
-        (W.held writer.old) (W.held writer.new) (W.has_failed writer.new) result }
+    ensures { ServesCampaign view shard (streams_of (Some bytes.now) false
+        (W.held writer.old) (W.held writer.new) (W.has_failed writer.new)) result }
 {
     let app = app_in(alloc, bytes)?;
     serve_app(rt, alloc, &app, writer, view, shard, options, gate)

@@ -8,14 +8,14 @@ use Rattle.campaign.specs.declared.file.ServeFault.{ServeFault}
 use Rattle.campaign.specs.declared.file.ServeFault.TheVariants.{Read, NotToml, Load, UnknownHandler, TooManyPoints, Memory, Write}
 use Rattle.campaign.specs.Faults.{IsRunFault}
 use Rattle.campaign.specs.OneRun.{ServesRun}
-use Rattle.campaign.specs.Serving.{HasFileFault, IsFileOf, Known, is_read_fault, is_write_fault}
+use Rattle.campaign.specs.Serving.{HasFileFault, IsFileOf, Known, is_read_fault, is_write_fault, streams_of}
 use Rattle.campaign.proofs.Faulty.{serves_file_fault, serves_run_fault}
 use Rattle.jobs.specs.EndStates.{ServesEndState}
 
 module _ (at : Option NamedPoint) (input : Option (List ℕ)) (rf wf : Bool) (old : Option (List ℕ)) where
   -- where nothing is written
   same_fault : (f : ServeFault) → is_write_fault {A = End} (Err f) ≡ false
-      → ServesRun at input rf old old wf (Err f) → ServesEndState at input rf old old wf (Err f)
+      → ServesRun at (streams_of input rf old old wf) (Err f) → ServesEndState at (streams_of input rf old old wf) (Err f)
   same_fault Read w h = record { answers = h.answers; read = h.read; write = h.write }
   same_fault NotToml w h = record { answers = h.answers; read = h.read; write = h.write }
   same_fault (Load fault) w h = record { answers = h.answers; read = h.read; write = h.write }
@@ -27,7 +27,7 @@ module _ (at : Option NamedPoint) (input : Option (List ℕ)) (rf wf : Bool) (ol
   -- a fault of the file itself
   pub end_state_file_fault : (f : ServeFault) → ((bytes : List ℕ) × Known input bytes × HasFileFault bytes f)
       → rf ≡ is_read_fault {A = End} (Err f) → is_write_fault {A = End} (Err f) ≡ false → wf ≡ false
-      → ServesEndState at input rf old old wf (Err f)
+      → ServesEndState at (streams_of input rf old old wf) (Err f)
   end_state_file_fault f h r w e = same_fault f w (serves_file_fault at input rf wf old f h r w e)
 
   runs_unwritten : (app : Application) (f : ServeFault) → IsRunFault at app f → is_write_fault {A = End} (Err f) ≡ false
@@ -41,6 +41,6 @@ module _ (at : Option NamedPoint) (input : Option (List ℕ)) (rf wf : Bool) (ol
 
   -- an application that was not run
   pub end_state_run_fault : (f : ServeFault) (app : Application) → ((bytes : List ℕ) × Known input bytes × IsFileOf bytes app)
-      → IsRunFault at app f → rf ≡ false → wf ≡ false → ServesEndState at input rf old old wf (Err f)
+      → IsRunFault at app f → rf ≡ false → wf ≡ false → ServesEndState at (streams_of input rf old old wf) (Err f)
   end_state_run_fault f app file h r e =
       same_fault f (runs_unwritten app f h) (serves_run_fault at input rf wf old f app file h r e)

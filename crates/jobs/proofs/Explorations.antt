@@ -21,7 +21,7 @@ use Rattle.explorer.proofs.Totals.{all_counted}
 use Rattle.campaign.specs.declared.file.ServeFault.{ServeFault}
 use Rattle.campaign.specs.declared.file.ServeFault.TheVariants.{Read, NotToml, Load, UnknownHandler, TooManyPoints, Memory, Write}
 use Rattle.campaign.specs.Named.{IsFirstUnknown}
-use Rattle.campaign.specs.Serving.{HasFileFault, IsFileOf, Known, is_read_fault, is_write_fault}
+use Rattle.campaign.specs.Serving.{HasFileFault, IsFileOf, Known, is_read_fault, is_write_fault, streams_of}
 use Rattle.campaign.proofs.Faulty.{file_has_bytes, serves_fault}
 use Rattle.jobs.specs.Explorations.{HasExploringFault, IsExplorationOf, IsExploringFault, IsFoundIn, IsNamingFault}
 use Rattle.jobs.specs.Explorations.{ServesExploration}
@@ -73,12 +73,12 @@ module _ (most : ℕ) (list : Option (List ℕ)) (input : Option (List ℕ)) (rf
   -- a fault of the file itself
   pub exploration_file_fault : (f : ServeFault) → ((bytes : List ℕ) × Known input bytes × HasFileFault bytes f)
       → rf ≡ is_read_fault {A = Bool} (Err f) → is_write_fault {A = Bool} (Err f) ≡ false → wf ≡ false
-      → ServesExploration most list input rf old old wf (Err f)
+      → ServesExploration most list (streams_of input rf old old wf) (Err f)
   exploration_file_fault f h r w e = serves_fault _ _ input rf wf old f (h.0, h.1, file_fault list h.0 f h.2) r w e
 
   -- an application of which nothing is found
   pub exploration_fault : (f : ServeFault) (app : Application) → ((bytes : List ℕ) × Known input bytes × IsFileOf bytes app)
-      → IsExploringFault list app f → rf ≡ false → wf ≡ false → ServesExploration most list input rf old old wf (Err f)
+      → IsExploringFault list app f → rf ≡ false → wf ≡ false → ServesExploration most list (streams_of input rf old old wf) (Err f)
   exploration_fault f app file h r e =
       serves_fault _ _ input rf wf old f (file.0, file.1, exploring_fault list file.0 app f file.2 h)
       (r ∙ sym (exploring_reads list app f h)) (exploring_writes list app f h) e

@@ -3,13 +3,10 @@ use Rattle.std.proofs.Common.{◌≡◌, ◌≢◌, ◌≤◌, ℕ, Bool, true, 
 use Rattle.std.proofs.Common.{option_map, refl}
 use Rattle.std.specs.Prelude.{Ok, Err, Result, IfSome}
 use Rattle.std.proofs.KnownBytes.{Keeps-refl}
-use Rattle.report.specs.Shards.{Shard}
-use Rattle.report.specs.declared.view.View.{View}
-use Rattle.requests.specs.declared.named_point.NamedPoint.{NamedPoint}
 use Rattle.campaign.specs.declared.file.ServeFault.{ServeFault}
 use Rattle.campaign.specs.declared.file.ServeFault.TheVariants.{Read, NotToml, Load, UnknownHandler, TooManyPoints, Memory, Write}
 use Rattle.campaign.specs.Faults.{of_reading}
-use Rattle.campaign.specs.Serving.{Known, is_read_fault}
+use Rattle.campaign.specs.Serving.{Known, Serves, Streams, is_read_fault, streams_of}
 use Rattle.campaign.proofs.Faulty.{campaign_serves_file_fault, reading_failed, serves_as_known, serves_file_fault}
 use Rattle.byte_io.specs.declared.read.ReadFault.{ReadFault}
 use Rattle.byte_io.specs.declared.read.ReadFault.TheVariants as read
@@ -17,10 +14,10 @@ use Rattle.requests.specs.declared.job.Job.{Job}
 use Rattle.requests.specs.declared.job.Job.TheVariants.{Run, RunUnpaired, Campaign, Explore}
 use Rattle.jobs.specs.declared.acting.JobFault.{JobFault}
 use Rattle.jobs.specs.declared.acting.JobFault.TheVariants.{Serve, TooLarge, Unpaired}
-use Rattle.jobs.specs.EndStates.{EndStateServed}
 use Rattle.jobs.proofs.EndStates.{end_state_file_fault}
 use Rattle.jobs.proofs.Explorations.{exploration_file_fault}
-use Rattle.jobs.specs.Acting.{RunServed, CampaignServed, Served, Does, DoesOverFile, FailsToRead, LacksFile, OpensAndDoes, ReadsFor}
+use Rattle.jobs.specs.Acting.{Served, Does, DoesOverFile, FailsToRead, LacksFile, OpensAndDoes, ReadsFor}
+use Rattle.jobs.specs.Passing.{IsServed}
 use Rattle.requests.specs.Jobs.{is_unpaired}
 use Rattle.jobs.specs.Acting.{most_bytes}
 
@@ -31,33 +28,27 @@ lacks_file old wf f due e = (elim due [ inl h ↦ inr (rw h refl) | inr h ↦ in
 
 -- ---- an input of which less is known
 
-module _ (input other : Option (List ℕ)) (as_known : (bytes : List ℕ) → Known input bytes → Known other bytes)
-    (rf : Bool) (old new : Option (List ℕ)) (wf : Bool) where
-  run_as_known : (at : Option NamedPoint) (outcome : Result Bool ServeFault)
-      → RunServed at input rf old new wf outcome → RunServed at other rf old new wf outcome
-  run_as_known at (Ok passes) h = (h.0, h.1, serves_as_known _ _ input other as_known rf old new wf (Ok h.0) h.2)
-  run_as_known at (Err fault) h = serves_as_known _ _ input other as_known rf old new wf (Err fault) h
-
-  end_state_as_known : (at : Option NamedPoint) (outcome : Result Bool ServeFault)
-      → EndStateServed at input rf old new wf outcome → EndStateServed at other rf old new wf outcome
-  end_state_as_known at (Ok passes) h = (h.0, h.1, serves_as_known _ _ input other as_known rf old new wf (Ok h.0) h.2)
-  end_state_as_known at (Err fault) h = serves_as_known _ _ input other as_known rf old new wf (Err fault) h
-
-  campaign_as_known : (view : View) (shard : Shard) (outcome : Result Bool ServeFault)
-      → CampaignServed view shard input rf old new wf outcome → CampaignServed view shard other rf old new wf outcome
-  campaign_as_known view shard (Ok passes) h = (h.0, h.1, serves_as_known _ _ input other as_known rf old new wf (Ok h.0) h.2)
-  campaign_as_known view shard (Err fault) h = serves_as_known _ _ input other as_known rf old new wf (Err fault) h
+module _ (streams : Streams) (other : Option (List ℕ))
+    (as_known : (bytes : List ℕ) → Known streams.input bytes → Known other bytes) where
+  is_served_as_known : {A : Type 0} (passes : A → Bool) (IsReport : (bytes report : List ℕ) → A → Type 0)
+      (HasFaultOf : (bytes : List ℕ) → ServeFault → Type 0) (outcome : Result Bool ServeFault)
+      → IsServed passes (Serves A IsReport HasFaultOf streams) outcome
+      → IsServed passes (Serves A IsReport HasFaultOf (record streams { input = other })) outcome
+  is_served_as_known passes IsReport HasFaultOf (Ok passed) h =
+      (h.0, h.1, serves_as_known IsReport HasFaultOf streams other as_known (Ok h.0) h.2)
+  is_served_as_known passes IsReport HasFaultOf (Err fault) h =
+      serves_as_known IsReport HasFaultOf streams other as_known (Err fault) h
 
   served_as_known : (job : Job) (outcome : Result Bool ServeFault)
-      → Served job input rf old new wf outcome → Served job other rf old new wf outcome
-  served_as_known (Run file at false) outcome h = run_as_known at outcome h
-  served_as_known (Run file at true) outcome h = end_state_as_known at outcome h
+      → Served job streams outcome → Served job (record streams { input = other }) outcome
+  served_as_known (Run file at false) outcome h = is_served_as_known _ _ _ outcome h
+  served_as_known (Run file at true) outcome h = is_served_as_known _ _ _ outcome h
   served_as_known (RunUnpaired file) outcome h = absurd h
-  served_as_known (Campaign file view shard options quiet) outcome h = campaign_as_known view shard outcome h
-  served_as_known (Explore file injections handlers) outcome h = serves_as_known _ _ input other as_known rf old new wf outcome h
+  served_as_known (Campaign file view shard options quiet) outcome h = is_served_as_known _ _ _ outcome h
+  served_as_known (Explore file injections handlers) outcome h = serves_as_known _ _ streams other as_known outcome h
 
   does_as_known : (job : Job) (outcome : Result Bool JobFault)
-      → Does job input rf old new wf outcome → Does job other rf old new wf outcome
+      → Does job streams outcome → Does job (record streams { input = other }) outcome
   does_as_known job (Ok passes) h = (h.0, served_as_known job (Ok passes) h.1)
   does_as_known job (Err (Serve fault)) h = (h.0, served_as_known job (Err fault) h.1)
   does_as_known job (Err TooLarge) h = absurd h
@@ -73,15 +64,16 @@ within_file (Some all) bytes known few = rw (← known) few
 -- A job that is done over the bytes that were read of a file is done over the file.
 module _ (job : Job) (file : Option (List ℕ)) (bytes : List ℕ) (old new : Option (List ℕ)) (wf : Bool)
     (few : length bytes ≤ most_bytes) (reads : is_unpaired job ≡ false → Known file bytes) where
-  does_whole : (outcome : Result Bool JobFault) → is_unpaired job ≡ false → Does job (Some bytes) false old new wf outcome
-      → IfSome file (λ all. length all ≤ most_bytes) × Does job file false old new wf outcome
+  does_whole : (outcome : Result Bool JobFault) → is_unpaired job ≡ false
+      → Does job (streams_of (Some bytes) false old new wf) outcome
+      → IfSome file (λ all. length all ≤ most_bytes) × Does job (streams_of file false old new wf) outcome
   does_whole outcome paired h = (
     within_file file bytes (reads paired) few,
-    does_as_known (Some bytes) file (λ some same. rw same (reads paired)) false old new wf job outcome h,
+    does_as_known (streams_of (Some bytes) false old new wf) file (λ some same. rw same (reads paired)) job outcome h,
   )
 
-  over_file : (outcome : Result Bool JobFault) → Does job (Some bytes) false old new wf outcome
-      → DoesOverFile job file false old new wf outcome
+  over_file : (outcome : Result Bool JobFault) → Does job (streams_of (Some bytes) false old new wf) outcome
+      → DoesOverFile job (streams_of file false old new wf) outcome
   over_file (Ok passes) h = does_whole (Ok passes) h.0 h
   over_file (Err TooLarge) h = absurd h
   over_file (Err Unpaired) h = h
@@ -96,7 +88,7 @@ module _ (job : Job) (file : Option (List ℕ)) (bytes : List ℕ) (old new : Op
 pub does_over_file : (job : Job) (file : Option (List ℕ)) (bytes : List ℕ) (rf : Bool)
     (old new : Option (List ℕ)) (wf : Bool) (outcome : Result Bool JobFault)
     → ReadsFor job file rf bytes → length bytes ≤ most_bytes
-    → Does job (Some bytes) false old new wf outcome → DoesOverFile job file rf old new wf outcome
+    → Does job (streams_of (Some bytes) false old new wf) outcome → DoesOverFile job (streams_of file rf old new wf) outcome
 does_over_file job file bytes rf old new wf outcome reads few h =
     rw reads.0 (over_file job file bytes old new wf few reads.1 outcome h)
 
@@ -104,23 +96,25 @@ does_over_file job file bytes rf old new wf outcome reads few h =
 does_all : (job : Job) (input : Option (List ℕ)) (bytes : List ℕ)
     (old new : Option (List ℕ)) (wf : Bool) (outcome : Result Bool JobFault)
     → (is_unpaired job ≡ false → Known input bytes)
-    → Does job (Some bytes) false old new wf outcome → Does job input false old new wf outcome
+    → Does job (streams_of (Some bytes) false old new wf) outcome → Does job (streams_of input false old new wf) outcome
 does_all job input bytes old new wf (Ok passes) reads h =
-    does_as_known (Some bytes) input (λ some same. rw same (reads h.0)) false old new wf job (Ok passes) h
+    does_as_known (streams_of (Some bytes) false old new wf) input (λ some same. rw same (reads h.0)) job (Ok passes) h
 does_all job input bytes old new wf (Err (Serve fault)) reads h =
-    does_as_known (Some bytes) input (λ some same. rw same (reads h.0)) false old new wf job (Err (Serve fault)) h
+    does_as_known (streams_of (Some bytes) false old new wf) input (λ some same. rw same (reads h.0)) job (Err (Serve fault)) h
 does_all job input bytes old new wf (Err TooLarge) reads h = absurd h
 does_all job input bytes old new wf (Err Unpaired) reads h = h
 
 pub does_over_all : (job : Job) (input : Option (List ℕ)) (bytes : List ℕ) (rf : Bool)
     (old new : Option (List ℕ)) (wf : Bool) (outcome : Result Bool JobFault)
-    → ReadsFor job input rf bytes → Does job (Some bytes) false old new wf outcome → Does job input rf old new wf outcome
+    → ReadsFor job input rf bytes
+    → Does job (streams_of (Some bytes) false old new wf) outcome → Does job (streams_of input rf old new wf) outcome
 does_over_all job input bytes rf old new wf outcome reads h = rw reads.0 (does_all job input bytes old new wf outcome reads.1 h)
 
 -- A fault of reading is one of what is asked for.
 served_fault : (job : Job) (file : Option (List ℕ)) (rf wf : Bool) (old : Option (List ℕ)) (e : ReadFault)
     → is_unpaired job ≡ false → (e ≡ read.Memory → file ≢ Some [])
-    → rf ≡ is_read_fault {A = Bool} (Err (of_reading e)) → wf ≡ false → Served job file rf old old wf (Err (of_reading e))
+    → rf ≡ is_read_fault {A = Bool} (Err (of_reading e)) → wf ≡ false
+    → Served job (streams_of file rf old old wf) (Err (of_reading e))
 served_fault (Run name at false) file rf wf old read.Failed paired some failed working =
     serves_file_fault at file rf wf
     old Read (reading_failed file read.Failed some) failed refl working
@@ -146,7 +140,7 @@ served_fault (Explore name injections handlers) file rf wf old read.Memory paire
     old Memory (reading_failed file read.Memory some) failed refl working
 
 pub fails_to_read : (job : Job) (file : Option (List ℕ)) (rf wf : Bool) (old : Option (List ℕ)) (fault : ServeFault)
-    → FailsToRead job file rf (Serve fault) → wf ≡ false → Does job file rf old old wf (Err (Serve fault))
+    → FailsToRead job file rf (Serve fault) → wf ≡ false → Does job (streams_of file rf old old wf) (Err (Serve fault))
 fails_to_read job file rf wf old Read h working =
     (h.0, served_fault job file rf wf old read.Failed h.0 (λ e. absurd (cc)) h.1 working)
 fails_to_read job file rf wf old Memory h working = (h.0, served_fault job file rf wf old read.Memory h.0 (λ e. h.2) h.1 working)
@@ -157,7 +151,7 @@ fails_to_read job file rf wf old TooManyPoints h working = absurd h
 fails_to_read job file rf wf old Write h working = absurd h
 
 pub fails_over_file : (job : Job) (file : Option (List ℕ)) (rf wf : Bool) (old : Option (List ℕ)) (fault : JobFault)
-    → FailsToRead job file rf fault → wf ≡ false → DoesOverFile job file rf old old wf (Err fault)
+    → FailsToRead job file rf fault → wf ≡ false → DoesOverFile job (streams_of file rf old old wf) (Err fault)
 fails_over_file job file rf wf old TooLarge h working = (h.0, h.2, h.1, Keeps-refl old, working)
 fails_over_file job file rf wf old Unpaired h working = absurd h
 fails_over_file job file rf wf old (Serve Read) h working = fails_to_read job file rf wf old Read h working
@@ -169,30 +163,24 @@ fails_over_file job file rf wf old (Serve TooManyPoints) h working = absurd h
 fails_over_file job file rf wf old (Serve Write) h working = absurd h
 
 -- A file that was opened, whose bytes nobody knows.
-no_more_known : (job : Job) (file : Option (List ℕ)) (rf : Bool)
-    (old new : Option (List ℕ)) (wf : Bool) (outcome : Result Bool JobFault)
-    → Does job file rf old new wf outcome → Does job None rf old new wf outcome
-no_more_known job file rf old new wf outcome h = does_as_known file None (λ bytes known. tt) rf old new wf job outcome h
+no_more_known : (job : Job) (streams : Streams) (outcome : Result Bool JobFault)
+    → Does job streams outcome → Does job (record streams { input = None }) outcome
+no_more_known job streams outcome h = does_as_known streams None (λ bytes known. tt) job outcome h
 
-over_unknown_file : (job : Job) (file : Option (List ℕ)) (rf : Bool)
-    (old new : Option (List ℕ)) (wf : Bool) (outcome : Result Bool JobFault)
-    → DoesOverFile job file rf old new wf outcome → DoesOverFile job None rf old new wf outcome
-over_unknown_file job file rf old new wf (Ok passes) h = (tt, no_more_known job file rf old new wf (Ok passes) h.1)
-over_unknown_file job file rf old new wf (Err TooLarge) h = (h.0, tt, h.2, h.3, h.4)
-over_unknown_file job file rf old new wf (Err Unpaired) h = h
-over_unknown_file job file rf old new wf (Err (Serve Read)) h = no_more_known job file rf old new wf (Err (Serve Read)) h
-over_unknown_file job file rf old new wf (Err (Serve Memory)) h = no_more_known job file rf old new wf (Err (Serve Memory)) h
-over_unknown_file job file rf old new wf (Err (Serve NotToml)) h =
-    (tt, no_more_known job file rf old new wf (Err (Serve NotToml)) h.1)
-over_unknown_file job file rf old new wf (Err (Serve (Load fault))) h =
-    (tt, no_more_known job file rf old new wf (Err (Serve (Load fault))) h.1)
-over_unknown_file job file rf old new wf (Err (Serve (UnknownHandler place))) h =
-    (tt, no_more_known job file rf old new wf (Err (Serve (UnknownHandler place))) h.1)
-over_unknown_file job file rf old new wf (Err (Serve TooManyPoints)) h =
-    (tt, no_more_known job file rf old new wf (Err (Serve TooManyPoints)) h.1)
-over_unknown_file job file rf old new wf (Err (Serve Write)) h = (tt, no_more_known job file rf old new wf (Err (Serve Write)) h.1)
+over_unknown_file : (job : Job) (streams : Streams) (outcome : Result Bool JobFault)
+    → DoesOverFile job streams outcome → DoesOverFile job (record streams { input = None }) outcome
+over_unknown_file job streams (Ok passes) h = (tt, no_more_known job streams (Ok passes) h.1)
+over_unknown_file job streams (Err TooLarge) h = (h.0, tt, h.2, h.3, h.4)
+over_unknown_file job streams (Err Unpaired) h = h
+over_unknown_file job streams (Err (Serve Read)) h = no_more_known job streams (Err (Serve Read)) h
+over_unknown_file job streams (Err (Serve Memory)) h = no_more_known job streams (Err (Serve Memory)) h
+over_unknown_file job streams (Err (Serve NotToml)) h = (tt, no_more_known job streams (Err (Serve NotToml)) h.1)
+over_unknown_file job streams (Err (Serve (Load fault))) h = (tt, no_more_known job streams (Err (Serve (Load fault))) h.1)
+over_unknown_file job streams (Err (Serve (UnknownHandler place))) h =
+    (tt, no_more_known job streams (Err (Serve (UnknownHandler place))) h.1)
+over_unknown_file job streams (Err (Serve TooManyPoints)) h = (tt, no_more_known job streams (Err (Serve TooManyPoints)) h.1)
+over_unknown_file job streams (Err (Serve Write)) h = (tt, no_more_known job streams (Err (Serve Write)) h.1)
 
-pub opens : (job : Job) (file : Option (List ℕ)) (rf : Bool)
-    (old new : Option (List ℕ)) (wf : Bool) (outcome : Result Bool JobFault)
-    → DoesOverFile job file rf old new wf outcome → OpensAndDoes job old new wf outcome
-opens job file rf old new wf outcome done = inr (rf, over_unknown_file job file rf old new wf outcome done)
+pub opens : (job : Job) (streams : Streams) (outcome : Result Bool JobFault)
+    → DoesOverFile job streams outcome → OpensAndDoes job streams.old streams.new streams.write_failed outcome
+opens job streams outcome done = inr (streams.read_failed, over_unknown_file job streams outcome done)

@@ -5,22 +5,18 @@ use Rattle.std.specs.Io.KnownBytes.{Appends, Keeps}
 use Rattle.byte_io.specs.Bytes.{SentFront}
 use Rattle.byte_io.specs.Line.{joined_line}
 use Rattle.byte_io.specs.Shown.{shown_name}
-use Rattle.model.specs.declared.event.End.{End}
 use Rattle.model.specs.declared.totals.Totals.{Totals}
 use Rattle.model.specs.Campaign.{is_pass}
 use Rattle.script.specs.declared.fault.Fault.{Fault}
 use Rattle.script.specs.Faults.{fault_code, fault_name, place_words}
-use Rattle.requests.specs.declared.named_point.NamedPoint.{NamedPoint}
 use Rattle.campaign.specs.declared.file.ServeFault.{ServeFault}
 use Rattle.campaign.specs.declared.file.ServeFault.TheVariants.{Read, NotToml, Load, UnknownHandler, TooManyPoints, Memory, Write}
-use Rattle.campaign.specs.Serving.{Known}
+use Rattle.campaign.specs.Serving.{Known, Streams, streams_of}
 use Rattle.campaign.specs.OneRun.{ServesRun}
 use Rattle.campaign.specs.Campaigns.{ServesCampaign}
-use Rattle.jobs.specs.EndStates.{EndStateServed}
+use Rattle.jobs.specs.EndStates.{ServesEndState}
 use Rattle.jobs.specs.Explorations.{ServesExploration}
 use Rattle.jobs.specs.Passing.{IsServed}
-use Rattle.report.specs.Shards.{Shard}
-use Rattle.report.specs.declared.view.View.{View}
 use Rattle.requests.specs.declared.job.Job.{Job}
 use Rattle.requests.specs.declared.job.Job.TheVariants.{Run, RunUnpaired, Campaign, Explore}
 use Rattle.requests.specs.Jobs.{file_of, handler_of, is_unpaired}
@@ -33,43 +29,23 @@ use Rattle.jobs.specs.declared.acting.JobFault.TheVariants.{Unpaired, TooLarge, 
 abbrev pub all_pass : Totals → Bool
 all_pass totals = totals.pass == totals.rows
 
--- A run is served, and passes or not.
-abbrev pub RunServed : Option NamedPoint → (input : Option (List ℕ))
-    → (read_failed : Bool) → (old new : Option (List ℕ)) → (write_failed : Bool)
-    → Result Bool ServeFault → Type 0
-RunServed asked input read_failed old new write_failed = IsServed is_pass (ServesRun asked input read_failed old new write_failed)
-
--- A part of a campaign is served as the view shows it, and all its rows pass or not.
-abbrev pub CampaignServed : View → Shard → (input : Option (List ℕ))
-    → (read_failed : Bool) → (old new : Option (List ℕ)) → (write_failed : Bool)
-    → Result Bool ServeFault → Type 0
-CampaignServed view shard input read_failed old new write_failed =
-    IsServed all_pass (ServesCampaign view shard input read_failed old new write_failed)
-
 -- What a job asks for is served, and passes or not.
-abbrev pub Served : Job → (input : Option (List ℕ)) → (read_failed : Bool) → (old new : Option (List ℕ)) → (write_failed : Bool)
-    → Result Bool ServeFault → Type 0
-Served (Run file point false) input read_failed old new write_failed outcome =
-    RunServed point input read_failed old new write_failed outcome
-Served (Run file point true) input read_failed old new write_failed outcome =
-    EndStateServed point input read_failed old new write_failed outcome
-Served (RunUnpaired file) input read_failed old new write_failed outcome = ⊥
-Served (Campaign file view shard options quiet) input read_failed old new write_failed outcome =
-    CampaignServed view shard input read_failed old new write_failed outcome
-Served (Explore file injections handlers) input read_failed old new write_failed outcome =
-    ServesExploration injections (option_map (λ list. list.now) handlers) input read_failed old new write_failed outcome
+abbrev pub Served : Job → Streams → Result Bool ServeFault → Type 0
+Served (Run file point false) streams outcome = IsServed is_pass (ServesRun point streams) outcome
+Served (Run file point true) streams outcome = IsServed is_pass (ServesEndState point streams) outcome
+Served (RunUnpaired file) streams outcome = ⊥
+Served (Campaign file view shard options quiet) streams outcome = IsServed all_pass (ServesCampaign view shard streams) outcome
+Served (Explore file injections handlers) streams outcome =
+    ServesExploration injections (option_map (λ list. list.now) handlers) streams outcome
 
 -- What doing a job comes to, over an input: what it asks for is served; or its step and its handler don't go together, and nothing
 -- is written.
-abbrev pub Does : Job → (input : Option (List ℕ)) → (read_failed : Bool) → (old new : Option (List ℕ)) → (write_failed : Bool)
-    → Result Bool JobFault → Type 0
-Does job input read_failed old new write_failed (Ok passes) =
-    (is_unpaired job ≡ false) × Served job input read_failed old new write_failed (Ok passes)
-Does job input read_failed old new write_failed (Err (Serve fault)) =
-    (is_unpaired job ≡ false) × Served job input read_failed old new write_failed (Err fault)
-Does job input read_failed old new write_failed (Err TooLarge) = ⊥
-Does job input read_failed old new write_failed (Err Unpaired) =
-    (is_unpaired job ≡ true) × (read_failed ≡ false) × Keeps old new × (write_failed ≡ false)
+abbrev pub Does : Job → Streams → Result Bool JobFault → Type 0
+Does job streams (Ok passes) = (is_unpaired job ≡ false) × Served job streams (Ok passes)
+Does job streams (Err (Serve fault)) = (is_unpaired job ≡ false) × Served job streams (Err fault)
+Does job streams (Err TooLarge) = ⊥
+Does job streams (Err Unpaired) =
+    (is_unpaired job ≡ true) × (streams.read_failed ≡ false) × Keeps streams.old streams.new × (streams.write_failed ≡ false)
 
 -- ---- files
 
@@ -91,20 +67,14 @@ FailsToRead job file read_failed fault = ⊥
 
 -- What doing a job over a file comes to. The job is done over its bytes, of which there are 64 MiB at most where all were read. Or
 -- there are more, and nothing is written.
-abbrev pub DoesOverFile : Job → (file : Option (List ℕ)) → (read_failed : Bool)
-    → (old new : Option (List ℕ)) → (write_failed : Bool)
-    → Result Bool JobFault → Type 0
-DoesOverFile job file read_failed old new write_failed (Err TooLarge) =
-    (is_unpaired job ≡ false) × IfSome file (λ bytes. most_bytes < length bytes) × (read_failed ≡ false) × Keeps old new
-    × (write_failed ≡ false)
-DoesOverFile job file read_failed old new write_failed (Err Unpaired) =
-    Does job file read_failed old new write_failed (Err Unpaired)
-DoesOverFile job file read_failed old new write_failed (Err (Serve Read)) =
-    Does job file read_failed old new write_failed (Err (Serve Read))
-DoesOverFile job file read_failed old new write_failed (Err (Serve Memory)) =
-    Does job file read_failed old new write_failed (Err (Serve Memory))
-DoesOverFile job file read_failed old new write_failed outcome =
-    IfSome file (λ bytes. length bytes ≤ most_bytes) × Does job file read_failed old new write_failed outcome
+abbrev pub DoesOverFile : Job → Streams → Result Bool JobFault → Type 0
+DoesOverFile job streams (Err TooLarge) =
+    (is_unpaired job ≡ false) × IfSome streams.input (λ bytes. most_bytes < length bytes) × (streams.read_failed ≡ false)
+    × Keeps streams.old streams.new × (streams.write_failed ≡ false)
+DoesOverFile job streams (Err Unpaired) = Does job streams (Err Unpaired)
+DoesOverFile job streams (Err (Serve Read)) = Does job streams (Err (Serve Read))
+DoesOverFile job streams (Err (Serve Memory)) = Does job streams (Err (Serve Memory))
+DoesOverFile job streams outcome = IfSome streams.input (λ bytes. length bytes ≤ most_bytes) × Does job streams outcome
 
 -- The file of a job can't be opened, or there is no memory for it: nothing is written.
 abbrev pub LacksFile : (old new : Option (List ℕ)) → (write_failed : Bool) → Result Bool JobFault → Type 0
@@ -114,7 +84,8 @@ LacksFile old new write_failed outcome =
 -- What doing a job over the file that it names comes to: one of the two, for some bytes.
 abbrev pub OpensAndDoes : Job → (old new : Option (List ℕ)) → (write_failed : Bool) → Result Bool JobFault → Type 0
 OpensAndDoes job old new write_failed outcome =
-    LacksFile old new write_failed outcome ⊎ ((read_failed : Bool) × DoesOverFile job None read_failed old new write_failed outcome)
+    LacksFile old new write_failed outcome
+    ⊎ ((read_failed : Bool) × DoesOverFile job (streams_of None read_failed old new write_failed) outcome)
 
 -- ---- the status
 

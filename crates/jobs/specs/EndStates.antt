@@ -1,9 +1,8 @@
 -- What a run of a file comes to where its end state is asked for too.
-use Rattle.std.specs.Prelude.{◌≡◌, ℕ, Bool, List, [], ◌++◌, Option, Result, if◌then◌else◌}
+use Rattle.std.specs.Prelude.{◌≡◌, ℕ, List, [], ◌++◌, Option, Result, if◌then◌else◌}
 use Rattle.model.specs.declared.event.End.{End}
 use Rattle.model.specs.declared.plan.Injection.{Injection}
 use Rattle.model.specs.Application.{Application}
-use Rattle.model.specs.Campaign.{is_pass}
 use Rattle.model.specs.Run.{Run, state_after}
 use Rattle.model.specs.EndStates.{EndState, end_state_of}
 use Rattle.report.specs.declared.title.Title.{Title}
@@ -13,8 +12,7 @@ use Rattle.report.specs.Text.{run_text}
 use Rattle.requests.specs.declared.named_point.NamedPoint.{NamedPoint}
 use Rattle.campaign.specs.declared.file.ServeFault.{ServeFault}
 use Rattle.campaign.specs.OneRun.{HasFault, IsAsked}
-use Rattle.campaign.specs.Serving.{IsFileOf, Serves}
-use Rattle.jobs.specs.Passing.{IsServed}
+use Rattle.campaign.specs.Serving.{IsFileOf, Serves, Streams}
 
 -- the injections of the run whose report has this title: none of the base run, which is also the row of a point that isn't reached
 abbrev pub plan_titled : Title → List Injection
@@ -36,15 +34,5 @@ pub record IsEndStateReportOf (asked : Option NamedPoint) (bytes report : List �
   pub text : report ≡ run_text app title run ++ end_state_text app (end_state_of_run app title run)
 
 -- a call that serves the run that is asked for and its end state, and answers how it ends
-abbrev pub ServesEndState : Option NamedPoint → Option (List ℕ)
-    → (read_failed : Bool) → (old new : Option (List ℕ)) → (write_failed : Bool)
-    → Result End ServeFault → Type 0
-ServesEndState asked input read_failed old new write_failed outcome =
-    Serves End (IsEndStateReportOf asked) (HasFault asked) input read_failed old new write_failed outcome
-
--- The same, with the answer whether it passes.
-abbrev pub EndStateServed : Option NamedPoint → (input : Option (List ℕ))
-    → (read_failed : Bool) → (old new : Option (List ℕ)) → (write_failed : Bool)
-    → Result Bool ServeFault → Type 0
-EndStateServed asked input read_failed old new write_failed =
-    IsServed is_pass (ServesEndState asked input read_failed old new write_failed)
+abbrev pub ServesEndState : Option NamedPoint → Streams → Result End ServeFault → Type 0
+ServesEndState asked streams outcome = Serves End (IsEndStateReportOf asked) (HasFault asked) streams outcome

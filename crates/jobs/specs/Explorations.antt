@@ -10,7 +10,7 @@ use Rattle.requests.specs.Names.{names_of}
 use Rattle.campaign.specs.declared.file.ServeFault.{ServeFault}
 use Rattle.campaign.specs.declared.file.ServeFault.TheVariants.{UnknownHandler, Memory}
 use Rattle.campaign.specs.Named.{IsFirstUnknown}
-use Rattle.campaign.specs.Serving.{HasFileFault, IsFileOf, Serves}
+use Rattle.campaign.specs.Serving.{HasFileFault, IsFileOf, Serves, Streams}
 
 -- These are the handlers that have the names of a list, in its order; where no list is named, they are all handlers of the file.
 abbrev pub AreAsked : Option (List ℕ) → Application → (handlers : List ℕ) → Type 0
@@ -40,11 +40,8 @@ HasExploringFault list bytes (UnknownHandler place) = (app : Application) × IsF
 HasExploringFault list bytes fault = HasFileFault bytes fault
 
 -- a call that serves what is found of a file, and answers whether each placement passes
-abbrev pub ServesExploration : (most : ℕ) → Option (List ℕ) → Option (List ℕ)
-    → (read_failed : Bool) → (old new : Option (List ℕ)) → (write_failed : Bool)
-    → Result Bool ServeFault → Type 0
-ServesExploration most list input read_failed old new write_failed outcome =
-    Serves Bool (IsExplorationOf most list) (HasExploringFault list) input read_failed old new write_failed outcome
+abbrev pub ServesExploration : (most : ℕ) → Option (List ℕ) → Streams → Result Bool ServeFault → Type 0
+ServesExploration most list streams outcome = Serves Bool (IsExplorationOf most list) (HasExploringFault list) streams outcome
 
 -- ---- what the functions pass on to each other: no reader need believe it
 

@@ -5,7 +5,13 @@ ghost use Rattle.campaign.specs.declared.file.ServeFault.{ServeFault};
 ghost use Rattle.jobs.specs.declared.acting.JobFault.{JobFault};
 ghost use Rattle.jobs.specs.declared.acting.JobFault.TheVariants as job_fault;
 ghost use Rattle.requests.specs.Jobs.{is_unpaired};
-ghost use Rattle.jobs.specs.Acting.{RunServed, CampaignServed, Does, DoesOverFile, OpensAndDoes, ReadsFor, FailsToRead, Tells, fault_line, most_bytes, name_told, told, status_of};
+ghost use Rattle.model.specs.Campaign.{is_pass};
+ghost use Rattle.campaign.specs.Campaigns.{ServesCampaign};
+ghost use Rattle.campaign.specs.OneRun.{ServesRun};
+ghost use Rattle.campaign.specs.Serving.{streams_of};
+ghost use Rattle.jobs.specs.Passing.{IsServed};
+ghost use Rattle.jobs.specs.Acting.{Does, DoesOverFile, OpensAndDoes, ReadsFor, FailsToRead, Tells};
+ghost use Rattle.jobs.specs.Acting.{all_pass, fault_line, most_bytes, name_told, told, status_of};
 
 use crate::end_state::serve_end_state_at;
 use crate::exploring::serve_exploration;
@@ -108,8 +114,8 @@ fn serve_run_at<W: Sink>(
     writer: &mut W,
 ) -> Result<bool, ServeFault>
     requires { W.has_failed writer.old ≡ false }
-    ensures { RunServed point.entry (Some bytes.now) false
-        (W.held writer.old) (W.held writer.new) (W.has_failed writer.new) result }
+    ensures { IsServed is_pass (ServesRun point.entry (streams_of (Some bytes.now) false
+        (W.held writer.old) (W.held writer.new) (W.has_failed writer.new))) result }
 {
     let end = serve_run_of(alloc, bytes, writer, point)?;
     Ok(matches!(end, End::Pass))
@@ -128,8 +134,8 @@ fn serve_campaign<T: Threads + Wait + Sync, W: Sink, G: Gate + Sync>(
     gate: &G,
 ) -> Result<bool, ServeFault>
     requires { W.has_failed writer.old ≡ false }
-    ensures { CampaignServed view shard (Some bytes.now) false
-        (W.held writer.old) (W.held writer.new) (W.has_failed writer.new) result }
+    ensures { IsServed all_pass (ServesCampaign view shard (streams_of (Some bytes.now) false
+        (W.held writer.old) (W.held writer.new) (W.has_failed writer.new))) result }
 {
     let totals = if quiet {
         serve_of(rt, alloc, bytes, writer, view, shard, options, &NoGate)?
@@ -149,8 +155,8 @@ fn serve_job<T: Threads + Wait + Sync, W: Sink, G: Gate + Sync>(
     gate: &G,
 ) -> Result<bool, JobFault>
     requires { W.has_failed writer.old ≡ false }
-    ensures { Does job.now (Some bytes.now) false
-        (W.held writer.old) (W.held writer.new) (W.has_failed writer.new) result }
+    ensures { Does job.now (streams_of (Some bytes.now) false
+        (W.held writer.old) (W.held writer.new) (W.has_failed writer.new)) result }
 {
     let served = match job {
         Job::RunUnpaired { .. } => return Err(JobFault::Unpaired),
@@ -195,8 +201,8 @@ fn act_on<T: Threads + Wait + Sync, W: Sink, F: Sink, G: Gate + Sync>(
     requires writes { W.has_failed writer.old ≡ false }
     requires tells { F.has_failed faults.old ≡ false }
     ensures { (outcome : Result Bool JobFault)
-        × Does job.now (Some bytes.now) false
-        (W.held writer.old) (W.held writer.new) (W.has_failed writer.new) outcome
+        × Does job.now (streams_of (Some bytes.now) false
+        (W.held writer.old) (W.held writer.new) (W.has_failed writer.new)) outcome
         × Tells (F.held faults.old) (F.held faults.new) (F.has_failed faults.new) (told job.now outcome)
         × (result ≡ status_of outcome) }
 {
@@ -240,8 +246,8 @@ pub fn act<T: Threads + Wait + Sync, R: Source, W: Sink, F: Sink, G: Gate + Sync
     requires writes { W.has_failed writer.old ≡ false }
     requires tells { F.has_failed faults.old ≡ false }
     ensures does { (outcome : Result Bool JobFault)
-        × Does job.now (R.left reader.old) (R.has_failed reader.new)
-        (W.held writer.old) (W.held writer.new) (W.has_failed writer.new) outcome
+        × Does job.now (streams_of (R.left reader.old) (R.has_failed reader.new)
+        (W.held writer.old) (W.held writer.new) (W.has_failed writer.new)) outcome
         × Tells (F.held faults.old) (F.held faults.new) (F.has_failed faults.new) (told job.now outcome)
         × (result ≡ status_of outcome) }
     ensures unread { is_unpaired job.now ≡ true → R.left reader.new ≡ R.left reader.old }
@@ -289,8 +295,8 @@ fn act_over_file<T: Threads + Wait + Sync, R: Source, W: Sink, F: Sink, G: Gate 
     requires writes { W.has_failed writer.old ≡ false }
     requires tells { F.has_failed faults.old ≡ false }
     ensures does { (outcome : Result Bool JobFault)
-        × DoesOverFile job.now (R.left reader.old) (R.has_failed reader.new)
-        (W.held writer.old) (W.held writer.new) (W.has_failed writer.new) outcome
+        × DoesOverFile job.now (streams_of (R.left reader.old) (R.has_failed reader.new)
+        (W.held writer.old) (W.held writer.new) (W.has_failed writer.new)) outcome
         × Tells (F.held faults.old) (F.held faults.new) (F.has_failed faults.new) (told job.now outcome)
         × (result ≡ status_of outcome) }
     ensures unread { is_unpaired job.now ≡ true → R.left reader.new ≡ R.left reader.old }

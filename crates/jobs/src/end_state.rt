@@ -1,11 +1,13 @@
 //! A run of a file, with its end state.
 ghost use Rattle.std.specs.Prelude.{◌≡◌, ℕ, List, [], Some, false, IfOk, MatchResult, if◌then◌else◌};
 ghost use Rattle.model.specs.Run.{IsRow, IsRun, state_after};
+ghost use Rattle.model.specs.Campaign.{is_pass};
 ghost use Rattle.model.specs.EndStates.{end_state_of};
 ghost use Rattle.campaign.specs.Faults.{IsRunFault};
 ghost use Rattle.campaign.specs.OneRun.{IsAsked};
-ghost use Rattle.campaign.specs.Serving.{IsFileOf};
-ghost use Rattle.jobs.specs.EndStates.{EndStateServed, ServesEndState, end_state_of_run};
+ghost use Rattle.campaign.specs.Serving.{IsFileOf, streams_of};
+ghost use Rattle.jobs.specs.EndStates.{ServesEndState, end_state_of_run};
+ghost use Rattle.jobs.specs.Passing.{IsServed};
 
 use byte_io::Sink;
 use campaign::{ServeFault, app_in, point_named};
@@ -75,8 +77,8 @@ fn serve_app<W: Sink>(
 ) -> Result<End, ServeFault>
     requires { W.has_failed writer.old ≡ false }
     ensures { (bytes : List ℕ) → IsFileOf bytes app.now
-        → ServesEndState asked.entry (Some bytes) false (W.held writer.old) (W.held writer.new)
-        (W.has_failed writer.new) result }
+        → ServesEndState asked.entry (streams_of (Some bytes) false
+        (W.held writer.old) (W.held writer.new) (W.has_failed writer.new)) result }
 {
     let (title, run, end_state) = asked_run(alloc, app, asked)?;
     write_run_and_end_state(writer, app, title, &run, &end_state)?;
@@ -91,8 +93,8 @@ fn serve_end_state<W: Sink>(
     asked: Option<NamedPoint<'_>>,
 ) -> Result<End, ServeFault>
     requires { W.has_failed writer.old ≡ false }
-    ensures { ServesEndState asked.entry (Some bytes.now) false
-        (W.held writer.old) (W.held writer.new) (W.has_failed writer.new) result }
+    ensures { ServesEndState asked.entry (streams_of (Some bytes.now) false
+        (W.held writer.old) (W.held writer.new) (W.has_failed writer.new)) result }
 {
     let app = app_in(alloc, bytes)?;
     serve_app(alloc, &app, writer, asked)
@@ -106,8 +108,8 @@ pub(crate) fn serve_end_state_at<W: Sink>(
     writer: &mut W,
 ) -> Result<bool, ServeFault>
     requires { W.has_failed writer.old ≡ false }
-    ensures { EndStateServed asked.entry (Some bytes.now) false
-        (W.held writer.old) (W.held writer.new) (W.has_failed writer.new) result }
+    ensures { IsServed is_pass (ServesEndState asked.entry (streams_of (Some bytes.now) false
+        (W.held writer.old) (W.held writer.new) (W.has_failed writer.new))) result }
 {
     let end = serve_end_state(alloc, bytes, writer, asked)?;
     Ok(matches!(end, End::Pass))

@@ -9,7 +9,7 @@ ghost use Rattle.model.specs.Placements as definitions;
 ghost use Rattle.model.specs.Words.{handler_named};
 ghost use Rattle.report.specs.Found.{exploration_text, found_text};
 ghost use Rattle.explorer.specs.Totals.{placements_in};
-ghost use Rattle.campaign.specs.Serving.{IsFileOf};
+ghost use Rattle.campaign.specs.Serving.{IsFileOf, streams_of};
 ghost use Rattle.jobs.specs.Explorations.{AreAsked, IsExploringFault, IsFoundIn, IsNamingFault, ServesExploration};
 
 use byte_io::{Page, Sink, WriteFault, flush};
@@ -90,13 +90,7 @@ fn found_in(
     ensures few { IfOk result (λ found. placements_in found.items < 2 ^ 128) }
 {
     let handlers = handlers_asked(alloc, app, list)?;
-    let found = explore(
-        alloc,
-        app,
-        &app.limits(),
-        handlers.as_slice(),
-        most.count(),
-    )?;
+    let found = explore(alloc, app, &app.limits(), handlers.as_slice(), most.count())?;
     Ok(found)
 }
 
@@ -153,8 +147,8 @@ fn serve_app<W: Sink>(
 ) -> Result<bool, ServeFault>
     requires { W.has_failed writer.old ≡ false }
     ensures { (bytes : List ℕ) → IsFileOf bytes app.now
-        → ServesExploration most (option_map (λ list. list.now) list.entry) (Some bytes) false
-        (W.held writer.old) (W.held writer.new) (W.has_failed writer.new) result }
+        → ServesExploration most (option_map (λ list. list.now) list.entry) (streams_of (Some bytes) false
+        (W.held writer.old) (W.held writer.new) (W.has_failed writer.new)) result }
 {
     let found = found_in(alloc, app, most, list)?;
     write_found(writer, app, found.as_slice())?;
@@ -174,8 +168,8 @@ pub(crate) fn serve_exploration<W: Sink>(
     writer: &mut W,
 ) -> Result<bool, ServeFault>
     requires { W.has_failed writer.old ≡ false }
-    ensures { ServesExploration most (option_map (λ list. list.now) list.entry) (Some bytes.now) false
-        (W.held writer.old) (W.held writer.new) (W.has_failed writer.new) result }
+    ensures { ServesExploration most (option_map (λ list. list.now) list.entry) (streams_of (Some bytes.now) false
+        (W.held writer.old) (W.held writer.new) (W.has_failed writer.new)) result }
 {
     let app = app_in(alloc, bytes)?;
     serve_app(alloc, &app, writer, most, list)

@@ -2,6 +2,7 @@ use Rattle.std.proofs.Common.{◌≡◌, ◌∙◌, Bool, sym, subst, rules, Err
 use Rattle.model.specs.Application.{Application}
 use Rattle.model.specs.declared.event.End.{End}
 use Rattle.campaign.specs.OneRun.{ServesRun}
+use Rattle.campaign.specs.Serving.{streams_of}
 use Rattle.campaign.proofs.Faulty.{same_read, same_write, serves_file_fault}
 use Rattle.campaign.proofs.one_run.serve_run.Goals as goal
 
@@ -19,6 +20,6 @@ returns g c =
     let file = c.in_ok-app.ensures.app in
     let input = g.R.Source.left c.args.reader.now in
     subst (λ (failed : Bool).
-    ServesRun c.args.asked input failed (g.W.Sink.held c.args.writer.now) (g.W.Sink.held c.serve_app.new.writer)
-    (g.W.Sink.has_failed c.serve_app.new.writer) c.serve_app.result)
+    ServesRun c.args.asked (streams_of input failed (g.W.Sink.held c.args.writer.now) (g.W.Sink.held c.serve_app.new.writer)
+    (g.W.Sink.has_failed c.serve_app.new.writer)) c.serve_app.result)
     (sym c.in_ok-app.ensures.read) (c.serve_app.ensures input file.0 file.1 file.2)

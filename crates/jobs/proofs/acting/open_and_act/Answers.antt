@@ -6,7 +6,7 @@ use Rattle.jobs.proofs.acting.open_and_act.Goals as goal
 pub returns-in-Ok : goal.returns-in-Ok
 returns-in-Ok g c =
     let done = c.act_over_file.ensures.does in
-    (done.0, opens c.args.job.now _ _ _ _ _ done.0 done.1, done.2, done.3)
+    (done.0, opens c.args.job.now _ done.0 done.1, done.2, done.3)
 
 pub returns-in-Err : goal.returns-in-Err
 returns-in-Err g c = (
