@@ -63,8 +63,7 @@ module _ (app : Application) where
   in_order (p ∷ ps) (i ∷ is) e h =
       let first : injection_named app p ≡ Some i = cc in
       let rest : AreThese ps is = cc in
-      let same = same_step p.step (handler_named app p.handler) i first in
-      (
+      let same = same_step p.step (handler_named app p.handler) i first in (
         from_there i.step ps is rest
             (subst (λ (m : ℕ). AllByRecursion (λ (q : RawPair). m ≤ q.step) ps) (sym same) h.0),
         in_order ps is rest h.1,

@@ -90,13 +90,7 @@ fn found_in(
     ensures few { IfOk result (λ found. placements_in found.items < 2 ^ 128) }
 {
     let handlers = handlers_asked(alloc, app, list)?;
-    let found = explore(
-        alloc,
-        app,
-        &app.limits(),
-        handlers.as_slice(),
-        most.count(),
-    )?;
+    let found = explore(alloc, app, &app.limits(), handlers.as_slice(), most.count())?;
     Ok(found)
 }
 

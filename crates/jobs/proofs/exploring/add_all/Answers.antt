@@ -15,7 +15,7 @@ returns-in_err-add_found-clause-text g c =
     ap (λ (least : List Injection). found_of c.one.inside.number least ending) c.as_slice.ensures.value ∙ c.one.view_is in
     Adds_failed _ _ c.args.page.now _ (flat_map (found_text c.args.app.now) c.args.found.now) _ c.from_residual.ensures.0
     (SentFront_item (found_text c.args.app.now) c.args.found.now c.loop-one.one-index _ _ _ _ _ _ c.loop-one.page
-    c.loop-one-test.true c.one-item.is c.loop-one.invariant.sent 
+    c.loop-one-test.true c.one-item.is c.loop-one.invariant.sent
     (subst (λ (f : Found). SentFront (g.W.Sink.held c.loop-one.writer) (g.W.Sink.held c.add_found.new.writer)
     (c.loop-one.page ++ found_text c.args.app.now f)) same c.in_err-add_found.ensures.text))
 
@@ -26,7 +26,7 @@ loop-one-preserved g c =
     ap (λ (least : List Injection). found_of c.one.inside.number least ending) c.as_slice.ensures.value ∙ c.one.view_is in
     record {
       sent = Sent_item (found_text c.args.app.now) c.args.found.now c.loop-one.one-index _ _ _ _ _ _ c.loop-one.page _
-          c.loop-one-test.true c.one-item.is c.loop-one.invariant.sent 
+          c.loop-one-test.true c.one-item.is c.loop-one.invariant.sent
           (subst (λ (f : Found). Sent (g.W.Sink.held c.loop-one.writer) (g.W.Sink.held c.add_found.new.writer)
           (c.loop-one.page ++ found_text c.args.app.now f) c.add_found.new.page) same c.in_ok-add_found.ensures.text);
       working = c.in_ok-add_found.ensures.failed;
