@@ -115,7 +115,7 @@ fn sinks_that_take_a_byte_a_call(rt: HostRuntime) {
     let job = exploration_of(&rt, "h");
     check_byte_by_byte(&rt, alloc, &job, TWO_ROWS, 1, (TWO_ROWS_EXPLORED, ""));
     let job = exploration_of(&rt, "h,g\u{7}");
-    let line = "rtosim: unknown handler g\\u{7}\n";
+    let line = "rtosim: unknown handler g\\u{07}\n";
     check_byte_by_byte(&rt, alloc, &job, TWO_ROWS, 2, ("", line));
 }
 
