@@ -82,6 +82,23 @@ fn check_byte_by_byte<R: Abort + Threads + Wait + Sync>(
     check_text(rt, alloc, "told", told.bytes(), texts.1);
 }
 
+// How the runs of `TWO_ROWS` with up to two interrupts end.
+const TWO_ROWS_EXPLORED: &str = "check a 1: 6 placements, least is none in 2 steps, 0 ticks
+total 6
+";
+
+/// The job that explores a file with up to two injections of these handlers.
+fn exploration_of<R: Abort>(rt: &R, handlers: &'static str) -> Job<'static> {
+    let Some(injections) = MostInjections::new(2) else {
+        panic!(rt; "no number");
+    };
+    Job::Explore {
+        file: "app.toml",
+        injections,
+        handlers: Some(handlers),
+    }
+}
+
 #[test]
 fn sinks_that_take_a_byte_a_call(rt: HostRuntime) {
     let alloc = rt.alloc();
@@ -95,31 +112,10 @@ fn sinks_that_take_a_byte_a_call(rt: HostRuntime) {
     check_byte_by_byte(&rt, alloc, &job, "", 3, ("", line));
     let job = campaign_of("app.toml");
     check_byte_by_byte(&rt, alloc, &job, TWO_ROWS, 1, (TWO_ROWS_REPORT, ""));
-}
-
-// How the runs of `TWO_ROWS` with up to two interrupts end.
-const TWO_ROWS_EXPLORED: &str = "check a 1: 6 placements, least is none in 2 steps, 0 ticks
-total 6
-";
-
-#[test]
-fn what_is_explored_byte_by_byte(rt: HostRuntime) {
-    let alloc = rt.alloc();
-    let Some(injections) = MostInjections::new(2) else {
-        panic!(rt; "no number");
-    };
-    let job = Job::Explore {
-        file: "app.toml",
-        injections,
-        handlers: Some("h"),
-    };
+    let job = exploration_of(&rt, "h");
     check_byte_by_byte(&rt, alloc, &job, TWO_ROWS, 1, (TWO_ROWS_EXPLORED, ""));
-    let job = Job::Explore {
-        file: "app.toml",
-        injections,
-        handlers: Some("h,g\u{7}"),
-    };
-    let line = "rtosim: unknown handler g\\u{7}\n";
+    let job = exploration_of(&rt, "h,g\u{7}");
+    let line = "rtosim: unknown handler g\\u{07}\n";
     check_byte_by_byte(&rt, alloc, &job, TWO_ROWS, 2, ("", line));
 }
 

@@ -157,7 +157,12 @@ const EXPLORATIONS: [NamedExploration; 3] = [
     },
     NamedExploration {
         words: &[
-            "rtosim", "explore", "--injections=3", "app.toml", "--handlers", "h",
+            "rtosim",
+            "explore",
+            "--injections=3",
+            "app.toml",
+            "--handlers",
+            "h",
         ],
         injections: 3,
         handlers: Some("h"),
@@ -391,7 +396,15 @@ fn words_that_are_refused(rt: HostRuntime) {
         assert!(rt; job_named(rt.alloc(), &words).is_err(), "{value}");
     }
     let words = [
-        "rtosim", "run", "a", "--point", "0 h", "--at", "0", "--handler", "h",
+        "rtosim",
+        "run",
+        "a",
+        "--point",
+        "0 h",
+        "--at",
+        "0",
+        "--handler",
+        "h",
     ];
     assert!(rt; job_named(rt.alloc(), &words).is_err());
 }

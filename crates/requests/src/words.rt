@@ -321,7 +321,11 @@ fn step_of(matches: &ArgMatches<'_>) -> Option<Option<u32>>
 }
 
 // The point that these words name, where a point and a handler are named or not. `None`: it is none, or one of the others is named too.
-fn point_among<'a>(point: &'a str, step: Option<u32>, handler: Option<&str>) -> Option<NamedPoint<'a>>
+fn point_among<'a>(
+    point: &'a str,
+    step: Option<u32>,
+    handler: Option<&str>,
+) -> Option<NamedPoint<'a>>
     ensures { asking (Some point.entry.now) step (option_map (λ handler. handler.now) handler.entry)
         ≡ injecting (option_map (λ point. pairs_in point.injections) result) }
 {

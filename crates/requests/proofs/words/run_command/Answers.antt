@@ -8,8 +8,7 @@ pub returns : goal.returns
 returns c =
     let arguments : List Rule = file_rule ∷ at_rule ∷ handler_rule ∷ point_rule ∷ state_rule ∷ [] in
     let are : AreArgsOf arguments c.in_ok-arguments.arguments.items =
-    rw c.in_ok-arguments.ensures.items
-    (
+    rw c.in_ok-arguments.ensures.items (
       c.file_argument.ensures,
       (c.at_argument.ensures, (c.handler_argument.ensures, (c.point_argument.ensures, (c.state_argument.ensures, tt)))),
     ) in
