@@ -11,7 +11,7 @@ use crate::put::{WriteFault, put_all};
 use crate::stream::Sink;
 
 // A text that is longer than this goes to the sink as it is: to copy it takes longer than a call of the sink's.
-const MOST_COPIED: usize = 16384;
+const MOST_COPIED: usize = 4096;
 
 /// Puts the bytes of the page, and empties it. At `Err` the sink failed or took none of some bytes, it has taken a
 /// beginning of the page's bytes, and the page is as it was.
