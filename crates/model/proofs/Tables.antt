@@ -113,7 +113,7 @@ each-set none P (y ∷ ys) (suc i) x p h zero = h zero
 each-set none P (y ∷ ys) (suc i) x p h (suc j) = each-set none (λ k. P (suc k)) ys i x p (λ k. h (suc k)) j
 
 -- who holds the object after a call is the caller, or who held it
-pub held_after : (caller : Option ℕ) (a : Access) (o : Object) (tasks : ℕ) → IfSome caller (λ i. i < tasks)
+pub held_after : (caller : Option ℕ) (a : Access ℕ) (o : Object) (tasks : ℕ) → IfSome caller (λ i. i < tasks)
     → IfSome o.holder (λ i. i < tasks) → IfSome (object_after caller a o).holder (λ i. i < tasks)
 held_after caller (Send v) o tasks l h = h
 held_after caller (SendFront v) o tasks l h = h

@@ -149,7 +149,7 @@ pub none_awake : (locked : Option ℕ) (o : Option Wait) → locked ≡ None →
 none_awake locked None e h = refl
 none_awake locked (Some w) e h = absurd (unlocked_none w.list (subst (λ l. is_locked l w.list ≡ true) e h))
 
-pub is_locked-own : (o : ℕ) (a : Access) → is_locked (Some o) (list_for o a) ≡ true
+pub is_locked-own : {Item : Type 0} (o : ℕ) (a : Access Item) → is_locked (Some o) (list_for o a) ≡ true
 is_locked-own o (Send v) = eqb-refl o
 is_locked-own o (SendFront v) = eqb-refl o
 is_locked-own o (Overwrite v) = eqb-refl o

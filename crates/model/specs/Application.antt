@@ -40,6 +40,8 @@ pub record Application : Type 0 where
   pub objects : List ObjectKind
   -- how many event groups there are
   pub group_count : ℕ
+  -- what each variable is at reset
+  pub variables : List ℕ
   pub handlers : List Handler
   pub interrupts : List Interrupt
   -- those of the file, and behind them the daemon, where there is one

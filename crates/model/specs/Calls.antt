@@ -12,7 +12,7 @@ use Rattle.model.specs.Objects.{possible, answer_to, fulfil, attempt, list_for}
 use Rattle.model.specs.Mutexes.{inherit, after_timeout}
 
 -- A possible call is done. One whose deadline has come fails, and nothing switches. Any other decides next.
-unfoldable pub try : Application → ℕ → ℕ → Access → State → State
+unfoldable pub try : Application → ℕ → ℕ → Access ℕ → State → State
 try app task object access s =
     if possible s object access then preempt (answer app task (answer_to s object access) (fulfil (Some task) object access s))
     else if is_expired s task then answer app task (answer_to s object access) (after_timeout task object s)
@@ -25,7 +25,7 @@ lock task object phase s = go_on task phase (record s { call_hold = true; locked
 
 -- The object is locked, and the task waits, but not where its call is possible by now or its deadline has come
 -- (`prvIsQueueEmpty`, `prvIsQueueFull`, `xTaskCheckForTimeOut`).
-unfoldable pub decide : ℕ → ℕ → Access → State → State
+unfoldable pub decide : ℕ → ℕ → Access ℕ → State → State
 decide task object access s =
     if possible s object access || is_expired s task
     then lock task object Unlock s
@@ -40,7 +40,7 @@ leave_call task s =
 
 -- The phases of a call that may wait for this many ticks (`xQueueReceive` and the like). Its deadline is fixed at the first
 -- try; Place is where the code puts the task into its list (`vTaskPlaceOnEventList`), and changes nothing here.
-abbrev pub await : Application → ℕ → ℕ → Access → Option ℕ → Phase → State → State
+abbrev pub await : Application → ℕ → ℕ → Access ℕ → Option ℕ → Phase → State → State
 await app task object access ticks Start s = try app task object access (set_deadline task ticks s)
 await app task object access ticks Try s = try app task object access s
 await app task object access ticks Decide s = decide task object access s
@@ -49,5 +49,5 @@ await app task object access ticks Unlock s = go_on task Leave (unlock s)
 await app task object access ticks _ s = leave_call task s
 
 -- A call that does not wait is done if it is possible, and answers.
-unfoldable pub do_now : Application → ℕ → ℕ → Access → State → State
+unfoldable pub do_now : Application → ℕ → ℕ → Access ℕ → State → State
 do_now app task object access s = preempt (answer app task (answer_to s object access) (attempt (Some task) object access s))

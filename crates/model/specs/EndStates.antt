@@ -1,4 +1,4 @@
--- The end state of a run, as it is reported: what each task is doing, and who holds which mutex.
+-- The end state of a run, as it is reported: what each task is doing, who holds which mutex, and what each variable is.
 use Rattle.std.specs.Prelude.{ℕ, ◌+◌, Bool, List, [], ◌∷◌, Some, map, length, option_map, if◌then◌else◌}
 use Rattle.std.specs.List.{cons_option, range_with_len}
 use Rattle.model.specs.declared.end_state.Situation.{Situation}
@@ -40,6 +40,8 @@ held_from object (o ∷ os) = cons_option (option_map (held_by object) o.holder)
 pub record EndState : Type 0 where
   pub situations : List Situation
   pub held : List HeldMutex
+  -- what each variable is
+  pub variables : List ℕ
 
 abbrev pub end_state_of : State → EndState
-end_state_of s = record { situations = situations_of s; held = held_from 0 s.objects }
+end_state_of s = record { situations = situations_of s; held = held_from 0 s.objects; variables = s.variables }

@@ -1,10 +1,11 @@
 -- Interrupt handlers: they do their ops without waiting, before a step or at a tick.
 use Rattle.std.specs.Prelude.{ℕ, zero, suc, ◌+◌, ◌-◌, Bool, true, false, not, min, List, [], ◌∷◌, ◌++◌, Option, Some, None, nat_lt}
-use Rattle.std.specs.Prelude.{if◌then◌else◌, map, filter, fold, filter_map, option_map, length}
+use Rattle.std.specs.Prelude.{if◌then◌else◌, map, filter, fold, filter_map, option_map, length, is_none}
 use Rattle.std.specs.List.{range_with_len}
 use Rattle.model.specs.declared.op.IsrOp.{IsrOp}
-use Rattle.model.specs.declared.op.IsrOp.TheVariants.{Do, Command, Resume, GetBits, Mark, Expect, If, Else}
+use Rattle.model.specs.declared.op.IsrOp.TheVariants.{Do, Command, Resume, GetBits, Mark, Expect, If, Else, Value}
 use Rattle.model.specs.declared.event.End.TheVariants.{HandlerCheck}
+use Rattle.model.specs.Values.{answer_of, is_missing, lacks_item, number_of, with_number}
 use Rattle.model.specs.Answers.{holds}
 use Rattle.model.specs.Blocks.{isr_edges_of, past_branch}
 use Rattle.model.specs.declared.op.Access.TheVariants.{Send}
@@ -14,7 +15,7 @@ use Rattle.model.specs.Application.{Application, Interrupt, Limits, ops_of, comm
 use Rattle.model.specs.State.{State, Task, Source, wake_time_of, status_at, bits_at, source_at, with_source, for_each}
 use Rattle.model.specs.Switching.{write, preempt, slice, unless_held}
 use Rattle.model.specs.Time.{increment_tick, jump}
-use Rattle.model.specs.Ops.{fail, one_if}
+use Rattle.model.specs.Ops.{fail, one_if, store}
 use Rattle.model.specs.Objects.{answer_to, attempt}
 use Rattle.model.specs.Suspension.{can_resume, resume}
 use Rattle.model.specs.Daemon.{item_of}
@@ -26,49 +27,55 @@ isr_told handler op_index None = IsrNone handler op_index
 
 -- the last answer in a handler behind this op, where it is this before it; `mark` and the ops of blocks leave it (profile)
 abbrev pub isr_answer : Application → State → IsrOp → Option ℕ → Option ℕ
-isr_answer app s (Do object access) answer = answer_to s object access
+isr_answer app s (Do object access) answer = answer_to s object (with_number s.variables answer access)
 isr_answer app s (Command c) answer = answer_to s (commands_of app) (Send (item_of c))
 isr_answer app s (Resume task) answer = one_if (can_resume (status_at s task))
 isr_answer app s (GetBits group) answer = Some (bits_at s group)
+isr_answer app s (Value op) answer = answer_of s.variables answer op
 isr_answer app s _ answer = answer
 
--- What the op, done in this state before, answers is reported.
-abbrev pub tell : Application → (handler op_index : ℕ) → IsrOp → (before : State) → State → State
-tell app handler op_index op before s = write (isr_told handler op_index (isr_answer app before op None)) s
+-- What the op, done in this state before, answers is reported, where this was the last answer.
+abbrev pub tell : Application → (handler op_index : ℕ) → IsrOp → Option ℕ → (before : State) → State → State
+tell app handler op_index op answer before s = write (isr_told handler op_index (isr_answer app before op answer)) s
 
--- what each op of a handler does, and its event: a call is done if it is possible (`xQueueSendFromISR` and the like); the
--- answer of resume, and mark, are profile
-abbrev pub isr : Application → ℕ → ℕ → IsrOp → State → State
-isr app handler op_index (Do object access) s =
-    tell app handler op_index (Do object access) s (attempt None object access s)
-isr app handler op_index (Command c) s =
-    tell app handler op_index (Command c) s (attempt None (commands_of app) (Send (item_of c)) s)
-isr app handler op_index (Resume task) s = tell app handler op_index (Resume task) s (resume task s)
-isr app handler op_index (GetBits group) s = tell app handler op_index (GetBits group) s s
-isr app handler op_index (Mark n) s = write (IsrMark handler n) s
-isr app handler op_index _ s = s
+-- what each op of a handler does, where this is the last answer, and its event: a call is done if it is possible
+-- (`xQueueSendFromISR` and the like); the answer of resume, mark, and the ops on values are profile
+abbrev pub isr : Application → ℕ → ℕ → IsrOp → Option ℕ → State → State
+isr app handler op_index (Do object access) answer s =
+    tell app handler op_index (Do object access) answer s (attempt None object (with_number s.variables answer access) s)
+isr app handler op_index (Command c) answer s =
+    tell app handler op_index (Command c) answer s (attempt None (commands_of app) (Send (item_of c)) s)
+isr app handler op_index (Resume task) answer s = tell app handler op_index (Resume task) answer s (resume task s)
+isr app handler op_index (GetBits group) answer s = tell app handler op_index (GetBits group) answer s s
+isr app handler op_index (Value op) answer s =
+    tell app handler op_index (Value op) answer s (store op (answer_of s.variables answer op) s)
+isr app handler op_index (Mark value) answer s = write (IsrMark handler (number_of s.variables answer value)) s
+isr app handler op_index _ answer s = s
 
--- It is an `expect` that fails where this is the last answer.
-abbrev pub is_failed : IsrOp → Option ℕ → Bool
-is_failed (Expect condition) answer = not (holds condition answer)
-is_failed _ answer = false
+-- It is an `expect` that fails where this is the last answer, or it has no value to work with.
+abbrev pub is_failed : State → IsrOp → Option ℕ → Bool
+is_failed s (Expect condition) answer = not (holds s.variables condition answer)
+is_failed s (Do object access) answer = lacks_item answer access
+is_failed s (Mark value) answer = is_missing answer value
+is_failed s (Value op) answer = is_none (answer_of s.variables answer op)
+is_failed s _ answer = false
 
 -- over how many of the ops behind it an op jumps, where this is the last answer
-abbrev pub isr_jump : IsrOp → Option ℕ → List IsrOp → ℕ
-isr_jump (If condition) answer ops = if holds condition answer then 0 else past_branch 0 (isr_edges_of ops)
-isr_jump Else answer ops = past_branch 0 (isr_edges_of ops)
-isr_jump _ answer ops = 0
+abbrev pub isr_jump : State → IsrOp → Option ℕ → List IsrOp → ℕ
+isr_jump s (If condition) answer ops = if holds s.variables condition answer then 0 else past_branch 0 (isr_edges_of ops)
+isr_jump s Else answer ops = past_branch 0 (isr_edges_of ops)
+isr_jump s _ answer ops = 0
 
 -- Ops of a handler come one after another, the first of which is the one of this index, except that this many are jumped over; this
--- is the last answer. A failed `expect` ends the handler, and the run behind this step (profile).
+-- is the last answer. A failed `expect`, or an op without its value, ends the handler, and the run after this step (profile).
 abbrev pub isr_each : Application → (handler op_index over : ℕ) → Option ℕ → List IsrOp → State → State
 isr_each app handler op_index over answer [] s = s
 isr_each app handler op_index (suc over) answer (op ∷ ops) s = isr_each app handler (op_index + 1) over answer ops s
 isr_each app handler op_index zero answer (op ∷ ops) s =
-    if is_failed op answer
+    if is_failed s op answer
     then fail (HandlerCheck handler op_index) s
-    else isr_each app handler (op_index + 1) (isr_jump op answer ops)
-    (isr_answer app s op answer) ops (isr app handler op_index op s)
+    else isr_each app handler (op_index + 1) (isr_jump s op answer ops)
+    (isr_answer app s op answer) ops (isr app handler op_index op answer s)
 
 -- The handler runs; at first its last answer is `none`.
 unfoldable pub handle : Application → ℕ → State → State

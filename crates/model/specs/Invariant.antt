@@ -126,7 +126,7 @@ IsPhaseOf hold _ _ = ⊥
 -- the list in which a task waits in this op
 abbrev pub list_of_op : Option Op → Option WaitList
 list_of_op (Some (Await object access ticks)) = Some (list_for object access)
-list_of_op (Some (NextCommand object)) = Some (list_for object Receive)
+list_of_op (Some (NextCommand object)) = Some (list_for {Item = ℕ} object Receive)
 list_of_op _ = None
 
 -- A wait is that of this op, and of the call that has this deadline.

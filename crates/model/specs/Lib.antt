@@ -3,6 +3,7 @@ pub mod Packing
 pub mod Application
 pub mod Words
 pub mod Coming
+pub mod Values
 pub mod Answers
 pub mod Blocks
 pub mod Scripts

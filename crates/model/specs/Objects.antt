@@ -10,7 +10,7 @@ use Rattle.model.specs.Waiting.{wake_best}
 use Rattle.model.specs.Ops.{one_if}
 
 -- whether a call is possible on an object
-abbrev pub allows : Object → Access → Bool
+abbrev pub allows : Object → Access ℕ → Bool
 allows o (Send item) = nat_lt (length o.items) o.size
 allows o (SendFront item) = nat_lt (length o.items) o.size
 allows o (Overwrite item) = true
@@ -21,14 +21,14 @@ allows o Give = nat_lt o.count o.max_count
 allows o Lock = is_none o.holder
 
 -- what a call answers: the first item, or `none`; any other 1 where it is possible, otherwise 0
-abbrev pub reply : Object → Access → Option ℕ
+abbrev pub reply : Object → Access ℕ → Option ℕ
 reply o Receive = slice_get o.items 0
 reply o Peek = slice_get o.items 0
 reply o access = one_if (allows o access)
 
 -- the object after a possible call, which a task makes or (none) a handler (`prvCopyDataToQueue`,
 -- `prvCopyDataFromQueue`)
-abbrev pub object_after : Option ℕ → Access → Object → Object
+abbrev pub object_after : Option ℕ → Access ℕ → Object → Object
 object_after caller (Send item) o = record o { items = o.items ++ item ∷ [] }
 object_after caller (SendFront item) o = record o { items = item ∷ o.items }
 object_after caller (Overwrite item) o = record o { items = item ∷ [] }
@@ -40,7 +40,7 @@ object_after caller Lock o = record o { holder = caller }
 
 -- the list of which a possible call wakes the best waiter; a task's peek passes the wake on (in `xQueuePeek`), and that
 -- of a handler wakes nobody (profile)
-abbrev pub list_woken : Option ℕ → ℕ → Access → Option WaitList
+abbrev pub list_woken : Option ℕ → ℕ → Access ℕ → Option WaitList
 list_woken caller object (Send item) = Some (ToReceive object)
 list_woken caller object (SendFront item) = Some (ToReceive object)
 list_woken caller object (Overwrite item) = Some (ToReceive object)
@@ -52,24 +52,24 @@ list_woken caller object Give = Some (ToReceive object)
 list_woken caller object Lock = None
 
 -- the list in which a call waits
-abbrev pub list_for : ℕ → Access → WaitList
+abbrev pub list_for : {Item : Type 0} → ℕ → Access Item → WaitList
 list_for object (Send item) = ToSend object
 list_for object (SendFront item) = ToSend object
 list_for object _ = ToReceive object
 
 -- The call is possible now.
-abbrev pub possible : State → ℕ → Access → Bool
+abbrev pub possible : State → ℕ → Access ℕ → Bool
 possible s object access = allows (object_at s object) access
 
 -- what the call answers now
-abbrev pub answer_to : State → ℕ → Access → Option ℕ
+abbrev pub answer_to : State → ℕ → Access ℕ → Option ℕ
 answer_to s object access = reply (object_at s object) access
 
 -- A possible call is done: the object changes, and one waiter is woken. Nothing is handed over to it.
-unfoldable pub fulfil : Option ℕ → ℕ → Access → State → State
+unfoldable pub fulfil : Option ℕ → ℕ → Access ℕ → State → State
 fulfil caller object access s =
     for_one wake_best (list_woken caller object access) (with_object object (object_after caller access (object_at s object)) s)
 
 -- The call is done if it is possible.
-unfoldable pub attempt : Option ℕ → ℕ → Access → State → State
+unfoldable pub attempt : Option ℕ → ℕ → Access ℕ → State → State
 attempt caller object access s = if possible s object access then fulfil caller object access s else s

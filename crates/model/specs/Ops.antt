@@ -7,6 +7,8 @@ use Rattle.model.specs.declared.event.What.TheVariants.{Call, CallNone}
 use Rattle.std.specs.Option.{option_or}
 use Rattle.model.specs.declared.event.End.{End}
 use Rattle.model.specs.declared.event.End.TheVariants.{Check}
+use Rattle.model.specs.declared.value.ValueOp.{ValueOp}
+use Rattle.model.specs.Values.{answer_of, stored}
 use Rattle.model.specs.Answers.{holds}
 use Rattle.model.specs.Blocks.{jump_from}
 use Rattle.model.specs.Application.{Application, op_count, script_of}
@@ -78,6 +80,17 @@ stamp app task s = complete app task (record (progress_at s task) { stamp = s.ti
 unfoldable pub since : Application → ℕ → State → State
 since app task s = answer app task (Some (min (s.time - (progress_at s task).stamp) 4294967295)) s
 
+-- ---- values (profile)
+
+-- What the op answers is stored, where it says so.
+abbrev pub store : ValueOp → Option ℕ → State → State
+store op a s = record s { variables = stored op a s.variables }
+
+-- The op loads a variable, stores one, or calculates, and answers.
+unfoldable pub calculate : Application → ℕ → ValueOp → State → State
+calculate app task op s =
+    let a = answer_of s.variables (progress_at s task).answer op in answer app task a (store op a s)
+
 -- ---- critical sections
 
 -- So many critical sections are open, and the op is complete.
@@ -102,7 +115,7 @@ fail check s = record s { stopped = option_or s.stopped (Some check) }
 unfoldable pub expect : Application → ℕ → AnswerCondition → State → State
 expect app task condition s =
     let p = progress_at s task in
-    if holds condition p.answer then complete app task p s else fail (Check task p.op_index) s
+    if holds s.variables condition p.answer then complete app task p s else fail (Check task p.op_index) s
 
 -- A loop of this many turns, or without end, begins at the next op.
 unfoldable pub open_loop : Application → ℕ → Option ℕ → State → State
@@ -134,7 +147,7 @@ jump app task p s = go_to app task (jump_from (script_of app task) p.op_index) p
 -- An `if` goes on with its first branch where the condition holds of the last answer, and otherwise jumps over it.
 unfoldable pub branch : Application → ℕ → AnswerCondition → State → State
 branch app task condition s =
-    let p = progress_at s task in if holds condition p.answer then complete app task p s else jump app task p s
+    let p = progress_at s task in if holds s.variables condition p.answer then complete app task p s else jump app task p s
 
 -- An `else`, to which the first branch comes at its end, jumps over the other.
 unfoldable pub skip_branch : Application → ℕ → State → State

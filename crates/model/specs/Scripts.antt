@@ -9,6 +9,14 @@ use Rattle.model.specs.declared.op.Access.TheVariants.{Send, SendFront, Overwrit
 use Rattle.model.specs.declared.op.Op.{Op}
 use Rattle.model.specs.declared.op.Op.TheVariants.{Work, DelayUntil, Repeat, Await, Do, GiveMutex, MessagesWaiting, SpacesAvailable}
 use Rattle.model.specs.declared.op.Op.TheVariants.{SetBits, ClearBits, GetBits, WaitBits, Suspend, Resume, NextCommand, Obey}
+use Rattle.model.specs.declared.op.Op.TheVariants as op
+use Rattle.model.specs.declared.answer.AnswerCondition.{AnswerCondition}
+use Rattle.model.specs.declared.answer.AnswerCondition.TheVariants.{Is, IsNot, Below, Above}
+use Rattle.model.specs.declared.value.Value.{Value}
+use Rattle.model.specs.declared.value.Value.TheVariants.{Number, Variable}
+use Rattle.model.specs.declared.value.Arithmetic.TheVariants.{Div, Mod}
+use Rattle.model.specs.declared.value.ValueOp.{ValueOp}
+use Rattle.model.specs.declared.value.ValueOp.TheVariants.{Load, Store, Compute}
 use Rattle.model.specs.declared.op.IsrOp.{IsrOp}
 use Rattle.model.specs.declared.op.IsrOp.TheVariants as isr
 use Rattle.model.specs.declared.plan.Injection.{Injection}
@@ -40,6 +48,10 @@ most_objects = 32
 -- of event groups of an application
 abbrev pub most_groups : ℕ
 most_groups = 16
+
+-- of variables of an application
+abbrev pub most_variables : ℕ
+most_variables = 32
 
 -- of items of a queue
 abbrev pub most_items : ℕ
@@ -104,6 +116,12 @@ is_wait (Some ticks) = nat_lt ticks 4294967295
 abbrev pub is_mask : ℕ → Bool
 is_mask mask = is_within 1 16777215 mask
 
+-- The op on values divides by no number 0 of its text.
+abbrev pub is_defined : ValueOp → Bool
+is_defined (Compute Div (Number n)) = not (n == 0)
+is_defined (Compute Mod (Number n)) = not (n == 0)
+is_defined _ = true
+
 -- The numbers of an op are in their ranges (profile; of `delay_until` it is that of `xTaskDelayUntil`). A number that is
 -- not named here is any of 32 bits.
 abbrev pub is_in_range : Op → Bool
@@ -114,6 +132,7 @@ is_in_range (Await object access ticks) = is_wait ticks
 is_in_range (SetBits group mask) = is_mask mask
 is_in_range (ClearBits group mask) = is_mask mask
 is_in_range (WaitBits group condition ticks) = is_mask condition.mask && is_wait ticks
+is_in_range (op.Value values) = is_defined values
 is_in_range _ = true
 
 -- the same as a fact
@@ -141,7 +160,7 @@ pub record IsPrefix (ops : List Op) : Type 0 where
 -- ---- what an op speaks of
 
 -- It is a call on a queue.
-abbrev pub is_of_queue : Access → Bool
+abbrev pub is_of_queue : {Item : Type 0} → Access Item → Bool
 is_of_queue (Send item) = true
 is_of_queue (SendFront item) = true
 is_of_queue (Overwrite item) = true
@@ -150,35 +169,35 @@ is_of_queue Peek = true
 is_of_queue _ = false
 
 -- It is a call on a semaphore.
-abbrev pub is_of_semaphore : Access → Bool
+abbrev pub is_of_semaphore : {Item : Type 0} → Access Item → Bool
 is_of_semaphore Take = true
 is_of_semaphore Give = true
 is_of_semaphore _ = false
 
 -- It is a call on a mutex.
-abbrev pub is_of_mutex : Access → Bool
+abbrev pub is_of_mutex : {Item : Type 0} → Access Item → Bool
 is_of_mutex Lock = true
 is_of_mutex _ = false
 
 -- A call may be made on an object of this kind; `overwrite` is for queues of length 1 (in `xQueueOverwrite`).
-abbrev pub fits : ObjectKind → Access → Bool
+abbrev pub fits : {Item : Type 0} → ObjectKind → Access Item → Bool
 fits (Queue size) (Overwrite item) = size == 1
 fits (Queue size) access = is_of_queue access
 fits (Semaphore max_count initial_count) access = is_of_semaphore access
 fits Mutex access = is_of_mutex access
 
 -- The application has the object, and it fits.
-abbrev pub fits_object : Application → ℕ → Access → Bool
+abbrev pub fits_object : {Item : Type 0} → Application → ℕ → Access Item → Bool
 fits_object app object access = unwrap_or (option_map (λ kind. fits kind access) (slice_get app.objects object)) false
 
 -- It is a call that may wait.
-abbrev pub may_wait : Access → Bool
+abbrev pub may_wait : {Item : Type 0} → Access Item → Bool
 may_wait (Overwrite item) = false
 may_wait Give = false
 may_wait _ = true
 
 -- A handler may make the call: `take` and `lock` are for tasks (profile: FreeRTOS has `xSemaphoreTakeFromISR`).
-abbrev pub may_interrupt : Access → Bool
+abbrev pub may_interrupt : {Item : Type 0} → Access Item → Bool
 may_interrupt Take = false
 may_interrupt Lock = false
 may_interrupt _ = true
@@ -191,13 +210,35 @@ has_group app group = nat_lt group app.group_count
 abbrev pub has_task : Application → ℕ → Bool
 has_task app task = nat_lt task (length (of_file app.daemon app.tasks))
 
+-- The application has the variable.
+abbrev pub has_variable : Application → ℕ → Bool
+has_variable app x = nat_lt x (length app.variables)
+
+-- It has the one that the value is, if that is one.
+abbrev pub knows_value : Application → Value → Bool
+knows_value app (Variable x) = has_variable app x.number
+knows_value app _ = true
+
+-- It has those of which the op on values speaks.
+abbrev pub knows_values : Application → ValueOp → Bool
+knows_values app (Load x) = has_variable app x.number
+knows_values app (Store x value) = has_variable app x.number && knows_value app value
+knows_values app (Compute kind value) = knows_value app value
+
+-- It has the one of which the condition speaks, if it speaks of one.
+abbrev pub knows_condition : Application → AnswerCondition → Bool
+knows_condition app (Is wanted) = unwrap_or (option_map (knows_value app) wanted) true
+knows_condition app (IsNot other) = unwrap_or (option_map (knows_value app) other) true
+knows_condition app (Below bound) = knows_value app bound
+knows_condition app (Above bound) = knows_value app bound
+
 -- The application has what the op speaks of; the daemon's ops are in no file.
 abbrev pub knows : Application → Op → Bool
 knows app (Await object access ticks) = fits_object app object access && may_wait access
 knows app (Do object access) = fits_object app object access && not (may_wait access)
-knows app (GiveMutex object) = fits_object app object Lock
-knows app (MessagesWaiting object) = fits_object app object Receive
-knows app (SpacesAvailable object) = fits_object app object Receive
+knows app (GiveMutex object) = fits_object {Item = ℕ} app object Lock
+knows app (MessagesWaiting object) = fits_object {Item = ℕ} app object Receive
+knows app (SpacesAvailable object) = fits_object {Item = ℕ} app object Receive
 knows app (SetBits group mask) = has_group app group
 knows app (ClearBits group mask) = has_group app group
 knows app (GetBits group) = has_group app group
@@ -206,6 +247,9 @@ knows app (NextCommand object) = false
 knows app Obey = false
 knows app (Suspend other) = has_task app other
 knows app (Resume other) = has_task app other
+knows app (op.Expect condition) = knows_condition app condition
+knows app (op.If condition) = knows_condition app condition
+knows app (op.Value values) = knows_values app values
 knows app _ = true
 
 -- the same as a fact, of all ops of a task
@@ -218,6 +262,9 @@ knows_isr app (isr.Do object access) = fits_object app object access && may_inte
 knows_isr app (isr.Command c) = is_some app.daemon && (has_group app c.group && is_mask c.mask)
 knows_isr app (isr.Resume task) = has_task app task
 knows_isr app (isr.GetBits group) = has_group app group
+knows_isr app (isr.Expect condition) = knows_condition app condition
+knows_isr app (isr.If condition) = knows_condition app condition
+knows_isr app (isr.Value values) = knows_values app values && is_defined values
 knows_isr app _ = true
 
 -- ---- the application
@@ -261,7 +308,7 @@ pub record IsDaemon (app : Application) (daemon : ℕ) : Type 0 where
   pub some : 1 ≤ daemon
   pub endless : is_endless app daemon ≡ true
   pub script : script_of app daemon ≡ NextCommand (commands_of app) ∷ Obey ∷ []
-  pub queue : fits_object app (commands_of app) Receive ≡ true
+  pub queue : fits_object {Item = ℕ} app (commands_of app) Receive ≡ true
 
 -- an application that is not refused (profile: its limits)
 pub record IsWellFormed (app : Application) : Type 0 where
@@ -272,6 +319,7 @@ pub record IsWellFormed (app : Application) : Type 0 where
   pub few_objects : length app.objects ≤ most_objects + (if is_some app.daemon then 1 else 0)
   pub daemon : IfSome app.daemon (IsDaemon app)
   pub few_groups : app.group_count ≤ most_groups
+  pub few_variables : length app.variables ≤ most_variables
   pub handlers : AllByRecursion (IsHandler app) app.handlers
   pub few_handlers : length app.handlers ≤ most_handlers
   pub interrupts : AllByRecursion (IsInterrupt app) app.interrupts

@@ -122,6 +122,8 @@ pub record State : Type 0 where
   pub objects : List Object
   -- the bits that are set of each event group
   pub group_bits : ℕ → ℕ
+  -- what each variable is
+  pub variables : List ℕ
   -- the time, without bound (`xTickCount`)
   pub time : ℕ
   -- the ticks since reset, held ones too

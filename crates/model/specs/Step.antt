@@ -1,6 +1,6 @@
 -- One step of the kernel: what the running task's op does, or idle, after the handlers that are injected.
 use Rattle.std.specs.Prelude.{ℕ, ◌+◌, ◌-◌, ◌&&◌, ◌==◌, Bool, true, false, List, [], ◌∷◌, Option, Some, None, if◌then◌else◌, map}
-use Rattle.std.specs.Prelude.{length, ◌++◌}
+use Rattle.std.specs.Prelude.{length, ◌++◌, is_none}
 use Rattle.std.specs.Option.{option_or}
 use Rattle.model.specs.declared.object.ObjectKind.{ObjectKind}
 use Rattle.model.specs.declared.object.ObjectKind.TheVariants.{Queue, Semaphore, Mutex}
@@ -8,7 +8,12 @@ use Rattle.model.specs.declared.op.Op.{Op}
 use Rattle.model.specs.declared.op.Op.TheVariants.{Work, Delay, DelayUntil, Yield, Time, Mark, Expect, Repeat, End, If, Else, EndIf}
 use Rattle.model.specs.declared.op.Op.TheVariants.{Break, Stamp, Since, Await, Do, GiveMutex, MessagesWaiting, SpacesAvailable}
 use Rattle.model.specs.declared.op.Op.TheVariants.{SetBits, ClearBits, GetBits, WaitBits, Suspend, Resume, SuspendAll, ResumeAll}
-use Rattle.model.specs.declared.op.Op.TheVariants.{EnterCritical, ExitCritical, NextCommand, Obey}
+use Rattle.model.specs.declared.op.Op.TheVariants.{EnterCritical, ExitCritical, Value, NextCommand, Obey}
+use Rattle.model.specs.declared.op.Access.{Access}
+use Rattle.model.specs.declared.value.Value as value
+use Rattle.model.specs.declared.call.Phase.{Phase}
+use Rattle.model.specs.declared.call.Phase.TheVariants.{Start}
+use Rattle.model.specs.Values.{answer_of, is_missing, lacks_item, number_of, with_number}
 use Rattle.model.specs.declared.event.What.TheVariants as what
 use Rattle.model.specs.declared.event.End.TheVariants as end
 use Rattle.model.specs.declared.event.Misuse.{Misuse}
@@ -21,13 +26,17 @@ use Rattle.model.specs.State.{object_at, bits_at, for_one, for_each, printed}
 use Rattle.model.specs.Switching.{write, is_same, make_ready, choice, yield_now, settle, is_scheduler_suspended, is_critical}
 use Rattle.model.specs.Switching.{unless_held}
 use Rattle.model.specs.Ops.{complete, answer, use_up, delay, delay_until, expect, open_loop, close_turn, branch, skip_branch}
-use Rattle.model.specs.Ops.{leave_loop, stamp, since, enter_critical, exit_critical}
+use Rattle.model.specs.Ops.{leave_loop, stamp, since, enter_critical, exit_critical, calculate, fail}
 use Rattle.model.specs.Calls.{await, do_now}
 use Rattle.model.specs.Mutexes.{give_mutex}
 use Rattle.model.specs.Groups.{set_bits, clear, wait_bits}
 use Rattle.model.specs.Suspension.{call_suspend, call_resume, suspend_all, resume_all}
 use Rattle.model.specs.Daemon.{next_command, obey, command_at}
 use Rattle.model.specs.Handlers.{inject, pend, serve_pending, tick_interrupt, idle}
+
+-- the call of this task with its value as a number
+abbrev pub call_with_number : State → ℕ → Access value.Value → Access ℕ
+call_with_number s task access = with_number s.variables (progress_at s task).answer access
 
 -- what each op does; that yield answers 0, and all of mark, is profile
 abbrev pub act : Application → ℕ → Op → State → State
@@ -36,7 +45,8 @@ act app task (Delay n) s = delay app task n s
 act app task (DelayUntil n) s = delay_until app task ((progress_at s task).previous_wake + n) s
 act app task Yield s = yield_now (answer app task (Some 0) s)
 act app task Time s = answer app task (Some (printed s.time)) s
-act app task (Mark n) s = complete app task (progress_at s task) (write (what.Mark task n) s)
+act app task (Mark value) s =
+    let p = progress_at s task in complete app task p (write (what.Mark task (number_of s.variables p.answer value)) s)
 act app task (Expect condition) s = expect app task condition s
 act app task (Repeat turns) s = open_loop app task turns s
 act app task End s = close_turn app task s
@@ -46,8 +56,9 @@ act app task EndIf s = complete app task (progress_at s task) s
 act app task Break s = leave_loop app task s
 act app task Stamp s = stamp app task s
 act app task Since s = since app task s
-act app task (Await object access ticks) s = await app task object access ticks (call_at s task).phase s
-act app task (Do object access) s = do_now app task object access s
+act app task (Await object access ticks) s =
+    await app task object (call_with_number s task access) ticks (call_at s task).phase s
+act app task (Do object access) s = do_now app task object (call_with_number s task access) s
 act app task (GiveMutex object) s = give_mutex app task object s
 act app task (MessagesWaiting object) s = answer app task (Some (length (object_at s object).items)) s
 act app task (SpacesAvailable object) s =
@@ -62,6 +73,7 @@ act app task SuspendAll s = suspend_all app task s
 act app task ResumeAll s = resume_all app task s
 act app task EnterCritical s = enter_critical app task s
 act app task ExitCritical s = exit_critical app task s
+act app task (Value op) s = calculate app task op s
 act app task (NextCommand object) s = next_command app task object (call_at s task).phase s
 act app task Obey s = obey app task (command_at s task) (call_at s task).phase s
 
@@ -124,9 +136,31 @@ end_misuse s =
 unfoldable pub judge : ℕ → ℕ → State → State
 judge task op_index s = if is_ended (status_at s task) then for_one (misused task op_index) (end_misuse s) s else s
 
+-- ---- ops without a value (profile)
+
+-- A call begins with this phase.
+abbrev pub is_start : Phase → Bool
+is_start Start = true
+is_start _ = false
+
+-- The op has no value to work with: the last answer is `none`, or it would divide by 0. Of a call that waits this is judged where
+-- it begins.
+abbrev pub lacks_value : State → ℕ → Op → Bool
+lacks_value s task (Await object access ticks) =
+    is_start (call_at s task).phase && lacks_item (progress_at s task).answer access
+lacks_value s task (Do object access) = lacks_item (progress_at s task).answer access
+lacks_value s task (Mark value) = is_missing (progress_at s task).answer value
+lacks_value s task (Value op) = is_none (answer_of s.variables (progress_at s task).answer op)
+lacks_value s task op = false
+
+-- The task does this op. One that has no value to work with isn't done, and is a failed check.
+abbrev pub act_by_value : Application → ℕ → Op → State → State
+act_by_value app task op s =
+    if lacks_value s task op then fail (end.Check task (progress_at s task).op_index) s else act app task op s
+
 -- The task does this op; but a misuse ends the run, and changes nothing else (profile).
 abbrev pub act_unless : Application → ℕ → Option Misuse → Op → State → State
-act_unless app task None op s = judge task (progress_at s task).op_index (act app task op s)
+act_unless app task None op s = judge task (progress_at s task).op_index (act_by_value app task op s)
 act_unless app task (Some kind) op s = misused task (progress_at s task).op_index kind s
 
 -- ---- a step
@@ -182,6 +216,7 @@ nobody_ready app = record {
   tasks = map (task_at_reset app.start) app.tasks;
   objects = map object_at_reset app.objects;
   group_bits = λ group. 0;
+  variables = app.variables;
   time = app.start;
   elapsed = 0;
   current = None;

@@ -8,14 +8,18 @@ use Rattle.model.specs.declared.op.Op.{Op}
 use Rattle.model.specs.declared.op.Op.TheVariants.{Work, Delay, DelayUntil, Yield, Time, Mark, Expect, Repeat, End, If, Else, EndIf}
 use Rattle.model.specs.declared.op.Op.TheVariants.{Break, Stamp, Since, Await, Do, GiveMutex, MessagesWaiting, SpacesAvailable}
 use Rattle.model.specs.declared.op.Op.TheVariants.{SetBits, ClearBits, GetBits, WaitBits, Suspend, Resume, SuspendAll, ResumeAll}
-use Rattle.model.specs.declared.op.Op.TheVariants.{EnterCritical, ExitCritical, NextCommand, Obey}
+use Rattle.model.specs.declared.op.Op.TheVariants.{EnterCritical, ExitCritical, Value, NextCommand, Obey}
+use Rattle.model.specs.declared.value.Arithmetic.{Arithmetic}
+use Rattle.model.specs.declared.value.Arithmetic.TheVariants.{Add, Sub, Mul, Div, Mod, And, Or, Xor}
+use Rattle.model.specs.declared.value.ValueOp.{ValueOp}
+use Rattle.model.specs.declared.value.ValueOp.TheVariants.{Load, Store, Compute}
 use Rattle.model.specs.declared.op.Command.{Command}
 use Rattle.model.specs.declared.op.IsrOp.{IsrOp}
 use Rattle.model.specs.declared.op.IsrOp.TheVariants as isr
 use Rattle.model.specs.Application.{Application, Definition, Handler, definition_of, ops_of}
 
 -- the first word of a call's text
-abbrev pub word_of_access : Access → List ℕ
+abbrev pub word_of_access : {Item : Type 0} → Access Item → List ℕ
 word_of_access (Send item) = codes "send"
 word_of_access (SendFront item) = codes "send_front"
 word_of_access (Overwrite item) = codes "overwrite"
@@ -24,6 +28,23 @@ word_of_access Peek = codes "peek"
 word_of_access Take = codes "take"
 word_of_access Give = codes "give"
 word_of_access Lock = codes "lock"
+
+-- the word of an operation of arithmetic
+abbrev pub word_of_arithmetic : Arithmetic → List ℕ
+word_of_arithmetic Add = codes "add"
+word_of_arithmetic Sub = codes "sub"
+word_of_arithmetic Mul = codes "mul"
+word_of_arithmetic Div = codes "div"
+word_of_arithmetic Mod = codes "mod"
+word_of_arithmetic And = codes "and"
+word_of_arithmetic Or = codes "or"
+word_of_arithmetic Xor = codes "xor"
+
+-- the first word of the text of an op on values
+abbrev pub word_of_value_op : ValueOp → List ℕ
+word_of_value_op (Load x) = codes "load"
+word_of_value_op (Store x value) = codes "store"
+word_of_value_op (Compute kind value) = word_of_arithmetic kind
 
 -- the first word of an op's text
 abbrev pub word_of : Op → List ℕ
@@ -57,6 +78,7 @@ word_of SuspendAll = codes "suspend_all"
 word_of ResumeAll = codes "resume_all"
 word_of EnterCritical = codes "enter_critical"
 word_of ExitCritical = codes "exit_critical"
+word_of (Value op) = word_of_value_op op
 word_of (NextCommand object) = []
 word_of Obey = []
 
@@ -75,6 +97,7 @@ word_of_isr (isr.Expect condition) = codes "expect"
 word_of_isr (isr.If condition) = codes "if"
 word_of_isr isr.Else = codes "else"
 word_of_isr isr.EndIf = codes "end"
+word_of_isr (isr.Value op) = word_of_value_op op
 
 -- ---- names
 

@@ -1,32 +1,50 @@
 //! What a script asks of the last answer.
 ghost use Rattle.std.specs.Prelude.{◌≡◌};
-ghost use Rattle.model.specs.Answers.{holds};
+ghost use Rattle.model.specs.Answers.{holds, equals};
+
+use crate::value::Value;
 
 /// What `expect` and `if` ask of the last answer, which is a number or `none` (profile).
 #[derive(Clone, Copy, PartialEq, Eq)]
 pub enum AnswerCondition {
     /// It is this one; `None` is the answer `none`.
-    Is(Option<u32>),
+    Is(Option<Value>),
     /// It is not this one.
-    IsNot(Option<u32>),
+    IsNot(Option<Value>),
     /// It is a number below this one.
-    Below(u32),
+    Below(Value),
     /// It is a number above this one.
-    Above(u32),
+    Above(Value),
 }
 
 impl AnswerCondition {
-    /// Whether it holds of this answer.
+    /// Whether it holds of this answer, by these variables.
     #[inline]
-    pub fn holds(self, answer: Option<u32>) -> bool
-        ensures { result ≡ holds self answer }
+    pub fn holds(self, variables: &[u32], answer: Option<u32>) -> bool
+        ensures { result ≡ holds variables.now self answer }
     {
-        match (self, answer) {
-            (AnswerCondition::Is(wanted), _) => answer == wanted,
-            (AnswerCondition::IsNot(other), _) => answer != other,
-            (AnswerCondition::Below(bound), Some(number)) => number < bound,
-            (AnswerCondition::Above(bound), Some(number)) => number > bound,
-            (_, None) => false,
+        match self {
+            AnswerCondition::Is(wanted) => equals(wanted, variables, answer),
+            AnswerCondition::IsNot(other) => !equals(other, variables, answer),
+            AnswerCondition::Below(bound) => match answer {
+                Some(number) => number < bound.number(variables, answer),
+                None => false,
+            },
+            AnswerCondition::Above(bound) => match answer {
+                Some(number) => number > bound.number(variables, answer),
+                None => false,
+            },
         }
+    }
+}
+
+// Whether the answer is this value; `None` is the answer `none`.
+#[inline]
+fn equals(wanted: Option<Value>, variables: &[u32], answer: Option<u32>) -> bool
+    ensures { result ≡ equals variables.now answer wanted }
+{
+    match wanted {
+        Some(value) => answer == value.get(variables, answer),
+        None => answer.is_none(),
     }
 }

@@ -1,4 +1,4 @@
-//! An application: its objects, its event groups, its handlers and base interrupts, its tasks, its limits, the time at reset,
+//! An application: its objects, its event groups, its variables, its handlers and base interrupts, its tasks, its limits, the time at reset,
 //! and the points of its campaign.
 ghost use Rattle.std.specs.Prelude.{◌≡◌, ◌<◌, ◌≤◌, true, not, [], length, map, nat_lt, string_bytes};
 ghost use Rattle.std.specs.List.{list_any};
@@ -169,7 +169,7 @@ impl HandlerDefinition {
 }
 
 /// An application: what a run starts from, and the points of its campaign, which no run depends on. It has 1 to 32
-/// tasks, and at most 32 objects, 16 event groups, 16 handlers, 1,024 base interrupts, 4 of them at one tick, and
+/// tasks, and at most 32 objects, 16 event groups, 32 variables, 16 handlers, 1,024 base interrupts, 4 of them at one tick, and
 /// 1,000,000 entries of points (profile).
 #[derive(Drop)]
 pub struct App {
@@ -178,6 +178,7 @@ pub struct App {
     limits: Limits,
     objects: Vec<ObjectKind>,
     group_count: u8,
+    variables: Vec<u32>,
     handlers: Vec<HandlerDefinition>,
     interrupts: BaseInterrupts,
     tasks: Vec<TaskDefinition>,
@@ -204,6 +205,7 @@ impl Model for App {
       limits = a.limits;
       objects = a.objects.items;
       group_count = a.group_count;
+      variables = a.variables.items;
       handlers = a.handlers.items;
       interrupts = a.interrupts;
       tasks = a.tasks.items;
@@ -217,6 +219,7 @@ impl Model for App {
       limits = a.limits;
       objects = a.objects.items;
       group_count = a.group_count;
+      variables = a.variables.items;
       handlers = a.handlers.items;
       interrupts = a.interrupts;
       tasks = a.tasks.items;
@@ -233,6 +236,9 @@ impl App {
     /// The most event groups (profile).
     pub const MOST_GROUPS: usize = 16;
 
+    /// The most variables (profile).
+    pub const MOST_VARIABLES: usize = 32;
+
     /// The most handlers (profile).
     pub const MOST_HANDLERS: usize = 16;
 
@@ -245,7 +251,7 @@ impl App {
     /// The most entries of points, and the most points that they mean (profile).
     pub const MOST_POINTS: usize = 1_000_000;
 
-    /// An application of these objects, this many event groups, these handlers, base interrupts and tasks, whose time at reset
+    /// An application of these objects, this many event groups, variables that are these at reset, these handlers, base interrupts and tasks, whose time at reset
     /// is `start`, and whose campaign has these points. The daemon, if there is one, is the last task, and its queue the last object.
     /// They are well formed together: each is within the limits, and each op speaks of what is there and allows it.
     pub fn new(
@@ -254,6 +260,7 @@ impl App {
         limits: Limits,
         objects: Vec<ObjectKind>,
         group_count: u8,
+        variables: Vec<u32>,
         handlers: Vec<HandlerDefinition>,
         interrupts: BaseInterrupts,
         tasks: Vec<TaskDefinition>,
@@ -266,6 +273,7 @@ impl App {
           limits = limits;
           objects = objects.items;
           group_count = group_count;
+          variables = variables.items;
           handlers = handlers.items;
           interrupts = interrupts;
           tasks = tasks.items;
@@ -278,6 +286,7 @@ impl App {
           limits = limits;
           objects = objects.items;
           group_count = group_count;
+          variables = variables.items;
           handlers = handlers.items;
           interrupts = interrupts;
           tasks = tasks.items;
@@ -294,6 +303,7 @@ impl App {
             limits,
             objects,
             group_count,
+            variables,
             handlers,
             interrupts,
             tasks,
@@ -347,6 +357,13 @@ impl App {
         ensures { result ≡ self.now.group_count }
     {
         self.group_count
+    }
+
+    /// What each variable is at reset, in the order of the file.
+    pub fn variables(&self) -> &[u32]
+        ensures { result.now ≡ self.now.variables }
+    {
+        self.variables.as_slice()
     }
 
     /// The handlers, in the order of the file.

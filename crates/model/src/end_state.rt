@@ -1,4 +1,4 @@
-//! The end state of a run: what each task is doing, and who holds which mutex.
+//! The end state of a run: what each task is doing, and who holds which mutex, and what each variable is.
 use crate::ids::{ObjectId, TaskId};
 use arrayvec::ArrayVec;
 use std::marker::Model;
@@ -51,13 +51,15 @@ pub struct EndState {
     pub situations: ArrayVec<Situation, 32>,
     /// The mutexes that are held, by their numbers.
     pub held: ArrayVec<HeldMutex, 33>,
+    /// What each variable is, in the order of the file.
+    pub variables: ArrayVec<u32, 32>,
 }
 
-// Clauses see the two lists.
+// Clauses see the three lists.
 impl Model for EndState {
     ghost use Rattle.model.specs.EndStates as definition;
 
     ghost Value = { definition.EndState };
 
-    ghost view = { λ s. record { situations = s.situations.items; held = s.held.items } };
+    ghost view = { λ s. record { situations = s.situations.items; held = s.held.items; variables = s.variables.items } };
 }

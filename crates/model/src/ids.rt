@@ -1,4 +1,4 @@
-//! Typed numbers: which task, which handler, which object, which event group.
+//! Typed numbers: which task, which handler, which object, which event group, which variable.
 ghost use Rattle.std.specs.Prelude.{◌≡◌, ◌<◌, ◌↔◌, IsSome, IfSome};
 
 use std::marker::Model;
@@ -143,6 +143,27 @@ impl GroupId {
     {
         if number < 16 {
             Some(GroupId { number })
+        } else {
+            None
+        }
+    }
+}
+
+/// A variable, by its index in the file: 0 to 31.
+// Without an `impl Model`, so clauses see the record: rattle gives no proof of what moves an enum in an enum that holds a type with a model.
+#[derive(Clone, Copy, PartialEq, Eq)]
+pub struct VariableId {
+    pub number: u8,
+}
+
+impl VariableId {
+    /// The variable of this index; `None` from 32 on.
+    pub fn new(number: u8) -> Option<Self>
+        ensures known { IsSome result ↔ (number < 32) }
+        ensures value { IfSome result (λ variable. variable.number ≡ number) }
+    {
+        if number < 32 {
+            Some(VariableId { number })
         } else {
             None
         }

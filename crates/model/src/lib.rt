@@ -18,6 +18,7 @@ mod plan;
 mod run;
 mod script;
 mod totals;
+mod value;
 
 pub use answer::AnswerCondition;
 pub use app::{App, HandlerDefinition, TaskDefinition};
@@ -25,7 +26,7 @@ pub use block::{Block, Edge, OpenBlocks};
 pub use call::{CallProgress, Condition, Phase, WaitList};
 pub use end_state::{EndState, HeldMutex, Situation};
 pub use event::{End, Event, Misuse, What};
-pub use ids::{GroupId, HandlerId, ObjectId, TaskId};
+pub use ids::{GroupId, HandlerId, ObjectId, TaskId, VariableId};
 pub use interrupts::{BaseInterrupts, Interrupt};
 pub use limits::{Limits, Meter};
 pub use loops::Loop;
@@ -35,3 +36,4 @@ pub use plan::{BadPlan, BadPoint, Injection, Injections, Plan, Point, PointEntry
 pub use run::{Ending, Memory, Run};
 pub use script::{NestingFault, Script, ScriptBuilder};
 pub use totals::Totals;
+pub use value::{Arithmetic, Value, ValueOp};

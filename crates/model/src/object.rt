@@ -21,7 +21,7 @@ impl ObjectKind {
     pub const MOST_ITEMS: u16 = 256;
 
     /// Whether the call may be made on an object of this kind.
-    pub fn fits(self, access: Access) -> bool
+    pub fn fits<Item: Copy>(self, access: Access<Item>) -> bool
         ensures { result ≡ fits self access }
     {
         match (self, access) {

@@ -3,16 +3,17 @@ use crate::answer::AnswerCondition;
 use crate::block::Edge;
 use crate::call::Condition;
 use crate::ids::{GroupId, ObjectId, TaskId};
+use crate::value::{Value, ValueOp};
 
-/// What a call asks of an object.
+/// What a call asks of an object. The items that it puts there are values in a script, and numbers in the kernel.
 #[derive(Clone, Copy, PartialEq, Eq)]
-pub enum Access {
+pub enum Access<Item> {
     /// Puts an item last (`xQueueSend`).
-    Send(u32),
+    Send(Item),
     /// Puts an item first (`xQueueSendToFront`).
-    SendFront(u32),
+    SendFront(Item),
     /// Puts an item in place of the one of a queue of length 1 (`xQueueOverwrite`).
-    Overwrite(u32),
+    Overwrite(Item),
     /// Takes the first item (`xQueueReceive`).
     Receive,
     /// Answers the first item and leaves it (`xQueuePeek`).
@@ -25,10 +26,22 @@ pub enum Access {
     Lock,
 }
 
-impl Access {
+impl<Item: Copy> Access<Item> {
     ghost use Rattle.std.specs.Prelude.{◌≡◌};
+    ghost use Rattle.model.specs.Values.{item_in};
     ghost use Rattle.model.specs.Words.{word_of_access};
     ghost use Rattle.model.specs.Scripts.{is_of_mutex, is_of_queue, is_of_semaphore};
+
+    /// The item that the call puts into a queue, if it puts one.
+    #[inline]
+    pub fn item(self) -> Option<Item>
+        ensures { result ≡ item_in self }
+    {
+        match self {
+            Access::Send(item) | Access::SendFront(item) | Access::Overwrite(item) => Some(item),
+            Access::Receive | Access::Peek | Access::Take | Access::Give | Access::Lock => None,
+        }
+    }
 
     /// The first word of the call's text.
     pub fn word(self) -> &'static str
@@ -72,6 +85,39 @@ impl Access {
         ensures { result ≡ is_of_mutex self }
     {
         matches!(self, Access::Lock)
+    }
+}
+
+impl Access<Value> {
+    ghost use Rattle.std.specs.Prelude.{◌≡◌};
+    ghost use Rattle.model.specs.Values.{lacks_item, with_number};
+
+    /// Whether the item that the call puts into a queue is the last answer, and that is `none`.
+    #[inline]
+    pub fn lacks_item(self, answer: Option<u32>) -> bool
+        ensures { result ≡ lacks_item answer self }
+    {
+        match self.item() {
+            Some(item) => item.is_missing(answer),
+            None => false,
+        }
+    }
+
+    /// The call with a number for its value, by these variables and this last answer.
+    #[inline]
+    pub fn with_number(self, variables: &[u32], answer: Option<u32>) -> Access<u32>
+        ensures { result ≡ with_number variables.now answer self }
+    {
+        match self {
+            Access::Send(item) => Access::Send(item.number(variables, answer)),
+            Access::SendFront(item) => Access::SendFront(item.number(variables, answer)),
+            Access::Overwrite(item) => Access::Overwrite(item.number(variables, answer)),
+            Access::Receive => Access::Receive,
+            Access::Peek => Access::Peek,
+            Access::Take => Access::Take,
+            Access::Give => Access::Give,
+            Access::Lock => Access::Lock,
+        }
     }
 }
 
@@ -137,7 +183,7 @@ pub enum Op {
     /// Answers the printed tick (`xTaskGetTickCount`).
     Time,
     /// Writes a mark line with this number, 0 to 4,294,967,295 (profile).
-    Mark(u32),
+    Mark(Value),
     /// Ends the run where this doesn't hold of the last answer (profile).
     Expect(AnswerCondition),
     /// Opens a loop of this many turns, 1 to 1,000; `None` is for ever: only a `break` ends it (profile).
@@ -158,9 +204,9 @@ pub enum Op {
     Since,
     /// A call that waits until the object allows it, at most for this many ticks, 0 to 4,294,967,294; `None` is for ever
     /// (`portMAX_DELAY`). It is one of send, send_front, receive, peek, take and lock.
-    Await(ObjectId, Access, Option<u32>),
+    Await(ObjectId, Access<Value>, Option<u32>),
     /// A call that doesn't wait: overwrite or give.
-    Do(ObjectId, Access),
+    Do(ObjectId, Access<Value>),
     /// Gives a mutex back, which the task holds (`xSemaphoreGive` of a mutex).
     GiveMutex(ObjectId),
     /// Answers how many items are in a queue (`uxQueueMessagesWaiting`).
@@ -188,6 +234,8 @@ pub enum Op {
     EnterCritical,
     /// Closes one (`taskEXIT_CRITICAL`).
     ExitCritical,
+    /// Loads or stores a variable, or calculates with the last answer (profile).
+    Value(ValueOp),
     /// Waits for the next command of this queue: an op of the daemon, which no file has.
     NextCommand(ObjectId),
     /// Does the command that was received: an op of the daemon, which no file has.
@@ -248,6 +296,7 @@ impl Op {
             Op::ResumeAll => "resume_all",
             Op::EnterCritical => "enter_critical",
             Op::ExitCritical => "exit_critical",
+            Op::Value(op) => op.word(),
             Op::NextCommand(_) | Op::Obey => "",
         }
     }
@@ -258,7 +307,7 @@ impl Op {
 pub enum IsrOp {
     /// A call on an object, done if it is possible: send, send_front, overwrite, receive, peek or give (`xQueueSendFromISR`,
     /// `xSemaphoreGiveFromISR` and the like).
-    Do(ObjectId, Access),
+    Do(ObjectId, Access<Value>),
     /// Sends a command to the daemon's queue, if it has room (`xEventGroupSetBitsFromISR`, `xEventGroupClearBitsFromISR`).
     Command(Command),
     /// Resumes a suspended task (`xTaskResumeFromISR`).
@@ -266,7 +315,7 @@ pub enum IsrOp {
     /// Answers which bits of an event group are set (`xEventGroupGetBitsFromISR`).
     GetBits(GroupId),
     /// Writes a mark line with this number, 0 to 4,294,967,295 (profile).
-    Mark(u32),
+    Mark(Value),
     /// Ends the handler, and the run behind the step, where this doesn't hold of the answer of the handler's op before (profile).
     Expect(AnswerCondition),
     /// Goes on where this holds of that answer, and otherwise behind its `else`, or behind its `end` where it has none (profile).
@@ -275,6 +324,8 @@ pub enum IsrOp {
     Else,
     /// Ends an `if`, and does nothing (profile).
     EndIf,
+    /// Loads or stores a variable, or calculates with the answer of the handler's op before (profile).
+    Value(ValueOp),
 }
 
 impl IsrOp {
@@ -308,6 +359,7 @@ impl IsrOp {
             IsrOp::If(_) => "if",
             IsrOp::Else => "else",
             IsrOp::EndIf => "end",
+            IsrOp::Value(op) => op.word(),
         }
     }
 }

@@ -1,4 +1,5 @@
 -- What the deeds of calls on objects keep.
+use Rattle.model.specs.declared.value.Value as value
 use Rattle.std.proofs.Common.{◌≡◌, ◌≢◌, ◌<◌, ◌≤◌, ◌+◌, ℕ, true, false, ltb, List, [], ◌∷◌, ◌++◌, length, get_or, set, drop, Option}
 use Rattle.std.proofs.Common.{Some, None, refl, ap, sym, subst, arith, get_or-set_same, get_or-set_other, length-append}
 use Rattle.std.specs.List.{AllByRecursion, slice_get}
@@ -83,7 +84,7 @@ fewer [] size l = l
 fewer (x ∷ xs) size l = omega arith
 
 -- a possible call leaves the object of its kind, and within its room
-after : (kind : Option ObjectKind) (caller : Option ℕ) (a : Access) (o : Object)
+after : (kind : Option ObjectKind) (caller : Option ℕ) (a : Access ℕ) (o : Object)
     → unwrap_or (option_map (λ k. fits k a) kind) false ≡ true → IsObject kind o
     → allows o a ≡ true → IsObject kind (object_after caller a o)
 after None caller a o f h t = absurd (cc)
@@ -190,7 +191,7 @@ module _ (app : Application) (formed : IsWellFormed app) (hold : Hold) where
   woken_for s None h same = h
   woken_for s (Some list) h same = woken_best s list h same
 
-  pub fulfilled : (s : State) (caller : Option ℕ) (o : ℕ) (a : Access) → IsSound app hold s
+  pub fulfilled : (s : State) (caller : Option ℕ) (o : ℕ) (a : Access ℕ) → IsSound app hold s
       → s.locked ≡ hold.locked → possible s o a ≡ true → fits_object app o a ≡ true
       → IfSome caller (λ i. i < length s.tasks) → IsSound app hold (fulfil caller o a s)
   unfolding fulfil
@@ -201,7 +202,7 @@ module _ (app : Application) (formed : IsWellFormed app) (hold : Hold) where
       (held_after caller a (object_at s o) (length s.tasks) l (h.table.holders o)))
       same
 
-  pub attempted : (s : State) (caller : Option ℕ) (o : ℕ) (a : Access) → IsSound app hold s → s.locked ≡ hold.locked
+  pub attempted : (s : State) (caller : Option ℕ) (o : ℕ) (a : Access ℕ) → IsSound app hold s → s.locked ≡ hold.locked
       → fits_object app o a ≡ true → IfSome caller (λ i. i < length s.tasks) → IsSound app hold (attempt caller o a s)
   unfolding attempt
   attempted s caller o a h same f l = by_test (possible s o a) (λ t. rw t (fulfilled s caller o a h same t f l)) (λ t. rw t h)
@@ -234,12 +235,12 @@ spared_for : (s : State) (i : ℕ) (o : Option WaitList) → is_ready s i ≡ tr
 spared_for s i None r = refl
 spared_for s i (Some list) r = spared_best s i list r
 
-pub spared_fulfil : (s : State) (i : ℕ) (caller : Option ℕ) (o : ℕ) (a : Access)
+pub spared_fulfil : (s : State) (i : ℕ) (caller : Option ℕ) (o : ℕ) (a : Access ℕ)
     → is_ready s i ≡ true → task_at (fulfil caller o a s) i ≡ task_at s i
 unfolding fulfil
 spared_fulfil s i caller o a r = spared_for (with_object o (object_after caller a (object_at s o)) s) i (list_woken caller o a) r
 
-pub spared_attempt : (s : State) (i : ℕ) (caller : Option ℕ) (o : ℕ) (a : Access)
+pub spared_attempt : (s : State) (i : ℕ) (caller : Option ℕ) (o : ℕ) (a : Access ℕ)
     → is_ready s i ≡ true → task_at (attempt caller o a s) i ≡ task_at s i
 unfolding attempt
 spared_attempt s i caller o a r = by_test (possible s o a) (λ t. rw t (spared_fulfil s i caller o a r)) (λ t. rw t refl)
@@ -293,16 +294,16 @@ module _ (app : Application) (formed : IsWellFormed app) (hold : Hold) where
       answered app formed hold t i op h (subst F (sym same) (ready_free (status_at s i) r))
       (subst O (sym same) is) reply (flat (length (progress_at t i).loops))
 
-  pub done_now : (s : State) (i o : ℕ) (a : Access) → IsSound app hold s → s.locked ≡ hold.locked
-      → i < length s.tasks → is_ready s i ≡ true → op_at app i (progress_at s i).op_index ≡ Some (Do o a)
+  pub done_now : (s : State) (i o : ℕ) (v : Access value.Value) (a : Access ℕ) → IsSound app hold s → s.locked ≡ hold.locked
+      → i < length s.tasks → is_ready s i ≡ true → op_at app i (progress_at s i).op_index ≡ Some (Do o v)
       → fits_object app o a ≡ true → IsSound app hold (do_now app i o a s)
   unfolding do_now
-  done_now s i o a h same l r is fit =
-      preempted app formed hold _ (replied s (attempt (Some i) o a s) i (Do o a) (answer_to s o a)
+  done_now s i o v a h same l r is fit =
+      preempted app formed hold _ (replied s (attempt (Some i) o a s) i (Do o v) (answer_to s o a)
       (attempted app formed hold s (Some i) o a h same fit l) (spared_attempt s i (Some i) o a r) r is (λ n. refl))
 
   -- a wait begins
-  pub began : (s : State) (i o : ℕ) (a : Access) (op : Op) → IsSound app hold s
+  pub began : (s : State) (i o : ℕ) (a : Access ℕ) (op : Op) → IsSound app hold s
       → i < length s.tasks → is_ready s i ≡ true → op_at app i (progress_at s i).op_index ≡ Some op
       → list_of_op (Some op) ≡ Some (list_for o a) → IsSound app hold (wait_in i (list_for o a) s)
   unfolding wait_in

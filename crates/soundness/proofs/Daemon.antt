@@ -34,7 +34,7 @@ module _ (app : Application) (formed : IsWellFormed app) (hold : Hold) where
   -- a command is received, or the daemon decides to wait for one
   pub command_taken : (s : State) (i o : ℕ) → IsSound app hold s → s.locked ≡ hold.locked → i < length s.tasks
       → is_ready s i ≡ true → op_at app i (progress_at s i).op_index ≡ Some (NextCommand o)
-      → fits_object app o Receive ≡ true → IsSound app hold (take_command app i o s)
+      → fits_object {Item = ℕ} app o Receive ≡ true → IsSound app hold (take_command app i o s)
   unfolding take_command received
   command_taken s i o h same l r is fit =
       let P : Option Op → Type 0 = λ op. IsPhaseOf hold (course op) Decide in

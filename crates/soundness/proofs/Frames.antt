@@ -1,4 +1,7 @@
 -- What a deed leaves as it was, as one record for each deed: a field more of the state is a field more here.
+use Rattle.model.specs.declared.value.ValueOp.{ValueOp}
+use Rattle.model.specs.Ops.{calculate, store}
+use Rattle.model.specs.Values.{answer_of, number_of, with_number}
 use Rattle.std.proofs.Common.{max, ◌≡◌, ◌+◌, ◌-◌, ◌||◌, ℕ, Bool, true, eqb, leb, ltb, List, [], ◌∷◌, Option, Some, None, refl, sym}
 use Rattle.std.proofs.Common.{subst, ◌∙◌, length, drop, zero, suc, min}
 use Rattle.std.specs.Option.{option_map}
@@ -239,7 +242,7 @@ pub keeps-branch : (app : Application) (i : ℕ) (condition : AnswerCondition) (
 unfolding branch
 keeps-branch app i condition s =
     let p : Progress = progress_at s i in
-    by_test (holds condition p.answer)
+    by_test (holds s.variables condition p.answer)
     (λ q. rw q (keeps-go_to app i (p.op_index + 1) p s))
     (λ q. rw q (keeps-go_to app i (jump_from (script_of app i) p.op_index) p s))
 
@@ -277,7 +280,7 @@ pub keeps-wake_best : (list : WaitList) (s : State) → Keeps s (wake_best list 
 unfolding wake_best
 keeps-wake_best list s = keeps-for_one (λ i. wake_one i list) (task_of (first (waiters s list))) s (λ i. keeps-wake_one i list s)
 
-pub keeps-fulfil : (caller : Option ℕ) (o : ℕ) (a : Access) (s : State) → Keeps s (fulfil caller o a s)
+pub keeps-fulfil : (caller : Option ℕ) (o : ℕ) (a : Access ℕ) (s : State) → Keeps s (fulfil caller o a s)
 unfolding fulfil
 keeps-fulfil caller o a s =
     let t : State = with_object o (object_after caller a (object_at s o)) s in
@@ -294,7 +297,7 @@ keeps-fulfil caller o a s =
       sources = k.sources;
     }
 
-pub keeps-attempt : (caller : Option ℕ) (o : ℕ) (a : Access) (s : State) → Keeps s (attempt caller o a s)
+pub keeps-attempt : (caller : Option ℕ) (o : ℕ) (a : Access ℕ) (s : State) → Keeps s (attempt caller o a s)
 unfolding attempt
 keeps-attempt caller o a s = by_test (possible s o a) (λ t. rw t (keeps-fulfil caller o a s)) (λ t. rw t (keeps s))
 
@@ -375,7 +378,7 @@ keeps-give_mutex app i o s =
 
 -- ---- calls that may wait, and those that don't
 
-pub keeps-try : (app : Application) (i o : ℕ) (a : Access) (s : State) → Keeps s (try app i o a s)
+pub keeps-try : (app : Application) (i o : ℕ) (a : Access ℕ) (s : State) → Keeps s (try app i o a s)
 unfolding try
 keeps-try app i o a s =
     let t : State = fulfil (Some i) o a s in
@@ -390,7 +393,7 @@ keeps-try app i o a s =
     (keeps-after_timeout i o s) (keeps-answer app i (answer_to s o a) (after_timeout i o s))))
     (λ q. rw q (keeps-with_call i (record (call_at s i) { phase = Decide }) s))))
 
-pub keeps-do_now : (app : Application) (i o : ℕ) (a : Access) (s : State) → Keeps s (do_now app i o a s)
+pub keeps-do_now : (app : Application) (i o : ℕ) (a : Access ℕ) (s : State) → Keeps s (do_now app i o a s)
 unfolding do_now
 keeps-do_now app i o a s =
     let t : State = attempt (Some i) o a s in
@@ -519,31 +522,58 @@ keeps-clear_by_daemon app i group mask s =
     keeps_both s t (obeyed app i true (bits_at s group) t)
     (keeps-with_bits group bits s) (keeps-obeyed app i true (bits_at s group) t)
 
+-- ---- values
+
+pub keeps-store : (op : ValueOp) (a : Option ℕ) (s : State) → Keeps s (store op a s)
+keeps-store op a s = record {
+  time = refl;
+  elapsed = refl;
+  steps = refl;
+  tasks = refl;
+  hold = refl;
+  suspension = refl;
+  sources = refl;
+}
+
+pub keeps-calculate : (app : Application) (i : ℕ) (op : ValueOp) (s : State) → Keeps s (calculate app i op s)
+unfolding calculate
+keeps-calculate app i op s =
+    let a : Option ℕ = answer_of s.variables (progress_at s i).answer op in
+    keeps_both s (store op a s) (calculate app i op s) (keeps-store op a s) (keeps-answer app i a (store op a s))
+
 -- ---- handlers
 
 pub keeps-write : (w : What) (s : State) → Keeps s (write w s)
 keeps-write w s = record { time = refl; elapsed = refl; steps = refl; tasks = refl; hold = refl; suspension = refl; sources = refl }
 
-pub keeps-isr : (app : Application) (handler op_index : ℕ) (op : IsrOp) (s : State) → Keeps s (isr app handler op_index op s)
-keeps-isr app handler op_index (isr_op.Do o a) s =
-    let t : State = attempt None o a s in
-    let w : What = isr_told handler op_index (answer_to s o a) in
-    keeps_both s t (write w t) (keeps-attempt None o a s) (keeps-write w t)
-keeps-isr app handler op_index (isr_op.Command c) s =
-    let send : Access = Send (item_of c) in
+pub keeps-isr : (app : Application) (handler op_index : ℕ) (op : IsrOp) (answer : Option ℕ) (s : State)
+    → Keeps s (isr app handler op_index op answer s)
+keeps-isr app handler op_index (isr_op.Do o a) last s =
+    let access : Access ℕ = with_number s.variables last a in
+    let t : State = attempt None o access s in
+    let w : What = isr_told handler op_index (answer_to s o access) in
+    keeps_both s t (write w t) (keeps-attempt None o access s) (keeps-write w t)
+keeps-isr app handler op_index (isr_op.Command c) last s =
+    let send : Access ℕ = Send (item_of c) in
     let t : State = attempt None (commands_of app) send s in
     let w : What = isr_told handler op_index (answer_to s (commands_of app) send) in
     keeps_both s t (write w t) (keeps-attempt None (commands_of app) send s) (keeps-write w t)
-keeps-isr app handler op_index (isr_op.Resume task) s =
+keeps-isr app handler op_index (isr_op.Resume task) last s =
     let t : State = resume task s in
     let w : What = isr_told handler op_index (one_if (can_resume (status_at s task))) in
     keeps_both s t (write w t) (keeps-resume task s) (keeps-write w t)
-keeps-isr app handler op_index (isr_op.GetBits group) s = keeps-write (isr_told handler op_index (Some (bits_at s group))) s
-keeps-isr app handler op_index (isr_op.Mark n) s = keeps-write (what.IsrMark handler n) s
-keeps-isr app handler op_index (isr_op.Expect condition) s = keeps s
-keeps-isr app handler op_index (isr_op.If condition) s = keeps s
-keeps-isr app handler op_index isr_op.Else s = keeps s
-keeps-isr app handler op_index isr_op.EndIf s = keeps s
+keeps-isr app handler op_index (isr_op.GetBits group) last s =
+    keeps-write (isr_told handler op_index (Some (bits_at s group))) s
+keeps-isr app handler op_index (isr_op.Value op) last s =
+    let a : Option ℕ = answer_of s.variables last op in
+    let w : What = isr_told handler op_index a in
+    keeps_both s (store op a s) (write w (store op a s)) (keeps-store op a s) (keeps-write w (store op a s))
+keeps-isr app handler op_index (isr_op.Mark value) last s =
+    keeps-write (what.IsrMark handler (number_of s.variables last value)) s
+keeps-isr app handler op_index (isr_op.Expect condition) last s = keeps s
+keeps-isr app handler op_index (isr_op.If condition) last s = keeps s
+keeps-isr app handler op_index isr_op.Else last s = keeps s
+keeps-isr app handler op_index isr_op.EndIf last s = keeps s
 
 pub keeps-fail : (check : End) (s : State) → Keeps s (fail check s)
 keeps-fail check s = record {
@@ -562,14 +592,14 @@ keeps-isr_each : (app : Application) (handler op_index over : ℕ) (answer : Opt
 keeps-isr_each app handler op_index over answer [] s = keeps s
 keeps-isr_each app handler op_index (suc over) answer (op ∷ ops) s = keeps-isr_each app handler (op_index + 1) over answer ops s
 keeps-isr_each app handler op_index zero answer (op ∷ ops) s =
-    let t : State = isr app handler op_index op s in
+    let t : State = isr app handler op_index op answer s in
     let next : Option ℕ = isr_answer app s op answer in
-    let over : ℕ = isr_jump op answer ops in
-    by_test (is_failed op answer)
+    let over : ℕ = isr_jump s op answer ops in
+    by_test (is_failed s op answer)
     (λ f. rw f (keeps-fail (HandlerCheck handler op_index) s))
     (λ f.
     rw f (keeps_both s t (isr_each app handler (op_index + 1) over next ops t)
-    (keeps-isr app handler op_index op s) (keeps-isr_each app handler (op_index + 1) over next ops t)))
+    (keeps-isr app handler op_index op answer s) (keeps-isr_each app handler (op_index + 1) over next ops t)))
 
 pub keeps-handle : (app : Application) (handler : ℕ) (s : State) → Keeps s (handle app handler s)
 unfolding handle

@@ -1,4 +1,8 @@
 -- While a task holds the scheduler it goes on, also when its script is done.
+use Rattle.model.specs.declared.op.Op.TheVariants.{Value}
+use Rattle.model.specs.declared.value.ValueOp.{ValueOp}
+use Rattle.model.specs.Ops.{calculate, store}
+use Rattle.model.specs.Values.{answer_of, number_of}
 use Rattle.std.proofs.Common.{◌≡◌, ◌≢◌, ◌<◌, ◌+◌, ◌-◌, ◌||◌, ◌⊎◌, inl, inr, ℕ, zero, suc, Bool, true, false, eqb, leb, List}
 use Rattle.std.proofs.Common.{[], ◌∷◌, length, Option, Some, None, refl, ap, sym, subst, ◌∙◌, arith, get_or-set_same}
 use Rattle.std.proofs.Common.{get_or-set_other, drop}
@@ -139,7 +143,7 @@ module _ (app : Application) (i : ℕ) where
   expected_on : (condition : AnswerCondition) (s : State) → i < length s.tasks
       → is_ready s i ≡ true → Continues app i s (expect app i condition s)
   unfolding expect
-  expected_on condition s l r = by_test (holds condition (progress_at s i).answer)
+  expected_on condition s l r = by_test (holds s.variables condition (progress_at s i).answer)
       (λ t. rw t (gone_to ((progress_at s i).op_index + 1) (progress_at s i) s l r))
       (λ t. rw t (record { current = refl; goes = inl r }))
 
@@ -169,7 +173,7 @@ module _ (app : Application) (i : ℕ) where
   branched_on : (condition : AnswerCondition) (s : State) → i < length s.tasks
       → is_ready s i ≡ true → Continues app i s (branch app i condition s)
   unfolding branch
-  branched_on condition s l r = by_test (holds condition (progress_at s i).answer)
+  branched_on condition s l r = by_test (holds s.variables condition (progress_at s i).answer)
       (λ t. rw t (gone_to ((progress_at s i).op_index + 1) (progress_at s i) s l r))
       (λ t. rw t (gone_to (jump_from (script_of app i) (progress_at s i).op_index) (progress_at s i) s l r))
 
@@ -190,6 +194,13 @@ module _ (app : Application) (i : ℕ) where
   since_on : (s : State) → i < length s.tasks → is_ready s i ≡ true → Continues app i s (since app i s)
   unfolding since
   since_on s l r = answering_on _ s l r
+
+  calculated_on : (op : ValueOp) (s : State) → i < length s.tasks → is_ready s i ≡ true → Continues app i s (calculate app i op s)
+  unfolding calculate
+  calculated_on op s l r =
+      let a : Option ℕ = answer_of s.variables (progress_at s i).answer op in
+      let k = answering_on a (store op a s) l r in
+      record { current = k.current; goes = k.goes }
 
   cleared_on : (group mask : ℕ) (s : State) → i < length s.tasks
       → is_ready s i ≡ true → Continues app i s (clear app i group mask s)
@@ -218,7 +229,8 @@ module _ (app : Application) (i : ℕ) where
   acted_on (DelayUntil n) s q t l r = absurd (cc)
   acted_on Yield s q t l r = absurd (cc)
   acted_on Time s q t l r = answering_on (Some (printed s.time)) s l r
-  acted_on (Mark n) s q t l r =
+  acted_on (Mark value) s q t l r =
+      let n : ℕ = number_of s.variables (progress_at s i).answer value in
       let k = gone_to ((progress_at s i).op_index + 1) (progress_at s i) (write (what.Mark i n) s) l r in
       record { current = k.current; goes = k.goes }
   acted_on (Expect c) s q t l r = expected_on c s l r
@@ -230,6 +242,7 @@ module _ (app : Application) (i : ℕ) where
   acted_on Break s q t l r = left_on s l r
   acted_on Stamp s q t l r = stamped_on s l r
   acted_on Since s q t l r = since_on s l r
+  acted_on (Value op) s q t l r = calculated_on op s l r
   acted_on (Await o a ticks) s q t l r = absurd (cc)
   acted_on (Do o a) s q t l r = absurd (cc)
   acted_on (GiveMutex o) s q t l r = absurd (cc)

@@ -1,4 +1,11 @@
 -- What a handler keeps of a state, and what it spares.
+use Rattle.model.specs.declared.op.Op.TheVariants.{Value}
+use Rattle.model.specs.declared.value.ValueOp.{ValueOp}
+use Rattle.model.specs.Ops.{store}
+use Rattle.model.specs.Values.{answer_of, number_of, stored, with_number}
+use Rattle.soundness.proofs.Sound.{revalued}
+use Rattle.soundness.proofs.Frames.{keeps-store}
+use Rattle.model.specs.declared.value.Value as value
 use Rattle.std.proofs.Common.{◌⊎◌, ◌≡◌, ◌<◌, ◌+◌, ◌&&◌, ◌||◌, ℕ, Bool, true, false, ltb, inl, inr, get_or, set, List, [], ◌∷◌}
 use Rattle.std.proofs.Common.{Option, Some, None, refl, ap, sym, subst, ◌∙◌, suc, zero}
 use Rattle.std.specs.List.{AllByRecursion, slice_get}
@@ -13,7 +20,7 @@ use Rattle.model.specs.declared.op.Op.TheVariants.{EnterCritical, ExitCritical, 
 use Rattle.model.specs.declared.op.IsrOp.{IsrOp}
 use Rattle.model.specs.declared.op.IsrOp.TheVariants as isr_op
 use Rattle.model.specs.declared.op.Access.{Access}
-use Rattle.model.specs.declared.op.Access.TheVariants.{Send, Receive}
+use Rattle.model.specs.declared.op.Access.TheVariants.{Send, SendFront, Overwrite, Receive, Peek, Take, Give, Lock}
 use Rattle.model.specs.declared.call.Phase.{Phase}
 use Rattle.model.specs.declared.call.Phase.TheVariants.{Start, Try, Decide, Place, Unlock, Leave}
 use Rattle.model.specs.declared.call.WaitList.{WaitList}
@@ -60,10 +67,58 @@ pub and_right : (a b : Bool) → (a && b) ≡ true → b ≡ true
 and_right true b t = t
 and_right false b t = absurd (cc)
 
+-- with its value as a number a call fits as it did, and waits where it did
+pub fits-number : (app : Application) (o : ℕ) (variables : List ℕ) (answer : Option ℕ) (a : Access value.Value)
+    → fits_object app o (with_number variables answer a) ≡ fits_object app o a
+fits-number app o variables answer a = by_kind (slice_get app.objects o) a where
+  by_access : (kind : ObjectKind) (a : Access value.Value) → fits kind (with_number variables answer a) ≡ fits kind a
+  by_access (Queue size) (Send v) = refl
+  by_access (Queue size) (SendFront v) = refl
+  by_access (Queue size) (Overwrite v) = refl
+  by_access (Queue size) Receive = refl
+  by_access (Queue size) Peek = refl
+  by_access (Queue size) Take = refl
+  by_access (Queue size) Give = refl
+  by_access (Queue size) Lock = refl
+  by_access (Semaphore most first) (Send v) = refl
+  by_access (Semaphore most first) (SendFront v) = refl
+  by_access (Semaphore most first) (Overwrite v) = refl
+  by_access (Semaphore most first) Receive = refl
+  by_access (Semaphore most first) Peek = refl
+  by_access (Semaphore most first) Take = refl
+  by_access (Semaphore most first) Give = refl
+  by_access (Semaphore most first) Lock = refl
+  by_access Mutex (Send v) = refl
+  by_access Mutex (SendFront v) = refl
+  by_access Mutex (Overwrite v) = refl
+  by_access Mutex Receive = refl
+  by_access Mutex Peek = refl
+  by_access Mutex Take = refl
+  by_access Mutex Give = refl
+  by_access Mutex Lock = refl
+
+  by_kind : (kind : Option ObjectKind) (a : Access value.Value)
+      → unwrap_or (option_map (λ k. fits k (with_number variables answer a)) kind) false
+      ≡ unwrap_or (option_map (λ k. fits k a) kind) false
+  by_kind None a = refl
+  by_kind (Some kind) a = by_access kind a
+
+pub list_for-number : (o : ℕ) (variables : List ℕ) (answer : Option ℕ) (a : Access value.Value)
+    → list_for o (with_number variables answer a) ≡ list_for o a
+list_for-number o variables answer (Send v) = refl
+list_for-number o variables answer (SendFront v) = refl
+list_for-number o variables answer (Overwrite v) = refl
+list_for-number o variables answer Receive = refl
+list_for-number o variables answer Peek = refl
+list_for-number o variables answer Take = refl
+list_for-number o variables answer Give = refl
+list_for-number o variables answer Lock = refl
+
 -- where a receive may be, a send may be
-sends_where_receives : (app : Application) (o n : ℕ) → fits_object app o Receive ≡ true → fits_object app o (Send n) ≡ true
+sends_where_receives : (app : Application) (o n : ℕ) → fits_object {Item = ℕ} app o Receive ≡ true
+    → fits_object app o (Send n) ≡ true
 sends_where_receives app o n fit = by_kind (slice_get app.objects o) fit where
-  Fits : Option ObjectKind → Access → Type 0
+  Fits : Option ObjectKind → Access ℕ → Type 0
   Fits kind access = unwrap_or (option_map (λ k. fits k access) kind) false ≡ true
 
   by_kind : (kind : Option ObjectKind) → Fits kind Receive → Fits kind (Send n)
@@ -83,27 +138,33 @@ commands_fit app formed n some = by_daemon app.daemon some formed.daemon where
 -- ---- what is kept, while this is held and locked
 
 module _ (app : Application) (formed : IsWellFormed app) (hold : Hold) where
-  isr_done : (s : State) (handler op_index : ℕ) (op : IsrOp) → knows_isr app op ≡ true
-      → IsSound app hold s → s.locked ≡ hold.locked → IsSound app hold (isr app handler op_index op s)
-  isr_done s handler op_index (isr_op.Do o a) known h same =
-      let t : State = attempt None o a s in
-      logged app formed hold t _ t.steps t.stopped
-      (attempted app formed hold s None o a h same (and_left (fits_object app o a) _ known) tt)
-  isr_done s handler op_index (isr_op.Command c) known h same =
-      let send : Access = Send (item_of c) in
+  isr_done : (s : State) (handler op_index : ℕ) (op : IsrOp) (last : Option ℕ) → knows_isr app op ≡ true
+      → IsSound app hold s → s.locked ≡ hold.locked → IsSound app hold (isr app handler op_index op last s)
+  isr_done s handler op_index (isr_op.Do o a) last known h same =
+      let access : Access ℕ = with_number s.variables last a in
+      let t : State = attempt None o access s in
+      let fit : fits_object app o access ≡ true =
+      fits-number app o s.variables last a ∙ and_left (fits_object app o a) _ known in
+      logged app formed hold t _ t.steps t.stopped (attempted app formed hold s None o access h same fit tt)
+  isr_done s handler op_index (isr_op.Command c) last known h same =
+      let send : Access ℕ = Send (item_of c) in
       let t : State = attempt None (commands_of app) send s in
       let some : is_some app.daemon ≡ true = and_left (is_some app.daemon) (has_group app c.group && is_mask c.mask) known in
       logged app formed hold t _ t.steps t.stopped
       (attempted app formed hold s None (commands_of app) send h same (commands_fit app formed (item_of c) some) tt)
-  isr_done s handler op_index (isr_op.Resume task) known h same =
+  isr_done s handler op_index (isr_op.Resume task) last known h same =
       let t : State = resume task s in
       logged app formed hold t _ t.steps t.stopped (resumed_task app formed hold s task h)
-  isr_done s handler op_index (isr_op.GetBits group) known h same = logged app formed hold s _ s.steps s.stopped h
-  isr_done s handler op_index (isr_op.Mark n) known h same = logged app formed hold s _ s.steps s.stopped h
-  isr_done s handler op_index (isr_op.Expect condition) known h same = h
-  isr_done s handler op_index (isr_op.If condition) known h same = h
-  isr_done s handler op_index isr_op.Else known h same = h
-  isr_done s handler op_index isr_op.EndIf known h same = h
+  isr_done s handler op_index (isr_op.GetBits group) last known h same = logged app formed hold s _ s.steps s.stopped h
+  isr_done s handler op_index (isr_op.Value op) last known h same =
+      let a : Option ℕ = answer_of s.variables last op in
+      let t : State = store op a s in
+      logged app formed hold t _ t.steps t.stopped (revalued app formed hold s (stored op a s.variables) h)
+  isr_done s handler op_index (isr_op.Mark value) last known h same = logged app formed hold s _ s.steps s.stopped h
+  isr_done s handler op_index (isr_op.Expect condition) last known h same = h
+  isr_done s handler op_index (isr_op.If condition) last known h same = h
+  isr_done s handler op_index isr_op.Else last known h same = h
+  isr_done s handler op_index isr_op.EndIf last known h same = h
 
   each_done : (ops : List IsrOp) (s : State) (handler op_index over : ℕ) (answer : Option ℕ)
       → AllByRecursion (λ (op : IsrOp). knows_isr app op ≡ true) ops → IsSound app hold s
@@ -112,13 +173,13 @@ module _ (app : Application) (formed : IsWellFormed app) (hold : Hold) where
   each_done (op ∷ ops) s handler op_index (suc over) answer known h same =
       each_done ops s handler (op_index + 1) over answer known.1 h same
   each_done (op ∷ ops) s handler op_index zero answer known h same =
-      let t : State = isr app handler op_index op s in
-      by_test (is_failed op answer)
+      let t : State = isr app handler op_index op answer s in
+      by_test (is_failed s op answer)
       (λ f. rw f (logged app formed hold s s.log s.steps _ h))
       (λ f.
-      rw f (each_done ops t handler (op_index + 1) (isr_jump op answer ops)
-      (isr_answer app s op answer) known.1 (isr_done s handler op_index op known.0 h same)
-      (ap (λ (x : Hold). x.locked) (keeps-isr app handler op_index op s).hold ∙ same)))
+      rw f (each_done ops t handler (op_index + 1) (isr_jump s op answer ops)
+      (isr_answer app s op answer) known.1 (isr_done s handler op_index op answer known.0 h same)
+      (ap (λ (x : Hold). x.locked) (keeps-isr app handler op_index op answer s).hold ∙ same)))
 
   pub handled : (s : State) (handler : ℕ) → IsSound app hold s → s.locked ≡ hold.locked → IsSound app hold (handle app handler s)
   unfolding handle
@@ -364,7 +425,7 @@ spares-object o x s =
     spared_by s (with_object o x s) (keeps-with_object o x s) refl
     (λ i. refl) (λ i e. e) (λ i r. refl) (λ i w e l. e) (λ n i. inr refl)
 
-spares-attempt : (caller : Option ℕ) (o : ℕ) (a : Access) (s : State) → Spares s (attempt caller o a s)
+spares-attempt : (caller : Option ℕ) (o : ℕ) (a : Access ℕ) (s : State) → Spares s (attempt caller o a s)
 unfolding attempt fulfil
 spares-attempt caller o a s =
     let t : State = with_object o (object_after caller a (object_at s o)) s in
@@ -438,26 +499,50 @@ spares-resume j s = by_test (can_resume (status_at s j))
     (λ t. rw t (spares-resumed s j t))
     (λ t. rw t (spares s))
 
-spares-isr : (app : Application) (handler op_index : ℕ) (op : IsrOp) (s : State) → Spares s (isr app handler op_index op s)
-spares-isr app handler op_index (isr_op.Do o a) s =
-    let t : State = attempt None o a s in
-    let w : What = isr_told handler op_index (answer_to s o a) in
-    spares_both s t (write w t) (spares-attempt None o a s) (spares-write w t)
-spares-isr app handler op_index (isr_op.Command c) s =
-    let send : Access = Send (item_of c) in
+spares-store : (op : ValueOp) (a : Option ℕ) (s : State) → Spares s (store op a s)
+spares-store op a s =
+    let k = spares s in
+    record {
+      kept = keeps-store op a s;
+      current = k.current;
+      op_index = k.op_index;
+      holding = k.holding;
+      place = k.place;
+      unsuspended = k.unsuspended;
+      at = k.at;
+      ready = k.ready;
+      waits = k.waits;
+      sleeps = k.sleeps;
+    }
+
+spares-isr : (app : Application) (handler op_index : ℕ) (op : IsrOp) (last : Option ℕ) (s : State)
+    → Spares s (isr app handler op_index op last s)
+spares-isr app handler op_index (isr_op.Do o a) last s =
+    let access : Access ℕ = with_number s.variables last a in
+    let t : State = attempt None o access s in
+    let w : What = isr_told handler op_index (answer_to s o access) in
+    spares_both s t (write w t) (spares-attempt None o access s) (spares-write w t)
+spares-isr app handler op_index (isr_op.Command c) last s =
+    let send : Access ℕ = Send (item_of c) in
     let t : State = attempt None (commands_of app) send s in
     let w : What = isr_told handler op_index (answer_to s (commands_of app) send) in
     spares_both s t (write w t) (spares-attempt None (commands_of app) send s) (spares-write w t)
-spares-isr app handler op_index (isr_op.Resume j) s =
+spares-isr app handler op_index (isr_op.Resume j) last s =
     let t : State = resume j s in
     let w : What = isr_told handler op_index (one_if (can_resume (status_at s j))) in
     spares_both s t (write w t) (spares-resume j s) (spares-write w t)
-spares-isr app handler op_index (isr_op.GetBits group) s = spares-write (isr_told handler op_index (Some (bits_at s group))) s
-spares-isr app handler op_index (isr_op.Mark n) s = spares-write (what.IsrMark handler n) s
-spares-isr app handler op_index (isr_op.Expect condition) s = spares s
-spares-isr app handler op_index (isr_op.If condition) s = spares s
-spares-isr app handler op_index isr_op.Else s = spares s
-spares-isr app handler op_index isr_op.EndIf s = spares s
+spares-isr app handler op_index (isr_op.GetBits group) last s =
+    spares-write (isr_told handler op_index (Some (bits_at s group))) s
+spares-isr app handler op_index (isr_op.Value op) last s =
+    let a : Option ℕ = answer_of s.variables last op in
+    let w : What = isr_told handler op_index a in
+    spares_both s (store op a s) (write w (store op a s)) (spares-store op a s) (spares-write w (store op a s))
+spares-isr app handler op_index (isr_op.Mark value) last s =
+    spares-write (what.IsrMark handler (number_of s.variables last value)) s
+spares-isr app handler op_index (isr_op.Expect condition) last s = spares s
+spares-isr app handler op_index (isr_op.If condition) last s = spares s
+spares-isr app handler op_index isr_op.Else last s = spares s
+spares-isr app handler op_index isr_op.EndIf last s = spares s
 
 spares-fail : (check : RunEnd) (s : State) → Spares s (fail check s)
 spares-fail check s =
@@ -480,14 +565,14 @@ spares-isr_each : (app : Application) (handler op_index over : ℕ) (answer : Op
 spares-isr_each app handler op_index over answer [] s = spares s
 spares-isr_each app handler op_index (suc over) answer (op ∷ ops) s = spares-isr_each app handler (op_index + 1) over answer ops s
 spares-isr_each app handler op_index zero answer (op ∷ ops) s =
-    let t : State = isr app handler op_index op s in
+    let t : State = isr app handler op_index op answer s in
     let next : Option ℕ = isr_answer app s op answer in
-    let over : ℕ = isr_jump op answer ops in
-    by_test (is_failed op answer)
+    let over : ℕ = isr_jump s op answer ops in
+    by_test (is_failed s op answer)
     (λ f. rw f (spares-fail (HandlerCheck handler op_index) s))
     (λ f.
     rw f (spares_both s t (isr_each app handler (op_index + 1) over next ops t)
-    (spares-isr app handler op_index op s) (spares-isr_each app handler (op_index + 1) over next ops t)))
+    (spares-isr app handler op_index op answer s) (spares-isr_each app handler (op_index + 1) over next ops t)))
 
 pub spares-handle : (app : Application) (handler : ℕ) (s : State) → Spares s (handle app handler s)
 unfolding handle
@@ -503,6 +588,7 @@ place_locked hold (Some (Await o a ticks)) list p e =
     let same : list_for o a ≡ list = cc in
     let P : Option ℕ → WaitList → Type 0 = λ l x. is_locked l x ≡ true in
     subst (P hold.locked) same (subst (λ l. P l (list_for o a)) (sym p.1) (is_locked-own o a))
+place_locked hold (Some (Value op)) list p e = absurd p
 place_locked hold (Some (Work n)) list p e = absurd p
 place_locked hold (Some (Delay n)) list p e = absurd p
 place_locked hold (Some (DelayUntil n)) list p e = absurd p
@@ -533,9 +619,9 @@ place_locked hold (Some ResumeAll) list p e = absurd p
 place_locked hold (Some EnterCritical) list p e = absurd p
 place_locked hold (Some ExitCritical) list p e = absurd p
 place_locked hold (Some (NextCommand o)) list p e =
-    let same : list_for o Receive ≡ list = cc in
+    let same : list_for {Item = ℕ} o Receive ≡ list = cc in
     let P : Option ℕ → WaitList → Type 0 = λ l x. is_locked l x ≡ true in
-    subst (P hold.locked) same (subst (λ l. P l (list_for o Receive)) (sym p.1) (is_locked-own o Receive))
+    subst (P hold.locked) same (subst (λ l. P l (list_for {Item = ℕ} o Receive)) (sym p.1) (is_locked-own {Item = ℕ} o Receive))
 place_locked hold (Some Obey) list p e = absurd p
 
 module _ (app : Application) (formed : IsWellFormed app) (s t : State)

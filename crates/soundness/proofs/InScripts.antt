@@ -1,4 +1,5 @@
 -- The op at an index of a well formed script.
+use Rattle.model.specs.declared.op.Op.TheVariants.{Value}
 use Rattle.std.proofs.Common.{◌≡◌, ◌≢◌, ◌<◌, ◌≤◌, ◌+◌, ◌-◌, ℕ, zero, suc, true, eqb, ltb, List, [], ◌∷◌, drop, take, length, Option}
 use Rattle.std.proofs.Common.{Some, None, refl, ap, sym, subst, ◌∙◌, arith, add-one}
 use Rattle.std.specs.List.{AllByRecursion, slice_get}
@@ -151,6 +152,7 @@ used_none zero (SuspendAll ∷ ops) h = tt
 used_none zero (ResumeAll ∷ ops) h = tt
 used_none zero (EnterCritical ∷ ops) h = tt
 used_none zero (ExitCritical ∷ ops) h = tt
+used_none zero ((Value op) ∷ ops) h = tt
 used_none zero ((NextCommand o) ∷ ops) h = tt
 used_none zero (Obey ∷ ops) h = tt
 used_none (suc p) (o ∷ ops) h = used_none p ops h.1
@@ -176,7 +178,8 @@ known_of app (suc i) p (d ∷ ds) op h e = known_of app i p ds op h.1 e
 -- What is known of an op of a task: of one of the file, that the application has what it speaks of;
 -- of one of the daemon, where it is.
 abbrev pub Known : Application → (task op_index : ℕ) → Op → Type 0
-Known app task op_index (NextCommand object) = (app.daemon ≡ Some task) × (op_index ≡ 0) × (fits_object app object Receive ≡ true)
+Known app task op_index (NextCommand object) =
+    (app.daemon ≡ Some task) × (op_index ≡ 0) × (fits_object {Item = ℕ} app object Receive ≡ true)
 Known app task op_index Obey = (app.daemon ≡ Some task) × (op_index ≡ 1)
 Known app task op_index op = knows app op ≡ true
 
@@ -211,6 +214,7 @@ known_if app i p SuspendAll e = e
 known_if app i p ResumeAll e = e
 known_if app i p EnterCritical e = e
 known_if app i p ExitCritical e = e
+known_if app i p (Value op) e = e
 known_if app i p (NextCommand o) e = absurd (cc)
 known_if app i p Obey e = absurd (cc)
 
@@ -230,7 +234,7 @@ known_at app formed i p op is = by_daemon app.daemon refl formed.daemon formed.k
   Has : Option Definition → Type 0
   Has o = slice_get (unwrap_or (option_map (λ (d : Definition). d.script) o) []) p ≡ Some op
 
-  in_daemon : app.daemon ≡ Some i → fits_object app (commands_of app) Receive ≡ true → (q : ℕ)
+  in_daemon : app.daemon ≡ Some i → fits_object {Item = ℕ} app (commands_of app) Receive ≡ true → (q : ℕ)
       → slice_get (NextCommand (commands_of app) ∷ Obey ∷ []) q ≡ Some op → Known app i q op
   in_daemon e fits zero at = let same : NextCommand (commands_of app) ≡ op = cc in subst (Known app i 0) same (e, refl, fits)
   in_daemon e fits (suc zero) at = let same : Obey ≡ op = cc in subst (Known app i 1) same (e, refl)

@@ -1,4 +1,6 @@
 -- When an op is a misuse, and when the end of a script is: only while a task holds the scheduler, or by the op itself.
+use Rattle.model.specs.declared.op.Op.TheVariants.{Value}
+use Rattle.soundness.proofs.Passing.{by_value}
 use Rattle.std.proofs.Common.{ap₂, Bool, ap, ◌≡◌, ◌||◌, ◌&&◌, ℕ, true, false, ltb}
 use Rattle.std.proofs.Common.{sym, subst, Option, Some, None, refl, ◌∙◌}
 use Rattle.std.specs.Prelude.{if◌then◌else◌}
@@ -15,7 +17,7 @@ use Rattle.model.specs.Application.{Application}
 use Rattle.model.specs.State.{State, status_at, progress_at}
 use Rattle.model.specs.Switching.{is_scheduler_suspended, is_critical, is_held_by_task}
 use Rattle.model.specs.Ops.{use_up}
-use Rattle.model.specs.Step.{is_ended, judge, misused, act, act_unless, may_switch, is_barred, own_misuse, misuse}
+use Rattle.model.specs.Step.{is_ended, judge, misused, act, act_by_value, act_unless, may_switch, is_barred, own_misuse, misuse}
 use Rattle.model.specs.Invariant.{Suspension, suspension_of}
 use Rattle.model.proofs.Sorting.{by_test}
 use Rattle.soundness.proofs.Settled.{unlike, neither, by_section}
@@ -94,10 +96,11 @@ pub misuse_calm : (s : State) (i : ℕ) (op : Op) → is_held_by_task s ≡ fals
 misuse_calm s i op free = let off = neither s free in rw (off.0, off.1) (or_none (own_misuse s i op))
 
 pub acts_calm : (app : Application) (i : ℕ) (op : Op) (s : State) → is_held_by_task s ≡ false
-    → own_misuse s i op ≡ None → takes_hold op ≡ false → act_unless app i (misuse s i op) op s ≡ act app i op s
+    → own_misuse s i op ≡ None → takes_hold op ≡ false → act_unless app i (misuse s i op) op s ≡ act_by_value app i op s
 acts_calm app i op s free fine ne =
     ap (λ (kind : Option Misuse). act_unless app i kind op s) (misuse_calm s i op free ∙ fine)
-    ∙ judged_calm i (progress_at s i).op_index (act app i op s) (calm_still app i op s free fine ne)
+    ∙ judged_calm i (progress_at s i).op_index (act_by_value app i op s)
+    (by_value (λ t. is_held_by_task t ≡ false) app i op s free (calm_still app i op s free fine ne))
 
 -- ---- which ops are no misuse while a task holds the scheduler
 
@@ -117,6 +120,7 @@ switching_barred EndIf t = absurd (cc)
 switching_barred Break t = absurd (cc)
 switching_barred Stamp t = absurd (cc)
 switching_barred Since t = absurd (cc)
+switching_barred (Value op) t = absurd (cc)
 switching_barred (Await o a ticks) t = refl
 switching_barred (Do o a) t = refl
 switching_barred (GiveMutex o) t = refl

@@ -1,4 +1,5 @@
 -- How far a step moves the ticks, and how often a task holds the scheduler after it.
+use Rattle.soundness.proofs.Passing.{by_value}
 use Rattle.std.proofs.Common.{ap, ◌≡◌, ◌≤◌, ◌+◌, ◌<◌, ℕ, false}
 use Rattle.std.proofs.Common.{List, Option, Some, None, refl, ◌∙◌, arith}
 use Rattle.model.specs.declared.op.Op.{Op}
@@ -7,7 +8,7 @@ use Rattle.model.specs.Application.{Application, Limits, op_at}
 use Rattle.model.specs.State.{State, progress_at}
 use Rattle.model.specs.Switching.{settle}
 use Rattle.model.specs.Switching.{unless_held}
-use Rattle.model.specs.Step.{judge, act, act_unless, misuse, act_if}
+use Rattle.model.specs.Step.{judge, act_by_value, act_unless, misuse, act_if}
 use Rattle.model.specs.Step.{act_current, before_step, step, reset}
 use Rattle.model.specs.Step.{nobody_ready, ready_at_reset, with_ops}
 use Rattle.model.specs.Invariant.{Suspension, suspension_of}
@@ -31,18 +32,22 @@ pub record Moves (app : Application) (limits : Limits) (old new : State) : Type 
 moves-act_unless : (app : Application) (limits : Limits) (i : ℕ) (kind : Option Misuse) (op : Op) (s : State)
     → Moves app limits s (act_unless app i kind op s)
 moves-act_unless app limits i None op s =
-    let t : State = act app i op s in
+    let t : State = act_by_value app i op s in
     let j = judged i (progress_at s i).op_index t in
     let e = j.elapsed in
     let f : (judge i (progress_at s i).op_index t).suspensions ≡ t.suspensions =
     ap (λ (x : Suspension). x.suspensions) j.suspension in
-    let a = elapsed-act app i op s in
+    let a : t.elapsed ≤ s.elapsed + 1 =
+    by_value (λ t. t.elapsed ≤ s.elapsed + 1) app i op s (omega arith) (elapsed-act app i op s) in
     let g : (judge i (progress_at s i).op_index t).held_ticks ≡ t.held_ticks = ap (λ (x : Suspension). x.held_ticks) j.suspension in
-    let b = suspensions-act app i op s in
-    let h = held-act app i op s in
+    let b : t.suspensions ≤ s.suspensions + 1 =
+    by_value (λ t. t.suspensions ≤ s.suspensions + 1) app i op s (omega arith) (suspensions-act app i op s) in
+    let h : t.held_ticks ≤ s.held_ticks + 1 =
+    by_value (λ t. t.held_ticks ≤ s.held_ticks + 1) app i op s (omega arith) (held-act app i op s) in
     let c : task_holds (judge i (progress_at s i).op_index t) ≡ task_holds t =
     task_holds_by t (judge i (progress_at s i).op_index t) j.suspension in
-    let d : task_holds t ≤ task_holds s + 1 = task_holds-act app i op s in
+    let d : task_holds t ≤ task_holds s + 1 =
+    by_value (λ t. task_holds t ≤ task_holds s + 1) app i op s (omega arith) (task_holds-act app i op s) in
     record {
       elapsed = λ off. omega arith;
       most = λ l. omega arith;
@@ -87,7 +92,8 @@ moves-act_current app limits (Some i) s = moves-act_if app limits i (op_at app i
 sources-act_unless : (app : Application) (i : ℕ) (kind : Option Misuse) (op : Op) (s : State)
     → (act_unless app i kind op s).sources ≡ s.sources
 sources-act_unless app i None op s =
-    (judged i (progress_at s i).op_index (act app i op s)).sources ∙ sources-act app i op s
+    (judged i (progress_at s i).op_index (act_by_value app i op s)).sources
+    ∙ by_value (λ t. t.sources ≡ s.sources) app i op s refl (sources-act app i op s)
 sources-act_unless app i (Some kind) op s = refl
 
 sources-act_if : (app : Application) (i : ℕ) (o : Option Op) (s : State) → (act_if app i o s).sources ≡ s.sources

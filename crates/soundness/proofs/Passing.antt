@@ -1,4 +1,10 @@
 -- What each op makes of the ticks and of the suspension of the scheduler: most leave both as they were.
+use Rattle.model.specs.declared.op.Op.TheVariants.{Value}
+use Rattle.model.specs.Ops.{fail}
+use Rattle.model.specs.declared.event.End.TheVariants.{Check}
+use Rattle.model.specs.Step.{act_by_value, call_with_number, lacks_value}
+use Rattle.model.specs.Values.{number_of}
+use Rattle.soundness.proofs.Frames.{keeps-calculate}
 use Rattle.std.proofs.Common.{Bool, ap, ◌≡◌, ◌≤◌, ◌+◌, ◌-◌, ◌<◌, ◌||◌, ℕ, zero, suc, true, false, eqb, min}
 use Rattle.std.proofs.Common.{fold, List, [], ◌∷◌, ◌++◌, Option, Some, None, refl, ◌∙◌, arith, length}
 use Rattle.std.specs.Prelude.{if◌then◌else◌}
@@ -75,7 +81,7 @@ lasts-unlock s = by_locked s.locked where
       keeps-all_ready (tasks_of (awakened s (ToReceive o)) ++ tasks_of (awakened s (ToSend o))) (record s { locked = None }) in
       record { elapsed = k.elapsed; suspension = k.suspension; sources = k.sources }
 
-pub lasts-decide : (i o : ℕ) (a : Access) (s : State) → Lasts s (decide i o a s)
+pub lasts-decide : (i o : ℕ) (a : Access ℕ) (s : State) → Lasts s (decide i o a s)
 unfolding decide wait_in
 lasts-decide i o a s = by_test (possible s o a || is_expired s i)
     (λ t. rw t (record { elapsed = refl; suspension = refl; sources = refl }))
@@ -90,7 +96,7 @@ lasts-leave_call i s =
     (λ t. rw t (lasts_both s free (choose free) ended (keeps-choose free)))
     (λ t. rw t (lasts_both s free (preempt free) ended (keeps-preempt free)))
 
-pub lasts-await : (app : Application) (i o : ℕ) (a : Access) (ticks : Option ℕ) (phase : Phase) (s : State)
+pub lasts-await : (app : Application) (i o : ℕ) (a : Access ℕ) (ticks : Option ℕ) (phase : Phase) (s : State)
     → Lasts s (await app i o a ticks phase s)
 lasts-await app i o a ticks Start s =
     let t : State = set_deadline i ticks s in
@@ -186,7 +192,7 @@ ends s t k = record { lasts = lasts s t k; hold = k.hold }
 
 ends-expect : (app : Application) (i : ℕ) (condition : AnswerCondition) (s : State) → Ends s (expect app i condition s)
 unfolding expect
-ends-expect app i condition s = by_test (holds condition (progress_at s i).answer)
+ends-expect app i condition s = by_test (holds s.variables condition (progress_at s i).answer)
     (λ t. rw t (ends s _ (keeps-go_to app i ((progress_at s i).op_index + 1) (progress_at s i) s)))
     (λ t. rw t (record { lasts = record { elapsed = refl; suspension = refl; sources = refl }; hold = refl }))
 
@@ -550,6 +556,7 @@ by_op P w s r e x f SuspendAll = s
 by_op P w s r e x f ResumeAll = r
 by_op P w s r e x f EnterCritical = e
 by_op P w s r e x f ExitCritical = x
+by_op P w s r e x f (Value op) = f (Value op) refl
 by_op P w s r e x f (NextCommand o) = f (NextCommand o) refl
 by_op P w s r e x f Obey = f Obey refl
 
@@ -561,7 +568,8 @@ ends-act app i (Delay n) s t w = ends s _ (keeps-delay app i n s)
 ends-act app i (DelayUntil n) s t w = ends s _ (keeps-delay_until app i ((progress_at s i).previous_wake + n) s)
 ends-act app i Yield s t w = ends s _ (keeps_both s _ _ (keeps-answer app i (Some 0) s) (keeps-yield_now (answer app i (Some 0) s)))
 ends-act app i Time s t w = ends s _ (keeps-answer app i (Some (printed s.time)) s)
-ends-act app i (Mark n) s t w =
+ends-act app i (Mark value) s t w =
+    let n : ℕ = number_of s.variables (progress_at s i).answer value in
     let k = keeps-go_to app i ((progress_at s i).op_index + 1) (progress_at s i) (write (what.Mark i n) s) in
     record { lasts = record { elapsed = k.elapsed; suspension = k.suspension; sources = k.sources }; hold = k.hold }
 ends-act app i (Expect c) s t w = ends-expect app i c s
@@ -574,7 +582,7 @@ ends-act app i Break s t w = ends s _ (keeps-leave_loop app i s)
 ends-act app i Stamp s t w = ends s _ (keeps-stamp app i s)
 ends-act app i Since s t w = ends s _ (keeps-since app i s)
 ends-act app i (Await o a ticks) s t w = absurd (cc)
-ends-act app i (Do o a) s t w = ends s _ (keeps-do_now app i o a s)
+ends-act app i (Do o a) s t w = ends s _ (keeps-do_now app i o (call_with_number s i a) s)
 ends-act app i (GiveMutex o) s t w = ends s _ (keeps-give_mutex app i o s)
 ends-act app i (MessagesWaiting o) s t w = ends s _ (keeps-answer app i (Some (length (object_at s o).items)) s)
 ends-act app i (SpacesAvailable o) s t w =
@@ -589,6 +597,7 @@ ends-act app i SuspendAll s t w = absurd (cc)
 ends-act app i ResumeAll s t w = absurd (cc)
 ends-act app i EnterCritical s t w = absurd (cc)
 ends-act app i ExitCritical s t w = absurd (cc)
+ends-act app i (Value op) s t w = ends s _ (keeps-calculate app i op s)
 ends-act app i (NextCommand o) s t w = absurd (cc)
 ends-act app i Obey s t w = absurd (cc)
 
@@ -608,7 +617,7 @@ lasts-act app i EndIf s t = (ends-act app i EndIf s refl refl).lasts
 lasts-act app i Break s t = (ends-act app i Break s refl refl).lasts
 lasts-act app i Stamp s t = (ends-act app i Stamp s refl refl).lasts
 lasts-act app i Since s t = (ends-act app i Since s refl refl).lasts
-lasts-act app i (Await o a ticks) s t = lasts-await app i o a ticks (call_at s i).phase s
+lasts-act app i (Await o a ticks) s t = lasts-await app i o (call_with_number s i a) ticks (call_at s i).phase s
 lasts-act app i (Do o a) s t = (ends-act app i (Do o a) s refl refl).lasts
 lasts-act app i (GiveMutex o) s t = (ends-act app i (GiveMutex o) s refl refl).lasts
 lasts-act app i (MessagesWaiting o) s t = (ends-act app i (MessagesWaiting o) s refl refl).lasts
@@ -623,6 +632,7 @@ lasts-act app i SuspendAll s t = absurd (cc)
 lasts-act app i ResumeAll s t = absurd (cc)
 lasts-act app i EnterCritical s t = absurd (cc)
 lasts-act app i ExitCritical s t = absurd (cc)
+lasts-act app i (Value op) s t = (ends-act app i (Value op) s refl refl).lasts
 lasts-act app i (NextCommand o) s t = lasts-next_command app i o (call_at s i).phase s
 lasts-act app i Obey s t = lasts-obey app i (command_at s i) (call_at s i).phase s
 
@@ -713,3 +723,8 @@ sources-act app i op s = by_op (λ op. (act app i op s).sources ≡ s.sources)
     (opens app i (s.sections - 1) s).sources
     (λ op t. (lasts-act app i op s t).sources)
     op
+
+-- an op that has no value to work with is a failed check, and any other is done
+pub by_value : (P : State → Type 0) (app : Application) (i : ℕ) (op : Op) (s : State)
+    → P (fail (Check i (progress_at s i).op_index) s) → P (act app i op s) → P (act_by_value app i op s)
+by_value P app i op s failed done = by_test (lacks_value s i op) (λ t. rw t failed) (λ t. rw t done)

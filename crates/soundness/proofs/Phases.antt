@@ -108,7 +108,7 @@ module _ (app : Application) (formed : IsWellFormed app) where
   still_to_come (Some d) now t = leb-false d now t
 
   -- of a call on an object that waits in the list for it
-  module _ (s : State) (i o : ℕ) (a : Access) (op : Op) (h : IsSound app (hold_of s) s)
+  module _ (s : State) (i o : ℕ) (a : Access ℕ) (op : Op) (h : IsSound app (hold_of s) s)
       (none : s.call_hold ≡ false) (unlocked : s.locked ≡ None) (calm : suspension_of s ≡ unsuspended)
       (runs : s.current ≡ Some i) (l : i < length s.tasks) (r : is_ready s i ≡ true)
       (is : op_at app i (progress_at s i).op_index ≡ Some op) (way : course (Some op) ≡ OnObject o)
@@ -216,7 +216,7 @@ module _ (app : Application) (formed : IsWellFormed app) where
         (λ j ne. subst (λ (u : Task). holds u.progress.call.phase ≡ false) (sym (begun_others j ne)) (others_free s h none j))
         (begun_calm ∙ calm)
 
-  module _ (s : State) (i o : ℕ) (a : Access) (op : Op) (h : IsSound app (hold_of s) s)
+  module _ (s : State) (i o : ℕ) (a : Access ℕ) (op : Op) (h : IsSound app (hold_of s) s)
       (none : s.call_hold ≡ false) (unlocked : s.locked ≡ None) (calm : suspension_of s ≡ unsuspended)
       (runs : s.current ≡ Some i) (l : i < length s.tasks) (r : is_ready s i ≡ true)
       (is : op_at app i (progress_at s i).op_index ≡ Some op) (way : course (Some op) ≡ OnObject o)

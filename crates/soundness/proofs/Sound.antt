@@ -370,6 +370,21 @@ module _ (app : Application) (formed : IsWellFormed app) (hold : Hold) where
     time = h.time;
   }
 
+  -- the variables, of which nothing else depends
+  pub revalued : (s : State) (variables : List ℕ) → IsSound app hold s → IsSound app hold (record s { variables = variables })
+  revalued s variables h = record {
+    table =
+        record { tickets = h.table.tickets; few = h.table.few; current = h.table.current; holders = h.table.holders };
+    tasks = h.tasks;
+    objects = h.objects;
+    sources = h.sources;
+    progress = h.progress;
+    calls = h.calls;
+    contents = h.contents;
+    priorities = h.priorities;
+    time = h.time;
+  }
+
   -- what is kept of the interrupt sources, of which there are as many
   pub resourced : (s : State) (sources : List Source) → length sources ≡ length app.handlers + 1
       → IsSound app hold s → IsSound app hold (record s { sources = sources })
@@ -470,7 +485,7 @@ module _ (app : Application) (formed : IsWellFormed app) (hold : Hold) where
 
     pub expected : (condition : AnswerCondition) → op ≡ Expect condition → IsSound app hold (expect app i condition s)
     unfolding expect
-    expected condition e = by_test (holds condition (progress_at s i).answer)
+    expected condition e = by_test (holds s.variables condition (progress_at s i).answer)
         (λ t. rw t (plain s i h free op is (progress_at s i).answer (rw e refl)))
         (λ t. rw t (logged s s.log s.steps _ h))
 
@@ -523,7 +538,7 @@ module _ (app : Application) (formed : IsWellFormed app) (hold : Hold) where
     unfolding branch
     branched condition e =
         let p : Progress = progress_at s i in
-        by_test (holds condition p.answer)
+        by_test (holds s.variables condition p.answer)
         (λ t. rw t (plain s i h free op is p.answer (rw e refl)))
         (λ t. rw t (gone s i h free (jump_from (script_of app i) p.op_index) p refl (h.progress i).stamped
         (after_if (length p.loops) p.op_index (script_of app i) op (h.progress i).nests is (ap edge_of e)) (h.progress i).loops))

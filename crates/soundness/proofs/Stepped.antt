@@ -1,4 +1,13 @@
 -- What is true of every state that a run comes to is true after a step.
+use Rattle.model.specs.declared.value.ValueOp.{ValueOp}
+use Rattle.model.specs.Ops.{calculate, store}
+use Rattle.model.specs.Values.{answer_of, number_of, stored}
+use Rattle.soundness.proofs.Sound.{revalued}
+use Rattle.model.specs.declared.op.Op.TheVariants.{Value}
+use Rattle.soundness.proofs.Passing.{by_value}
+use Rattle.model.specs.Step.{call_with_number}
+use Rattle.soundness.proofs.Handled.{fits-number, list_for-number}
+use Rattle.model.specs.declared.value.Value as value
 use Rattle.std.proofs.Common.{ap₂, ◌≡◌, ◌≢◌, ◌<◌, ◌+◌, ◌-◌, ◌||◌, ◌⊎◌, inl, inr, ℕ, true, false, eqb, ltb, List, [], ◌∷◌}
 use Rattle.std.proofs.Common.{length, map, slice_set, Option, Some, None, refl, ap, sym, subst, ◌∙◌, arith}
 use Rattle.std.proofs.Math.ListN.{length-set}
@@ -34,7 +43,7 @@ use Rattle.model.specs.Groups.{is_met, begin_set, set_bits, check, final_bits, w
 use Rattle.model.specs.Suspension.{suspend_all, resume_all}
 use Rattle.model.specs.Daemon.{take_command, next_command, obeyed, obey, command_at}
 use Rattle.model.specs.Handlers.{handle, serve, inject, pend, pending_of, none_pending, serve_pending}
-use Rattle.model.specs.Step.{is_ended, judge, act, act_unless, may_switch, is_barred, misuse, act_if, act_current}
+use Rattle.model.specs.Step.{is_ended, judge, act, act_by_value, act_unless, may_switch, is_barred, misuse, act_if, act_current}
 use Rattle.model.specs.Step.{before_step, step}
 use Rattle.model.specs.Invariant.{Hold, hold_of, InOne, OnObject, ForBits, ToSetBits, course, list_of_op, IsPhaseOf, IsSound, holds}
 use Rattle.model.specs.Invariant.{IsStranded, IsRunning, RunsIn, Suspension, suspension_of, IsState}
@@ -184,6 +193,14 @@ module _ (app : Application) (formed : IsWellFormed app) where
 
   -- ---- the ops
 
+  calculated : (s : State) (i : ℕ) (op : ValueOp) → IsSound app free s → is_ready s i ≡ true
+      → op_at app i (progress_at s i).op_index ≡ Some (Value op) → IsSound app free (calculate app i op s)
+  unfolding calculate
+  calculated s i op h r is =
+      let a : Option ℕ = answer_of s.variables (progress_at s i).answer op in
+      answered app formed free (store op a s) i (Value op) (revalued app formed free s (stored op a s.variables) h)
+      (ready_free (status_at s i) r) is a refl
+
   -- an op of one phase
   acted : (s : State) (i : ℕ) (op : Op) → IsSound app free s → s.locked ≡ None → i < length s.tasks → is_ready s i ≡ true
       → op_at app i (progress_at s i).op_index ≡ Some op → course (Some op) ≡ InOne → IsSound app free (act app i op s)
@@ -195,9 +212,10 @@ module _ (app : Application) (formed : IsWellFormed app) where
   acted s i Yield h u l r is w =
       yielded app formed free _ (answered app formed free s i Yield h (ready_free (status_at s i) r) is (Some 0) refl)
   acted s i Time h u l r is w = answered app formed free s i Time h (ready_free (status_at s i) r) is _ refl
-  acted s i (Mark n) h u l r is w =
+  acted s i (Mark value) h u l r is w =
+      let n : ℕ = number_of s.variables (progress_at s i).answer value in
       plain app formed free (write (what.Mark i n) s) i (logged app formed free s _ s.steps s.stopped h)
-      (ready_free (status_at s i) r) (Mark n) is (progress_at s i).answer refl
+      (ready_free (status_at s i) r) (Mark value) is (progress_at s i).answer refl
   acted s i (Expect c) h u l r is w = expected app formed free s i (Expect c) h (ready_free (status_at s i) r) is c refl
   acted s i (Repeat n) h u l r is w = opened app formed free s i (Repeat n) h (ready_free (status_at s i) r) is n refl
   acted s i End h u l r is w = closed app formed free s i End h (ready_free (status_at s i) r) is refl
@@ -208,9 +226,11 @@ module _ (app : Application) (formed : IsWellFormed app) where
   acted s i Stamp h u l r is w = stamped app formed free s i Stamp h (ready_free (status_at s i) r) is refl
   acted s i Since h u l r is w = since_stamped app formed free s i Since h (ready_free (status_at s i) r) is refl
   acted s i (Await o a ticks) h u l r is w = absurd (cc)
-  acted s i (Do o a) h u l r is w =
-      done_now app formed free s i o a h u l r is
-      (and_left (fits_object app o a) _ (known_at app formed i (progress_at s i).op_index (Do o a) is))
+  acted s i (Value op) h u l r is w = calculated s i op h r is
+  acted s i (Do o v) h u l r is w =
+      done_now app formed free s i o v (call_with_number s i v) h u l r is
+      (fits-number app o s.variables (progress_at s i).answer v
+      ∙ and_left (fits_object app o v) _ (known_at app formed i (progress_at s i).op_index (Do o v) is))
   acted s i (GiveMutex o) h u l r is w = gave app formed free s i o h u l r is
   acted s i (MessagesWaiting o) h u l r is w =
       answered app formed free s i (MessagesWaiting o) h (ready_free (status_at s i) r) is _ refl
@@ -292,19 +312,25 @@ module _ (app : Application) (formed : IsWellFormed app) where
 
       -- ---- a call on an object
 
-      module _ (o : ℕ) (a : Access) (ticks : Option ℕ) (is : op_at app i (progress_at s i).op_index ≡ Some (Await o a ticks)) where
+      module _ (o : ℕ) (v : Access value.Value) (ticks : Option ℕ)
+          (is : op_at app i (progress_at s i).op_index ≡ Some (Await o v ticks)) where
+        abbrev a : Access ℕ
+        a = call_with_number s i v
+
         ready_now : is_ready s i ≡ true
-        ready_now = ready_at (Await o a ticks) none is
+        ready_now = ready_at (Await o v ticks) none is
 
         fit : fits_object app o a ≡ true
-        fit = and_left (fits_object app o a) _ (known_at app formed i (progress_at s i).op_index (Await o a ticks) is)
+        fit =
+            fits-number app o s.variables (progress_at s i).answer v
+            ∙ and_left (fits_object app o v) _ (known_at app formed i (progress_at s i).op_index (Await o v ticks) is)
 
         in_range : is_wait ticks ≡ true
-        in_range = range_at (progress_at s i).op_index (script_of app i) (Await o a ticks) (script_formed app formed i).ranges is
+        in_range = range_at (progress_at s i).op_index (script_of app i) (Await o v ticks) (script_formed app formed i).ranges is
 
         tried_again : IsState app (unless_held settle (await app i o a ticks Try s))
         tried_again =
-            settled_at_rest _ (tried app formed free s i o a ticks (sound_free s h none) (h.locked none) there ready_now is fit)
+            settled_at_rest _ (tried app formed free s i o v a ticks (sound_free s h none) (h.locked none) there ready_now is fit)
             ((keeps-try app i o a s).hold ∙ hold_none s h none) ((keeps-try app i o a s).suspension ∙ calm)
 
         tried_first : IsState app (unless_held settle (await app i o a ticks Start s))
@@ -315,8 +341,8 @@ module _ (app : Application) (formed : IsWellFormed app) where
             let h1 : IsSound app free t =
             dated app formed free s i ticks (sound_free s h none) (ready_free (status_at s i) ready_now) in_range in
             let unlocked_ : t.locked ≡ None = ap (λ (x : Hold). x.locked) k.hold ∙ h.locked none in
-            let op_is : op_at app i (progress_at t i).op_index ≡ Some (Await o a ticks) = ap (op_at app i) at.1 ∙ is in
-            settled_at_rest _ (tried app formed free t i o a ticks h1 unlocked_ (rw k.tasks there) (at.0 ∙ ready_now) op_is fit)
+            let op_is : op_at app i (progress_at t i).op_index ≡ Some (Await o v ticks) = ap (op_at app i) at.1 ∙ is in
+            settled_at_rest _ (tried app formed free t i o v a ticks h1 unlocked_ (rw k.tasks there) (at.0 ∙ ready_now) op_is fit)
             ((keeps-try app i o a t).hold ∙ k.hold ∙ hold_none s h none)
             ((keeps-try app i o a t).suspension ∙ k.suspension ∙ calm)
 
@@ -413,7 +439,7 @@ module _ (app : Application) (formed : IsWellFormed app) where
 
     module _ (off : is_held_by_task s ≡ false) where
       -- a call on an object decides, and comes to the phases after that
-      module _ (o : ℕ) (a : Access) (op : Op) (is : op_at app i (progress_at s i).op_index ≡ Some op)
+      module _ (o : ℕ) (a : Access ℕ) (op : Op) (is : op_at app i (progress_at s i).op_index ≡ Some op)
           (way : course (Some op) ≡ OnObject o) where
         on_object : course (op_at app i (progress_at s i).op_index) ≡ OnObject o
         on_object = ap course is ∙ way
@@ -443,14 +469,17 @@ module _ (app : Application) (formed : IsWellFormed app) where
             ((lasts-leave_call i s).suspension ∙ calm_held app s h held)
 
       -- the phase that is next, of a call on an object
-      next : (o : ℕ) (a : Access) (ticks : Option ℕ) → op_at app i (progress_at s i).op_index ≡ Some (Await o a ticks)
-          → (phase : Phase) → (call_at s i).phase ≡ phase → IsState app (unless_held settle (await app i o a ticks phase s))
-      next o a ticks is Start e = tried_first (free_in Start e refl) off o a ticks is
-      next o a ticks is Try e = tried_again (free_in Try e refl) off o a ticks is
-      next o a ticks is Decide e = decided_next o a (Await o a ticks) is refl e refl
-      next o a ticks is Place e = placed_next o a (Await o a ticks) is refl e
-      next o a ticks is Unlock e = unlocked_next o a (Await o a ticks) is refl e
-      next o a ticks is Leave e = left_next o a (Await o a ticks) is refl e
+      next : (o : ℕ) (v : Access value.Value) (ticks : Option ℕ) → op_at app i (progress_at s i).op_index ≡ Some (Await o v ticks)
+          → (phase : Phase) → (call_at s i).phase ≡ phase
+          → IsState app (unless_held settle (await app i o (call_with_number s i v) ticks phase s))
+      next o v ticks is Start e = tried_first (free_in Start e refl) off o v ticks is
+      next o v ticks is Try e = tried_again (free_in Try e refl) off o v ticks is
+      next o v ticks is Decide e =
+          decided_next o (call_with_number s i v) (Await o v ticks) is refl e
+          (ap (λ list. Some list) (sym (list_for-number o s.variables (progress_at s i).answer v)))
+      next o v ticks is Place e = placed_next o (call_with_number s i v) (Await o v ticks) is refl e
+      next o v ticks is Unlock e = unlocked_next o (call_with_number s i v) (Await o v ticks) is refl e
+      next o v ticks is Leave e = left_next o (call_with_number s i v) (Await o v ticks) is refl e
 
       -- of the daemon's receive
       next_of_command : (o : ℕ) → op_at app i (progress_at s i).op_index ≡ Some (NextCommand o) → (phase : Phase)
@@ -534,6 +563,7 @@ module _ (app : Application) (formed : IsWellFormed app) where
       calm_done Break is e = instant (start_only Break refl is) off Break is refl refl
       calm_done Stamp is e = instant (start_only Stamp refl is) off Stamp is refl refl
       calm_done Since is e = instant (start_only Since refl is) off Since is refl refl
+      calm_done (Value op) is e = instant (start_only (Value op) refl is) off (Value op) is refl refl
       calm_done (Await o a ticks) is e = next o a ticks is (call_at s i).phase refl
       calm_done (Do o a) is e = instant (start_only (Do o a) refl is) off (Do o a) is refl refl
       calm_done (GiveMutex o) is e = instant (start_only (GiveMutex o) refl is) off (GiveMutex o) is refl refl
@@ -661,6 +691,7 @@ module _ (app : Application) (formed : IsWellFormed app) where
       held_done Break is fine q = continued Break is refl refl refl
       held_done Stamp is fine q = continued Stamp is refl refl refl
       held_done Since is fine q = continued Since is refl refl refl
+      held_done (Value op) is fine q = continued (Value op) is refl refl refl
       held_done (Await o a ticks) is fine q = absurd (cc)
       held_done (Do o a) is fine q = absurd (cc)
       held_done (GiveMutex o) is fine q = absurd (cc)
@@ -696,7 +727,9 @@ module _ (app : Application) (formed : IsWellFormed app) where
     act_if_done (Some op) is = act_unless_done (misuse s i op) refl where
       act_unless_done : (kind : Option Misuse) → misuse s i op ≡ kind
           → IsState app (unless_held settle (act_unless app i kind op s))
-      act_unless_done None e = judged_done i (progress_at s i).op_index (act app i op s) (act_done op is e)
+      act_unless_done None e =
+          judged_done i (progress_at s i).op_index (act_by_value app i op s)
+          (by_value (λ t. IsState app (unless_held settle t)) app i op s (ended_only s _ h) (act_done op is e))
       act_unless_done (Some kind) e = ended_only s _ h
 
   current_done : (limits : Limits) (s : State) (r : Option ℕ) → IsState app s

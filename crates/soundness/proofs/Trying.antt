@@ -1,4 +1,5 @@
 -- What a try of a call keeps, and what giving a mutex back keeps.
+use Rattle.model.specs.declared.value.Value as value
 use Rattle.std.proofs.Common.{◌≡◌, ◌<◌, ℕ, true, length, Option, Some, None, refl, ap, sym, subst, ◌∙◌}
 use Rattle.std.specs.List.{slice_get}
 use Rattle.model.specs.declared.object.ObjectKind.{ObjectKind}
@@ -31,21 +32,22 @@ freed (Some (Semaphore most first)) o h = h
 freed (Some Mutex) o h = h
 
 module _ (app : Application) (formed : IsWellFormed app) (hold : Hold) where
-  pub tried : (s : State) (i o : ℕ) (a : Access) (ticks : Option ℕ) → IsSound app hold s → s.locked ≡ hold.locked
-      → i < length s.tasks → is_ready s i ≡ true → op_at app i (progress_at s i).op_index ≡ Some (Await o a ticks)
+  pub tried : (s : State) (i o : ℕ) (v : Access value.Value) (a : Access ℕ) (ticks : Option ℕ)
+      → IsSound app hold s → s.locked ≡ hold.locked
+      → i < length s.tasks → is_ready s i ≡ true → op_at app i (progress_at s i).op_index ≡ Some (Await o v ticks)
       → fits_object app o a ≡ true → IsSound app hold (try app i o a s)
   unfolding try
-  tried s i o a ticks h same l r is fit =
+  tried s i o v a ticks h same l r is fit =
       let P : Option Op → Type 0 = λ op. IsPhaseOf hold (course op) Decide in
       let late : State = after_timeout i o s in
       let at = (reranks-after_timeout s i o).at i in
       by_test (possible s o a)
       (λ t.
-      rw t (preempted app formed hold _ (replied app formed hold s (fulfil (Some i) o a s) i (Await o a ticks) (answer_to s o a)
+      rw t (preempted app formed hold _ (replied app formed hold s (fulfil (Some i) o a s) i (Await o v ticks) (answer_to s o a)
       (fulfilled app formed hold s (Some i) o a h same t fit l) (spared_fulfil s i (Some i) o a r) r is (λ n. refl))))
       (λ t. rw t (by_test (is_expired s i)
       (λ u.
-      rw u (replied app formed hold late late i (Await o a ticks) (answer_to s o a)
+      rw u (replied app formed hold late late i (Await o v ticks) (answer_to s o a)
       (timed_out app formed hold s i o h) refl (at.ready ∙ r) (ap (op_at app i) at.op_index ∙ is) (λ n. refl)))
       (λ u. rw u (went_on app formed hold s i Decide h (subst P (sym is) tt)))))
 
