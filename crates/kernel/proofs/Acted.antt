@@ -1,8 +1,8 @@
 -- What an op did, whether or not a task is still to be placed.
-use Rattle.std.proofs.Common.{◌≡◌, ◌≢◌, ◌∙◌, ◌≤◌, ℕ, Bool, true, false, None, ap, sym, subst, true≢false, [], arith}
+use Rattle.std.proofs.Common.{◌≡◌, ◌∙◌, ◌≤◌, ℕ, false, None, ap, sym, subst, [], arith}
 use Rattle.model.specs.declared.op.Op.{Op}
 use Rattle.model.specs.Application.{Application}
-use Rattle.model.specs.Step.{act, act_unless, own_misuse, misuse}
+use Rattle.model.specs.Step.{act_by_value, act_unless, own_misuse, misuse}
 use Rattle.soundness.proofs.Judging.{acts_calm, takes_hold}
 use Rattle.model.specs.State.{State}
 use Rattle.machine.specs.declared.machine.Machine.{Machine}
@@ -18,7 +18,7 @@ use Rattle.machine.proofs.Acting.{agrees_after}
 -- Where no task holds the scheduler, an op that is no misuse does what it does.
 pub freely : (app : Application) (old new : Machine) (old_log new_log : Logged) (task : ℕ) (op : Op)
     → old.sched.suspensions ≡ 0 → ((s : State) → own_misuse s task op ≡ None) → takes_hold op ≡ false
-    → DoesAny 65 old old_log new new_log (act app task op)
+    → DoesAny 65 old old_log new new_log (act_by_value app task op)
     → DoesAny 65 old old_log new new_log (λ s. act_unless app task (misuse s task op) op s)
 freely app old new old_log new_log task op none fine ne d = record {
   at = λ s h.
@@ -49,17 +49,17 @@ room_for_two room enough = omega arith
 module _ (app : Application) (old new : Machine) (old_log new_log : Logged) (task : ℕ) (op form : Op) (is : op ≡ form)
     (none : old.sched.suspensions ≡ 0) (fine : (s : State) → own_misuse s task form ≡ None)
     (other : takes_hold form ≡ false) where
-  pub any_by_form : (count : ℕ) → count ≤ 65 → DoesAny count old old_log new new_log (act app task form)
+  pub any_by_form : (count : ℕ) → count ≤ 65 → DoesAny count old old_log new new_log (act_by_value app task form)
       → DoesAny 65 old old_log new new_log (λ s. act_unless app task (misuse s task op) op s)
   any_by_form count within d =
       subst (λ (o : Op). DoesAny 65 old old_log new new_log (λ s. act_unless app task (misuse s task o) o s)) (sym is)
       (freely app old new old_log new_log task form none fine other
-      (does_more count 65 old new old_log new_log (act app task form) within d))
+      (does_more count 65 old new old_log new_log (act_by_value app task form) within d))
 
-  pub does_by_form : (count : ℕ) → count ≤ 65 → Agrees old → Does count old old_log new new_log (act app task form)
+  pub does_by_form : (count : ℕ) → count ≤ 65 → Agrees old → Does count old old_log new new_log (act_by_value app task form)
       → DoesAny 65 old old_log new new_log (λ s. act_unless app task (misuse s task op) op s)
   does_by_form count within agrees d =
-      any_by_form count within (does_any count old new old_log new_log (act app task form) agrees d)
+      any_by_form count within (does_any count old new old_log new_log (act_by_value app task form) agrees d)
 
 pub can_tick_still : (app : Application) (k new : Machine) → CanTick app k → new.sched.depth ≡ k.sched.depth → new.clock ≡ k.clock
     → new.objects ≡ k.objects → new.sched.suspensions ≡ k.sched.suspensions → (deed : State → State) → Moves k new deed

@@ -1,4 +1,8 @@
 -- A step behind which the running task is at another op of its script, and nothing else changed but what the step reported.
+use Rattle.model.specs.declared.op.Op.TheVariants.{Value}
+use Rattle.model.specs.Step.{act_by_value}
+use Rattle.model.specs.Ops.{calculate}
+use Rattle.soundness.proofs.Passing.{by_value}
 use denote.Enum.Bare.{sameb, same_true}
 use Rattle.std.proofs.Common.{◌≡◌, ◌≢◌, rules, ◌+◌, ◌||◌, ℕ, Bool, true, false, not, eqb, leb, List, [], ◌∷◌}
 use Rattle.std.proofs.Common.{Option, Some, None, ◌≤◌}
@@ -67,6 +71,7 @@ no_misuse EndIf t s task = refl
 no_misuse Break t s task = refl
 no_misuse Stamp t s task = refl
 no_misuse Since t s task = refl
+no_misuse (Value op) t s task = refl
 no_misuse (Await o a w) t s task = absurd (cc)
 no_misuse (Do o a) t s task = absurd (cc)
 no_misuse (GiveMutex o) t s task = absurd (cc)
@@ -101,6 +106,7 @@ takes_none EndIf t = refl
 takes_none Break t = refl
 takes_none Stamp t = refl
 takes_none Since t = refl
+takes_none (Value op) t = refl
 takes_none (Await o a w) t = refl
 takes_none (Do o a) t = refl
 takes_none (GiveMutex o) t = refl
@@ -191,19 +197,19 @@ other-wait_bits app i group c ticks Leave s j apart on =
     on-choose (end_hold i Try s) j (other-with_call (record s { call_hold = false }) i _ j apart on)
 
 other-act : (app : Application) (i : ℕ) (op : Op) (s : State) → may_stay_amid op ≡ true → EndsNoOther i s (act app i op s)
-unfolding expect open_loop close_turn branch skip_branch leave_loop stamp since
+unfolding expect open_loop close_turn branch skip_branch leave_loop stamp since calculate
 other-act app i (Work n) s t = absurd (cc)
 other-act app i (Delay n) s t = absurd (cc)
 other-act app i (DelayUntil n) s t = absurd (cc)
 other-act app i Yield s t = absurd (cc)
 other-act app i Time s t = other-answer app i _ s
 other-act app i (Mark n) s t = λ j apart on. other-go_to app i _ _ _ j apart on
-other-act app i (Expect c) s t = λ j apart on. by_test (holds c (progress_at s i).answer)
+other-act app i (Expect c) s t = λ j apart on. by_test (holds s.variables c (progress_at s i).answer)
     (λ u. rw u (other-go_to app i ((progress_at s i).op_index + 1) (progress_at s i) s j apart on))
     (λ u. rw u on)
 other-act app i (Repeat n) s t = λ j apart on. other-go_to app i _ _ s j apart on
 other-act app i EndLoop s t = other-turn app i (progress_at s i) (progress_at s i).loops s
-other-act app i (If c) s t = λ j apart on. by_test (holds c (progress_at s i).answer)
+other-act app i (If c) s t = λ j apart on. by_test (holds s.variables c (progress_at s i).answer)
     (λ u. rw u (other-go_to app i ((progress_at s i).op_index + 1) (progress_at s i) s j apart on))
     (λ u. rw u (other-go_to app i _ (progress_at s i) s j apart on))
 other-act app i Else s t = λ j apart on. other-go_to app i _ _ s j apart on
@@ -211,6 +217,7 @@ other-act app i EndIf s t = λ j apart on. other-go_to app i _ _ s j apart on
 other-act app i Break s t = λ j apart on. other-go_to app i _ _ s j apart on
 other-act app i Stamp s t = λ j apart on. other-go_to app i _ _ s j apart on
 other-act app i Since s t = other-answer app i _ s
+other-act app i (Value op) s t = other-answer app i _ _
 other-act app i (Await o a w) s t = absurd (cc)
 other-act app i (Do o a) s t = absurd (cc)
 other-act app i (GiveMutex o) s t = absurd (cc)
@@ -319,7 +326,7 @@ module _ (app : Application) (limits : Limits) (k new : Machine) (task : ℕ) (o
     unfolding done begun_now
     at_done = does (record s { log = [] }) (begun k [] s h refl)
 
-    done_is : done ≡ act app task op begun_now
+    done_is : done ≡ act_by_value app task op begun_now
     unfolding done begun_now
     done_is =
         let r : State = record s { log = [] } in
@@ -337,7 +344,8 @@ module _ (app : Application) (limits : Limits) (k new : Machine) (task : ℕ) (o
         (λ t.
         let apart : task ≢ j = (λ e. let u : eqb task j ≡ true = rw e (eqb-refl j) in absurd (cc)) in
         subst (λ (x : State). is_ended (status_at x j) ≡ false) (sym done_is)
-        (other-act app task op (record s { log = [] }) stays j apart on))
+        (by_value (λ (x : State). is_ended (status_at x j) ≡ false) app task op (record s { log = [] }) on
+        (other-act app task op (record s { log = [] }) stays j apart on)))
 
     pub on_amid : is_over app limits s ≡ false → is_over app limits (step app limits [] s) ≡ false
     unfolding done begun_now

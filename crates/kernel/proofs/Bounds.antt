@@ -1,4 +1,7 @@
 -- A kernel whose run goes on keeps within the numbers of the code.
+use Rattle.model.specs.declared.op.Op.TheVariants.{Value}
+use Rattle.model.specs.Values.{with_number}
+use Rattle.soundness.proofs.Handled.{fits-number}
 use Rattle.std.proofs.Common.{◌≡◌, ◌≢◌, ◌<◌, ◌≤◌, ◌+◌, ◌||◌, inl, inr, ltb-false, ℕ, Bool, true, false, cond, leb, List, length}
 use Rattle.std.proofs.Common.{Option, Some, None, refl, ap, sym, subst, ◌∙◌, arith, ltb}
 use Rattle.std.specs.Prelude.{if◌then◌else◌}
@@ -101,6 +104,7 @@ loop_room EndIf nesting h = tt
 loop_room Break nesting h = tt
 loop_room Stamp nesting h = tt
 loop_room Since nesting h = tt
+loop_room (Value op) nesting h = tt
 loop_room (Await o a w) nesting h = tt
 loop_room (Do o a) nesting h = tt
 loop_room (GiveMutex o) nesting h = tt
@@ -141,7 +145,9 @@ known_object app i p Break brief t k room = tt
 known_object app i p Stamp brief t k room = tt
 known_object app i p Since brief t k room = tt
 known_object app i p (Await o a w) brief t k room = absurd (cc)
-known_object app i p (Do o a) brief t k room = room o a (and_left (fits_object app o a) _ t)
+known_object app i p (Value op) brief t k room = tt
+known_object app i p (Do o a) brief t k room = λ variables answer.
+    room o (with_number variables answer a) (fits-number app o variables answer a ∙ and_left (fits_object app o a) _ t)
 known_object app i p (GiveMutex o) brief t k room = tt
 known_object app i p (MessagesWaiting o) brief t k room = tt
 known_object app i p (SpacesAvailable o) brief t k room = tt
@@ -348,7 +354,7 @@ module _ (app : Application) (formed : IsWellFormed app) (k : Machine) (state : 
           record { call = in_call Leave e (λ q. absurd (cc)); held = held_once awake (held_in Leave e refl); awake = awake }
 
     -- a call on an object that waits there, at most for this many ticks
-    module _ (object : ℕ) (access : Access) (ticks : Option ℕ) (op : Op)
+    module _ (object : ℕ) (access : Access ℕ) (ticks : Option ℕ) (op : Op)
         (is : op_at app task (progress_in k.progress task).op_index ≡ Some op) (way : course (Some op) ≡ OnObject object)
         (fit : fits_object app object access ≡ true) (range : is_wait ticks ≡ true) (awake : k.sched.suspensions ≡ 0) where
       can_try : state.call_hold ≡ false → CanTry k task object access
@@ -454,9 +460,11 @@ module _ (app : Application) (formed : IsWellFormed app) (k : Machine) (state : 
     can_op awake Break is = brief_can Break is awake refl
     can_op awake Stamp is = brief_can Stamp is awake refl
     can_op awake Since is = brief_can Since is awake refl
-    can_op awake (Await o a w) is =
-        subst (λ (p : Progress). CanGoOn k task o a w p.call.phase) (sym same)
-        (goes_on o a w (Await o a w) is refl (and_left (fits_object app o a) _ (known (Await o a w) is))
+    can_op awake (Value op) is = brief_can (Value op) is awake refl
+    can_op awake (Await o a w) is = λ variables answer.
+        subst (λ (p : Progress). CanGoOn k task o (with_number variables answer a) w p.call.phase) (sym same)
+        (goes_on o (with_number variables answer a) w (Await o a w) is refl
+        (fits-number app o variables answer a ∙ and_left (fits_object app o a) _ (known (Await o a w) is))
         (in_range (Await o a w) is) awake (call_at state task).phase refl)
     can_op awake (Do o a) is = brief_can (Do o a) is awake refl
     can_op awake (GiveMutex o) is = brief_can (GiveMutex o) is awake refl

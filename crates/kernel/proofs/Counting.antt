@@ -1,5 +1,10 @@
 -- No op changes how many steps are done: only the step itself counts.
-use Rattle.std.proofs.Common.{◌≡◌, ◌+◌, ◌-◌, ◌||◌, ◌&&◌, ℕ, zero, suc, true, false, eqb, List, ◌++◌, Option, Some, None, refl, sym}
+use Rattle.model.specs.declared.op.Op.TheVariants.{Value}
+use Rattle.model.specs.Step.{act_by_value, call_with_number}
+use Rattle.model.specs.Values.{number_of}
+use Rattle.soundness.proofs.Frames.{keeps-calculate}
+use Rattle.soundness.proofs.Passing.{by_value}
+use Rattle.std.proofs.Common.{◌≡◌, ◌+◌, ◌-◌, ◌||◌, ℕ, zero, suc, true, false, eqb, List, ◌++◌, Option, Some, None, refl, sym}
 use Rattle.std.proofs.Common.{◌∙◌, length}
 use Rattle.std.specs.Option.{option_eq}
 use Rattle.model.specs.declared.op.Op.{Op}
@@ -19,7 +24,7 @@ use Rattle.model.specs.declared.event.What.TheVariants as what
 use Rattle.model.specs.declared.answer.AnswerCondition.{AnswerCondition}
 use Rattle.model.specs.Answers.{holds}
 use Rattle.model.specs.Application.{Application, Limits, op_at}
-use Rattle.model.specs.State.{State, status_at, progress_at, call_at, object_at, bits_at, for_one, printed}
+use Rattle.model.specs.State.{State, progress_at, call_at, object_at, bits_at, for_one, printed}
 use Rattle.model.specs.Order.{tasks_of}
 use Rattle.model.specs.Switching.{preempt, slice, settle, is_scheduler_suspended, unless_held, write}
 use Rattle.model.specs.Waiting.{awakened, wait_in, set_deadline, is_expired, end_hold, unlock_object, unlock}
@@ -31,7 +36,7 @@ use Rattle.model.specs.Groups.{is_met, begin_set, set_bits, wait_for_bits, begin
 use Rattle.model.specs.Suspension.{suspend_all, resume_scheduler, resume_all}
 use Rattle.model.specs.Daemon.{next_command, obeyed, end_set_by_daemon, obey, command_at}
 use Rattle.model.specs.Handlers.{interrupt, tick_interrupt, idle, ticks_ahead}
-use Rattle.model.specs.Step.{is_ended, judge, act, act_unless, misuse, act_if, act_current, before_step}
+use Rattle.model.specs.Step.{judge, act, act_unless, misuse, act_if, act_current, before_step}
 use Rattle.model.proofs.Sorting.{by_test}
 use Rattle.soundness.proofs.Judging.{by_judgement}
 use Rattle.soundness.proofs.Passing.{either_way, lasts-final_bits}
@@ -55,7 +60,7 @@ steps-unlock s = by_locked s.locked where
   by_locked (Some o) =
       (keeps-all_ready (tasks_of (awakened s (ToReceive o)) ++ tasks_of (awakened s (ToSend o))) (record s { locked = None })).steps
 
-steps-decide : (i o : ℕ) (a : Access) (s : State) → (decide i o a s).steps ≡ s.steps
+steps-decide : (i o : ℕ) (a : Access ℕ) (s : State) → (decide i o a s).steps ≡ s.steps
 unfolding decide wait_in
 steps-decide i o a s = by_test (possible s o a || is_expired s i)
     (λ t. rw t refl)
@@ -69,7 +74,7 @@ steps-leave_call i s =
     (λ t. rw t (keeps-choose free).steps)
     (λ t. rw t (keeps-preempt free).steps)
 
-steps-await : (app : Application) (i o : ℕ) (a : Access) (ticks : Option ℕ) (phase : Phase) (s : State)
+steps-await : (app : Application) (i o : ℕ) (a : Access ℕ) (ticks : Option ℕ) (phase : Phase) (s : State)
     → (await app i o a ticks phase s).steps ≡ s.steps
 steps-await app i o a ticks Start s =
     let t : State = set_deadline i ticks s in
@@ -142,7 +147,7 @@ steps-obey app i c Leave s = steps-end_command app i c.group s
 
 steps-expect : (app : Application) (i : ℕ) (condition : AnswerCondition) (s : State) → (expect app i condition s).steps ≡ s.steps
 unfolding expect
-steps-expect app i condition s = by_test (holds condition (progress_at s i).answer)
+steps-expect app i condition s = by_test (holds s.variables condition (progress_at s i).answer)
     (λ t. rw t (keeps-go_to app i ((progress_at s i).op_index + 1) (progress_at s i) s).steps)
     (λ t. rw t refl)
 
@@ -206,7 +211,10 @@ steps-act app i (Delay n) s = (keeps-delay app i n s).steps
 steps-act app i (DelayUntil n) s = (keeps-delay_until app i ((progress_at s i).previous_wake + n) s).steps
 steps-act app i Yield s = (keeps-yield_now (answer app i (Some 0) s)).steps ∙ (keeps-answer app i (Some 0) s).steps
 steps-act app i Time s = (keeps-answer app i (Some (printed s.time)) s).steps
-steps-act app i (Mark n) s = (keeps-go_to app i ((progress_at s i).op_index + 1) (progress_at s i) (write (what.Mark i n) s)).steps
+steps-act app i (Value op) s = (keeps-calculate app i op s).steps
+steps-act app i (Mark value) s =
+    let n : ℕ = number_of s.variables (progress_at s i).answer value in
+    (keeps-go_to app i ((progress_at s i).op_index + 1) (progress_at s i) (write (what.Mark i n) s)).steps
 steps-act app i (Expect a) s = steps-expect app i a s
 steps-act app i (Repeat n) s = (keeps-open_loop app i n s).steps
 steps-act app i End s = (keeps-close_turn app i s).steps
@@ -216,8 +224,8 @@ steps-act app i EndIf s = (keeps-go_to app i ((progress_at s i).op_index + 1) (p
 steps-act app i Break s = (keeps-leave_loop app i s).steps
 steps-act app i Stamp s = (keeps-stamp app i s).steps
 steps-act app i Since s = (keeps-since app i s).steps
-steps-act app i (Await o a ticks) s = steps-await app i o a ticks (call_at s i).phase s
-steps-act app i (Do o a) s = (keeps-do_now app i o a s).steps
+steps-act app i (Await o a ticks) s = steps-await app i o (call_with_number s i a) ticks (call_at s i).phase s
+steps-act app i (Do o a) s = (keeps-do_now app i o (call_with_number s i a) s).steps
 steps-act app i (GiveMutex o) s = (keeps-give_mutex app i o s).steps
 steps-act app i (MessagesWaiting o) s = (keeps-answer app i (Some (length (object_at s o).items)) s).steps
 steps-act app i (SpacesAvailable o) s = (keeps-answer app i (Some ((object_at s o).size - length (object_at s o).items)) s).steps
@@ -241,7 +249,9 @@ steps-judged i op_index s = by_judgement (λ (t : State). t.steps ≡ s.steps) i
 
 steps-act_unless : (app : Application) (i : ℕ) (kind : Option Misuse) (op : Op) (s : State)
     → (act_unless app i kind op s).steps ≡ s.steps
-steps-act_unless app i None op s = steps-judged i (progress_at s i).op_index (act app i op s) ∙ steps-act app i op s
+steps-act_unless app i None op s =
+    steps-judged i (progress_at s i).op_index (act_by_value app i op s)
+    ∙ by_value (λ (t : State). t.steps ≡ s.steps) app i op s refl (steps-act app i op s)
 steps-act_unless app i (Some kind) op s = refl
 
 steps-act_if : (app : Application) (i : ℕ) (o : Option Op) (s : State) → (act_if app i o s).steps ≡ s.steps

@@ -105,7 +105,7 @@ module _ (s : State) (i : ℕ) (phase : Phase) where
 
   pub end_state_goes_on : end_state_of (go_on i phase s) ≡ end_state_of s
   end_state_goes_on =
-      let R : List Situation → EndState = λ xs. record { situations = xs; held = held_from 0 s.objects } in
+      let R : List Situation → EndState = λ xs. record { situations = xs; held = held_from 0 s.objects; variables = s.variables } in
       let N : ℕ → List Situation = λ n. map (situation_of (go_on i phase s)) (range_with_len 0 n) in
       ap R (ap N tasks_go_on
       ∙ map_same (situation_of (go_on i phase s)) (situation_of s) situation_goes_on (range_with_len 0 (length s.tasks)))

@@ -12,14 +12,13 @@ use Rattle.model.specs.declared.event.End.{End}
 use Rattle.model.specs.declared.event.End.TheVariants.{Pass, Ticks, Steps, Stuck}
 use Rattle.model.specs.Application.{Application, Definition, Limits, is_any_awaited, is_endless, without_endless}
 use Rattle.model.specs.State.{State, Task, Progress, Status, Ready, Awake, Waiting, Asleep, WaitingForBits, Suspended, Ended}
-use Rattle.model.specs.State.{ticket_if_ready, wake_time_of, task_at, status_at, no_task, for_each}
+use Rattle.model.specs.State.{ticket_if_ready, wake_time_of, task_at, status_at, no_task}
 use Rattle.model.specs.Order.{Key, Entry, key, keyed, list_by, in_order, tasks_of}
 use Rattle.model.specs.Switching.{is_held, is_ready, ready_key, settle, unless_held}
 use Rattle.model.specs.declared.call.Phase.TheVariants.{Decide}
 use Rattle.model.specs.declared.call.WaitList.{WaitList}
 use Rattle.model.specs.Waiting.{same_list, wait_key}
 use Rattle.model.specs.Time.{delayed_key}
-use Rattle.model.specs.Handlers.{inject}
 use Rattle.model.specs.Step.{is_ended, act_current, before_step, come_before, step}
 use Rattle.model.specs.Run.{are_all_ended, is_interrupt_to_come, is_stuck, end_of}
 use Rattle.model.specs.Invariant.{IsNonePending, IsRunning, IsState, RunsIn, holds, wait_of}

@@ -1,4 +1,10 @@
 -- Handlers: what their ops, and one handler after another, make of a state.
+use Rattle.model.specs.declared.value.Value as value
+use Rattle.model.specs.declared.value.ValueOp.{ValueOp}
+use Rattle.model.specs.declared.op.IsrOp.TheVariants.{Value}
+use Rattle.model.specs.Values.{answer_of, number_of, with_number}
+use Rattle.model.specs.Ops.{store}
+use Rattle.soundness.proofs.Handled.{fits-number}
 use Rattle.std.proofs.lemmas.Bool.{leb-true}
 use Rattle.std.proofs.Common.{◌≡◌, ◌<◌, ◌≤◌, ◌+◌, ◌&&◌, leb, ℕ, zero, suc, List, [], ◌∷◌, ◌++◌, length, map, get_or, take, drop}
 use Rattle.std.proofs.Common.{false, true, Option, None, ap, refl, sym, subst, ◌-◌, ◌∙◌, arith, Some}
@@ -46,28 +52,38 @@ use Rattle.model.specs.Ops.{answer, fail, one_if}
 
 -- ---- an op
 
-pub did_op : (P : State → Type 0) (app : Application) (s : State) (handler op_index : ℕ)
-    (op : IsrOp) (o : ℕ) (a : Access) (given : Option ℕ) (what : What)
-    → op ≡ Do o a → what ≡ isr_told handler op_index given → given ≡ answer_to s o a
-    → P (write what (attempt None o a s)) → P (isr app handler op_index op s)
-did_op P app s handler op_index op o a given what is told answer h =
+pub did_op : (P : State → Type 0) (app : Application) (s : State) (handler op_index : ℕ) (op : IsrOp) (last : Option ℕ)
+    (o : ℕ) (call : Access value.Value) (a : Access ℕ) (given : Option ℕ) (what : What)
+    → op ≡ Do o call → a ≡ with_number s.variables last call → what ≡ isr_told handler op_index given → given ≡ answer_to s o a
+    → P (write what (attempt None o a s)) → P (isr app handler op_index op last s)
+did_op P app s handler op_index op last o call a given what is number told answer h =
     let one : what ≡ isr_told handler op_index (answer_to s o a) = told ∙ ap (isr_told handler op_index) answer in
-    rw is (subst (λ (w : What). P (write w (attempt None o a s))) one h)
+    rw is (subst (λ (x : Access ℕ). P (write (isr_told handler op_index (answer_to s o x)) (attempt None o x s))) number
+    (subst (λ (w : What). P (write w (attempt None o a s))) one h))
 
 pub did_command : (P : State → Type 0) (app : Application) (s : State) (handler op_index : ℕ)
-    (op : IsrOp) (c : command.Command) (o item : ℕ) (given : Option ℕ) (what : What)
+    (op : IsrOp) (answered : Option ℕ) (c : command.Command) (o item : ℕ) (given : Option ℕ) (what : What)
     → op ≡ Command c → o ≡ commands_of app → item ≡ item_of c → what ≡ isr_told handler op_index given
     → given ≡ answer_to s o (Send item)
-    → P (write what (attempt None o (Send item) s)) → P (isr app handler op_index op s)
-did_command P app s handler op_index op c o item given what is last same told answer h =
+    → P (write what (attempt None o (Send item) s)) → P (isr app handler op_index op answered s)
+did_command P app s handler op_index op answered c o item given what is last same told answer h =
     let one : what ≡ isr_told handler op_index (answer_to s o (Send item)) = told ∙ ap (isr_told handler op_index) answer in
     let Q : ℕ → ℕ → Type 0 = λ x n. P (write (isr_told handler op_index (answer_to s x (Send n))) (attempt None x (Send n) s)) in
     rw is (subst (λ (x : ℕ). Q x (item_of c)) last
     (subst (λ (n : ℕ). Q o n) same (subst (λ (w : What). P (write w (attempt None o (Send item) s))) one h)))
 
-pub did_mark : (P : State → Type 0) (app : Application) (s : State) (handler op_index : ℕ) (op : IsrOp) (n : ℕ)
-    → op ≡ Mark n → P (write (IsrMark handler n) s) → P (isr app handler op_index op s)
-did_mark P app s handler op_index op n is h = rw is h
+pub did_mark : (P : State → Type 0) (app : Application) (s : State) (handler op_index : ℕ) (op : IsrOp) (last : Option ℕ)
+    (marked : value.Value) (n : ℕ) → op ≡ Mark marked → n ≡ number_of s.variables last marked
+    → P (write (IsrMark handler n) s) → P (isr app handler op_index op last s)
+did_mark P app s handler op_index op last marked n is number h =
+    rw is (subst (λ (m : ℕ). P (write (IsrMark handler m) s)) number h)
+
+pub did_value : (P : State → Type 0) (app : Application) (s : State) (handler op_index : ℕ) (op : IsrOp) (last : Option ℕ)
+    (values : ValueOp) (given : Option ℕ) (what : What) → op ≡ Value values → what ≡ isr_told handler op_index given
+    → given ≡ answer_of s.variables last values → P (write what (store values given s)) → P (isr app handler op_index op last s)
+did_value P app s handler op_index op last values given what is told answer h =
+    rw is (subst (λ (a : Option ℕ). P (write (isr_told handler op_index a) (store values a s))) answer
+    (subst (λ (w : What). P (write w (store values given s))) told h))
 
 -- its object has room for what it puts in
 pub op_fits : (app : Application) (formed : IsWellFormed app) (k : Machine) (handler i : ℕ) (op : IsrOp)
@@ -80,7 +96,8 @@ op_fits app formed k handler i op room l e = by_op op (at (ops_of app handler) i
   at (x ∷ xs) (suc i) known l e = at xs i known.1 (omega arith) e
 
   by_op : (x : IsrOp) → knows_isr app x ≡ true → HasIsrObject app k x
-  by_op (Do o a) known = room o a (and_left (fits_object app o a) _ known)
+  by_op (Do o a) known = λ variables answer.
+      room o (with_number variables answer a) (fits-number app o variables answer a ∙ and_left (fits_object app o a) _ known)
   by_op (Command c) known =
       let some : is_some app.daemon ≡ true = and_left (is_some app.daemon) (has_group app c.group && is_mask c.mask) known in
       let mask : is_mask c.mask ≡ true =
@@ -92,6 +109,7 @@ op_fits app formed k handler i op room l e = by_op op (at (ops_of app handler) i
   by_op (Resume i) known = tt
   by_op (GetBits g) known = tt
   by_op (Mark n) known = tt
+  by_op (Value op) known = tt
   by_op (Expect c) known = tt
   by_op (If c) known = tt
   by_op Else known = tt
@@ -137,13 +155,14 @@ module _ (app : Application) (handler : ℕ) (ops : List IsrOp) (i : ℕ) (op : 
   jumped_over over left e h = ahead over h ∙ rw e refl
 
   -- it is a check that fails
-  check_failed : true ≡ is_failed op last → GoesOnSo app handler ops s i 0 last t
+  check_failed : true ≡ is_failed t op last → GoesOnSo app handler ops s i 0 last t
       → isr_each app handler 0 0 None ops s ≡ fail (HandlerCheck handler i) t
   check_failed f h = ahead 0 h ∙ rw (sym f) refl
 
   -- it is done
-  op_done : false ≡ is_failed op last → GoesOnSo app handler ops s i 0 last t
-      → GoesOnSo app handler ops s (i + 1) (isr_jump op last (drop (i + 1) ops)) (isr_answer app t op last) (isr app handler i op t)
+  op_done : false ≡ is_failed t op last → GoesOnSo app handler ops s i 0 last t
+      → GoesOnSo app handler ops s (i + 1) (isr_jump t op last (drop (i + 1) ops)) (isr_answer app t op last)
+      (isr app handler i op last t)
   op_done f h = ahead 0 h ∙ rw (sym f) refl
 
 -- The kernel represents such states, and at most this many events are reported.
@@ -216,40 +235,47 @@ module _ (app : Application) (handler : ℕ) (ops : List IsrOp) (old : Machine) 
         here s t h = rw none at h
 
         -- it is done
-        pub amid_did : false ≡ is_failed op last → (new : Machine) (new_log : Logged) (given : Option ℕ)
-            → Does 1 mid mid_log new new_log (isr app handler i op) → DoesAny 1 mid mid_log new new_log (isr app handler i op)
+        pub amid_did : ((t : State) → Stands mid t → false ≡ is_failed t op last)
+            → (new : Machine) (new_log : Logged) (given : Option ℕ) (next : ℕ)
+            → Does 1 mid mid_log new new_log (isr app handler i op last)
+            → DoesAny 1 mid mid_log new new_log (isr app handler i op last)
             → Leaves mid new → ((s : State) → Stands mid s → given ≡ isr_answer app s op last)
-            → IsAmid app handler ops old old_log (i + 1) (isr_jump op last (drop (i + 1) ops)) given new new_log
-        amid_did f new new_log given does any leaves answer = record {
+            → ((s : State) → Stands mid s → next ≡ isr_jump s op last (drop (i + 1) ops))
+            → IsAmid app handler ops old old_log (i + 1) next given new new_log
+        amid_did f new new_log given next does any leaves answer jump = record {
           at = λ s h.
               let a = so.at s h in
-              (isr app handler i op a.0, does.at a.0 a.1, with_answer s a.0 (Placed (a.1).stands) (here s a.0 a.2));
+              (isr app handler i op last a.0, does.at a.0 a.1, with_answer s a.0 (Placed (a.1).stands) (here s a.0 a.2));
           any = λ s h.
-              let a = so.any s h in (isr app handler i op a.0, any.at a.0 a.1, with_answer s a.0 (a.1).stands (here s a.0 a.2));
+              let a = so.any s h in
+              (isr app handler i op last a.0, any.at a.0 a.1, with_answer s a.0 (a.1).stands (here s a.0 a.2));
           few = let a = so.few in let b = does.few in omega arith;
           before = does.before ∙ so.before;
           leaves = leaves_both old mid new so.leaves leaves;
         } where
           with_answer : (s t : State) → Stands mid t → GoesOnSo app handler ops s i 0 last t
-              → GoesOnSo app handler ops s (i + 1) (isr_jump op last (drop (i + 1) ops)) given (isr app handler i op t)
+              → GoesOnSo app handler ops s (i + 1) next given (isr app handler i op last t)
           with_answer s t stands h =
-              subst (λ (x : Option ℕ).
-              GoesOnSo app handler ops s (i + 1) (isr_jump op last (drop (i + 1) ops)) x (isr app handler i op t))
-              (sym (answer t stands)) (op_done app handler ops i op l is last s t f h)
+              subst (λ (x : Option ℕ). GoesOnSo app handler ops s (i + 1) next x (isr app handler i op last t))
+              (sym (answer t stands))
+              (subst (λ (n : ℕ). GoesOnSo app handler ops s (i + 1) n (isr_answer app t op last) (isr app handler i op last t))
+              (sym (jump t stands)) (op_done app handler ops i op l is last s t (f t stands) h))
 
         -- it is a check that fails
-        module _ (f : true ≡ is_failed op last) (all : ops ≡ ops_of app handler) (few : i ≤ 16) (new : Machine) where
-          ends : (s t : State) → GoesOnSo app handler ops s i over last t
+        module _ (f : (t : State) → Stands mid t → true ≡ is_failed t op last)
+            (all : ops ≡ ops_of app handler) (few : i ≤ 16) (new : Machine) where
+          ends : (s t : State) → Stands mid t → GoesOnSo app handler ops s i over last t
               → fail (HandlerCheck handler i) t ≡ isr_each app handler 0 0 None (ops_of app handler) s
-          ends s t h =
-              sym (check_failed app handler ops i op l is last s t f (here s t h))
+          ends s t stands h =
+              sym (check_failed app handler ops i op l is last s t (f t stands) (here s t h))
               ∙ ap (λ (xs : List IsrOp). isr_each app handler 0 0 None xs s) all
 
           pub amid_failed : Moves mid new (fail (HandlerCheck handler i)) → Does 16 old old_log new mid_log (handle app handler)
           unfolding handle
           amid_failed moves = record {
             at = λ s h.
-                let a = so.at s h in subst (λ (x : State). At new mid_log.told x) (ends s a.0 a.2) (moves mid_log.told a.0 a.1);
+                let a = so.at s h in
+                subst (λ (x : State). At new mid_log.told x) (ends s a.0 (Placed (a.1).stands) a.2) (moves mid_log.told a.0 a.1);
             few = let a = so.few in omega arith;
             before = so.before;
           }
@@ -259,7 +285,8 @@ module _ (app : Application) (handler : ℕ) (ops : List IsrOp) (old : Machine) 
           unfolding handle
           amid_failed_any moves = record {
             at = λ s h.
-                let a = so.any s h in subst (λ (x : State). AtAny new mid_log.told x) (ends s a.0 a.2) (moves mid_log.told a.0 a.1);
+                let a = so.any s h in
+                subst (λ (x : State). AtAny new mid_log.told x) (ends s a.0 (a.1).stands a.2) (moves mid_log.told a.0 a.1);
             few = let a = so.few in omega arith;
             before = so.before;
           }
@@ -327,18 +354,19 @@ groups_stand k s (Placing task list b) = b.groups
 -- ---- in a handler
 
 pub told_bits : (P : State → Type 0) (app : Application) (s : State)
-    (handler op_index : ℕ) (op : IsrOp) (group bits : ℕ) (what : What)
+    (handler op_index : ℕ) (op : IsrOp) (last : Option ℕ) (group bits : ℕ) (what : What)
     → op ≡ GetBits group → what ≡ isr_told handler op_index (Some bits) → bits ≡ bits_at s group → P (write what s)
-    → P (isr app handler op_index op s)
-told_bits P app s handler op_index op group bits what is told same h =
+    → P (isr app handler op_index op last s)
+told_bits P app s handler op_index op last group bits what is told same h =
     let one : what ≡ isr_told handler op_index (Some (bits_at s group)) =
     told ∙ ap (λ (n : ℕ). isr_told handler op_index (Some n)) same in
     rw is (subst (λ (w : What). P (write w s)) one h)
 
-pub told_resume : (P : State → Type 0) (app : Application) (s : State) (handler op_index : ℕ) (op : IsrOp) (i n : ℕ) (what : What)
+pub told_resume : (P : State → Type 0) (app : Application) (s : State) (handler op_index : ℕ) (op : IsrOp) (last : Option ℕ)
+    (i n : ℕ) (what : What)
     → op ≡ Resume i → what ≡ isr_told handler op_index (Some n) → Some n ≡ one_if (can_resume (status_at s i))
-    → P (write what (resume i s)) → P (isr app handler op_index op s)
-told_resume P app s handler op_index op i n what is told same h =
+    → P (write what (resume i s)) → P (isr app handler op_index op last s)
+told_resume P app s handler op_index op last i n what is told same h =
     let one : what ≡ isr_told handler op_index (one_if (can_resume (status_at s i))) = told ∙ ap (isr_told handler op_index) same in
     rw is (subst (λ (w : What). P (write w (resume i s))) one h)
 

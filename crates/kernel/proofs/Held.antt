@@ -1,5 +1,8 @@
 -- While a task holds the scheduler: what a tick that is held, the end of a script and a misuse make of the states that the kernel
 -- represents.
+use Rattle.model.specs.declared.value.Value as value
+use Rattle.model.specs.declared.op.Op.TheVariants.{Value}
+use Rattle.model.specs.declared.value.ValueOp.{ValueOp}
 use Rattle.std.proofs.Common.{◌≡◌, ◌≢◌, ◌<◌, ◌≤◌, ◌+◌, ℕ, zero, suc, true, false, List, Option, Some, None, refl, sym, subst, ◌∙◌}
 use Rattle.std.proofs.Common.{arith, ltb-false, ◌&&◌}
 use Rattle.std.proofs.lemmas.Bool.{lt-ltb, ltb-true}
@@ -21,7 +24,8 @@ use Rattle.model.specs.State.{State, status_at, progress_at}
 use Rattle.model.specs.Switching.{is_critical, is_held, is_held_by_task, is_scheduler_suspended, slice}
 use Rattle.model.specs.Time.{increment_tick}
 use Rattle.model.specs.Handlers.{interrupt, tick_interrupt}
-use Rattle.model.specs.Step.{act, act_unless, end_misuse, is_barred, is_ended, own_misuse, judge, may_switch, misuse, misused}
+use Rattle.model.specs.Step.{act_by_value, act_unless, end_misuse, is_barred, is_ended, own_misuse, judge, may_switch, misuse}
+use Rattle.model.specs.Step.{misused}
 use Rattle.soundness.proofs.Settled.{when_held, neither, unlike}
 use Rattle.soundness.proofs.Judging.{misuse_calm, not_barred, switches_not, takes_hold}
 use Rattle.sched.specs.StandsFor as sched
@@ -131,105 +135,110 @@ no_barred false e = refl
 
 -- every other op may switch
 pub no_other : {X : Type 0} (op : Op) → may_switch op ≡ false → ((n : ℕ) → op ≢ Work n) → (op ≢ Time)
-    → ((n : ℕ) → op ≢ Mark n) → ((c : AnswerCondition) → op ≢ Expect c) → ((n : Option ℕ) → op ≢ Repeat n) → (op ≢ EndLoop)
+    → ((n : value.Value) → op ≢ Mark n) → ((c : AnswerCondition) → op ≢ Expect c) → ((n : Option ℕ) → op ≢ Repeat n)
+    → (op ≢ EndLoop)
     → ((c : AnswerCondition) → op ≢ If c) → (op ≢ Else) → (op ≢ EndIf) → (op ≢ Break) → (op ≢ Stamp) → (op ≢ Since)
     → ((o : ℕ) → op ≢ MessagesWaiting o) → ((o : ℕ) → op ≢ SpacesAvailable o) → ((group mask : ℕ) → op ≢ ClearBits group mask)
-    → ((group : ℕ) → op ≢ GetBits group) → (op ≢ SuspendAll) → (op ≢ ResumeAll) → (op ≢ EnterCritical) → (op ≢ ExitCritical) → X
+    → ((group : ℕ) → op ≢ GetBits group) → (op ≢ SuspendAll) → (op ≢ ResumeAll) → (op ≢ EnterCritical) → (op ≢ ExitCritical)
+    → ((values : ValueOp) → op ≢ Value values) → X
 no_other (Work n) t work time mark expect repeat end_ if_ else_ end_if break_ stamp_ since_ messages spaces clear get suspend_
-    resume_ enter exit =
+    resume_ enter exit value_ =
     absurd (work n refl)
 no_other (Delay n) t work time mark expect repeat end_ if_ else_ end_if break_ stamp_ since_ messages spaces clear get suspend_
-    resume_ enter exit =
+    resume_ enter exit value_ =
     absurd (cc)
 no_other (DelayUntil n) t work time mark expect repeat end_ if_ else_ end_if break_ stamp_ since_ messages spaces clear get suspend_
-    resume_ enter exit =
+    resume_ enter exit value_ =
     absurd (cc)
 no_other Yield t work time mark expect repeat end_ if_ else_ end_if break_ stamp_ since_ messages spaces clear get suspend_ resume_
-    enter exit =
+    enter exit value_ =
     absurd (cc)
 no_other Time t work time mark expect repeat end_ if_ else_ end_if break_ stamp_ since_ messages spaces clear get suspend_ resume_
-    enter exit =
+    enter exit value_ =
     absurd (time refl)
 no_other (Mark n) t work time mark expect repeat end_ if_ else_ end_if break_ stamp_ since_ messages spaces clear get suspend_
-    resume_ enter exit =
+    resume_ enter exit value_ =
     absurd (mark n refl)
 no_other (Expect a) t work time mark expect repeat end_ if_ else_ end_if break_ stamp_ since_ messages spaces clear get suspend_
-    resume_ enter exit =
+    resume_ enter exit value_ =
     absurd (expect a refl)
 no_other (Repeat n) t work time mark expect repeat end_ if_ else_ end_if break_ stamp_ since_ messages spaces clear get suspend_
-    resume_ enter exit =
+    resume_ enter exit value_ =
     absurd (repeat n refl)
 no_other EndLoop t work time mark expect repeat end_ if_ else_ end_if break_ stamp_ since_ messages spaces clear get suspend_
-    resume_ enter exit =
+    resume_ enter exit value_ =
     absurd (end_ refl)
 no_other (If c) t work time mark expect repeat end_ if_ else_ end_if break_ stamp_ since_ messages spaces clear get suspend_ resume_
-    enter exit =
+    enter exit value_ =
     absurd (if_ c refl)
 no_other Else t work time mark expect repeat end_ if_ else_ end_if break_ stamp_ since_ messages spaces clear get suspend_ resume_
-    enter exit =
+    enter exit value_ =
     absurd (else_ refl)
 no_other EndIf t work time mark expect repeat end_ if_ else_ end_if break_ stamp_ since_ messages spaces clear get suspend_ resume_
-    enter exit =
+    enter exit value_ =
     absurd (end_if refl)
 no_other Break t work time mark expect repeat end_ if_ else_ end_if break_ stamp_ since_ messages spaces clear get suspend_ resume_
-    enter exit =
+    enter exit value_ =
     absurd (break_ refl)
 no_other Stamp t work time mark expect repeat end_ if_ else_ end_if break_ stamp_ since_ messages spaces clear get suspend_ resume_
-    enter exit =
+    enter exit value_ =
     absurd (stamp_ refl)
 no_other Since t work time mark expect repeat end_ if_ else_ end_if break_ stamp_ since_ messages spaces clear get suspend_ resume_
-    enter exit =
+    enter exit value_ =
     absurd (since_ refl)
+no_other (Value values) t work time mark expect repeat end_ if_ else_ end_if break_ stamp_ since_ messages spaces clear get suspend_
+    resume_ enter exit value_ =
+    absurd (value_ values refl)
 no_other (Await o a w) t work time mark expect repeat end_ if_ else_ end_if break_ stamp_ since_ messages spaces clear get suspend_
-    resume_ enter exit =
+    resume_ enter exit value_ =
     absurd (cc)
 no_other (Do o a) t work time mark expect repeat end_ if_ else_ end_if break_ stamp_ since_ messages spaces clear get suspend_
-    resume_ enter exit =
+    resume_ enter exit value_ =
     absurd (cc)
 no_other (GiveMutex o) t work time mark expect repeat end_ if_ else_ end_if break_ stamp_ since_ messages spaces clear get suspend_
-    resume_ enter exit =
+    resume_ enter exit value_ =
     absurd (cc)
 no_other (MessagesWaiting o) t work time mark expect repeat end_ if_ else_ end_if break_ stamp_ since_ messages spaces clear get
-    suspend_ resume_ enter exit =
+    suspend_ resume_ enter exit value_ =
     absurd (messages o refl)
 no_other (SpacesAvailable o) t work time mark expect repeat end_ if_ else_ end_if break_ stamp_ since_ messages spaces clear get
-    suspend_ resume_ enter exit =
+    suspend_ resume_ enter exit value_ =
     absurd (spaces o refl)
 no_other (SetBits g m) t work time mark expect repeat end_ if_ else_ end_if break_ stamp_ since_ messages spaces clear get suspend_
-    resume_ enter exit =
+    resume_ enter exit value_ =
     absurd (cc)
 no_other (ClearBits g m) t work time mark expect repeat end_ if_ else_ end_if break_ stamp_ since_ messages spaces clear get
-    suspend_ resume_ enter exit =
+    suspend_ resume_ enter exit value_ =
     absurd (clear g m refl)
 no_other (GetBits g) t work time mark expect repeat end_ if_ else_ end_if break_ stamp_ since_ messages spaces clear get suspend_
-    resume_ enter exit =
+    resume_ enter exit value_ =
     absurd (get g refl)
 no_other (WaitBits g c w) t work time mark expect repeat end_ if_ else_ end_if break_ stamp_ since_ messages spaces clear
-    get suspend_ resume_ enter exit =
+    get suspend_ resume_ enter exit value_ =
     absurd (cc)
 no_other (Suspend j) t work time mark expect repeat end_ if_ else_ end_if break_ stamp_ since_ messages spaces clear get suspend_
-    resume_ enter exit =
+    resume_ enter exit value_ =
     absurd (cc)
 no_other (Resume j) t work time mark expect repeat end_ if_ else_ end_if break_ stamp_ since_ messages spaces clear get suspend_
-    resume_ enter exit =
+    resume_ enter exit value_ =
     absurd (cc)
 no_other SuspendAll t work time mark expect repeat end_ if_ else_ end_if break_ stamp_ since_ messages spaces clear get suspend_
-    resume_ enter exit =
+    resume_ enter exit value_ =
     absurd (suspend_ refl)
 no_other ResumeAll t work time mark expect repeat end_ if_ else_ end_if break_ stamp_ since_ messages spaces clear get suspend_
-    resume_ enter exit =
+    resume_ enter exit value_ =
     absurd (resume_ refl)
 no_other EnterCritical t work time mark expect repeat end_ if_ else_ end_if break_ stamp_ since_ messages spaces clear get suspend_
-    resume_ enter exit =
+    resume_ enter exit value_ =
     absurd (enter refl)
 no_other ExitCritical t work time mark expect repeat end_ if_ else_ end_if break_ stamp_ since_ messages spaces clear get suspend_
-    resume_ enter exit =
+    resume_ enter exit value_ =
     absurd (exit refl)
 no_other (NextCommand o) t work time mark expect repeat end_ if_ else_ end_if break_ stamp_ since_ messages spaces clear get
-    suspend_ resume_ enter exit =
+    suspend_ resume_ enter exit value_ =
     absurd (cc)
 no_other Obey t work time mark expect repeat end_ if_ else_ end_if break_ stamp_ since_ messages spaces clear get suspend_ resume_
-    enter exit =
+    enter exit value_ =
     absurd (cc)
 
 -- ---- ops that begin or end a hold, where no task holds the scheduler
@@ -250,7 +259,7 @@ module _ (app : Application) (new : Machine) (log : List Event) (s : State) (i :
       → At new log (misused i (progress_at s i).op_index kind s) → At new log (act_unless app i (misuse s i op) op s)
   misused_at kind e h = rw e h
 
-  pub acted_at : misuse s i op ≡ None → At new log (judge i (progress_at s i).op_index (act app i op s))
+  pub acted_at : misuse s i op ≡ None → At new log (judge i (progress_at s i).op_index (act_by_value app i op s))
       → At new log (act_unless app i (misuse s i op) op s)
   acted_at e h = rw e h
 

@@ -1,4 +1,8 @@
 -- Steps of a call that waits, from where it decides to where it lets go of the scheduler.
+use Rattle.kernel.proofs.Valued.{acts_past}
+use Rattle.model.specs.Step.{act_by_value}
+use Rattle.model.specs.declared.value.Value as value
+use Rattle.model.specs.Values.{with_number}
 use denote.Enum.Bare.{sameb, same_true}
 use Rattle.std.proofs.Common.{◌≡◌, ◌≢◌, ◌<◌, ◌+◌, ℕ, Bool, true, false, not, rules, List, [], Option, None, refl, ap, sym, subst}
 use Rattle.std.proofs.Common.{◌∙◌, arith}
@@ -11,7 +15,7 @@ use Rattle.model.specs.Invariant.{holds}
 use Rattle.model.specs.contracts.call.Phase.{the_type}
 use Rattle.model.specs.declared.event.Event.{Event}
 use Rattle.model.specs.Application.{Application, Limits, op_at}
-use Rattle.model.specs.State.{State, Progress, progress_at}
+use Rattle.model.specs.State.{State, Progress, progress_at, call_at}
 use Rattle.model.specs.Calls.{await, leave_call}
 use Rattle.model.specs.Step.{act_current, act_unless, misuse, step}
 use Rattle.machine.specs.declared.machine.Machine.{Machine}
@@ -64,7 +68,7 @@ same_phase a b e = same_true the_type (search rules) a b (unequal (sameb the_typ
   unequal false e = absurd (cc)
 
 module _ (app : Application) (limits : Limits) (k : Machine) (task object : ℕ)
-    (access : Access) (phase : Phase) (c : IsInPhase app k task object access phase) where
+    (access : Access ℕ) (phase : Phase) (c : IsInPhase app k task object access phase) where
   -- it is in its next phase then
   pub still_in_call : (new : Machine) → Remains k new task → (next : Phase)
       → (progress_in new.progress task).call.phase ≡ next → IsInPhase app new task object access next
@@ -82,11 +86,14 @@ module _ (app : Application) (limits : Limits) (k : Machine) (task object : ℕ)
   pub can_in_phase : CanOp app k task c.op → CanGoOn k task object access c.ticks phase
   can_in_phase can = by_form c.on where
     by_form : IsCallOn c.op object access c.ticks → CanGoOn k task object access c.ticks phase
-    by_form (Awaits e) = subst (CanGoOn k task object access c.ticks) c.reached (subst (CanOp app k task) e can)
+    by_form (Awaits call variables answer e number) =
+        subst (λ (a : Access ℕ). CanGoOn k task object a c.ticks phase) (sym number)
+        (subst (CanGoOn k task object (with_number variables answer call) c.ticks) c.reached
+        (subst (CanOp app k task) e can variables answer))
     by_form (Receives e a t) =
         subst (CanGoOn k task object access c.ticks) c.reached
         (subst (λ (n : Option ℕ). CanGoOn k task object access n (progress_in k.progress task).call.phase) (sym t)
-        (subst (λ (x : Access). CanGoOn k task object x None (progress_in k.progress task).call.phase)
+        (subst (λ (x : Access ℕ). CanGoOn k task object x None (progress_in k.progress task).call.phase)
         (sym a) (subst (CanOp app k task) e can)))
 
   -- and what it does in its phase is what the step does,
@@ -97,17 +104,32 @@ module _ (app : Application) (limits : Limits) (k : Machine) (task object : ℕ)
     not_before : (other : Phase) → (IsPast other → ⊥) → (progress_in k.progress task).call.phase ≡ other → ⊥
     not_before other off e = off (subst IsPast (sym c.reached ∙ e) past)
 
+    by_number : (call : Access value.Value) (variables : List ℕ) (answer : Option ℕ) → access ≡ with_number variables answer call
+        → DoesAny 2 k old_log new new_log (act_by_value app task (Await object call c.ticks))
+    by_number call variables answer number = record {
+      at = λ s h.
+          let reached : (call_at s task).phase ≡ phase =
+          ap (λ (p : Progress). p.call.phase) (sym (progress_is k s h.stands task)) ∙ c.reached in
+          subst (AtAny new new_log.told)
+          (ap (λ (a : Access ℕ). await app task object a c.ticks phase s) number
+          ∙ sym (acts_past app task object call c.ticks s phase (λ e. subst IsPast e past) (λ e. subst IsPast e past) reached
+          variables answer))
+          (does.at s h);
+      few = does.few;
+      before = does.before;
+    }
+
     by_form : IsCallOn c.op object access c.ticks
         → DoesAny 65 k old_log new new_log (λ s. act_unless app task (misuse s task c.op) c.op s)
-    by_form (Awaits e) =
-        any_by_form app k new old_log new_log task c.op (Await object access c.ticks) e c.awake (λ s. refl) refl 2 two_within
-        (in_phase app k new old_log new_log task object access c.ticks phase c.reached does)
+    by_form (Awaits call variables answer e number) =
+        any_by_form app k new old_log new_log task c.op (Await object call c.ticks) e c.awake (λ s. refl) refl 2 two_within
+        (by_number call variables answer number)
     by_form (Receives e a t) =
         any_by_form app k new old_log new_log task c.op (NextCommand object) e c.awake (λ s. refl) refl 2 two_within
         (receive_in_phase app k new old_log new_log task object (not_before Start (λ x. x)) (not_before Try (λ x. x))
         (in_phase app k new old_log new_log task object Receive None phase c.reached
         (subst (λ (n : Option ℕ). DoesAny 2 k old_log new new_log (await app task object Receive n phase)) t
-        (subst (λ (x : Access). DoesAny 2 k old_log new new_log (await app task object x c.ticks phase)) a does))))
+        (subst (λ (x : Access ℕ). DoesAny 2 k old_log new new_log (await app task object x c.ticks phase)) a does))))
 
   module _ (past : IsPast phase) (new : Machine)
       (does : (log : List Event) (s : State) → AtAny k log s → AtAny new log (await app task object access c.ticks phase s)) where

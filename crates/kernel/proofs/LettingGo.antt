@@ -1,4 +1,5 @@
 -- Where a call on an event group lets go of the scheduler.
+use Rattle.model.specs.declared.op.Op.TheVariants.{Value}
 use Rattle.std.proofs.Common.{◌≡◌, ◌≢◌, ℕ, true, Option, refl, subst, arith}
 use Rattle.std.specs.Option.{unwrap_or}
 use Rattle.model.specs.declared.op.Command.{Command}
@@ -88,6 +89,7 @@ no_other EndIf e sets waits obeys = absurd (cc)
 no_other Break e sets waits obeys = absurd (cc)
 no_other Stamp e sets waits obeys = absurd (cc)
 no_other Since e sets waits obeys = absurd (cc)
+no_other (Value op) e sets waits obeys = absurd (cc)
 no_other (Await o a w) e sets waits obeys = absurd (cc)
 no_other (Do o a) e sets waits obeys = absurd (cc)
 no_other (GiveMutex o) e sets waits obeys = absurd (cc)

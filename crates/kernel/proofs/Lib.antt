@@ -22,3 +22,4 @@ pub mod Alike
 pub mod Ahead
 pub mod Amid
 pub mod EndStates
+pub mod Valued

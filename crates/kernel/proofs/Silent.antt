@@ -1,5 +1,7 @@
 -- A phase of a call in which it reports nothing ends neither a task nor the run.
-use Rattle.std.proofs.Common.{◌≡◌, ◌≢◌, ◌||◌, ◌&&◌, leb, ℕ, true, false, eqb, ltb, List, [], ◌∷◌, ◌++◌, Option, Some, None, refl}
+use Rattle.kernel.proofs.Valued.{acts_past}
+use Rattle.model.specs.Step.{act_by_value}
+use Rattle.std.proofs.Common.{◌≡◌, ◌||◌, ◌&&◌, leb, ℕ, true, false, eqb, ltb, List, [], ◌∷◌, ◌++◌, Option, Some, None, refl}
 use Rattle.std.proofs.Common.{ap, sym, subst, ◌∙◌}
 use Rattle.std.specs.Option.{is_some, option_eq}
 use Rattle.model.specs.declared.event.End.{End}
@@ -27,7 +29,7 @@ use Rattle.model.specs.Groups.{answer_bits, begin_bits_wait, check, is_met, set_
 use Rattle.model.specs.Daemon.{clear_by_daemon, command_at, next_command, obey}
 use Rattle.model.specs.Calls.{decide, await}
 use Rattle.model.specs.Invariant.{IsNonePending}
-use Rattle.model.specs.Step.{is_ended, act, act_current, act_if, before_step, own_misuse, step}
+use Rattle.model.specs.Step.{is_ended, act_current, act_if, before_step, own_misuse, step}
 use Rattle.model.specs.Run.{are_all_ended, is_stuck}
 use Rattle.model.proofs.Sorting.{by_test}
 use Rattle.model.proofs.Tables.{each-set}
@@ -94,14 +96,14 @@ on-inherit s i o j on = by_holder (object_at s o).holder where
 
 -- ---- the phases
 
-on-wait_in : (s : State) (i o : ℕ) (a : Access) → EndsNobody s (wait_in i (list_for o a) s)
+on-wait_in : (s : State) (i o : ℕ) (a : Access ℕ) → EndsNobody s (wait_in i (list_for o a) s)
 unfolding wait_in
 on-wait_in s i o a j on =
     let t : State = with_call i (record (call_at s i) { waits = true }) s in
     on-with_task t i (record (task_at t i) { status = Waiting _ }) (λ o. refl)
     j (on-with_call s i (record (call_at s i) { waits = true }) j on)
 
-on-decide : (s : State) (i o : ℕ) (a : Access) → EndsNobody s (decide i o a s)
+on-decide : (s : State) (i o : ℕ) (a : Access ℕ) → EndsNobody s (decide i o a s)
 unfolding decide
 on-decide s i o a j on = by_test (possible s o a || is_expired s i)
     (λ t. rw t (on-with_call s i (record (call_at s i) { phase = Unlock }) j on))
@@ -118,7 +120,7 @@ on-unlock s j on = by_locked s.locked where
   by_locked (Some o) =
       on-all_ready (tasks_of (awakened s (ToReceive o)) ++ tasks_of (awakened s (ToSend o))) (record s { locked = None }) j on
 
-on-await : (app : Application) (i o : ℕ) (a : Access) (ticks : Option ℕ) (phase : Phase) (s : State)
+on-await : (app : Application) (i o : ℕ) (a : Access ℕ) (ticks : Option ℕ) (phase : Phase) (s : State)
     → IsSilent phase → EndsNobody s (await app i o a ticks phase s)
 on-await app i o a ticks Start s silent = absurd silent
 on-await app i o a ticks Try s silent = absurd silent
@@ -128,7 +130,7 @@ on-await app i o a ticks Unlock s silent = λ j on.
     on-with_call (unlock s) i (record (call_at (unlock s) i) { phase = Leave }) j (on-unlock s j on)
 on-await app i o a ticks Leave s silent = absurd silent
 
-stopped-decide : (s : State) (i o : ℕ) (a : Access) → (decide i o a s).stopped ≡ s.stopped
+stopped-decide : (s : State) (i o : ℕ) (a : Access ℕ) → (decide i o a s).stopped ≡ s.stopped
 unfolding decide wait_in
 stopped-decide s i o a = by_test (possible s o a || is_expired s i) (λ t. rw t refl) (λ t. rw t (stopped-inherit s i o))
 
@@ -140,7 +142,7 @@ stopped-unlock s = by_locked s.locked where
   by_locked (Some o) =
       stopped-all_ready (tasks_of (awakened s (ToReceive o)) ++ tasks_of (awakened s (ToSend o))) (record s { locked = None })
 
-stopped-await : (app : Application) (i o : ℕ) (a : Access) (ticks : Option ℕ) (phase : Phase) (s : State)
+stopped-await : (app : Application) (i o : ℕ) (a : Access ℕ) (ticks : Option ℕ) (phase : Phase) (s : State)
     → IsSilent phase → (await app i o a ticks phase s).stopped ≡ s.stopped
 stopped-await app i o a ticks Start s silent = absurd silent
 stopped-await app i o a ticks Try s silent = absurd silent
@@ -232,25 +234,29 @@ module _ (app : Application) (limits : Limits) (task : ℕ) (s : State) (plain :
       (runs_on app ended task still)
 
 -- What the op of a call that waits does in such a phase is what the call does.
-module _ (app : Application) (task object : ℕ) (access : Access) (ticks : Option ℕ) (phase : Phase)
+module _ (app : Application) (task object : ℕ) (access : Access ℕ) (ticks : Option ℕ) (phase : Phase)
     (silent : IsSilent phase) (s : State) (reached : (call_at s task).phase ≡ phase) where
   not_begun : (other : Phase) → (IsSilent other → ⊥) → phase ≡ other → ⊥
   not_begun other loud e = loud (subst IsSilent e silent)
 
-  call_acts : (op : Op) → IsCallOn op object access ticks → act app task op s ≡ await app task object access ticks phase s
-  call_acts op (Awaits e) = ap (λ o. act app task o s) e ∙ ap (λ p. await app task object access ticks p s) reached
+  call_acts : (op : Op) → IsCallOn op object access ticks
+      → act_by_value app task op s ≡ await app task object access ticks phase s
+  call_acts op (Awaits call variables answer e number) =
+      ap (λ o. act_by_value app task o s) e
+      ∙ acts_past app task object call ticks s phase (not_begun Start (λ x. x)) (not_begun Try (λ x. x)) reached variables answer
+      ∙ ap (λ x. await app task object x ticks phase s) (sym number)
   call_acts op (Receives e a t) =
-      ap (λ o. act app task o s) e
+      ap (λ o. act_by_value app task o s) e
       ∙ ap (λ p. next_command app task object p s) reached
       ∙ sym (same_after app task object phase s (not_begun Start (λ x. x)) (not_begun Try (λ x. x)))
       ∙ ap (λ x. await app task object x None phase s) (sym a)
       ∙ ap (λ x. await app task object access x phase s) (sym t)
 
   call_allowed : (op : Op) → IsCallOn op object access ticks → (own_misuse s task op ≡ None) × (takes_hold op ≡ false)
-  call_allowed op (Awaits e) = (ap (own_misuse s task) e, ap takes_hold e)
+  call_allowed op (Awaits call variables answer e number) = (ap (own_misuse s task) e, ap takes_hold e)
   call_allowed op (Receives e a t) = (ap (own_misuse s task) e, ap takes_hold e)
 
-module _ (app : Application) (limits : Limits) (task object : ℕ) (access : Access) (ticks : Option ℕ)
+module _ (app : Application) (limits : Limits) (task object : ℕ) (access : Access ℕ) (ticks : Option ℕ)
     (phase : Phase) (silent : IsSilent phase) (op : Op) (on : IsCallOn op object access ticks) where
   acts_silently : (s : State) → s.current ≡ Some task → op_at app task (progress_at s task).op_index ≡ Some op
       → (call_at s task).phase ≡ phase → is_held_by_task s ≡ false
@@ -314,7 +320,7 @@ module _ (app : Application) (limits : Limits) (task : ℕ) (op : Op) (s : State
   anew = record s { log = [] }
 
   acts_as : (form : Op) → op ≡ form → own_misuse anew task form ≡ None → takes_hold form ≡ false
-      → act_current app limits s.current anew ≡ act app task form anew
+      → act_current app limits s.current anew ≡ act_by_value app task form anew
   unfolding anew
   acts_as form same allowed apart =
       ap (λ c. act_current app limits c anew) runs

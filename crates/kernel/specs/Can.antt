@@ -1,5 +1,5 @@
 -- What a step asks of the kernel: that the running task can do its op, and idle let a tick pass.
-use Rattle.std.specs.Prelude.{◌≡◌, ◌<◌, ◌≤◌, ◌+◌, ℕ, false, Some, None}
+use Rattle.std.specs.Prelude.{◌≡◌, ◌<◌, ◌≤◌, ◌+◌, ℕ, false, List, Option, Some, None}
 use Rattle.model.specs.declared.op.Op.{Op}
 use Rattle.model.specs.declared.op.Access.TheVariants.{Receive}
 use Rattle.model.specs.declared.op.Op.TheVariants.{Await, SetBits, WaitBits, NextCommand, Obey}
@@ -7,6 +7,7 @@ use Rattle.model.specs.declared.ids.TaskId.{TaskId}
 use Rattle.model.specs.Application.{Application, Limits, op_at}
 use Rattle.model.specs.Scripts.{AreLimits}
 use Rattle.model.specs.State.{State}
+use Rattle.model.specs.Values.{with_number}
 use Rattle.model.specs.Run.{end_of, is_stuck}
 use Rattle.model.specs.Invariant.{IsState}
 use Rattle.machine.specs.declared.machine.Machine.{Machine}
@@ -15,7 +16,9 @@ use Rattle.ops.specs.Can.{CanTick, Can, CanGoOn, CanSetBits, CanWaitBits, CanHol
 
 -- The running task can do what its op is to do next.
 abbrev pub CanOp : Application → Machine → ℕ → Op → Type 0
-CanOp app k task (Await object access ticks) = CanGoOn k task object access ticks (progress_in k.progress task).call.phase
+CanOp app k task (Await object access ticks) =
+    (variables : List ℕ) (answer : Option ℕ)
+    → CanGoOn k task object (with_number variables answer access) ticks (progress_in k.progress task).call.phase
 CanOp app k task (SetBits group mask) = CanSetBits k task (progress_in k.progress task).call.phase
 CanOp app k task (WaitBits group condition ticks) = CanWaitBits k task ticks (progress_in k.progress task).call.phase
 CanOp app k task (NextCommand queue) = CanGoOn k task queue Receive None (progress_in k.progress task).call.phase

@@ -2,7 +2,7 @@
 use Rattle.std.specs.Prelude.{◌≡◌, ℕ, Bool, true, false, Some, None}
 use Rattle.model.specs.declared.op.Op.{Op}
 use Rattle.model.specs.declared.op.Op.TheVariants.{Time, Mark, Expect, Repeat, End, If, Else, EndIf, Break, Stamp, Since}
-use Rattle.model.specs.declared.op.Op.TheVariants.{MessagesWaiting, SpacesAvailable, GetBits, WaitBits}
+use Rattle.model.specs.declared.op.Op.TheVariants.{MessagesWaiting, SpacesAvailable, GetBits, WaitBits, Value}
 use Rattle.model.specs.Application.{Application, op_at}
 use Rattle.machine.specs.declared.machine.Machine.{Machine}
 use Rattle.machine.specs.StandsFor.{progress_in}
@@ -10,7 +10,7 @@ use Rattle.kernel.specs.declared.acting.Following.{Following}
 use Rattle.kernel.specs.declared.acting.Following.TheVariants.{NextOp, Answered}
 
 -- an op that may change nothing but where its task is in its script, and what the task keeps: one of the script alone, or a call
--- that answers and wakes nobody
+-- that answers and wakes nobody, or one on values
 abbrev pub may_stay_amid : Op → Bool
 may_stay_amid Time = true
 may_stay_amid (Mark number) = true
@@ -26,6 +26,7 @@ may_stay_amid Since = true
 may_stay_amid (MessagesWaiting object) = true
 may_stay_amid (SpacesAvailable object) = true
 may_stay_amid (GetBits group) = true
+may_stay_amid (Value op) = true
 may_stay_amid (WaitBits group condition ticks) = true
 may_stay_amid _ = false
 

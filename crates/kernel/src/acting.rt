@@ -15,14 +15,15 @@ use crate::handlers::tick_interrupt;
 use crate::suspended::{call_enter_critical, call_suspend_all};
 use machine::{Log, Machine};
 use model::{App, Misuse, Op, TaskId};
-use ops::calls::go_on_waiting;
+use ops::calls::go_on_by_value;
 use ops::daemon::{next_command, obey};
 use ops::event_groups::{BitsWait, clear_bits, get_bits, set_bits, wait_bits};
 use ops::mutexes::give_mutex;
-use ops::queues::{do_now, messages_waiting, spaces_available};
+use ops::queues::{do_by_value, messages_waiting, spaces_available};
 use ops::script::{branch, close_turn, end_if, expect, leave_loop, mark, open_loop, skip_branch};
 use ops::suspension::{call_resume, call_suspend};
 use ops::time::{call_yield, delay, delay_until, since, stamp, time, use_up};
+use ops::values::calculate;
 
 /// What may come behind a step, and is done next with the step's parts at hand. Of `Answered` and `Suspended` the step has reported
 /// something, and of the others nothing.
@@ -180,7 +181,7 @@ pub(crate) fn act<L: Log>(
     match *op {
         Op::Work(ticks) => return work(machine, app, task, ticks, log),
         Op::Await(object, access, ticks) => {
-            go_on_waiting(machine, app, task, object, access, ticks, log);
+            go_on_by_value(machine, app, task, object, access, ticks, log);
             return Following::Steps;
         }
         Op::SetBits(group, mask) => {
@@ -202,10 +203,11 @@ pub(crate) fn act<L: Log>(
         Op::DelayUntil(ticks) => delay_until(machine, app, task, ticks, log),
         Op::Yield => call_yield(machine, app, task, log),
         Op::Time => return Following::answered_if(time(machine, app, task, log)),
-        Op::Mark(number) => return Following::answered_if(mark(machine, app, task, number, log)),
+        Op::Mark(value) => return Following::answered_if(mark(machine, app, task, value, log)),
+        Op::Value(op) => return Following::answered_if(calculate(machine, app, task, op, log)),
         Op::Stamp => return Following::op_if(stamp(machine, app, task)),
         Op::Since => return Following::answered_if(since(machine, app, task, log)),
-        Op::Do(object, access) => do_now(machine, app, task, object, access, log),
+        Op::Do(object, access) => do_by_value(machine, app, task, object, access, log),
         Op::GiveMutex(object) => give_mutex(machine, app, task, object, log),
         Op::MessagesWaiting(object) => {
             return Following::answered_if(messages_waiting(machine, app, task, object, log));

@@ -190,7 +190,12 @@ fn end_state(machine: &mut Machine, app: &App) -> EndState
     let held = held_mutexes(&machine.objects, app.objects().len());
     let awake = take_awake(&mut machine.objects);
     let situations = situations(machine, &awake, app.tasks().len());
-    EndState { situations, held }
+    let variables = machine.variables.to_array();
+    EndState {
+        situations,
+        held,
+        variables,
+    }
 }
 
 /// The run of an application with this plan, as `run` has it, and the end state after its last step.

@@ -1,6 +1,7 @@
 //! The steps of a call that waits, from where it decides until it has let go of the scheduler. They are done one after another,
 //! with the call in hand, and nothing is looked for in each.
-ghost use Rattle.std.specs.Prelude.{◌≡◌, ◌+◌, ◌≤◌, ℕ, false, List, [], Option, IfSome};
+ghost use Rattle.std.specs.Prelude.{◌≡◌, ◌+◌, ◌≤◌, ℕ, false, List, [], None, Option, IfSome};
+ghost use Rattle.model.specs.Values.{with_number};
 ghost use Rattle.model.specs.declared.call.Phase as declared;
 ghost use Rattle.model.specs.declared.call.Phase.TheVariants.{Decide, Leave};
 ghost use Rattle.model.specs.declared.plan.Injection as definitions;
@@ -20,16 +21,24 @@ ghost use Rattle.kernel.specs.Along.{IsFree, GoesOn, NoneIsOver, IsGoing, GoesFu
 use crate::over::{is_at_tick_limit, is_left_alone};
 use crate::steps::op_of;
 use machine::{Log, Machine, Trail};
-use model::{Access, App, Injection, Limits, ObjectId, Op, Phase, TaskId};
+use model::{Access, App, Injection, Limits, ObjectId, Op, Phase, TaskId, Value};
 use ops::calls::{go_on_silently, leave_call};
+
+/// The call with some number for its item, which is asked for only when the call tries again.
+#[inline(always)]
+fn with_any_number(access: Access<Value>) -> Access<u32>
+    ensures { result ≡ with_number [] None access }
+{
+    access.with_number(&[], None)
+}
 
 /// On which object an op is a call that waits, and what it does there.
 #[inline(always)]
-fn call_of(op: &Op) -> Option<(ObjectId, Access)>
+fn call_of(op: &Op) -> Option<(ObjectId, Access<u32>)>
     ensures { IfSome result (λ call. (ticks : Option ℕ) × IsCallOn op.now call.0 call.1 ticks) }
 {
     match *op {
-        Op::Await(object, access, _) => Some((object, access)),
+        Op::Await(object, access, _) => Some((object, with_any_number(access))),
         Op::NextCommand(queue) => Some((queue, Access::Receive)),
         _ => None,
     }
@@ -63,7 +72,7 @@ fn step_in_call(
     app: &App,
     task: TaskId,
     object: ObjectId,
-    access: Access,
+    access: Access<u32>,
     phase: Phase,
 )
     requires silent { IsSilent phase }
@@ -109,7 +118,7 @@ fn pass_phase(
     app: &App,
     injections: &[Injection],
     task: TaskId,
-    call: &(ObjectId, Access),
+    call: &(ObjectId, Access<u32>),
     phase: Phase,
     limits: &Limits,
 )
@@ -134,7 +143,7 @@ fn pass_if_next(
     app: &App,
     injections: &[Injection],
     task: TaskId,
-    call: &(ObjectId, Access),
+    call: &(ObjectId, Access<u32>),
     next: Phase,
     limits: &Limits,
 )

@@ -3,28 +3,32 @@ ghost use Rattle.std.specs.Prelude.{◌≡◌, ◌<◌, ◌≤◌, ◌+◌, ◌^
 ghost use Rattle.model.specs.declared.block.Edge as declared;
 ghost use Rattle.model.specs.Blocks.{isr_edges_of, past_branch};
 ghost use Rattle.model.specs.Handlers.{is_failed, isr_jump};
+ghost use Rattle.model.specs.State.{State};
 
 use model::{Edge, IsrOp};
 
-/// Whether it is an `expect` that fails where this is the last answer.
+/// Whether it is an `expect` that fails, or an op that has no value to work with, if the variables and the last answer are these.
 #[inline(always)]
-pub(crate) fn is_failed(op: &IsrOp, last: Option<u32>) -> bool
-    ensures { result ≡ is_failed op.now last }
+pub(crate) fn is_failed(op: &IsrOp, variables: &[u32], last: Option<u32>) -> bool
+    ensures { (s : State) → s.variables ≡ variables.now → result ≡ is_failed s op.now last }
 {
     match *op {
-        IsrOp::Expect(condition) => !condition.holds(last),
+        IsrOp::Expect(condition) => !condition.holds(variables, last),
+        IsrOp::Do(_, access) => access.lacks_item(last),
+        IsrOp::Mark(value) => value.is_missing(last),
+        IsrOp::Value(op) => op.answer(variables, last).is_none(),
         _ => false,
     }
 }
 
-/// Over how many of these ops, which are those behind it, an op jumps where this is the last answer.
+/// Over how many of these ops, which come after it, an op jumps, if the variables and the last answer are these.
 #[inline(always)]
-pub(crate) fn isr_jump(op: &IsrOp, behind: &[IsrOp], last: Option<u32>) -> usize
+pub(crate) fn isr_jump(op: &IsrOp, behind: &[IsrOp], variables: &[u32], last: Option<u32>) -> usize
     requires { length behind.now ≤ 16 }
-    ensures { result ≡ isr_jump op.now last behind.now }
+    ensures { (s : State) → s.variables ≡ variables.now → result ≡ isr_jump s op.now last behind.now }
 {
     match *op {
-        IsrOp::If(condition) if !condition.holds(last) => past_branch(behind),
+        IsrOp::If(condition) if !condition.holds(variables, last) => past_branch(behind),
         IsrOp::Else => past_branch(behind),
         _ => 0,
     }

@@ -5,7 +5,7 @@ ghost use Rattle.model.specs.declared.op.Op.TheVariants as op;
 ghost use Rattle.model.specs.Application.{Limits, op_at};
 ghost use Rattle.model.specs.State.{State, object_at, status_at};
 ghost use Rattle.model.specs.Handlers.{tick_interrupt};
-ghost use Rattle.model.specs.Step.{act, act_current, act_unless, end_misuse, is_barred, is_ended, judge, may_switch, misuse, own_misuse, step};
+ghost use Rattle.model.specs.Step.{act, act_by_value, act_current, act_unless, end_misuse, is_barred, is_ended, judge, may_switch, misuse, own_misuse, step};
 ghost use Rattle.model.specs.Switching.{is_same, is_scheduler_suspended};
 ghost use Rattle.machine.specs.StandsFor.{Does, DoesAny, Moves, Stands, progress_in};
 ghost use Rattle.machine.specs.Can.{Agrees, NonePends};
@@ -25,6 +25,7 @@ use ops::queues::{messages_waiting, spaces_available};
 use ops::script::{branch, close_turn, end_if, expect, leave_loop, mark, open_loop, skip_branch};
 use ops::suspension::{resume_all, suspend_all};
 use ops::time::{since, stamp, time, use_up};
+use ops::values::calculate;
 
 /// Whether an op may switch, or wait.
 fn may_switch(op: &Op) -> bool
@@ -167,15 +168,18 @@ fn act_on<L: Log>(machine: &mut Machine, app: &App, task: TaskId, op: &Op, log: 
     requires some { 0 < machine.old.sched.suspensions }
     requires fine { (s : State) → Stands machine.old s → misuse s task op.now ≡ None }
     ensures { Does 64 machine.old (L.logged log.old) machine.new (L.logged log.new)
-        (act app.now task op.now) }
+        (act_by_value app.now task op.now) }
 {
     match *op {
         Op::Work(ticks) => work_on(machine, app, task, ticks, log),
         Op::Time => {
             time(machine, app, task, log);
         }
-        Op::Mark(number) => {
-            mark(machine, app, task, number, log);
+        Op::Mark(value) => {
+            mark(machine, app, task, value, log);
+        }
+        Op::Value(op) => {
+            calculate(machine, app, task, op, log);
         }
         Op::Stamp => {
             stamp(machine, app, task);

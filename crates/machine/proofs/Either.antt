@@ -62,6 +62,10 @@ module _ (k : Machine) (s : State) where
   sections_are (Placed h) = h.rest.sections
   sections_are (Placing task list b) = b.sections
 
+  pub variables_are : Stands k s → k.variables ≡ s.variables
+  variables_are (Placed h) = h.rest.variables
+  variables_are (Placing task list b) = b.variables
+
   pub sources_are : Stands k s → AreSources k.sources s.sources
   sources_are (Placed h) = h.rest.sources
   sources_are (Placing task list b) = b.sources

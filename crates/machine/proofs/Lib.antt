@@ -10,4 +10,5 @@ pub mod Acting
 pub mod Continuing
 pub mod Booting
 mod Fronts
+pub mod Beside
 pub mod Pending

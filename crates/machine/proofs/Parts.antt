@@ -150,10 +150,10 @@ same_parts s new tasks objects locked = record {
 
 -- what the kernel keeps of a state beside its parts
 abbrev pub Kept : Type 0
-Kept = ℕ × Option End × List Source × ℕ
+Kept = ℕ × Option End × List Source × ℕ × List ℕ
 
 abbrev pub kept_of : State → Kept
-kept_of s = (s.steps, s.stopped, s.sources, s.sections)
+kept_of s = (s.steps, s.stopped, s.sources, s.sections, s.variables)
 
 -- The clock represents the new state; each task is where it was in its script, and what is kept beside the parts stays.
 module _ {k : Machine} {s new : State} {v : Schedule} {t : Timeline} (h : RestStandsFor k s) (on : clock.StandsFor t new)
@@ -169,6 +169,7 @@ module _ {k : Machine} {s new : State} {v : Schedule} {t : Timeline} (h : RestSt
     objects = left;
     groups = there;
     awake = locked;
+    variables = h.variables ∙ sym (ap (λ (x : Kept). x.4) kept);
     sources = subst (AreSources k.sources) (sym (ap (λ (x : Kept). x.2) kept)) h.sources;
     sections = h.sections ∙ sym (ap (λ (x : Kept). x.3) kept);
     steps = h.steps ∙ sym (ap (λ (x : Kept). x.0) kept);
@@ -212,6 +213,7 @@ rest_moved {k} {s} {new} h on kept i t l few is off waits bits =
       objects = stands_same s new waits k.objects None h.objects on.table;
       groups = on_groups.stands_same k.groups s new h.groups bits on.table;
       awake = at_locked_same None s new waits h.awake;
+      variables = h.variables ∙ sym (ap (λ (x : Kept). x.4) kept);
       sources = subst (AreSources k.sources) (sym (ap (λ (x : Kept). x.2) kept)) h.sources;
       sections = h.sections ∙ sym (ap (λ (x : Kept). x.3) kept);
       steps = h.steps ∙ sym (ap (λ (x : Kept). x.0) kept);
@@ -219,12 +221,12 @@ rest_moved {k} {s} {new} h on kept i t l few is off waits bits =
       placed = each-set no_progress (λ _ (p : Progress). p.call.phase ≢ Place) k.progress i t.progress off h.placed;
     }
 
--- what the clock, the objects, the groups and the sources see of a state
+-- what the clock, the objects, the groups, the variables and the sources see of a state
 abbrev pub Seen : Type 0
-Seen = List Task × ℕ × (ℕ × ℕ) × List Object × (ℕ → ℕ) × Option ℕ × List Source
+Seen = List Task × ℕ × (ℕ × ℕ) × List Object × (ℕ → ℕ) × Option ℕ × List Source × List ℕ
 
 abbrev pub seen : State → Seen
-seen s = (s.tasks, s.time, ticks_of s, s.objects, s.group_bits, s.locked, s.sources)
+seen s = (s.tasks, s.time, ticks_of s, s.objects, s.group_bits, s.locked, s.sources, s.variables)
 
 -- Nothing changes that they see.
 pub rest_unseen : {k : Machine} {s new : State} {v : Schedule} {m n : ℕ} {e : Option End} → RestStandsFor k s
@@ -240,6 +242,7 @@ rest_unseen {k} {s} {new} h table same sections steps stopped =
       objects = stands_same s new waits k.objects None h.objects table;
       groups = on_groups.stands_same k.groups s new h.groups (bits_kept.same_parts s new tasks (ap (λ (x : Seen). x.4) same)) table;
       awake = at_locked_same None s new waits h.awake;
+      variables = h.variables ∙ sym (ap (λ (x : Seen). x.7) same);
       sources = subst (AreSources k.sources) (sym (ap (λ (x : Seen). x.6) same)) h.sources;
       sections = sections;
       steps = steps;

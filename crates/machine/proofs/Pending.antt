@@ -1,30 +1,23 @@
 -- Which interrupts are pending, in the kernel and in each state that it represents.
-use Rattle.std.proofs.Common.{◌≡◌, ◌≢◌, ◌∙◌, ◌<◌, ◌≤◌, ◌+◌, ◌-◌, ℕ, zero, suc, Bool, true, false, eqb, List, [], ◌∷◌, get_or, set}
+use Rattle.std.proofs.Common.{◌≡◌, ◌≢◌, ◌∙◌, ◌<◌, ◌≤◌, ◌+◌, ℕ, zero, suc, Bool, true, false, eqb, List, [], ◌∷◌, get_or, set}
 use Rattle.std.proofs.Common.{length, map}
-use Rattle.std.proofs.Common.{ltb, ltb-false, Option, Some, None, refl, ap, sym, subst, arith, get_or-set_same, get_or-set_other}
+use Rattle.std.proofs.Common.{ltb, ltb-false, refl, ap, sym, subst, arith, get_or-set_same, get_or-set_other}
 use Rattle.std.specs.List.{filter, range_with_len, list_any}
 use Rattle.std.proofs.Math.ListN.{length-set}
 use Rattle.std.proofs.lemmas.Bool.{ltb-true}
 use Rattle.std.proofs.lemmas.List.{get_or_past, length-map, set_past}
-use Rattle.model.specs.declared.call.WaitList.{WaitList}
 use Rattle.model.specs.declared.event.Event.{Event}
 use Rattle.model.specs.State.{State, Source, no_source, source_at}
 use Rattle.model.specs.Handlers.{pend, pending_of, none_pending}
-use Rattle.model.specs.Invariant.{IsNonePending, IsTable}
+use Rattle.model.specs.Invariant.{IsNonePending}
 use Rattle.model.proofs.Sorting.{by_test}
 use Rattle.model.proofs.Lists.{eqb-same, eqb-refl}
 use Rattle.soundness.proofs.Pending.{AreNonePending, not_pending, none_now}
-use Rattle.objects.specs.Objects.{SameWaits}
-use Rattle.objects.proofs.Kept.{stands_same}
-use Rattle.objects.proofs.Awake.{at_locked_same}
-use Rattle.groups.proofs.Standing as on_groups
-use Rattle.groups.proofs.Kept as bits_kept
 use Rattle.machine.specs.declared.machine.Machine.{Machine}
 use Rattle.machine.specs.Sources.{Sources, is_pending}
-use Rattle.machine.specs.StandsFor.{AreSources, StandsFor, StandsBefore, Stands, AtAny, decider}
-use Rattle.machine.specs.StandsFor.Stands.{Placed, Placing}
+use Rattle.machine.specs.StandsFor.{AreSources, Stands, AtAny}
 use Rattle.machine.specs.Can.{NonePends}
-use Rattle.machine.proofs.Parts.{clock-same, same_parts, sched-same}
+use Rattle.machine.proofs.Beside.{with_sources}
 use Rattle.machine.proofs.Either.{sources_are}
 
 -- ---- nothing is pending
@@ -49,90 +42,6 @@ none_of_any (false ∷ ps) e (suc source) = none_of_any ps e source
 pub any_of_none : (ps : List Bool) → ((source : ℕ) → get_or ps source false ≡ false) → false ≡ list_any (λ p. p) ps
 any_of_none [] h = refl
 any_of_none (p ∷ ps) h = rw (h 0) (any_of_none ps (λ source. h (suc source)))
-
--- ---- the sources are others
-
-before_with : (k : Machine) (s : State) (task : ℕ) (list : WaitList) → StandsBefore task list k s
-    → (v : Sources) (xs : List Source) → AreSources v xs
-    → StandsBefore task list (record k { sources = v }) (record s { sources = xs })
-before_with k s task list b v xs are =
-    let new : State = record s { sources = xs } in
-    let table : IsTable new =
-    record {
-      tickets = b.sched.table.tickets;
-      few = b.sched.table.few;
-      current = b.sched.table.current;
-      holders = b.sched.table.holders;
-    } in
-    let same : SameWaits s new = same_parts s new refl refl refl in
-    record {
-      sched =
-          record {
-            ready = b.sched.ready;
-            still = b.sched.still;
-            current = b.sched.current;
-            priorities = b.sched.priorities;
-            base_priorities = b.sched.base_priorities;
-            depth = b.sched.depth;
-            suspensions = b.sched.suspensions;
-            suspended = b.sched.suspended;
-            table = table;
-          };
-      clock =
-          record {
-            now = b.clock.now;
-            age = b.clock.age;
-            held = b.clock.held;
-            sorted = b.clock.sorted;
-            once = b.clock.once;
-            delayed = b.clock.delayed;
-            awake = b.clock.awake;
-            table = table;
-          };
-      objects = stands_same s new same k.objects (Some (decider task list s)) b.objects table;
-      groups = on_groups.stands_same k.groups s new b.groups (bits_kept.same_parts s new refl refl) table;
-      awake = at_locked_same (Some (decider task list s)) s new same b.awake;
-      progress = b.progress;
-      full = b.full;
-      sources = are;
-      sections = b.sections;
-      steps = b.steps;
-      stopped = b.stopped;
-      current = b.current;
-      held = b.held;
-      phase = b.phase;
-      wait_list = b.wait_list;
-      placed = b.placed;
-    }
-
-placed_with : (k : Machine) (s : State) → StandsFor k s → (v : Sources) (xs : List Source) → AreSources v xs
-    → StandsFor (record k { sources = v }) (record s { sources = xs })
-placed_with k s h v xs are =
-    let new : State = record s { sources = xs } in
-    let old = h.sched.table in
-    let table : IsTable new = record { tickets = old.tickets; few = old.few; current = old.current; holders = old.holders } in
-    let same : SameWaits s new = same_parts s new refl refl refl in
-    record {
-      sched = sched-same h.sched table refl refl refl;
-      rest = record {
-        progress = h.rest.progress;
-        full = h.rest.full;
-        clock = clock-same k.clock s new h.rest.clock refl refl refl table;
-        objects = stands_same s new same k.objects None h.rest.objects table;
-        groups = on_groups.stands_same k.groups s new h.rest.groups (bits_kept.same_parts s new refl refl) table;
-        awake = at_locked_same None s new same h.rest.awake;
-        sources = are;
-        sections = h.rest.sections;
-        steps = h.rest.steps;
-        stopped = h.rest.stopped;
-        placed = h.rest.placed;
-      };
-    }
-
-with_sources : (k : Machine) (s : State) → Stands k s → (v : Sources) (xs : List Source) → AreSources v xs
-    → Stands (record k { sources = v }) (record s { sources = xs })
-with_sources k s (Placed h) v xs are = Placed (placed_with k s h v xs are)
-with_sources k s (Placing task list b) v xs are = Placing task list (before_with k s task list b v xs are)
 
 -- ---- a handler becomes pending
 

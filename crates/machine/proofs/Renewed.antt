@@ -64,6 +64,7 @@ begun_before k s task list b log steps n stopped end e same_end =
       awake = at_locked_same (Some (decider task list s)) s new same b.awake;
       progress = b.progress;
       full = b.full;
+      variables = b.variables;
       sources = b.sources;
       sections = b.sections;
       steps = e;

@@ -29,7 +29,7 @@ pub record Runs (k : Machine) (task : ℕ) : Type 0 where
   pub op_index : (progress_in k.progress task).op_index < 256
 
 -- The object is there, and has room for what the call puts in, where nothing is in it.
-abbrev pub HasRoom : Machine → ℕ → Access → Type 0
+abbrev pub HasRoom : Machine → ℕ → Access ℕ → Type 0
 HasRoom k object access = objects.HasRoom k.objects object access
 
 -- The time can rise by a tick.
@@ -66,7 +66,7 @@ pub record IsUnderWay (app : Application) (plan : List Injection) (limits : Limi
 -- What a call leaves as it is: how often the scheduler is held, and which objects have room for what a call puts in.
 pub record Leaves (old new : Machine) : Type 0 where
   pub depth : new.sched.depth ≡ old.sched.depth
-  pub objects : (object : ℕ) (access : Access) → HasRoom old object access → HasRoom new object access
+  pub objects : (object : ℕ) (access : Access ℕ) → HasRoom old object access → HasRoom new object access
 
 -- These tasks are there, and none is suspended.
 abbrev pub AreThere : State → List ℕ → Type 0

@@ -1,5 +1,5 @@
 -- What a kernel represents: a state of the definitions, whose tickets it doesn't have.
-use Rattle.std.specs.Prelude.{◌≡◌, ◌≢◌, ℕ, ◌+◌, ◌≤◌, false, true, List, [], ◌∷◌, Option, Some, None, length, slice_index_or}
+use Rattle.std.specs.Prelude.{◌≡◌, ◌≢◌, ℕ, ◌+◌, ◌≤◌, true, List, [], ◌∷◌, Option, Some, None, length, slice_index_or}
 use Rattle.std.specs.Prelude.{slice_set}
 use Rattle.std.specs.Prelude.{if◌then◌else◌}
 use Rattle.model.specs.declared.call.Phase.TheVariants.{Place}
@@ -40,6 +40,7 @@ pub record RestStandsFor (k : Machine) (s : State) : Type 0 where
   pub objects : objects.StandsFor k.objects None s
   pub groups : groups.StandsFor k.groups s
   pub awake : AtLocked None s
+  pub variables : k.variables ≡ s.variables
   pub sources : AreSources k.sources s.sources
   pub sections : k.sections ≡ s.sections
   pub steps : k.steps ≡ s.steps
@@ -48,8 +49,8 @@ pub record RestStandsFor (k : Machine) (s : State) : Type 0 where
 
 -- Where each task is in its script is kept as it is. The scheduler represents who is Ready, who runs and what holds it, and the
 -- clock the time and who wakes when. The objects represent what they hold, who waits at them, and which one is locked, and the
--- groups their bits and who waits for them. Beside them it is kept which interrupt sources are pending, and how many critical
--- sections are open.
+-- groups their bits and who waits for them. Beside them the variables are kept, which interrupt sources are pending, and how many
+-- critical sections are open.
 pub record StandsFor (k : Machine) (s : State) : Type 0 where
   pub sched : sched.StandsFor k.sched s
   pub rest : RestStandsFor k s
@@ -68,6 +69,7 @@ pub record StandsBefore (task : ℕ) (list : WaitList) (k : Machine) (s : State)
   pub awake : AtLocked (Some (decider task list s)) s
   pub progress : (other : ℕ) → progress_in k.progress other ≡ progress_at s other
   pub full : length k.progress ≡ 32
+  pub variables : k.variables ≡ s.variables
   pub sources : AreSources k.sources s.sources
   pub sections : k.sections ≡ s.sections
   pub steps : k.steps ≡ s.steps

@@ -17,6 +17,7 @@ ghost use Rattle.machine.specs.Boot.{priorities_in, HasNoneFrom};
 use crate::machine::Machine;
 use crate::progress::Progress;
 use crate::sources::Sources;
+use crate::variables::Variables;
 use clock::Clock;
 use groups::Groups;
 use model::{App, ObjectId, TaskDefinition, TaskId, WaitList};
@@ -109,6 +110,7 @@ impl Machine {
             clock: Clock::new(app.start()),
             objects: Objects::new(app.objects()),
             groups: Groups::new(),
+            variables: Variables::new(app.variables()),
             sources: Sources::new(app.handlers().len()),
             sections: 0,
             wait_list: NO_WAIT_LIST,

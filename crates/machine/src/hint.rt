@@ -3,7 +3,7 @@ use crate::machine::Machine;
 use crate::progress::Progress;
 
 // A hash of a hash so far and one more number.
-fn mixed(hash: u64, number: u64) -> u64 {
+pub(crate) fn mixed(hash: u64, number: u64) -> u64 {
     (hash ^ number)
         .wrapping_mul(0x9E37_79B9_7F4A_7C15)
         .rotate_left(29)
@@ -43,7 +43,8 @@ impl Machine {
         let runs = self.sched.current().map(|task| task.number as u64);
         let time = mixed(self.clock.now(), self.clock.elapsed());
         let counts = self.objects.hint();
-        let mut hash = mixed(mixed(time, counts ^ self.steps as u64), numbered(runs));
+        let shared = counts ^ self.variables.hint();
+        let mut hash = mixed(mixed(time, shared ^ self.steps as u64), numbered(runs));
         for task in 0..tasks.min(32) {
             if !self.progress[task].is_first() {
                 hash = mixed(hash, self.progress[task].hint() ^ task as u64);

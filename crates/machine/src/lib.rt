@@ -15,6 +15,7 @@ mod snapshot;
 mod sources;
 mod switching;
 mod trail;
+mod variables;
 
 pub use answering::one_if;
 pub use boot::NO_WAIT_LIST;
@@ -27,3 +28,4 @@ pub use snapshot::Snapshot;
 pub use sources::Sources;
 pub use switching::wake_all;
 pub use trail::Trail;
+pub use variables::Variables;

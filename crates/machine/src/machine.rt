@@ -9,6 +9,7 @@ ghost use Rattle.machine.specs.StandsFor.{AreBlankFrom, Does, DoesAny, progress_
 use crate::log::Log;
 use crate::progress::Progress;
 use crate::sources::Sources;
+use crate::variables::Variables;
 use clock::Clock;
 use groups::Groups;
 use model::{CallProgress, Condition, End, Event, Loop, Phase, TaskId, WaitList, What};
@@ -23,6 +24,7 @@ pub struct Machine {
     pub clock: Clock,
     pub objects: Objects,
     pub groups: Groups,
+    pub variables: Variables,
     pub sources: Sources,
     /// How many critical sections are open, each of which holds the scheduler once.
     pub sections: u32,
@@ -56,6 +58,7 @@ impl Machine {
             clock: self.clock.copy(),
             objects: self.objects.copy(),
             groups: self.groups.copy(),
+            variables: self.variables.copy(),
             sources: self.sources.copy(),
             sections: self.sections,
             wait_list: self.wait_list,
@@ -83,6 +86,7 @@ impl Machine {
         self.clock.set_from(&other.clock);
         self.objects.set_from(&other.objects);
         self.groups.set_from(&other.groups);
+        self.variables.set_from(&other.variables);
         self.sources.set_from(&other.sources);
         self.sections = other.sections;
         self.wait_list = other.wait_list;

@@ -8,6 +8,7 @@ use crate::front::{fill_from, front_of, is_same_progress, save_front};
 use crate::machine::Machine;
 use crate::progress::Progress;
 use crate::sources::Sources;
+use crate::variables::Variables;
 use clock::Clock;
 use groups::Groups;
 use model::{End, Memory, WaitList};
@@ -26,6 +27,7 @@ pub struct Snapshot {
     clock: Clock,
     objects: ObjectsSnapshot,
     groups: Groups,
+    variables: Variables,
     sources: Sources,
     sections: u32,
     wait_list: WaitList,
@@ -42,7 +44,7 @@ impl Model for Snapshot {
 
     ghost Value = { declared.Machine };
 
-    ghost view = { λ s. record { progress = with_blanks s.progress.items; sched = s.sched; clock = s.clock; objects = s.objects; groups = s.groups; sources = s.sources; sections = s.sections; wait_list = s.wait_list; next_interrupt = s.next_interrupt; steps = s.steps; stopped = s.stopped } };
+    ghost view = { λ s. record { progress = with_blanks s.progress.items; sched = s.sched; clock = s.clock; objects = s.objects; groups = s.groups; variables = s.variables; sources = s.sources; sections = s.sections; wait_list = s.wait_list; next_interrupt = s.next_interrupt; steps = s.steps; stopped = s.stopped } };
 
     ghost invariant = { λ s. length s.progress.items ≤ 32 };
 }
@@ -99,6 +101,7 @@ impl Machine {
             clock: self.clock.copy(),
             objects,
             groups: self.groups.copy(),
+            variables: self.variables.copy(),
             sources: self.sources.copy(),
             sections: self.sections,
             wait_list: self.wait_list,
@@ -122,6 +125,7 @@ impl Machine {
         snapshot.sched.set_from(&self.sched);
         snapshot.clock.set_from(&self.clock);
         snapshot.groups.set_from(&self.groups);
+        snapshot.variables.set_from(&self.variables);
         snapshot.sources.set_from(&self.sources);
         snapshot.sections = self.sections;
         snapshot.wait_list = self.wait_list;
@@ -140,6 +144,7 @@ impl Machine {
         self.clock.set_from(&snapshot.clock);
         self.objects.restore(&snapshot.objects);
         self.groups.set_from(&snapshot.groups);
+        self.variables.set_from(&snapshot.variables);
         self.sources.set_from(&snapshot.sources);
         self.sections = snapshot.sections;
         self.wait_list = snapshot.wait_list;
@@ -163,6 +168,7 @@ impl Machine {
             return false;
         }
         self.clock.is_same(&snapshot.clock)
+            && self.variables.is_same(&snapshot.variables)
             && self.sources.is_same(&snapshot.sources)
             && self.sched.is_same(&snapshot.sched)
             && is_same_progress(&self.progress, snapshot.progress.as_slice(), tasks)

@@ -106,7 +106,7 @@ at_locked-wake_best d list s h = at_locked-woken_first d list s (waiters s list)
 pub at_locked-locked : (s : State) (o : ℕ) → s.locked ≡ None → AtLocked None s → AtLocked None (record s { locked = Some o })
 at_locked-locked s o none h = at_locked-nobody (record s { locked = Some o }) (nobody_awake None s none h)
 
-module _ (s : State) (i o : ℕ) (a : Access) (none : s.locked ≡ None) (h : AtLocked None s) where
+module _ (s : State) (i o : ℕ) (a : Access ℕ) (none : s.locked ≡ None) (h : AtLocked None s) where
   nobody_then : i < length s.tasks → (j : ℕ) → wait_if_awake (status_at (wait_in i (list_for o a) s) j) ≡ None
   nobody_then l j = by_test (eqb j i)
       (λ t.

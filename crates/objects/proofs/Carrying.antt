@@ -63,7 +63,7 @@ module _ (v : Objects) (d : Option Decider) (s : State) (o : ℕ) (h : StandsFor
   }
 
   -- a possible call is carried out
-  pub stands_carried : (new : Objects) (caller : Option ℕ) (a : Access) → o < v.number
+  pub stands_carried : (new : Objects) (caller : Option ℕ) (a : Access ℕ) → o < v.number
       → new ≡ record v { objects = set v.objects o (object_after caller a (object_in v.objects o)) }
       → IfSome caller (λ i. i < length s.tasks)
       → StandsFor new d (with_object o (object_after caller a (object_at s o)) s)

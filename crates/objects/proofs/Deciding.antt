@@ -157,7 +157,7 @@ stands_begins v s i q h l none nobody = record {
 
 module _ (v : Objects) (s : State) (i o : ℕ) (h : StandsFor v None (record s { locked = Some o })) where
   -- to wait
-  pub stands_deciding : (a : Access) → i < length s.tasks → wait_of (status_at s i) ≡ None → CountsNobody v
+  pub stands_deciding : (a : Access ℕ) → i < length s.tasks → wait_of (status_at s i) ≡ None → CountsNobody v
       → StandsFor v (Some (record { task = i; list = list_for o a; priority = (task_at s i).priority }))
       (lock i o Place (wait_in i (list_for o a) s))
   unfolding wait_in

@@ -15,7 +15,7 @@ use Rattle.objects.specs.WaitersStand.{Decider}
 use Rattle.objects.specs.Objects.{CanHold, Objects, HasRoom, StandsFor}
 
 -- an object of a kind that a call fits
-room : (kind : Option ObjectKind) (a : Access) (x : Object)
+room : (kind : Option ObjectKind) (a : Access ℕ) (x : Object)
     → unwrap_or (option_map (λ k. fits k a) kind) false ≡ true → IsObject kind x → CanHold a x
 room kind (Send v) x t h = tt
 room kind (SendFront v) x t h = tt
@@ -30,14 +30,14 @@ room kind Give x t h = tt
 room kind Lock x t h = tt
 
 -- an object that there is
-there : (kinds : List ObjectKind) (o : ℕ) (a : Access)
+there : (kinds : List ObjectKind) (o : ℕ) (a : Access ℕ)
     → unwrap_or (option_map (λ k. fits k a) (slice_get kinds o)) false ≡ true → o < length kinds
 there [] o a t = absurd cc
 there (kind ∷ kinds) zero a t = omega arith
 there (kind ∷ kinds) (suc o) a t = let h = there kinds o a t in omega (arith, h)
 
 -- An object of which an op speaks is there, and has the room that its call wants, in the objects that represent a state of a run.
-pub has_room : (app : Application) (hold : Hold) (v : Objects) (d : Option Decider) (s : State) (o : ℕ) (a : Access)
+pub has_room : (app : Application) (hold : Hold) (v : Objects) (d : Option Decider) (s : State) (o : ℕ) (a : Access ℕ)
     → IsSound app hold s → StandsFor v d s → fits_object app o a ≡ true → HasRoom v o a
 has_room app hold v d s o a h stands known = (
   let below = there app.objects o a known in let many = h.objects in let same = stands.number in omega (arith, below, many, same),

@@ -24,12 +24,12 @@ pub record Objects : Type 0 where
   pub lock : Option Lock
 
 -- An `overwrite` wants a queue that can hold an item.
-abbrev pub CanHold : Access → Object → Type 0
+abbrev pub CanHold : Access ℕ → Object → Type 0
 CanHold (Overwrite item) o = 0 < o.size
 CanHold _ o = Unit {0}
 
 -- The object is there, and has room for what the call puts in, where nothing is in it.
-abbrev pub HasRoom : Objects → ℕ → Access → Type 0
+abbrev pub HasRoom : Objects → ℕ → Access ℕ → Type 0
 HasRoom v object access = (object < v.number) × CanHold access (object_in v.objects object)
 
 -- the object that is locked

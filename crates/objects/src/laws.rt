@@ -42,7 +42,7 @@ pub fn decides()
         (wait_in task list s) }
     // Its object is locked by then, and the holder of a mutex has inherited: with that, the definition's decision is that it
     // waits,
-    ensures decides { (v : Objects) (s : State) (task object : ℕ) (access : Access)
+    ensures decides { (v : Objects) (s : State) (task object : ℕ) (access : Access ℕ)
         → StandsFor v None (record s { locked = Some object })
         → task < length s.tasks → wait_of (status_at s task) ≡ None → CountsNobody v → StandsFor v
         (Some (record { task = task; list = list_for object access; priority = (task_at s task).priority }))

@@ -221,7 +221,7 @@ impl Objects {
     /// reads the first item where there is one, and `overwrite` always. `take` is possible where the count isn't 0,
     /// `give` where it is below its greatest, and `lock` where nobody holds the mutex.
     #[inline(always)]
-    pub fn possible(&self, object: ObjectId, access: Access) -> bool
+    pub fn possible(&self, object: ObjectId, access: Access<u32>) -> bool
         ensures possible { result ≡ allows (object_in self.now.objects object) access }
         ensures stands { (s : State) (decider : Option Decider) → StandsFor self.now decider s
             → result ≡ definitions.possible s object access }
@@ -247,7 +247,7 @@ impl Objects {
         &mut self,
         caller: Option<TaskId>,
         object: ObjectId,
-        access: Access,
+        access: Access<u32>,
     ) -> Option<u32>
         requires possible { allows (object_in self.old.objects object) access ≡ true }
         requires room { HasRoom self.old object access }

@@ -70,6 +70,7 @@ before_with {task} {list} {k} {s} {new} {v} {t} {q} b on awake there locked bits
   awake = subst (λ (n : ℕ). AtLocked (Some (record { task = task; list = list; priority = n })) new) (sym priority) locked;
   progress = λ i. b.progress i ∙ sym (progress i);
   full = b.full;
+  variables = b.variables ∙ sym (ap (λ (x : Kept). x.4) kept);
   sources = subst (AreSources k.sources) (sym (ap (λ (x : Kept). x.2) kept)) b.sources;
   sections = b.sections ∙ sym (ap (λ (x : Kept). x.3) kept);
   steps = b.steps ∙ sym (ap (λ (x : Kept). x.0) kept);

@@ -21,10 +21,8 @@ use Rattle.ops.proofs.Before.{stored_before}
 use Rattle.machine.proofs.Either.{any, either, progress_is}
 use Rattle.ops.proofs.Waits.{stored_at}
 use Rattle.model.specs.declared.call.Phase.{Phase}
-use Rattle.model.specs.declared.op.Op.TheVariants.{Await}
 use Rattle.model.specs.Application.{Application}
 use Rattle.model.specs.Calls.{await}
-use Rattle.model.specs.Step.{act}
 use Rattle.machine.specs.Logged.{Logged}
 
 -- ---- what is in an object
@@ -33,17 +31,17 @@ pub objects_are : (k : Machine) (s : State) → Stands k s → (o : ℕ) → obj
 objects_are k s (Placed h) o = h.rest.objects.objects o
 objects_are k s (Placing task list b) o = b.objects.objects o
 
-pub answers : (k : Machine) (s : State) (o : ℕ) (a : Access) (given : Option ℕ)
+pub answers : (k : Machine) (s : State) (o : ℕ) (a : Access ℕ) (given : Option ℕ)
     → Stands k s → given ≡ reply (object_in k.objects.objects o) a → given ≡ answer_to s o a
 answers k s o a given h e = e ∙ ap (λ (x : Object). reply x a) (objects_are k s h o)
 
-pub is_possible : (k : Machine) (s : State) (o : ℕ) (a : Access) (b : Bool)
+pub is_possible : (k : Machine) (s : State) (o : ℕ) (a : Access ℕ) (b : Bool)
     → Stands k s → allows (object_in k.objects.objects o) a ≡ b → possible s o a ≡ b
 is_possible k s o a b h e = ap (λ (x : Object). allows x a) (sym (objects_are k s h o)) ∙ e
 
 -- ---- for what there is room
 
-same_size : (caller : Option ℕ) (a : Access) (x : Object) → (object_after caller a x).size ≡ x.size
+same_size : (caller : Option ℕ) (a : Access ℕ) (x : Object) → (object_after caller a x).size ≡ x.size
 same_size caller (Send n) x = refl
 same_size caller (SendFront n) x = refl
 same_size caller (Overwrite n) x = refl
@@ -54,7 +52,7 @@ same_size caller Give x = refl
 same_size caller Lock x = refl
 
 -- there is room for what a call puts in, whatever is in it
-room_by_size : (a : Access) (x y : Object) → y.size ≡ x.size → CanHold a x → CanHold a y
+room_by_size : (a : Access ℕ) (x y : Object) → y.size ≡ x.size → CanHold a x → CanHold a y
 room_by_size (Overwrite n) x y e h = rw e h
 room_by_size (Send n) x y e h = tt
 room_by_size (SendFront n) x y e h = tt
@@ -72,9 +70,9 @@ size_set (y ∷ ys) zero (suc j) x e = refl
 size_set (y ∷ ys) (suc o) zero x e = refl
 size_set (y ∷ ys) (suc o) (suc j) x e = size_set ys o j x e
 
-pub room_still : (k : Machine) (q : Objects) (caller : Option ℕ) (o : ℕ) (a : Access)
+pub room_still : (k : Machine) (q : Objects) (caller : Option ℕ) (o : ℕ) (a : Access ℕ)
     → q ≡ record k.objects { objects = set k.objects.objects o (object_after caller a (object_in k.objects.objects o)) }
-    → (j : ℕ) (b : Access) → HasRoom k j b → HasRoom (record k { objects = q }) j b
+    → (j : ℕ) (b : Access ℕ) → HasRoom k j b → HasRoom (record k { objects = q }) j b
 room_still k q caller o a is j b room = (
   let same = ap (λ (v : Objects). v.number) is in let below = room.0 in omega (arith, same, below),
   room_by_size b (object_in k.objects.objects j) (object_in q.objects j)
@@ -97,7 +95,7 @@ caller_within k s (Placing task list b) (Some i) r =
     let L : Option ℕ → Type 0 = λ o. IfSome o (λ j. j < length s.tasks) in
     subst L (sym b.sched.current ∙ r) b.sched.table.current
 
-module _ (k : Machine) (q : Objects) (caller : Option ℕ) (o : ℕ) (a : Access) (calls : IsCaller k caller)
+module _ (k : Machine) (q : Objects) (caller : Option ℕ) (o : ℕ) (a : Access ℕ) (calls : IsCaller k caller)
     (stores : (s : State) (d : Option Decider) → objects.StandsFor k.objects d s → IfSome caller (λ i. i < length s.tasks)
     → objects.StandsFor q d (with_object o (object_after caller a (object_at s o)) s)) where
   abbrev stored : State → State
@@ -149,7 +147,7 @@ module _ (k : Machine) (q : Objects) (caller : Option ℕ) (o : ℕ) (a : Access
 
 -- ---- it is done where it is possible
 
-module _ (new : Machine) (log : List Event) (s : State) (caller : Option ℕ) (o : ℕ) (a : Access) where
+module _ (new : Machine) (log : List Event) (s : State) (caller : Option ℕ) (o : ℕ) (a : Access ℕ) where
   pub attempted : possible s o a ≡ true → At new log (fulfil caller o a s) → At new log (attempt caller o a s)
   unfolding attempt
   attempted t h = rw t h
@@ -168,10 +166,10 @@ module _ (new : Machine) (log : List Event) (s : State) (caller : Option ℕ) (o
 
 -- What the op of a call that waits does is what the call does in its phase.
 pub in_phase : (app : Application) (old new : Machine) (old_log new_log : Logged)
-    (task object : ℕ) (access : Access) (ticks : Option ℕ) (phase : Phase)
+    (task object : ℕ) (access : Access ℕ) (ticks : Option ℕ) (phase : Phase)
     → (progress_in old.progress task).call.phase ≡ phase
     → DoesAny 2 old old_log new new_log (await app task object access ticks phase)
-    → DoesAny 2 old old_log new new_log (act app task (Await object access ticks))
+    → DoesAny 2 old old_log new new_log (λ s. await app task object access ticks (call_at s task).phase s)
 in_phase app old new old_log new_log task object access ticks phase e d = record {
   at = λ s h.
       let now : (call_at s task).phase ≡ phase = ap (λ (p : Progress). p.call.phase) (sym (progress_is old s h.stands task)) ∙ e in

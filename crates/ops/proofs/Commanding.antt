@@ -1,5 +1,5 @@
 -- The daemon's ops: what they make of the states that the kernel represents.
-use Rattle.std.proofs.Common.{◌≡◌, ℕ, true, false, List, Option, Some, None, refl, ap, sym, subst, ◌∙◌}
+use Rattle.std.proofs.Common.{◌≡◌, ℕ, true, false, List, Some, None, refl, ap, sym, subst, ◌∙◌}
 use Rattle.std.specs.Prelude.{Bool, if◌then◌else◌}
 use Rattle.std.specs.Option.{unwrap_or}
 use Rattle.model.specs.declared.call.Phase.{Phase}

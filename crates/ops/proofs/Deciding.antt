@@ -137,9 +137,9 @@ module _ (s : State) (i : ℕ) (list : WaitList) (object : ℕ) (l : i < length 
 
   pub begun_free : (begun.call_hold ≡ s.call_hold) × (begun.current ≡ s.current) × (begun.time ≡ s.time)
       × (begun.elapsed ≡ s.elapsed) × (begun.steps ≡ s.steps) × (begun.stopped ≡ s.stopped) × (begun.log ≡ s.log)
-      × (begun.sources ≡ s.sources) × (begun.sections ≡ s.sections)
+      × (begun.sources ≡ s.sources) × (begun.sections ≡ s.sections) × (begun.variables ≡ s.variables)
   unfolding wait_in
-  begun_free = (refl, refl, refl, refl, refl, refl, refl, refl, refl)
+  begun_free = (refl, refl, refl, refl, refl, refl, refl, refl, refl, refl)
 
   -- the scheduler
   pub sched_decided : (v : Schedule) → v.pending ≡ [] → sched.StandsFor v s → is_ready s i ≡ true → s.call_hold ≡ false
@@ -208,7 +208,7 @@ module _ (k : Machine) (log : List Event) (s : State) (h : At k log s) (i o : �
       }
 
   -- or it waits
-  module _ (a : Access) (nobody : CountsNobody q) (next : WaitList) (next_is : next ≡ list_for o a) (p : Progress)
+  module _ (a : Access ℕ) (nobody : CountsNobody q) (next : WaitList) (next_is : next ≡ list_for o a) (p : Progress)
       (is : p
       ≡ record (progress_in k.progress i) { call = record (progress_in k.progress i).call { phase = Place; waits = true } }) where
     list : WaitList
@@ -262,6 +262,7 @@ module _ (k : Machine) (log : List Event) (s : State) (h : At k log s) (i o : �
             awake = awake_there;
             progress = progress_then;
             full = rw length-set h.stands.rest.full;
+            variables = variables_then;
             sources = sources_then;
             sections = sections_then;
             steps = steps_then;
@@ -297,6 +298,9 @@ module _ (k : Machine) (log : List Event) (s : State) (h : At k log s) (i o : �
           sources_then : AreSources k.sources after.sources
           sources_then = subst (AreSources k.sources) (sym (begun_free s i list o l).7) h.stands.rest.sources
 
+          variables_then : k.variables ≡ after.variables
+          variables_then = h.stands.rest.variables ∙ sym (begun_free s i list o l).9
+
           sections_then : k.sections ≡ after.sections
           sections_then = h.stands.rest.sections ∙ sym (begun_free s i list o l).8
 
@@ -316,7 +320,7 @@ module _ (k : Machine) (log : List Event) (s : State) (h : At k log s) (i o : �
           log_then = h.log ∙ sym (begun_free s i list o l).6
 
 -- The call goes on at once, or it waits.
-module _ (new : Machine) (log : List Event) (s : State) (i o : ℕ) (a : Access) where
+module _ (new : Machine) (log : List Event) (s : State) (i o : ℕ) (a : Access ℕ) where
   pub decided_not : (possible s o a || is_expired s i) ≡ true → AtAny new log (lock i o Unlock s) → AtAny new log (decide i o a s)
   unfolding decide
   decided_not t h = rw t h
@@ -377,6 +381,7 @@ module _ (k : Machine) (log : List Event) (s : State) (i : ℕ) (list : WaitList
             objects = shown table;
             groups = on_groups.stands_same k.groups s later b.groups (bits_kept.same_task i u s refl (λ _. refl)) table;
             awake = at_locked_same None s later same (at_locked-placed (Some (decider i list s)) s b.awake);
+            variables = b.variables;
             sources = b.sources;
             sections = b.sections;
             steps = b.steps;

@@ -1,4 +1,5 @@
 pub mod Working
+pub mod Valued
 pub mod Waits
 pub mod Ranking
 pub mod Deciding

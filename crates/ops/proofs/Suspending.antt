@@ -296,6 +296,7 @@ module _ (k : Machine) (s : State) (i : ℕ) (t : can_resume (status_at s i) ≡
             (at_locked_same (Some (record { task = task; list = list; priority = (task_at s task).priority })) s new same b.awake);
         progress = progress-set k.progress s.tasks i (resumed_task s i) b.progress many l;
         full = rw length-set b.full;
+        variables = b.variables;
         sources = b.sources;
         sections = b.sections;
         steps = b.steps;

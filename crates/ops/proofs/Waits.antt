@@ -296,7 +296,7 @@ stored_at k log s h o x q there =
     }
 
 -- a try
-module _ (app : Application) (new : Machine) (log : List Event) (s : State) (i o : ℕ) (a : Access) where
+module _ (app : Application) (new : Machine) (log : List Event) (s : State) (i o : ℕ) (a : Access ℕ) where
   pub tried : possible s o a ≡ true → At new log (preempt (answer app i (answer_to s o a) (fulfil (Some i) o a s)))
       → At new log (try app i o a s)
   unfolding try

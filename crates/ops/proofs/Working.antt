@@ -1,6 +1,6 @@
 -- What the ops of a script alone, and those that let time pass, make of the states that the kernel represents.
-use Rattle.std.proofs.Common.{◌≡◌, ◌≢◌, ◌<◌, ◌≤◌, ◌+◌, ◌-◌, ℕ, true, false, eqb, leb, ltb, List, [], ◌∷◌, length, Option, Some}
-use Rattle.std.proofs.Common.{None, refl, ap, sym, subst, ◌∙◌, arith, min}
+use Rattle.std.proofs.Common.{◌≡◌, ◌≢◌, ◌<◌, ◌≤◌, ◌+◌, ◌-◌, ℕ, true, false, leb, ltb, List, [], ◌∷◌, length, Option, Some}
+use Rattle.std.proofs.Common.{None, refl, ap, ap₂, sym, subst, ◌∙◌, arith, min}
 use Rattle.std.specs.Prelude.{Bool, drop, option_map, if◌then◌else◌}
 use Rattle.std.proofs.lemmas.Bool.{lt-ltb, le-ltb, eq-eqb, ne_eqb}
 use Rattle.model.specs.declared.call.Phase.TheVariants.{Place}
@@ -49,35 +49,39 @@ module _ (app : Application) (k new : Machine) (log : List Event) (s : State) (h
       (h.stands.rest.placed i) refl)
 
   -- the condition holds of the state's answer, as of the kernel's, or doesn't
-  held : (condition : AnswerCondition) (is : Bool) → is ≡ holds condition v.answer → holds condition (progress_at s i).answer ≡ is
-  held condition is t = ap (λ (p : Progress). holds condition p.answer) (sym same) ∙ sym t
+  module _ (values : List ℕ) (are : values ≡ k.variables) where
+    held : (condition : AnswerCondition) (is : Bool) → is ≡ holds values condition v.answer
+        → holds s.variables condition (progress_at s i).answer ≡ is
+    held condition is t =
+        ap₂ (λ (xs : List ℕ) (p : Progress). holds xs condition p.answer) (sym (are ∙ h.stands.rest.variables)) (sym same) ∙ sym t
 
-  pub expect_held : (condition : AnswerCondition) → true ≡ holds condition v.answer
-      → Completes app k i new → At new log (expect app i condition s)
-  unfolding expect
-  expect_held condition t g = rw (held condition true t) (g log s h)
+    pub expect_held : (condition : AnswerCondition) → true ≡ holds values condition v.answer
+        → Completes app k i new → At new log (expect app i condition s)
+    unfolding expect
+    expect_held condition t g = rw (held condition true t) (g log s h)
 
-  pub expect_failed : (condition : AnswerCondition) → false ≡ holds condition v.answer
-      → At new log (fail (ending.Check i v.op_index) s) → At new log (expect app i condition s)
-  unfolding expect
-  expect_failed condition t failed =
-      let u : holds condition (progress_at s i).answer ≡ false = held condition false t in
-      rw u (subst (λ (p : Progress). At new log (fail (ending.Check i p.op_index) s)) same failed)
+    pub expect_failed : (condition : AnswerCondition) → false ≡ holds values condition v.answer
+        → At new log (fail (ending.Check i v.op_index) s) → At new log (expect app i condition s)
+    unfolding expect
+    expect_failed condition t failed =
+        let u : holds s.variables condition (progress_at s i).answer ≡ false = held condition false t in
+        rw u (subst (λ (p : Progress). At new log (fail (ending.Check i p.op_index) s)) same failed)
 
-  pub branch_taken : (condition : AnswerCondition) → true ≡ holds condition v.answer
-      → Completes app k i new → At new log (branch app i condition s)
-  unfolding branch
-  branch_taken condition t g = rw (held condition true t) (g log s h)
+    pub branch_taken : (condition : AnswerCondition) → true ≡ holds values condition v.answer
+        → Completes app k i new → At new log (branch app i condition s)
+    unfolding branch
+    branch_taken condition t g = rw (held condition true t) (g log s h)
 
   -- the op to which the task's op jumps
   jump_same : (next : ℕ) → next ≡ jump_from (script_of app i) v.op_index
       → next ≡ jump_from (script_of app i) (progress_at s i).op_index
   jump_same next is = is ∙ ap (λ (p : Progress). jump_from (script_of app i) p.op_index) same
 
-  pub branch_skipped : (condition : AnswerCondition) (next : ℕ) → false ≡ holds condition v.answer
-      → next ≡ jump_from (script_of app i) v.op_index → Goes app k i next new → At new log (branch app i condition s)
+  pub branch_skipped : (values : List ℕ) → values ≡ k.variables → (condition : AnswerCondition) (next : ℕ)
+      → false ≡ holds values condition v.answer → next ≡ jump_from (script_of app i) v.op_index → Goes app k i next new
+      → At new log (branch app i condition s)
   unfolding branch
-  branch_skipped condition next t is g = rw (held condition false t, ← jump_same next is) (g log s h)
+  branch_skipped values are condition next t is g = rw (held values are condition false t, ← jump_same next is) (g log s h)
 
   pub jumped : (next : ℕ) → next ≡ jump_from (script_of app i) v.op_index → Goes app k i next new → At new log (skip_branch app i s)
   unfolding skip_branch

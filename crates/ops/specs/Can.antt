@@ -1,5 +1,5 @@
 -- What a deed of the kernel asks of it: that the numbers of the code suffice, and that the parts agree.
-use Rattle.std.specs.Prelude.{◌≡◌, ◌<◌, ◌≤◌, ℕ, ◌+◌, ◌^◌, true, Option, Some, None, IfSome, length}
+use Rattle.std.specs.Prelude.{◌≡◌, ◌<◌, ◌≤◌, ℕ, ◌+◌, ◌^◌, true, List, Option, Some, None, IfSome, length}
 use Rattle.model.specs.declared.op.Access.{Access}
 use Rattle.model.specs.declared.op.Access.TheVariants.{Send}
 use Rattle.model.specs.declared.op.IsrOp.{IsrOp}
@@ -13,6 +13,7 @@ use Rattle.model.specs.Application.{Application, commands_of}
 use Rattle.model.specs.Daemon.{item_of}
 use Rattle.model.specs.Scripts.{fits_object}
 use Rattle.model.specs.State.{State}
+use Rattle.model.specs.Values.{with_number}
 use Rattle.model.specs.Invariant.{IsUsedBy}
 use Rattle.sched.specs.Schedule.{is_ready}
 use Rattle.machine.specs.declared.machine.Machine.{Machine}
@@ -28,20 +29,22 @@ abbrev pub HasLoopRoom : Op → ℕ → Type 0
 HasLoopRoom (Repeat n) nesting = nesting < 4
 HasLoopRoom _ nesting = Unit {0}
 
--- The op speaks of such an object, if of any.
+-- The op speaks of such an object, if of any, whatever its value is.
 abbrev pub HasObject : Machine → Op → Type 0
-HasObject k (Do object access) = HasRoom k object access
+HasObject k (Do object access) =
+    (variables : List ℕ) (answer : Option ℕ) → HasRoom k object (with_number variables answer access)
 HasObject k _ = Unit {0}
 
 -- the same of an op of a handler; the bits of a command are the 24 of an event group
 abbrev pub HasIsrObject : Application → Machine → IsrOp → Type 0
-HasIsrObject app k (isr.Do object access) = HasRoom k object access
+HasIsrObject app k (isr.Do object access) =
+    (variables : List ℕ) (answer : Option ℕ) → HasRoom k object (with_number variables answer access)
 HasIsrObject app k (isr.Command c) = HasRoom k (commands_of app) (Send (item_of c)) × (c.mask < 16777216)
 HasIsrObject app k _ = Unit {0}
 
 -- Each object on which the application may make a call has such room.
 abbrev pub HasObjects : Application → Machine → Type 0
-HasObjects app k = (object : ℕ) (access : Access) → fits_object app object access ≡ true → HasRoom k object access
+HasObjects app k = (object : ℕ) (access : Access ℕ) → fits_object app object access ≡ true → HasRoom k object access
 
 -- The held ticks can be applied.
 pub record CanApply (k : Machine) : Type 0 where
@@ -70,7 +73,7 @@ pub record Can (app : Application) (k : Machine) (task : ℕ) (op : Op) : Type 0
 -- ---- a call that waits
 
 -- The task runs, and can try its call.
-pub record CanTry (k : Machine) (task object : ℕ) (access : Access) : Type 0 where
+pub record CanTry (k : Machine) (task object : ℕ) (access : Access ℕ) : Type 0 where
   pub runs : Runs k task
   pub agrees : Agrees k
   pub free : k.objects.lock ≡ None
@@ -102,7 +105,7 @@ pub record CanLeave (k : Machine) (task : ℕ) : Type 0 where
   pub awake : k.sched.suspensions ≡ 0
 
 -- What the call can do next in this phase.
-abbrev pub CanGoOn : Machine → ℕ → ℕ → Access → Option ℕ → Phase → Type 0
+abbrev pub CanGoOn : Machine → ℕ → ℕ → Access ℕ → Option ℕ → Phase → Type 0
 CanGoOn k task object access ticks Start = CanTry k task object access × IsShort ticks × (k.clock.now + 2 ^ 32 < 2 ^ 63)
 CanGoOn k task object access ticks Try = CanTry k task object access
 CanGoOn k task object access ticks Decide = CanDecide k task

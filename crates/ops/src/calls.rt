@@ -2,14 +2,15 @@
 ghost use Rattle.std.specs.Prelude.{◌≡◌, ◌≢◌, ◌<◌, ◌≤◌, ◌||◌, ℕ, false, List, Option, Some, None};
 ghost use Rattle.model.specs.declared.event.Event.{Event};
 ghost use Rattle.model.specs.declared.op.Op.TheVariants as op;
-ghost use Rattle.model.specs.State.{State, go_on};
+ghost use Rattle.model.specs.State.{State, call_at, go_on};
 ghost use Rattle.model.specs.Waiting as waiting;
 ghost use Rattle.model.specs.Waiting.{set_deadline, unlock, wait_in};
 ghost use Rattle.model.specs.Objects as definitions;
 ghost use Rattle.model.specs.declared.call.Phase.TheVariants as phase;
 ghost use Rattle.model.specs.Application.{Application};
 ghost use Rattle.model.specs.Calls.{try, lock, decide, leave_call, await};
-ghost use Rattle.model.specs.Step.{act};
+ghost use Rattle.model.specs.Step.{act_by_value};
+ghost use Rattle.model.specs.Values.{with_number};
 ghost use Rattle.machine.specs.StandsFor.{StandsFor, At, AtAny, Does, DoesAny, Moves, progress_in};
 ghost use Rattle.ops.specs.InCall.{IsSilent, Remains};
 ghost use Rattle.machine.specs.Can.{Agrees, IsInCall};
@@ -17,11 +18,12 @@ ghost use Rattle.ops.specs.Can.{CanTry, CanDecide, CanPlace, CanLeave, CanGoOn};
 
 use crate::mutexes::{after_timeout, inherit};
 use crate::queues::{fulfil, refusal};
+use crate::values::{begins_without_item, call_with_number, fail_check};
 use machine::{Log, Machine, NO_WAIT_LIST, place_sleeper, wake_all};
-use model::{Access, App, ObjectId, Phase, TaskId, WaitList};
+use model::{Access, App, ObjectId, Phase, TaskId, Value, WaitList};
 
 /// The list in which a call waits.
-fn list_for(object: ObjectId, access: Access) -> WaitList
+fn list_for(object: ObjectId, access: Access<u32>) -> WaitList
     ensures { result ≡ definitions.list_for object access }
 {
     match access {
@@ -47,7 +49,7 @@ fn try_call<L: Log>(
     app: &App,
     task: TaskId,
     object: ObjectId,
-    access: Access,
+    access: Access<u32>,
     log: &mut L,
 )
     requires room { 2 ≤ (L.logged log.old).room }
@@ -69,7 +71,7 @@ fn try_call<L: Log>(
 
 /// Whether a call is possible by now, or its deadline has come.
 #[inline(always)]
-fn need_not_wait(machine: &Machine, task: TaskId, object: ObjectId, access: Access) -> bool
+fn need_not_wait(machine: &Machine, task: TaskId, object: ObjectId, access: Access<u32>) -> bool
     ensures { (s : State) → StandsFor machine.now s
         → result ≡ definitions.possible s object access || waiting.is_expired s task }
 {
@@ -79,7 +81,7 @@ fn need_not_wait(machine: &Machine, task: TaskId, object: ObjectId, access: Acce
 /// The scheduler is held and the object locked. The task begins to wait where its call still isn't possible and its
 /// deadline hasn't come. Before that the holder of a mutex inherits from it.
 #[inline(always)]
-fn decide(machine: &mut Machine, task: TaskId, object: ObjectId, access: Access)
+fn decide(machine: &mut Machine, task: TaskId, object: ObjectId, access: Access<u32>)
     requires { CanDecide machine.old task }
     ensures does { (log : List Event) (s : State) → At machine.old log s
         → AtAny machine.new log (decide task object access s) }
@@ -107,7 +109,7 @@ fn pass_on(machine: &mut Machine, task: TaskId, object: ObjectId)
 }
 
 /// The scheduler is held and the object locked, and the task begins to wait.
-fn begin_wait(machine: &mut Machine, task: TaskId, object: ObjectId, access: Access)
+fn begin_wait(machine: &mut Machine, task: TaskId, object: ObjectId, access: Access<u32>)
     requires { CanDecide machine.old task }
     ensures does { (log : List Event) (s : State) → At machine.old log s → AtAny machine.new log
         (lock task object phase.Place (wait_in task (definitions.list_for object access) s)) }
@@ -200,7 +202,7 @@ pub fn go_on_silently(
     machine: &mut Machine,
     task: TaskId,
     object: ObjectId,
-    access: Access,
+    access: Access<u32>,
     next: Phase,
 )
     requires silent { IsSilent next }
@@ -226,14 +228,14 @@ pub fn go_on_waiting<L: Log>(
     app: &App,
     task: TaskId,
     object: ObjectId,
-    access: Access,
+    access: Access<u32>,
     ticks: Option<u32>,
     log: &mut L,
 )
     requires room { 2 ≤ (L.logged log.old).room }
     requires can { CanGoOn machine.old task object access ticks (progress_in machine.old.progress task).call.phase }
     ensures { DoesAny 2 machine.old (L.logged log.old) machine.new (L.logged log.new)
-        (act app.now task (op.Await object access ticks)) }
+        (λ s. await app.now task object access ticks (call_at s task).phase s) }
 {
     match machine.progress(task).call.phase {
         Phase::Start => {
@@ -246,4 +248,30 @@ pub fn go_on_waiting<L: Log>(
         Phase::Unlock => unlock(machine, task),
         Phase::Leave => leave_call(machine, task, log),
     }
+}
+
+/// The same of a call whose item is a value. If that is missing as the call begins, the check fails.
+#[inline(always)]
+pub fn go_on_by_value<L: Log>(
+    machine: &mut Machine,
+    app: &App,
+    task: TaskId,
+    object: ObjectId,
+    access: Access<Value>,
+    ticks: Option<u32>,
+    log: &mut L,
+)
+    requires room { 2 ≤ (L.logged log.old).room }
+    requires can { (variables : List ℕ) (answer : Option ℕ)
+        → CanGoOn machine.old task object (with_number variables answer access) ticks
+        (progress_in machine.old.progress task).call.phase }
+    ensures { DoesAny 2 machine.old (L.logged log.old) machine.new (L.logged log.new)
+        (act_by_value app.now task (op.Await object access ticks)) }
+{
+    if begins_without_item(machine, task, access) {
+        fail_check(machine, task);
+        return;
+    }
+    let access = call_with_number(machine, task, access);
+    go_on_waiting(machine, app, task, object, access, ticks, log);
 }

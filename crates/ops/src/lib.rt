@@ -13,3 +13,4 @@ pub mod queues;
 pub mod script;
 pub mod suspension;
 pub mod time;
+pub mod values;

@@ -5,17 +5,19 @@ ghost use Rattle.model.specs.State.{State, Object};
 ghost use Rattle.model.specs.Waiting.{wake_best};
 ghost use Rattle.model.specs.Objects as definitions;
 ghost use Rattle.model.specs.Objects.{allows, answer_to, attempt, fulfil, reply};
-ghost use Rattle.model.specs.Step.{act};
+ghost use Rattle.model.specs.Calls.{do_now};
+ghost use Rattle.model.specs.Step.{act, act_by_value};
 ghost use Rattle.objects.specs.Items.{object_in};
 ghost use Rattle.machine.specs.StandsFor.{Stands, Does, IsPlaced, Moves, MovesAny};
 ghost use Rattle.machine.specs.Can.{HasRoom, Leaves, Runs, StandsForSome};
-ghost use Rattle.ops.specs.Can.{Can, IsCaller};
+ghost use Rattle.ops.specs.Can.{Can, CanTick, IsCaller};
 
+use crate::values::{call_with_number, fail_check, lacks_item};
 use machine::{Log, Machine};
-use model::{Access, App, ObjectId, TaskId, WaitList};
+use model::{Access, App, ObjectId, TaskId, Value, WaitList};
 
 /// What a call answers that isn't possible.
-pub(crate) fn refusal(access: Access) -> Option<u32>
+pub(crate) fn refusal(access: Access<u32>) -> Option<u32>
     ensures { (o : Object) → allows o access ≡ false → result ≡ reply o access }
 {
     match access {
@@ -26,7 +28,7 @@ pub(crate) fn refusal(access: Access) -> Option<u32>
 
 /// The list of which a possible call wakes the best waiter, if of any: the peek of a handler, which is no task's call, wakes
 /// nobody.
-fn list_woken(caller: Option<TaskId>, object: ObjectId, access: Access) -> Option<WaitList>
+fn list_woken(caller: Option<TaskId>, object: ObjectId, access: Access<u32>) -> Option<WaitList>
     ensures { result ≡ definitions.list_woken caller object access }
 {
     match access {
@@ -65,7 +67,7 @@ pub(crate) fn fulfil(
     machine: &mut Machine,
     caller: Option<TaskId>,
     object: ObjectId,
-    access: Access,
+    access: Access<u32>,
 ) -> Option<u32>
     requires stands { StandsForSome machine.old }
     requires possible { allows (object_in machine.old.objects.objects object) access ≡ true }
@@ -91,7 +93,7 @@ pub fn attempt(
     machine: &mut Machine,
     caller: Option<TaskId>,
     object: ObjectId,
-    access: Access,
+    access: Access<u32>,
 ) -> Option<u32>
     requires stands { StandsForSome machine.old }
     requires caller { IsCaller machine.old caller }
@@ -116,17 +118,41 @@ pub fn do_now<L: Log>(
     app: &App,
     task: TaskId,
     object: ObjectId,
-    access: Access,
+    access: Access<u32>,
+    log: &mut L,
+)
+    requires room { 2 ≤ (L.logged log.old).room }
+    requires tick { CanTick app.now machine.old }
+    requires runs { Runs machine.old task }
+    requires object { HasRoom machine.old object access }
+    ensures { Does 2 machine.old (L.logged log.old) machine.new (L.logged log.new) (do_now app.now task object access) }
+{
+    let answer = attempt(machine, Some(task), object, access);
+    machine.answer_given(app, task, answer, log);
+    machine.preempt(log);
+}
+
+/// The same of a call whose item is a value. The check fails where that is missing.
+#[inline(always)]
+pub fn do_by_value<L: Log>(
+    machine: &mut Machine,
+    app: &App,
+    task: TaskId,
+    object: ObjectId,
+    access: Access<Value>,
     log: &mut L,
 )
     requires room { 2 ≤ (L.logged log.old).room }
     requires can { Can app.now machine.old task (op.Do object access) }
     ensures { Does 2 machine.old (L.logged log.old) machine.new (L.logged log.new)
-        (act app.now task (op.Do object access)) }
+        (act_by_value app.now task (op.Do object access)) }
 {
-    let answer = attempt(machine, Some(task), object, access);
-    machine.answer_given(app, task, answer, log);
-    machine.preempt(log);
+    if lacks_item(machine, task, access) {
+        fail_check(machine, task);
+        return;
+    }
+    let access = call_with_number(machine, task, access);
+    do_now(machine, app, task, object, access, log);
 }
 
 /// `waiting`: the number of items in a queue is the answer. It answers whether the task is still

@@ -6,17 +6,20 @@ ghost use Rattle.model.specs.Ops.{expect, open_loop, close_turn, complete, branc
 ghost use Rattle.model.specs.State.{progress_at};
 ghost use Rattle.model.specs.Application.{script_of};
 ghost use Rattle.model.specs.Blocks.{jump_from};
-ghost use Rattle.model.specs.Step.{act};
+ghost use Rattle.model.specs.declared.event.What.TheVariants as what;
+ghost use Rattle.model.specs.Step.{act_by_value};
+ghost use Rattle.model.specs.Switching.{write};
 ghost use Rattle.machine.specs.StandsFor.{Does, IsPlaced, Moves, progress_in};
 ghost use Rattle.machine.specs.Can.{Runs};
 
+use crate::values::{fail_check, is_missing, number_of};
 use machine::{Log, Machine};
-use model::{AnswerCondition, App, End, Loop, TaskId, What};
+use model::{AnswerCondition, App, End, Loop, TaskId, Value, What};
 
-/// `mark`: a mark event is reported. It answers whether the task is still
+/// `mark`: a mark event is reported, with this number for its value. It answers whether the task is still
 /// amid its script.
 #[inline(always)]
-pub fn mark<L: Log>(
+fn mark_number<L: Log>(
     machine: &mut Machine,
     app: &App,
     task: TaskId,
@@ -26,11 +29,35 @@ pub fn mark<L: Log>(
     requires room { 1 ≤ (L.logged log.old).room }
     requires runs { Runs machine.old task }
     ensures does { Does 1 machine.old (L.logged log.old) machine.new (L.logged log.new)
-        (act app.now task (op.Mark number)) }
+        (λ s. complete app.now task (progress_at s task) (write (what.Mark task number) s)) }
     ensures amid { result ≡ true → IsPlaced machine.old machine.new task }
 {
     machine.write(log, What::Mark(task, number));
     machine.complete(app, task)
+}
+
+/// `mark`: a mark event is reported, or the check fails where its value is missing. It answers whether the task is still
+/// amid its script.
+#[inline(always)]
+pub fn mark<L: Log>(
+    machine: &mut Machine,
+    app: &App,
+    task: TaskId,
+    value: Value,
+    log: &mut L,
+) -> bool
+    requires room { 1 ≤ (L.logged log.old).room }
+    requires runs { Runs machine.old task }
+    ensures does { Does 1 machine.old (L.logged log.old) machine.new (L.logged log.new)
+        (act_by_value app.now task (op.Mark value)) }
+    ensures amid { result ≡ true → IsPlaced machine.old machine.new task }
+{
+    if is_missing(machine, task, value) {
+        fail_check(machine, task);
+        return false;
+    }
+    let number = number_of(machine, task, value);
+    mark_number(machine, app, task, number, log)
 }
 
 /// `expect`: the run ends where the condition doesn't hold of the last answer.
@@ -41,7 +68,7 @@ pub fn expect(machine: &mut Machine, app: &App, task: TaskId, condition: &Answer
     ensures amid { result ≡ true → IsPlaced machine.old machine.new task }
 {
     let progress = machine.progress(task);
-    if condition.holds(progress.answer) {
+    if condition.holds(machine.variables.values(), progress.answer) {
         machine.complete(app, task)
     } else {
         let failed = End::Check(task, progress.op_index);
@@ -92,7 +119,7 @@ pub fn branch(machine: &mut Machine, app: &App, task: TaskId, condition: AnswerC
     ensures amid { result ≡ true → IsPlaced machine.old machine.new task }
 {
     let answer = machine.progress(task).answer;
-    if condition.holds(answer) {
+    if condition.holds(machine.variables.values(), answer) {
         machine.complete(app, task)
     } else {
         let behind_branch = jump_from(machine, app, task);

@@ -1,11 +1,10 @@
-use Rattle.std.proofs.Common.{◌∙◌, ◌<◌, ap, arith, refl, subst, sym}
+use Rattle.model.specs.declared.op.Op.TheVariants.{Value}
+use Rattle.std.proofs.Common.{arith, refl, subst}
 use Rattle.model.specs.declared.op.Op.TheVariants.{Work, Delay, DelayUntil, Yield, Time, Mark, Expect, Repeat, End as EndLoop, If}
 use Rattle.model.specs.declared.op.Op.TheVariants.{Else, EndIf, Break, Stamp, Since, Await, Do, MessagesWaiting, SpacesAvailable}
 use Rattle.model.specs.declared.op.Op.TheVariants.{SetBits, ClearBits, GetBits, WaitBits, Suspend, Resume, ResumeAll, NextCommand}
-use Rattle.model.specs.declared.op.Op.TheVariants.{EnterCritical, ExitCritical, Obey}
+use Rattle.model.specs.declared.op.Op.TheVariants.{ExitCritical, Obey}
 use Rattle.model.specs.declared.event.Misuse.TheVariants.{NotSuspended, NotCritical}
-use Rattle.model.specs.State.{Progress}
-use Rattle.machine.specs.StandsFor.{progress_in}
 use Rattle.kernel.specs.Bits.Begins.{Sets, Waits}
 use Rattle.kernel.specs.Can.{CanOp}
 use Rattle.machine.specs.StandsFor.Stands.{Placed}
@@ -53,7 +52,7 @@ pub returns-in-Mark-clause-does : goal.returns-in-Mark-clause-does
 returns-in-Mark-clause-does g c =
     let can = subst (CanOp c.args.app.now c.args.machine.now c.args.task) c.in-Mark.is c.requires.can in
     does_by_form c.args.app.now c.args.machine.now c.mark.new.machine (g.L.Log.logged c.args.log.now)
-    (g.L.Log.logged c.mark.new.log) c.args.task c.args.op.now (Mark c.in-Mark.number) c.in-Mark.is
+    (g.L.Log.logged c.mark.new.log) c.args.task c.args.op.now (Mark c.in-Mark.value) c.in-Mark.is
     c.requires.awake (λ s. refl) refl 1 one_within can.tick.advance.agrees c.mark.ensures.does
 
 pub returns-in-Stamp-clause-does : goal.returns-in-Stamp-clause-does
@@ -74,9 +73,9 @@ returns-in-Since-clause-does g c =
 pub returns-in-Do-clause-does : goal.returns-in-Do-clause-does
 returns-in-Do-clause-does g c =
     let can = subst (CanOp c.args.app.now c.args.machine.now c.args.task) c.in-Do.is c.requires.can in
-    does_by_form c.args.app.now c.args.machine.now c.do_now.new.machine (g.L.Log.logged c.args.log.now)
-    (g.L.Log.logged c.do_now.new.log) c.args.task c.args.op.now (Do c.in-Do.object c.in-Do.access)
-    c.in-Do.is c.requires.awake (λ s. refl) refl 2 two_within can.tick.advance.agrees c.do_now.ensures
+    does_by_form c.args.app.now c.args.machine.now c.do_by_value.new.machine (g.L.Log.logged c.args.log.now)
+    (g.L.Log.logged c.do_by_value.new.log) c.args.task c.args.op.now (Do c.in-Do.object c.in-Do.access)
+    c.in-Do.is c.requires.awake (λ s. refl) refl 2 two_within can.tick.advance.agrees c.do_by_value.ensures
 
 pub returns-in-MessagesWaiting-clause-does : goal.returns-in-MessagesWaiting-clause-does
 returns-in-MessagesWaiting-clause-does g c =
@@ -153,10 +152,10 @@ returns-in-Break-clause-does g c =
 
 pub returns-in-Await-clause-does : goal.returns-in-Await-clause-does
 returns-in-Await-clause-does g c =
-    any_by_form c.args.app.now c.args.machine.now c.go_on_waiting.new.machine
-    (g.L.Log.logged c.args.log.now) (g.L.Log.logged c.go_on_waiting.new.log) c.args.task
+    any_by_form c.args.app.now c.args.machine.now c.go_on_by_value.new.machine
+    (g.L.Log.logged c.args.log.now) (g.L.Log.logged c.go_on_by_value.new.log) c.args.task
     c.args.op.now (Await c.in-Await.object c.in-Await.access c.in-Await.ticks)
-    c.in-Await.is c.requires.awake (λ s. refl) refl 2 two_within c.go_on_waiting.ensures
+    c.in-Await.is c.requires.awake (λ s. refl) refl 2 two_within c.go_on_by_value.ensures
 
 pub returns-in-GiveMutex-clause-does : goal.returns-in-GiveMutex-clause-does
 returns-in-GiveMutex-clause-does g c =
@@ -284,15 +283,15 @@ since-requires g c =
     let can = subst (CanOp c.args.app.now c.args.machine.now c.args.task) c.in-Since.is c.requires.can in
     record { room = room_for_one (g.L.Log.logged c.args.log.now).room c.requires.room; runs = can.runs; stamped = can.stamp }
 
-pub go_on_waiting-requires : goal.go_on_waiting-requires
-go_on_waiting-requires g c =
+pub go_on_by_value-requires : goal.go_on_by_value-requires
+go_on_by_value-requires g c =
     record {
       room = room_for_two (g.L.Log.logged c.args.log.now).room c.requires.room;
       can = subst (CanOp c.args.app.now c.args.machine.now c.args.task) c.in-Await.is c.requires.can;
     }
 
-pub do_now-requires : goal.do_now-requires
-do_now-requires g c =
+pub do_by_value-requires : goal.do_by_value-requires
+do_by_value-requires g c =
     record {
       room = room_for_two (g.L.Log.logged c.args.log.now).room c.requires.room;
       can = subst (CanOp c.args.app.now c.args.machine.now c.args.task) c.in-Do.is c.requires.can;
@@ -408,3 +407,15 @@ returns-in-WaitBits-clause-letting g c = λ e.
       },
       c.wait_bits.ensures.silent begun,
     )
+
+pub returns-in-Value-clause-does : goal.returns-in-Value-clause-does
+returns-in-Value-clause-does g c =
+    let can = subst (CanOp c.args.app.now c.args.machine.now c.args.task) c.in-Value.is c.requires.can in
+    does_by_form c.args.app.now c.args.machine.now c.calculate.new.machine (g.L.Log.logged c.args.log.now)
+    (g.L.Log.logged c.calculate.new.log) c.args.task c.args.op.now (Value c.in-Value.op) c.in-Value.is
+    c.requires.awake (λ s. refl) refl 1 one_within can.tick.advance.agrees c.calculate.ensures.does
+
+pub calculate-requires : goal.calculate-requires
+calculate-requires g c =
+    let can = subst (CanOp c.args.app.now c.args.machine.now c.args.task) c.in-Value.is c.requires.can in
+    record { room = room_for_one (g.L.Log.logged c.args.log.now).room c.requires.room; runs = can.runs }

@@ -1,4 +1,9 @@
-use Rattle.std.proofs.Common.{◌≡◌, ◌<◌, ◌≤◌, ◌+◌, List, Some, drop, get_or, length, arith, ap, refl, subst, sym, ◌∙◌}
+use Rattle.std.proofs.Common.{ℕ}
+use Rattle.model.specs.State.{State}
+use Rattle.machine.specs.declared.machine.Machine.{Machine}
+use Rattle.machine.specs.StandsFor.{Stands}
+use Rattle.machine.proofs.Either.{variables_are}
+use Rattle.std.proofs.Common.{◌≡◌, ◌<◌, ◌≤◌, List, Some, get_or, length, arith, ap, refl, subst, sym, ◌∙◌}
 use Rattle.std.specs.Option.{option_or}
 use Rattle.model.specs.declared.event.End.TheVariants.{HandlerCheck}
 use Rattle.model.specs.Handlers.{isr_jump}
@@ -9,6 +14,10 @@ use Rattle.kernel.proofs.Handling.{behind_is, behind_short, handler_short, room_
 use Rattle.kernel.proofs.Handling.{amid_jumped, amid_did, amid_handled, amid_handled_any, amid_failed, amid_failed_any}
 use Rattle.kernel.proofs.handlers.handle.Goals.{then-over-gt0, else-over-gt0+else-is_failed}
 use Rattle.kernel.proofs.handlers.handle.Goals as goal
+
+-- the variables that are looked at are those of each state that the kernel represents
+here : (k : Machine) (t : State) → Stands k t → {values : List ℕ} → values ≡ k.variables → t.variables ≡ values
+here k t stands is = sym (variables_are k t stands) ∙ sym is
 
 pub loop-op_index-init : goal.loop-op_index-init
 loop-op_index-init g c =
@@ -65,19 +74,18 @@ loop-op_index-preserved g c = elim c.if-over-gt0.branch [
       c.index-ops-op_index.result c.loop-op_index-test.true c.index-ops-op_index.is w.if-over-gt0.true)
   | else-over-gt0+else-is_failed w ↦
       let none : c.loop-op_index.over ≡ 0 = (let l = w.if-over-gt0.false in omega arith) in
-      let jump : w.isr_jump-over.result
-      ≡ isr_jump c.index-ops-op_index.result c.loop-op_index.last
-      (drop (c.loop-op_index.op_index + 1) c.handler_ops-ops.result.now) =
-      w.isr_jump-over.ensures
-      ∙ ap (isr_jump c.index-ops-op_index.result c.loop-op_index.last)
-      (behind_is c.handler_ops-ops.result.now c.loop-op_index.op_index c.loop-op_index-test.true) in
-      rw (w.machine-is, w.log-is, w.last-is, w.over-is, jump)
+      rw (w.machine-is, w.log-is, w.last-is, w.over-is)
       (amid_did c.args.app.now c.args.handler c.handler_ops-ops.result.now c.args.machine.now
       (g.L.Log.logged c.args.log.now) c.loop-op_index.op_index c.loop-op_index.over c.loop-op_index.last
       c.loop-op_index.machine (g.L.Log.logged c.loop-op_index.log) c.loop-op_index.invariant
-      c.index-ops-op_index.result c.loop-op_index-test.true c.index-ops-op_index.is none w.if-is_failed.ensures
-      w.isr-last.new.machine (g.L.Log.logged w.isr-last.new.log) w.isr-last.result w.isr-last.ensures.does
-      w.isr-last.ensures.any w.isr-last.ensures.leaves w.isr-last.ensures.answer)
+      c.index-ops-op_index.result c.loop-op_index-test.true c.index-ops-op_index.is none
+      (λ t stands. w.if-is_failed.ensures t (here c.loop-op_index.machine t stands w.values.ensures))
+      w.isr-last.new.machine (g.L.Log.logged w.isr-last.new.log) w.isr-last.result w.isr_jump-over.result
+      w.isr-last.ensures.does w.isr-last.ensures.any w.isr-last.ensures.leaves w.isr-last.ensures.answer
+      (λ t stands.
+      w.isr_jump-over.ensures t (here c.loop-op_index.machine t stands w.values-else-is_failed.ensures)
+      ∙ ap (isr_jump t c.index-ops-op_index.result c.loop-op_index.last)
+      (behind_is c.handler_ops-ops.result.now c.loop-op_index.op_index c.loop-op_index-test.true)))
 ]
 
 pub returns-clause-does : goal.returns-clause-does
@@ -114,7 +122,8 @@ returns-then-is_failed-clause-does g c =
     amid_failed c.args.app.now c.args.handler c.handler_ops-ops.result.now c.args.machine.now (g.L.Log.logged c.args.log.now)
     c.loop-op_index.op_index c.loop-op_index.over c.loop-op_index.last c.loop-op_index.machine
     (g.L.Log.logged c.loop-op_index.log) c.loop-op_index.invariant c.index-ops-op_index.result c.loop-op_index-test.true
-    c.index-ops-op_index.is (let l = c.if-over-gt0.false in omega arith) c.if-is_failed.ensures c.handler_ops-ops.ensures
+    c.index-ops-op_index.is (let l = c.if-over-gt0.false in omega arith)
+    (λ t stands. c.if-is_failed.ensures t (here c.loop-op_index.machine t stands c.values.ensures)) c.handler_ops-ops.ensures
     (omega (
       arith,
       c.loop-op_index.auto.op_index-end,
@@ -128,7 +137,8 @@ returns-then-is_failed-clause-any g c =
     amid_failed_any c.args.app.now c.args.handler c.handler_ops-ops.result.now c.args.machine.now (g.L.Log.logged c.args.log.now)
     c.loop-op_index.op_index c.loop-op_index.over c.loop-op_index.last c.loop-op_index.machine
     (g.L.Log.logged c.loop-op_index.log) c.loop-op_index.invariant c.index-ops-op_index.result c.loop-op_index-test.true
-    c.index-ops-op_index.is (let l = c.if-over-gt0.false in omega arith) c.if-is_failed.ensures c.handler_ops-ops.ensures
+    c.index-ops-op_index.is (let l = c.if-over-gt0.false in omega arith)
+    (λ t stands. c.if-is_failed.ensures t (here c.loop-op_index.machine t stands c.values.ensures)) c.handler_ops-ops.ensures
     (omega (
       arith,
       c.loop-op_index.auto.op_index-end,

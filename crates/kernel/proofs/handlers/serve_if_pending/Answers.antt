@@ -1,5 +1,4 @@
-use Rattle.std.proofs.Common.{refl, sym, subst, arith, ◌∙◌}
-use Rattle.machine.specs.StandsFor.{AtAny}
+use Rattle.std.proofs.Common.{refl, sym, arith, ◌∙◌}
 use Rattle.kernel.proofs.handlers.serve_if_pending.Goals as goal
 
 pub returns-then-is_pending-clause-does : goal.returns-then-is_pending-clause-does

@@ -1,6 +1,5 @@
-use Rattle.std.proofs.Common.{[], ◌∙◌, ◌<◌, ap, sym, refl, arith}
+use Rattle.std.proofs.Common.{[], ◌∙◌, ◌<◌, refl, arith}
 use Rattle.model.specs.Step.{step}
-use Rattle.machine.specs.Logged.{Logged}
 use Rattle.machine.proofs.Either.{steps_are}
 use Rattle.kernel.proofs.Amid.{amid_answered, amid_next, letting_go, on_amid, reporting, stands_amid, told_amid}
 use Rattle.kernel.proofs.Bounds.{below_limits, can_do}

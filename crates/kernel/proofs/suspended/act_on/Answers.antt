@@ -11,6 +11,9 @@ returns-in-Time g c = rw c.in-Time.is (does_up 1 64 _ _ _ _ _ (omega arith) c.ti
 pub returns-in-Mark : goal.returns-in-Mark
 returns-in-Mark g c = rw c.in-Mark.is (does_up 1 64 _ _ _ _ _ (omega arith) c.mark.ensures.does)
 
+pub returns-in-Value : goal.returns-in-Value
+returns-in-Value g c = rw c.in-Value.is (does_up 1 64 _ _ _ _ _ (omega arith) c.calculate.ensures.does)
+
 pub returns-in-Expect : goal.returns-in-Expect
 returns-in-Expect g c = rw c.in-Expect.is (moves_up 64 _ _ (g.L.Log.logged c.args.log.now) _ c.expect.ensures.does)
 
@@ -70,4 +73,4 @@ returns-in_default g c =
     not.not-Work not.not-Time not.not-Mark not.not-Expect not.not-Repeat
     not.not-End not.not-If not.not-Else not.not-EndIf not.not-Break not.not-Stamp not.not-Since not.not-MessagesWaiting
     not.not-SpacesAvailable not.not-ClearBits not.not-GetBits not.not-SuspendAll not.not-ResumeAll not.not-EnterCritical
-    not.not-ExitCritical
+    not.not-ExitCritical not.not-Value

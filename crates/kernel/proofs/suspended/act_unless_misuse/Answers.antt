@@ -1,6 +1,6 @@
 use Rattle.std.proofs.Common.{◌∙◌, refl, sym, subst, arith}
 use Rattle.model.specs.State.{Progress}
-use Rattle.model.specs.Step.{act, judge}
+use Rattle.model.specs.Step.{act_by_value, judge}
 use Rattle.machine.specs.StandsFor.{At}
 use Rattle.machine.specs.StandsFor.Stands.{Placed}
 use Rattle.kernel.proofs.Held.{acted_at, misused_at}
@@ -23,7 +23,7 @@ returns g c = record {
   at = λ s h.
       let P : Progress → Type 0 = λ p.
       At c.judge.new.machine (g.L.Log.logged c.act_on.new.log).told
-      (judge c.args.task p.op_index (act c.args.app.now c.args.task c.args.op.now s)) in
+      (judge c.args.task p.op_index (act_by_value c.args.app.now c.args.task c.args.op.now s)) in
       acted_at c.args.app.now c.judge.new.machine _ s c.args.task c.args.op.now
       (sym (c.misuse.ensures s (Placed h.stands)) ∙ c.in_default.is)
       (subst P (c.behind-machine.view_is ∙ c.progress.ensures ∙ h.stands.rest.progress c.args.task)

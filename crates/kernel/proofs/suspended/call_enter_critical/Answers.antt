@@ -1,4 +1,4 @@
-use Rattle.std.proofs.Common.{◌∙◌, ◌≤◌, refl, subst, arith}
+use Rattle.std.proofs.Common.{◌∙◌, refl, subst}
 use Rattle.model.specs.declared.op.Op.TheVariants.{EnterCritical}
 use Rattle.model.specs.State.{Progress}
 use Rattle.model.specs.Step.{act, judge}

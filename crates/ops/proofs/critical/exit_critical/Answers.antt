@@ -1,4 +1,4 @@
-use Rattle.std.proofs.Common.{◌-◌, ap, refl, sym, arith}
+use Rattle.std.proofs.Common.{◌-◌, ap, refl, arith}
 use Rattle.model.specs.Ops.{with_sections}
 use Rattle.ops.proofs.Held.{with_open}
 use Rattle.ops.proofs.Suspending.{runs_by}

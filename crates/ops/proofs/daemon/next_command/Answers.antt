@@ -1,4 +1,4 @@
-use Rattle.std.proofs.Common.{ap, sym, ◌∙◌}
+use Rattle.std.proofs.Common.{ap, ◌∙◌}
 use Rattle.model.specs.State.{Progress}
 use Rattle.ops.proofs.Commanding.{receive_in_phase}
 use Rattle.ops.proofs.daemon.next_command.Goals as goal

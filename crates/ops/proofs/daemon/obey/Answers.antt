@@ -1,10 +1,7 @@
-use Rattle.std.proofs.Common.{◌≡◌, ap, sym, subst, ◌∙◌}
-use Rattle.std.specs.Option.{unwrap_or}
+use Rattle.std.proofs.Common.{ap, sym, subst, ◌∙◌}
 use Rattle.model.specs.declared.call.Phase.TheVariants.{Start}
 use Rattle.model.specs.State.{Progress}
-use Rattle.model.specs.Daemon.{command_of}
 use Rattle.ops.specs.Can.{CanSetBits}
-use Rattle.machine.specs.StandsFor.{progress_in}
 use Rattle.machine.proofs.Either.{moves_any}
 use Rattle.ops.proofs.Commanding.{obey_in_phase, obey_set}
 use Rattle.ops.proofs.daemon.obey.Goals as goal

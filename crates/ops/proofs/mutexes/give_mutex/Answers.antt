@@ -1,4 +1,4 @@
-use Rattle.std.proofs.Common.{arith, None, refl, subst, sym, ◌∙◌}
+use Rattle.std.proofs.Common.{arith, None, refl, subst, sym}
 use Rattle.model.specs.declared.event.Misuse.TheVariants.{NotHolder}
 use Rattle.model.specs.State.{State, object_at, with_object}
 use Rattle.objects.specs.Objects.{Objects}

@@ -1,5 +1,5 @@
-use Rattle.std.proofs.Common.{◌-◌, ℕ, ap, min, subst, ◌∙◌, Some}
-use Rattle.model.specs.State.{Progress, progress_at}
+use Rattle.std.proofs.Common.{ℕ, ap, subst, ◌∙◌, Some}
+use Rattle.model.specs.State.{Progress}
 use Rattle.model.specs.Ops.{answer}
 use Rattle.machine.specs.StandsFor.{At}
 use Rattle.ops.proofs.Working.{since_at}

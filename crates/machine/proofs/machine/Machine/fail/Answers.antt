@@ -1,7 +1,4 @@
-use Rattle.std.proofs.Common.{refl, sym, subst}
-use Rattle.machine.specs.declared.machine.Machine.{Machine}
-use Rattle.machine.specs.StandsFor.{At, Stands}
-use Rattle.model.specs.Ops.{fail}
+use Rattle.std.proofs.Common.{refl}
 use Rattle.machine.proofs.Acting.{failed_at}
 use Rattle.machine.proofs.Renewed.{failed_any}
 use Rattle.machine.proofs.machine.Machine.fail.Goals as goal

@@ -43,9 +43,10 @@ returns-clause-stands c =
           table = table;
         };
         sources =
-            sources_at_reset c.args.app.now c.well_formed-2.ensures.few_handlers c.new-5.result
-            (c.new-5.ensures.number ∙ ap (λ hs. length hs + 1) c.handlers.ensures) c.new-5.ensures.none
-            c.new-5.ensures.full;
+            sources_at_reset c.args.app.now c.well_formed-2.ensures.few_handlers c.new-6.result
+            (c.new-6.ensures.number ∙ ap (λ hs. length hs + 1) c.handlers.ensures) c.new-6.ensures.none
+            c.new-6.ensures.full;
+        variables = c.new-5.ensures ∙ c.variables.ensures;
         sections = refl;
         steps = refl;
         stopped = refl;

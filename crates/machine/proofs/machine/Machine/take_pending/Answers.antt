@@ -1,4 +1,4 @@
-use Rattle.std.proofs.Common.{◌≡◌, ℕ, subst, sym}
+use Rattle.std.proofs.Common.{◌≡◌, subst, sym}
 use Rattle.model.specs.Handlers.{pending_of}
 use Rattle.std.specs.List.{filter, range_with_len}
 use Rattle.machine.specs.Sources.{Sources, is_pending}

@@ -1,6 +1,5 @@
 use Rattle.std.proofs.Common.{◌≡◌, ◌∙◌, ap₂, sym}
 use Rattle.lists.proofs.Compared.{same_flag, same_list}
-use Rattle.machine.specs.Sources.{Sources}
 use Rattle.machine.proofs.sources.Sources.is_same.Goals as goal
 
 pub returns-then-self-other : goal.returns-then-self-other

@@ -1,0 +1,145 @@
+-- What is kept beside the parts is another: the interrupt sources, and the variables. No part sees it.
+use Rattle.std.proofs.Common.{ℕ, List, Some, None, Option, refl, subst}
+use Rattle.model.specs.declared.call.WaitList.{WaitList}
+use Rattle.model.specs.declared.event.Event.{Event}
+use Rattle.model.specs.declared.value.ValueOp.{ValueOp}
+use Rattle.model.specs.State.{State, Source}
+use Rattle.model.specs.Ops.{store}
+use Rattle.model.specs.Values.{stored}
+use Rattle.model.specs.Invariant.{IsTable}
+use Rattle.objects.specs.Objects.{SameWaits}
+use Rattle.objects.proofs.Kept.{stands_same}
+use Rattle.objects.proofs.Awake.{at_locked_same}
+use Rattle.groups.proofs.Standing as on_groups
+use Rattle.groups.proofs.Kept as bits_kept
+use Rattle.machine.specs.declared.machine.Machine.{Machine}
+use Rattle.machine.specs.Sources.{Sources}
+use Rattle.machine.specs.StandsFor.{AreSources, StandsFor, StandsBefore, Stands, At, AtAny, decider}
+use Rattle.machine.specs.StandsFor.Stands.{Placed, Placing}
+use Rattle.machine.proofs.Parts.{clock-same, same_parts, sched-same}
+use Rattle.machine.proofs.Either.{variables_are}
+
+before_with : (k : Machine) (s : State) (task : ℕ) (list : WaitList) → StandsBefore task list k s
+    → (v : Sources) (xs : List Source) → AreSources v xs → (values : List ℕ)
+    → StandsBefore task list (record k { variables = values; sources = v }) (record s { variables = values; sources = xs })
+before_with k s task list b v xs are values =
+    let new : State = record s { variables = values; sources = xs } in
+    let table : IsTable new =
+    record {
+      tickets = b.sched.table.tickets;
+      few = b.sched.table.few;
+      current = b.sched.table.current;
+      holders = b.sched.table.holders;
+    } in
+    let same : SameWaits s new = same_parts s new refl refl refl in
+    record {
+      sched =
+          record {
+            ready = b.sched.ready;
+            still = b.sched.still;
+            current = b.sched.current;
+            priorities = b.sched.priorities;
+            base_priorities = b.sched.base_priorities;
+            depth = b.sched.depth;
+            suspensions = b.sched.suspensions;
+            suspended = b.sched.suspended;
+            table = table;
+          };
+      clock =
+          record {
+            now = b.clock.now;
+            age = b.clock.age;
+            held = b.clock.held;
+            sorted = b.clock.sorted;
+            once = b.clock.once;
+            delayed = b.clock.delayed;
+            awake = b.clock.awake;
+            table = table;
+          };
+      objects = stands_same s new same k.objects (Some (decider task list s)) b.objects table;
+      groups = on_groups.stands_same k.groups s new b.groups (bits_kept.same_parts s new refl refl) table;
+      awake = at_locked_same (Some (decider task list s)) s new same b.awake;
+      progress = b.progress;
+      full = b.full;
+      variables = refl;
+      sources = are;
+      sections = b.sections;
+      steps = b.steps;
+      stopped = b.stopped;
+      current = b.current;
+      held = b.held;
+      phase = b.phase;
+      wait_list = b.wait_list;
+      placed = b.placed;
+    }
+
+placed_with : (k : Machine) (s : State) → StandsFor k s → (v : Sources) (xs : List Source) → AreSources v xs → (values : List ℕ)
+    → StandsFor (record k { variables = values; sources = v }) (record s { variables = values; sources = xs })
+placed_with k s h v xs are values =
+    let new : State = record s { variables = values; sources = xs } in
+    let old = h.sched.table in
+    let table : IsTable new = record { tickets = old.tickets; few = old.few; current = old.current; holders = old.holders } in
+    let same : SameWaits s new = same_parts s new refl refl refl in
+    record {
+      sched = sched-same h.sched table refl refl refl;
+      rest = record {
+        progress = h.rest.progress;
+        full = h.rest.full;
+        clock = clock-same k.clock s new h.rest.clock refl refl refl table;
+        objects = stands_same s new same k.objects None h.rest.objects table;
+        groups = on_groups.stands_same k.groups s new h.rest.groups (bits_kept.same_parts s new refl refl) table;
+        awake = at_locked_same None s new same h.rest.awake;
+        variables = refl;
+        sources = are;
+        sections = h.rest.sections;
+        steps = h.rest.steps;
+        stopped = h.rest.stopped;
+        placed = h.rest.placed;
+      };
+    }
+
+-- ---- the sources
+
+pub with_sources : (k : Machine) (s : State) → Stands k s → (v : Sources) (xs : List Source) → AreSources v xs
+    → Stands (record k { sources = v }) (record s { sources = xs })
+with_sources k s (Placed h) v xs are =
+    Placed (subst (λ (ys : List ℕ). StandsFor (record k { sources = v }) (record s { variables = ys; sources = xs }))
+    h.rest.variables (placed_with k s h v xs are k.variables))
+with_sources k s (Placing task list b) v xs are =
+    Placing task list
+    (subst (λ (ys : List ℕ). StandsBefore task list (record k { sources = v }) (record s { variables = ys; sources = xs }))
+    b.variables (before_with k s task list b v xs are k.variables))
+
+-- ---- the variables
+
+placed_storing : (k : Machine) (s : State) → StandsFor k s → (values : List ℕ)
+    → StandsFor (record k { variables = values }) (record s { variables = values })
+placed_storing k s h values = placed_with k s h k.sources s.sources h.rest.sources values
+
+with_variables : (k : Machine) (s : State) → Stands k s → (values : List ℕ)
+    → Stands (record k { variables = values }) (record s { variables = values })
+with_variables k s (Placed h) values = Placed (placed_storing k s h values)
+with_variables k s (Placing task list b) values =
+    Placing task list (before_with k s task list b k.sources s.sources b.sources values)
+
+-- An op on values stores its answer.
+pub stored_at : (k : Machine) (log : List Event) (s : State) (op : ValueOp) (a : Option ℕ) → At k log s
+    → At (record k { variables = stored op a k.variables }) log (store op a s)
+stored_at k log s op a h = record {
+  stands =
+      subst (λ (values : List ℕ).
+      StandsFor (record k { variables = stored op a k.variables }) (record s { variables = stored op a values }))
+      h.stands.rest.variables (placed_storing k s h.stands (stored op a k.variables));
+  log = h.log;
+}
+
+-- the same, where a task may be still to be placed
+pub stored_any : (k : Machine) (log : List Event) (s : State) (op : ValueOp) (a : Option ℕ) → AtAny k log s
+    → AtAny (record k { variables = stored op a k.variables }) log (store op a s)
+stored_any k log s op a h = record {
+  stands =
+      subst (λ (values : List ℕ).
+      Stands (record k { variables = stored op a k.variables }) (record s { variables = stored op a values }))
+      (variables_are k s h.stands) (with_variables k s h.stands (stored op a k.variables));
+  log = h.log;
+}
