@@ -10,7 +10,7 @@ use Rattle.model.specs.Application.{Application}
 use Rattle.model.specs.declared.event.End.{End}
 use Rattle.model.specs.declared.totals.Totals.{Totals}
 use Rattle.script.specs.Sections.{objects_fault, objects_named, more_objects_fault, with_objects, groups_fault, groups_named}
-use Rattle.script.specs.Sections.{handlers_fault, handlers_named, tasks_fault, tasks_named}
+use Rattle.script.specs.Sections.{variables_fault, variables_named, handlers_fault, handlers_named, tasks_fault, tasks_named}
 use Rattle.script.specs.Faults.{Loads}
 use Rattle.script.specs.Load.{app_named, entries_of, entries_fault, load_fault}
 use Rattle.script.specs.declared.fault.LoadError.{LoadError}
@@ -58,7 +58,7 @@ nothing_parsed = refl
 
 nothing_names_no_task : load_fault no_members ≡ None → ⊥
 unfolding entries_fault entries_of objects_fault objects_named more_objects_fault with_objects
-    groups_fault groups_named handlers_fault handlers_named tasks_fault tasks_named
+    groups_fault groups_named variables_fault variables_named handlers_fault handlers_named tasks_fault tasks_named
 nothing_names_no_task sound = cc sound
 
 no_fault_in_nothing : (document : Members) → parse_document [] ≡ Some document → load_fault document ≡ None → ⊥

@@ -13,15 +13,22 @@ use Rattle.model.specs.declared.op.Op.{Op}
 use Rattle.model.specs.declared.op.IsrOp.{IsrOp}
 use Rattle.model.specs.Words.{word_of, word_of_isr}
 use Rattle.model.specs.Scripts.{is_in_range}
-use Rattle.grammar.specs.Grammar.{Word, Naming, Form, Done, Number, NumberUnless, Choice, Asked, Name, forms, isr_forms, number_of}
-use Rattle.grammar.specs.Grammar.{number_unless, answer_of, choice_of, take_by, take_condition, WritesCondition, Writes, WritesBy}
-use Rattle.grammar.specs.Grammar.{Spells, SpellsIsr, is_isr_in_range, read, read_by, op_of, isr_op_of}
+use Rattle.model.specs.declared.value.Value.{Value}
+use Rattle.grammar.specs.Grammar.{Word, Naming, Form, Done, Number, NumberUnless, Operand, Choice, Asked, Name, forms, isr_forms}
+use Rattle.grammar.specs.Grammar.{number_of, number_unless, operand_of, compared_of, answer_of, choice_of, take_by, take_condition}
+use Rattle.grammar.specs.Grammar.{WritesCondition, Writes, WritesBy, Spells, SpellsIsr, is_isr_in_range, read, read_by, op_of}
+use Rattle.grammar.specs.Grammar.{isr_op_of}
 
 -- which branch of a test it was
 pub chosen : {X : Type 0} (b : Bool) (x y z : X) → cond b x y ≡ z
     → ((b ≡ true) × (x ≡ z)) ⊎ ((b ≡ false) × (y ≡ z))
 chosen true x y z e = inl (refl, e)
 chosen false x y z e = inr (refl, e)
+
+-- where it was none of three
+none_of_three : {X : Type 0} (a b c : Bool) (x y z last value : X) → a ≡ false → b ≡ false → c ≡ false → last ≡ value
+    → cond a x (cond b y (cond c z last)) ≡ value
+none_of_three a b c x y z last value one two three is = rw (one, two, three) is
 
 -- ---- the condition that words write
 
@@ -46,9 +53,9 @@ said (Some x) ws makes condition others e =
     let s : Read = (condition, others) in
     (x, refl, same_condition r s e, same_others r s e)
 
-answered : (o : Option (Option ℕ)) (ws : List Word) (condition : AnswerCondition) (others : List Word)
+answered : (o : Option (Option Value)) (ws : List Word) (condition : AnswerCondition) (others : List Word)
     → option_map {U = Read} (λ wanted. (Is wanted, ws)) o ≡ Some (condition, others)
-    → (wanted : Option ℕ) × (o ≡ Some wanted) × (Is wanted ≡ condition) × (ws ≡ others)
+    → (wanted : Option Value) × (o ≡ Some wanted) × (Is wanted ≡ condition) × (ws ≡ others)
 answered None ws condition others e = cc
 answered (Some wanted) ws condition others e =
     let r : Read = (Is wanted, ws) in
@@ -58,72 +65,76 @@ answered (Some wanted) ws condition others e =
 is_word : (w v : Word) → bytes_eq w v ≡ true → w ≡ v
 is_word w v e = (bytes_eq-Decides w v).0 e
 
-not_sound : (w : Word) (ws : List Word) (condition : AnswerCondition) (others : List Word) → w ≡ codes "not"
-    → option_map {U = Read} (λ r. (IsNot r.0, r.1)) (take_by answer_of ws) ≡ Some (condition, others)
-    → WritesCondition condition (w ∷ ws) others
-not_sound w [] condition others is e = cc
-not_sound w (v ∷ ws) condition others is e =
-    let s = said (answer_of v) ws IsNot condition others e in
-    subst (λ c. WritesCondition c (w ∷ v ∷ ws) others) s.2 (is, s.1, s.3)
+module _ (named : Naming) where
+  not_sound : (w : Word) (ws : List Word) (condition : AnswerCondition) (others : List Word) → w ≡ codes "not"
+      → option_map {U = Read} (λ r. (IsNot r.0, r.1)) (take_by (answer_of named) ws) ≡ Some (condition, others)
+      → WritesCondition named condition (w ∷ ws) others
+  not_sound w [] condition others is e = cc
+  not_sound w (v ∷ ws) condition others is e =
+      let s = said (answer_of named v) ws IsNot condition others e in
+      subst (λ c. WritesCondition named c (w ∷ v ∷ ws) others) s.2 (is, s.1, s.3)
 
-below_sound : (w : Word) (ws : List Word) (condition : AnswerCondition) (others : List Word) → w ≡ codes "below"
-    → option_map {U = Read} (λ r. (Below r.0, r.1)) (take_by number_of ws) ≡ Some (condition, others)
-    → WritesCondition condition (w ∷ ws) others
-below_sound w [] condition others is e = cc
-below_sound w (v ∷ ws) condition others is e =
-    let s = said (number_of v) ws Below condition others e in
-    subst (λ c. WritesCondition c (w ∷ v ∷ ws) others) s.2 (is, s.1, s.3)
+  below_sound : (w : Word) (ws : List Word) (condition : AnswerCondition) (others : List Word) → w ≡ codes "below"
+      → option_map {U = Read} (λ r. (Below r.0, r.1)) (take_by (compared_of named) ws) ≡ Some (condition, others)
+      → WritesCondition named condition (w ∷ ws) others
+  below_sound w [] condition others is e = cc
+  below_sound w (v ∷ ws) condition others is e =
+      let s = said (compared_of named v) ws Below condition others e in
+      subst (λ c. WritesCondition named c (w ∷ v ∷ ws) others) s.2 (is, s.1, s.3)
 
-above_sound : (w : Word) (ws : List Word) (condition : AnswerCondition) (others : List Word) → w ≡ codes "above"
-    → option_map {U = Read} (λ r. (Above r.0, r.1)) (take_by number_of ws) ≡ Some (condition, others)
-    → WritesCondition condition (w ∷ ws) others
-above_sound w [] condition others is e = cc
-above_sound w (v ∷ ws) condition others is e =
-    let s = said (number_of v) ws Above condition others e in
-    subst (λ c. WritesCondition c (w ∷ v ∷ ws) others) s.2 (is, s.1, s.3)
+  above_sound : (w : Word) (ws : List Word) (condition : AnswerCondition) (others : List Word) → w ≡ codes "above"
+      → option_map {U = Read} (λ r. (Above r.0, r.1)) (take_by (compared_of named) ws) ≡ Some (condition, others)
+      → WritesCondition named condition (w ∷ ws) others
+  above_sound w [] condition others is e = cc
+  above_sound w (v ∷ ws) condition others is e =
+      let s = said (compared_of named v) ws Above condition others e in
+      subst (λ c. WritesCondition named c (w ∷ v ∷ ws) others) s.2 (is, s.1, s.3)
 
-condition_sound : (ws : List Word) (condition : AnswerCondition) (others : List Word) → take_condition ws ≡ Some (condition, others)
-    → WritesCondition condition ws others
-condition_sound [] condition others e = cc
-condition_sound (w ∷ ws) condition others e = elim (chosen (bytes_eq w (codes "not")) _ _ _ e) [
-  | inl here ↦ not_sound w ws condition others (is_word w _ here.0) here.1
-  | inr later ↦ elim (chosen (bytes_eq w (codes "below")) _ _ _ later.1) [
-    | inl here ↦ below_sound w ws condition others (is_word w _ here.0) here.1
-    | inr later ↦ elim (chosen (bytes_eq w (codes "above")) _ _ _ later.1) [
-      | inl here ↦ above_sound w ws condition others (is_word w _ here.0) here.1
-      | inr later ↦
-          let s = answered (answer_of w) ws condition others later.1 in
-          subst (λ c. WritesCondition c (w ∷ ws) others) s.2 (s.1, s.3)
+  pub condition_sound : (ws : List Word) (condition : AnswerCondition) (others : List Word)
+      → take_condition named ws ≡ Some (condition, others) → WritesCondition named condition ws others
+  condition_sound [] condition others e = cc
+  condition_sound (w ∷ ws) condition others e = elim (chosen (bytes_eq w (codes "not")) _ _ _ e) [
+    | inl here ↦ not_sound w ws condition others (is_word w _ here.0) here.1
+    | inr later ↦ elim (chosen (bytes_eq w (codes "below")) _ _ _ later.1) [
+      | inl here ↦ below_sound w ws condition others (is_word w _ here.0) here.1
+      | inr later ↦ elim (chosen (bytes_eq w (codes "above")) _ _ _ later.1) [
+        | inl here ↦ above_sound w ws condition others (is_word w _ here.0) here.1
+        | inr later ↦
+            let s = answered (answer_of named w) ws condition others later.1 in
+            subst (λ c. WritesCondition named c (w ∷ ws) others) s.2 (s.1, s.3)
+      ]
     ]
   ]
-]
 
--- a word that writes an answer is none of the other three
-no_answer : (w v : Word) (wanted : Option ℕ) → answer_of v ≡ None → answer_of w ≡ Some wanted → bytes_eq w v ≡ false
-no_answer w v wanted none e = by_same (bytes_eq w v) refl where
-  by_same : (b : Bool) → bytes_eq w v ≡ b → b ≡ false
-  by_same true same =
-      let is : w ≡ v = is_word w v same in
-      let some : answer_of v ≡ Some wanted = subst (λ u. answer_of u ≡ Some wanted) is e in
-      cc
-  by_same false same = refl
+  -- a word that writes an answer is none of the other three
+  no_answer : (w v : Word) (wanted : Option Value) → answer_of named v ≡ None → answer_of named w ≡ Some wanted
+      → bytes_eq w v ≡ false
+  no_answer w v wanted none e = by_same (bytes_eq w v) refl where
+    by_same : (b : Bool) → bytes_eq w v ≡ b → b ≡ false
+    by_same true same =
+        let is : w ≡ v = is_word w v same in
+        let some : answer_of named v ≡ Some wanted = subst (λ u. answer_of named u ≡ Some wanted) is e in
+        cc
+    by_same false same = refl
 
-condition_complete : (condition : AnswerCondition) (ws others : List Word) → WritesCondition condition ws others
-    → take_condition ws ≡ Some (condition, others)
-condition_complete (Is wanted) [] others h = absurd h
-condition_complete (Is wanted) (w ∷ ws) others h =
-    rw (no_answer w (codes "not") wanted refl h.0)
-    (rw (no_answer w (codes "below") wanted refl h.0)
-    (rw (no_answer w (codes "above") wanted refl h.0) (rw (h.0, h.1) refl)))
-condition_complete (IsNot other) [] others h = absurd h
-condition_complete (IsNot other) (w ∷ []) others h = absurd h
-condition_complete (IsNot other) (w ∷ v ∷ ws) others h = rw (h.0, h.1, h.2) refl
-condition_complete (Below bound) [] others h = absurd h
-condition_complete (Below bound) (w ∷ []) others h = absurd h
-condition_complete (Below bound) (w ∷ v ∷ ws) others h = rw (h.0, h.1, h.2) refl
-condition_complete (Above bound) [] others h = absurd h
-condition_complete (Above bound) (w ∷ []) others h = absurd h
-condition_complete (Above bound) (w ∷ v ∷ ws) others h = rw (h.0, h.1, h.2) refl
+  condition_complete : (condition : AnswerCondition) (ws others : List Word) → WritesCondition named condition ws others
+      → take_condition named ws ≡ Some (condition, others)
+  condition_complete (Is wanted) [] others h = absurd h
+  condition_complete (Is wanted) (w ∷ ws) others h =
+      none_of_three (bytes_eq w (codes "not")) (bytes_eq w (codes "below")) (bytes_eq w (codes "above")) _ _ _ _ _
+      (no_answer w (codes "not") wanted refl h.0)
+      (no_answer w (codes "below") wanted refl h.0)
+      (no_answer w (codes "above") wanted refl h.0)
+      (ap (λ o. option_map {U = Read} (λ v. (Is v, ws)) o) h.0 ∙ ap (λ vs. Some (Is wanted, vs)) h.1)
+  condition_complete (IsNot other) [] others h = absurd h
+  condition_complete (IsNot other) (w ∷ []) others h = absurd h
+  condition_complete (IsNot other) (w ∷ v ∷ ws) others h = rw (h.0, h.1, h.2) refl
+  condition_complete (Below bound) [] others h = absurd h
+  condition_complete (Below bound) (w ∷ []) others h = absurd h
+  condition_complete (Below bound) (w ∷ v ∷ ws) others h = rw (h.0, h.1, h.2) refl
+  condition_complete (Above bound) [] others h = absurd h
+  condition_complete (Above bound) (w ∷ []) others h = absurd h
+  condition_complete (Above bound) (w ∷ v ∷ ws) others h = rw (h.0, h.1, h.2) refl
 
 module _ {O : Type 0} (word : O → Word) where
   -- ---- a step of the reading
@@ -152,13 +163,17 @@ module _ {O : Type 0} (word : O → Word) where
   read_sound named (NumberUnless other next) (w ∷ ws) op e =
       let t = taken (number_unless other w) ws (λ r. read named (next r.0) r.1) op e in
       (t.0, t.1, read_sound named (next t.0) ws op t.2)
+  read_sound named (Operand next) [] op e = cc
+  read_sound named (Operand next) (w ∷ ws) op e =
+      let t = taken (operand_of named w) ws (λ r. read named (next r.0) r.1) op e in
+      (t.0, t.1, read_sound named (next t.0) ws op t.2)
   read_sound named (Choice first second next) [] op e = cc
   read_sound named (Choice first second next) (w ∷ ws) op e =
       let t = taken (choice_of first second w) ws (λ r. read named (next r.0) r.1) op e in
       (t.0, t.1, read_sound named (next t.0) ws op t.2)
   read_sound named (Asked next) ws op e =
-      let t = conditioned (take_condition ws) (λ r. read named (next r.0) r.1) op e in
-      (t.0.0, t.0.1, condition_sound ws t.0.0 t.0.1 t.1, read_sound named (next t.0.0) t.0.1 op t.2)
+      let t = conditioned (take_condition named ws) (λ r. read named (next r.0) r.1) op e in
+      (t.0.0, t.0.1, condition_sound named ws t.0.0 t.0.1 t.1, read_sound named (next t.0.0) t.0.1 op t.2)
   read_sound named (Name sort next) [] op e = cc
   read_sound named (Name sort next) (w ∷ ws) op e =
       let t = taken (named sort w) ws (λ r. read named (next r.0) r.1) op e in
@@ -172,10 +187,12 @@ module _ {O : Type 0} (word : O → Word) where
   read_complete named (Number next) (w ∷ ws) op h = rw h.1 (read_complete named (next h.0) ws op h.2)
   read_complete named (NumberUnless other next) [] op h = absurd h
   read_complete named (NumberUnless other next) (w ∷ ws) op h = rw h.1 (read_complete named (next h.0) ws op h.2)
+  read_complete named (Operand next) [] op h = absurd h
+  read_complete named (Operand next) (w ∷ ws) op h = rw h.1 (read_complete named (next h.0) ws op h.2)
   read_complete named (Choice first second next) [] op h = absurd h
   read_complete named (Choice first second next) (w ∷ ws) op h = rw h.1 (read_complete named (next h.0) ws op h.2)
   read_complete named (Asked next) ws op h =
-      rw (condition_complete h.0 ws h.1 h.2) (read_complete named (next h.0) h.1 op h.3)
+      rw (condition_complete named h.0 ws h.1 h.2) (read_complete named (next h.0) h.1 op h.3)
   read_complete named (Name sort next) [] op h = absurd h
   read_complete named (Name sort next) (w ∷ ws) op h = rw h.1 (read_complete named (next h.0) ws op h.2)
 
@@ -185,6 +202,7 @@ module _ {O : Type 0} (word : O → Word) where
   HasWord w (Done op) = word op ≡ w
   HasWord w (Number next) = (n : ℕ) → HasWord w (next n)
   HasWord w (NumberUnless other next) = (n : Option ℕ) → HasWord w (next n)
+  HasWord w (Operand next) = (v : Value) → HasWord w (next v)
   HasWord w (Choice first second next) = (b : Bool) → HasWord w (next b)
   HasWord w (Asked next) = (condition : AnswerCondition) → HasWord w (next condition)
   HasWord w (Name sort next) = (entry : ℕ) → HasWord w (next entry)
@@ -198,6 +216,8 @@ module _ {O : Type 0} (word : O → Word) where
   word_written named w (Number next) (v ∷ ws) op has h = word_written named w (next h.0) ws op (has h.0) h.2
   word_written named w (NumberUnless other next) [] op has h = absurd h
   word_written named w (NumberUnless other next) (v ∷ ws) op has h = word_written named w (next h.0) ws op (has h.0) h.2
+  word_written named w (Operand next) [] op has h = absurd h
+  word_written named w (Operand next) (v ∷ ws) op has h = word_written named w (next h.0) ws op (has h.0) h.2
   word_written named w (Choice first second next) [] op has h = absurd h
   word_written named w (Choice first second next) (v ∷ ws) op has h = word_written named w (next h.0) ws op (has h.0) h.2
   word_written named w (Asked next) ws op has h = word_written named w (next h.0) h.1 op (has h.0) h.3

@@ -1,8 +1,9 @@
 -- The texts of ops: which words spell which op (profile).
 use Rattle.std.specs.Prelude.{◌≡◌, ◌⊎◌, ℕ, Bool, true, false, ◌&&◌, ◌==◌, nat_lt, nat_le, List, [], ◌∷◌, ◌++◌, length, filter}
 use Rattle.std.specs.Prelude.{codes, Option, Some, None, option_map, option_and_then, if◌then◌else◌}
+use Rattle.std.specs.Option.{option_or}
 use Rattle.std.specs.Char.{is_ascii_digit}
-use Rattle.std.specs.List.{list_all, slice_split}
+use Rattle.std.specs.List.{list_all, list_any, slice_split}
 use Rattle.std.specs.Str.{bytes_eq}
 use Rattle.std.specs.Str.Parse.{digits_value}
 use Rattle.model.specs.declared.op.Access.TheVariants.{Send, SendFront, Overwrite, Receive, Peek, Take, Give, Lock}
@@ -14,10 +15,17 @@ use Rattle.model.specs.declared.op.Op.TheVariants.{Work, Delay, DelayUntil, Yiel
 use Rattle.model.specs.declared.op.Op.TheVariants.{Stamp, Since, Await, Do, GiveMutex, MessagesWaiting, SpacesAvailable, SetBits}
 use Rattle.model.specs.declared.op.Op.TheVariants.{ClearBits, GetBits, WaitBits, Suspend, Resume, SuspendAll, ResumeAll}
 use Rattle.model.specs.declared.op.Op.TheVariants.{EnterCritical, ExitCritical}
+use Rattle.model.specs.declared.op.Op.TheVariants as op
 use Rattle.model.specs.declared.op.IsrOp.{IsrOp}
 use Rattle.model.specs.declared.op.IsrOp.TheVariants as isr
+use Rattle.model.specs.declared.ids.VariableId.{VariableId}
+use Rattle.model.specs.declared.value.Value.{Value}
+use Rattle.model.specs.declared.value.Value.TheVariants as value
+use Rattle.model.specs.declared.value.Arithmetic.TheVariants.{Add, Sub, Mul, Div, Mod, And, Or, Xor}
+use Rattle.model.specs.declared.value.ValueOp.{ValueOp}
+use Rattle.model.specs.declared.value.ValueOp.TheVariants.{Load, Store, Compute}
 use Rattle.model.specs.Words.{word_of, word_of_isr}
-use Rattle.model.specs.Scripts.{is_in_range, is_mask, InRange}
+use Rattle.model.specs.Scripts.{is_defined, is_in_range, is_mask, InRange}
 use Rattle.grammar.specs.declared.object_sort.ObjectSort.{ObjectSort}
 use Rattle.grammar.specs.declared.object_sort.ObjectSort.TheVariants.{Queue, Semaphore, Mutex}
 
@@ -51,33 +59,52 @@ number_of w =
 abbrev pub number_unless : (other : Word) → Word → Option (Option ℕ)
 number_unless other w = if bytes_eq w other then Some None else option_map Some (number_of w)
 
--- the answer that a word writes, which may be none
-abbrev pub answer_of : Word → Option (Option ℕ)
-answer_of w = number_unless (codes "none") w
-
 -- which of two words it is: whether it is the second
 abbrev pub choice_of : (first second : Word) → Word → Option Bool
 choice_of first second w = if bytes_eq w first then Some false else if bytes_eq w second then Some true else None
 
--- What a name in an op's text has to be that of: an object of a sort, an event group, or a task.
+-- What a name in an op's text has to be that of: an object of a sort, an event group, a task, or a variable.
 pub data NameSort : Type 0 where
   OfObject : (sort : ObjectSort) → NameSort
   OfGroup : NameSort
   OfTask : NameSort
+  OfVariable : NameSort
 
 -- which entry of a sort a word names, where it names one
 abbrev pub Naming : Type 0
 Naming = NameSort → Word → Option ℕ
 
+-- the variable of this number
+abbrev pub variable_of : ℕ → VariableId
+variable_of x = record { number = x }
+
+-- the operand that a word writes: a number, or a variable by its name
+abbrev pub operand_of : Naming → Word → Option Value
+operand_of named w =
+    option_or (option_map value.Number (number_of w)) (option_map (λ x. value.Variable (variable_of x)) (named OfVariable w))
+
+-- A condition has a meaning of its own for the word, so no name is read there.
+abbrev pub is_of_conditions : Word → Bool
+is_of_conditions w = list_any (bytes_eq w) (codes "none" ∷ codes "not" ∷ codes "below" ∷ codes "above" ∷ [])
+
+-- what a word writes that an answer is compared with
+abbrev pub compared_of : Naming → Word → Option Value
+compared_of named w = if is_of_conditions w then None else operand_of named w
+
+-- the answer that a word writes, which may be none
+abbrev pub answer_of : Naming → Word → Option (Option Value)
+answer_of named w = if bytes_eq w (codes "none") then Some None else option_map Some (compared_of named w)
+
 -- ---- the grammar
 
 -- How an op's text goes on after its own word (profile). It may be over. Or the next word writes a number, in whose place
--- another word may be allowed, is one of two words, or names an entry of a sort. Or one or two words write a condition for
--- the last answer. What comes then is of the same form. The op is a task's, or a handler's.
+-- another word may be allowed, writes an operand, is one of two words, or names an entry of a sort. Or one or two words write a
+-- condition for the last answer. What comes then is of the same form. The op is a task's, or a handler's.
 pub data Form (O : Type 0) : Type 0 where
   Done : (op : O) → Form O
   Number : (next : ℕ → Form O) → Form O
   NumberUnless : (other : Word) → (next : Option ℕ → Form O) → Form O
+  Operand : (next : Value → Form O) → Form O
   Choice : (first second : Word) → (next : Bool → Form O) → Form O
   Asked : (next : AnswerCondition → Form O) → Form O
   Name : (sort : NameSort) → (next : ℕ → Form O) → Form O
@@ -90,6 +117,15 @@ Turns next = NumberUnless (codes "forever") next
 abbrev pub WaitTime : {O : Type 0} → (Option ℕ → Form O) → Form O
 WaitTime next = NumberUnless (codes "forever") next
 
+-- this number as a value, or the last answer where there is none
+abbrev pub given : Option ℕ → Value
+given None = value.Answer
+given (Some n) = value.Number n
+
+-- the value that an op sends, stores or marks, which may be the last answer
+abbrev pub GivenValue : {O : Type 0} → (Value → Form O) → Form O
+GivenValue next = NumberUnless (codes "answer") (λ n. next (given n))
+
 -- the name of an object of a sort
 abbrev pub ObjectName : {O : Type 0} → ObjectSort → (ℕ → Form O) → Form O
 ObjectName sort next = Name (OfObject sort) next
@@ -101,6 +137,10 @@ GroupName next = Name OfGroup next
 -- the name of a task
 abbrev pub TaskName : {O : Type 0} → (ℕ → Form O) → Form O
 TaskName next = Name OfTask next
+
+-- the name of a variable
+abbrev pub VariableName : {O : Type 0} → (VariableId → Form O) → Form O
+VariableName next = Name OfVariable (λ x. next (variable_of x))
 
 -- the arguments of a condition: its bits, whether any of them or all, and whether they are kept or cleared
 abbrev pub Bits : {O : Type 0} → (Condition → Form O) → Form O
@@ -119,7 +159,7 @@ basic_forms =
     ∷ (codes "time", Done Time)
     ∷ (codes "stamp", Done Stamp)
     ∷ (codes "since", Done Since)
-    ∷ (codes "mark", Number (λ n. Done (Mark n)))
+    ∷ (codes "mark", GivenValue (λ v. Done (Mark v)))
     ∷ (codes "expect", Asked (λ condition. Done (Expect condition)))
     ∷ []
 
@@ -136,9 +176,9 @@ block_forms =
 -- those of each op on a queue
 abbrev pub queue_forms : List (Word × Form Op)
 queue_forms =
-    (codes "send", ObjectName Queue (λ queue. Number (λ n. WaitTime (λ ticks. Done (Await queue (Send n) ticks)))))
-    ∷ (codes "send_front", ObjectName Queue (λ queue. Number (λ n. WaitTime (λ ticks. Done (Await queue (SendFront n) ticks)))))
-    ∷ (codes "overwrite", ObjectName Queue (λ queue. Number (λ n. Done (Do queue (Overwrite n)))))
+    (codes "send", ObjectName Queue (λ queue. GivenValue (λ v. WaitTime (λ ticks. Done (Await queue (Send v) ticks)))))
+    ∷ (codes "send_front", ObjectName Queue (λ queue. GivenValue (λ v. WaitTime (λ ticks. Done (Await queue (SendFront v) ticks)))))
+    ∷ (codes "overwrite", ObjectName Queue (λ queue. GivenValue (λ v. Done (Do queue (Overwrite v)))))
     ∷ (codes "receive", ObjectName Queue (λ queue. WaitTime (λ ticks. Done (Await queue Receive ticks))))
     ∷ (codes "peek", ObjectName Queue (λ queue. WaitTime (λ ticks. Done (Await queue Peek ticks))))
     ∷ (codes "waiting", ObjectName Queue (λ queue. Done (MessagesWaiting queue)))
@@ -174,20 +214,36 @@ suspension_forms =
     ∷ (codes "exit_critical", Done ExitCritical)
     ∷ []
 
+-- those of each op on values, of tasks or of handlers
+abbrev pub value_forms : {O : Type 0} → (ValueOp → O) → List (Word × Form O)
+value_forms made =
+    (codes "load", VariableName (λ x. Done (made (Load x))))
+    ∷ (codes "store", VariableName (λ x. GivenValue (λ v. Done (made (Store x v)))))
+    ∷ (codes "add", Operand (λ v. Done (made (Compute Add v))))
+    ∷ (codes "sub", Operand (λ v. Done (made (Compute Sub v))))
+    ∷ (codes "mul", Operand (λ v. Done (made (Compute Mul v))))
+    ∷ (codes "div", Operand (λ v. Done (made (Compute Div v))))
+    ∷ (codes "mod", Operand (λ v. Done (made (Compute Mod v))))
+    ∷ (codes "and", Operand (λ v. Done (made (Compute And v))))
+    ∷ (codes "or", Operand (λ v. Done (made (Compute Or v))))
+    ∷ (codes "xor", Operand (λ v. Done (made (Compute Xor v))))
+    ∷ []
+
 -- those of each op
 abbrev pub forms : List (Word × Form Op)
-forms = basic_forms ++ block_forms ++ queue_forms ++ semaphore_forms ++ group_forms ++ suspension_forms
+forms =
+    basic_forms ++ block_forms ++ queue_forms ++ semaphore_forms ++ group_forms ++ suspension_forms ++ value_forms op.Value
 
 -- the arguments of a command, which sets bits or clears them
 abbrev pub CommandForm : (clear : Bool) → Form IsrOp
 CommandForm clear = GroupName (λ group. Number (λ mask. Done (isr.Command (record { group = group; mask = mask; clear = clear }))))
 
--- those of each op of a handler, which never waits and has no loops: its `end` is that of an `if`
-abbrev pub isr_forms : List (Word × Form IsrOp)
-isr_forms =
-    (codes "send", ObjectName Queue (λ queue. Number (λ n. Done (isr.Do queue (Send n)))))
-    ∷ (codes "send_front", ObjectName Queue (λ queue. Number (λ n. Done (isr.Do queue (SendFront n)))))
-    ∷ (codes "overwrite", ObjectName Queue (λ queue. Number (λ n. Done (isr.Do queue (Overwrite n)))))
+-- those of each op of a handler but the ones on values. A handler never waits and has no loops: its `end` is that of an `if`.
+abbrev pub isr_call_forms : List (Word × Form IsrOp)
+isr_call_forms =
+    (codes "send", ObjectName Queue (λ queue. GivenValue (λ v. Done (isr.Do queue (Send v)))))
+    ∷ (codes "send_front", ObjectName Queue (λ queue. GivenValue (λ v. Done (isr.Do queue (SendFront v)))))
+    ∷ (codes "overwrite", ObjectName Queue (λ queue. GivenValue (λ v. Done (isr.Do queue (Overwrite v)))))
     ∷ (codes "receive", ObjectName Queue (λ queue. Done (isr.Do queue Receive)))
     ∷ (codes "peek", ObjectName Queue (λ queue. Done (isr.Do queue Peek)))
     ∷ (codes "give", ObjectName Semaphore (λ semaphore. Done (isr.Do semaphore Give)))
@@ -195,31 +251,36 @@ isr_forms =
     ∷ (codes "set", CommandForm false)
     ∷ (codes "clear", CommandForm true)
     ∷ (codes "bits", GroupName (λ group. Done (isr.GetBits group)))
-    ∷ (codes "mark", Number (λ n. Done (isr.Mark n)))
+    ∷ (codes "mark", GivenValue (λ v. Done (isr.Mark v)))
     ∷ (codes "expect", Asked (λ condition. Done (isr.Expect condition)))
     ∷ (codes "if", Asked (λ condition. Done (isr.If condition)))
     ∷ (codes "else", Done isr.Else)
     ∷ (codes "end", Done isr.EndIf)
     ∷ []
 
+-- those of each op of a handler
+abbrev pub isr_forms : List (Word × Form IsrOp)
+isr_forms = isr_call_forms ++ value_forms isr.Value
+
 -- The first of these words write the condition, and the others are these. A word for an answer alone says what the last answer
--- is to be, and after `not` what it is not to be. After `below` and `above` there is a number.
-abbrev pub WritesCondition : AnswerCondition → List Word → (others : List Word) → Type 0
-WritesCondition (Is wanted) (w ∷ ws) others = (answer_of w ≡ Some wanted) × (ws ≡ others)
-WritesCondition (IsNot other) (w ∷ v ∷ ws) others = (w ≡ codes "not") × (answer_of v ≡ Some other) × (ws ≡ others)
-WritesCondition (Below bound) (w ∷ v ∷ ws) others = (w ≡ codes "below") × (number_of v ≡ Some bound) × (ws ≡ others)
-WritesCondition (Above bound) (w ∷ v ∷ ws) others = (w ≡ codes "above") × (number_of v ≡ Some bound) × (ws ≡ others)
-WritesCondition _ _ others = ⊥
+-- is to be, and after `not` what it is not to be. After `below` and `above` there is what it is compared with.
+abbrev pub WritesCondition : Naming → AnswerCondition → List Word → (others : List Word) → Type 0
+WritesCondition named (Is wanted) (w ∷ ws) others = (answer_of named w ≡ Some wanted) × (ws ≡ others)
+WritesCondition named (IsNot other) (w ∷ v ∷ ws) others = (w ≡ codes "not") × (answer_of named v ≡ Some other) × (ws ≡ others)
+WritesCondition named (Below bound) (w ∷ v ∷ ws) others = (w ≡ codes "below") × (compared_of named v ≡ Some bound) × (ws ≡ others)
+WritesCondition named (Above bound) (w ∷ v ∷ ws) others = (w ≡ codes "above") × (compared_of named v ≡ Some bound) × (ws ≡ others)
+WritesCondition named _ _ others = ⊥
 
 -- The words write the arguments of the op, by this form, where names are read this way.
 abbrev pub Writes : {O : Type 0} → Naming → Form O → List Word → O → Type 0
 Writes named (Done made) [] op = made ≡ op
 Writes named (Number next) (w ∷ ws) op = (n : ℕ) × (number_of w ≡ Some n) × Writes named (next n) ws op
 Writes named (NumberUnless other next) (w ∷ ws) op = (n : Option ℕ) × (number_unless other w ≡ Some n) × Writes named (next n) ws op
+Writes named (Operand next) (w ∷ ws) op = (v : Value) × (operand_of named w ≡ Some v) × Writes named (next v) ws op
 Writes named (Choice first second next) (w ∷ ws) op = (b : Bool) × (choice_of first second w ≡ Some b) × Writes named (next b) ws op
 Writes named (Asked next) ws op =
     (condition : AnswerCondition) × (others : List Word)
-    × WritesCondition condition ws others × Writes named (next condition) others op
+    × WritesCondition named condition ws others × Writes named (next condition) others op
 Writes named (Name sort next) (w ∷ ws) op = (entry : ℕ) × (named sort w ≡ Some entry) × Writes named (next entry) ws op
 Writes named _ _ op = ⊥
 
@@ -236,6 +297,7 @@ Spells named op (w ∷ ws) = (w ≡ word_of op) × WritesBy named forms ws op ×
 -- The numbers of a handler's op are in their ranges (profile). A number that is not named here is any of 32 bits.
 abbrev pub is_isr_in_range : IsrOp → Bool
 is_isr_in_range (isr.Command c) = is_mask c.mask
+is_isr_in_range (isr.Value values) = is_defined values
 is_isr_in_range _ = true
 
 -- the same as a fact
@@ -255,13 +317,13 @@ take_by says [] = None
 take_by says (w ∷ ws) = option_map (λ x. (x, ws)) (says w)
 
 -- the condition that the first of some words write, and the others
-abbrev pub take_condition : List Word → Option (AnswerCondition × List Word)
-take_condition [] = None
-take_condition (w ∷ ws) =
-    if bytes_eq w (codes "not") then option_map (λ r. (IsNot r.0, r.1)) (take_by answer_of ws)
-    else if bytes_eq w (codes "below") then option_map (λ r. (Below r.0, r.1)) (take_by number_of ws)
-    else if bytes_eq w (codes "above") then option_map (λ r. (Above r.0, r.1)) (take_by number_of ws)
-    else option_map (λ wanted. (Is wanted, ws)) (answer_of w)
+abbrev pub take_condition : Naming → List Word → Option (AnswerCondition × List Word)
+take_condition named [] = None
+take_condition named (w ∷ ws) =
+    if bytes_eq w (codes "not") then option_map (λ r. (IsNot r.0, r.1)) (take_by (answer_of named) ws)
+    else if bytes_eq w (codes "below") then option_map (λ r. (Below r.0, r.1)) (take_by (compared_of named) ws)
+    else if bytes_eq w (codes "above") then option_map (λ r. (Above r.0, r.1)) (take_by (compared_of named) ws)
+    else option_map (λ wanted. (Is wanted, ws)) (answer_of named w)
 
 -- the op whose arguments the words write, by this form
 abbrev pub read : {O : Type 0} → Naming → Form O → List Word → Option O
@@ -269,8 +331,9 @@ read named (Done op) [] = Some op
 read named (Done op) (w ∷ ws) = None
 read named (Number next) ws = option_and_then (λ r. read named (next r.0) r.1) (take_by number_of ws)
 read named (NumberUnless other next) ws = option_and_then (λ r. read named (next r.0) r.1) (take_by (number_unless other) ws)
+read named (Operand next) ws = option_and_then (λ r. read named (next r.0) r.1) (take_by (operand_of named) ws)
 read named (Choice first second next) ws = option_and_then (λ r. read named (next r.0) r.1) (take_by (choice_of first second) ws)
-read named (Asked next) ws = option_and_then (λ r. read named (next r.0) r.1) (take_condition ws)
+read named (Asked next) ws = option_and_then (λ r. read named (next r.0) r.1) (take_condition named ws)
 read named (Name sort next) ws = option_and_then (λ r. read named (next r.0) r.1) (take_by (named sort) ws)
 
 -- the same by the first of these forms that has this word

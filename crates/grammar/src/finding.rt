@@ -1,12 +1,12 @@
 //! How names in the text of an op are read.
 use crate::name::is_name;
 use crate::object_sort::ObjectSort;
-use model::{GroupId, ObjectId, TaskId};
+use model::{GroupId, ObjectId, TaskId, VariableId};
 
 /// How names in the text of an op are read.
 pub trait Finding {
-    ghost use Rattle.std.specs.Prelude.{◌≡◌};
-    ghost use Rattle.grammar.specs.Grammar.{Naming, OfObject, OfGroup, OfTask};
+    ghost use Rattle.std.specs.Prelude.{◌≡◌, option_map};
+    ghost use Rattle.grammar.specs.Grammar.{Naming, OfObject, OfGroup, OfTask, OfVariable, variable_of};
 
     // Which entry of a sort a word names.
     ghost naming: { Self → Naming };
@@ -22,6 +22,10 @@ pub trait Finding {
     /// The task that a word names.
     fn task(&self, word: &[u8]) -> Option<TaskId>
         ensures { result ≡ naming self.now OfTask word.now };
+
+    /// The variable that a word names.
+    fn variable(&self, word: &[u8]) -> Option<VariableId>
+        ensures { result ≡ option_map variable_of (naming self.now OfVariable word.now) };
 }
 
 /// Any name will do: a text is only looked at for what it spells.
@@ -47,5 +51,13 @@ impl Finding for AnyName {
 
     fn task(&self, word: &[u8]) -> Option<TaskId> {
         if is_name(word) { TaskId::new(0) } else { None }
+    }
+
+    fn variable(&self, word: &[u8]) -> Option<VariableId> {
+        if is_name(word) {
+            Some(VariableId { number: 0 })
+        } else {
+            None
+        }
     }
 }

@@ -2,20 +2,22 @@
 ghost use Rattle.std.specs.Prelude.{◌≡◌, ◌++◌, List, ℕ, drop, None, Some, IfSome, MatchOption, option_and_then, if◌then◌else◌};
 ghost use Rattle.model.specs.declared.op.Op.{Op};
 ghost use Rattle.model.specs.declared.op.Op.TheVariants.{Await, Do, SetBits, ClearBits, WaitBits};
+ghost use Rattle.model.specs.declared.op.Op.TheVariants as op;
+ghost use Rattle.model.specs.declared.value.ValueOp.TheVariants.{Compute};
 ghost use Rattle.model.specs.declared.op.Access.TheVariants.{Send, SendFront};
 ghost use Rattle.model.specs.declared.op.IsrOp.TheVariants as isr;
 ghost use Rattle.model.specs.declared.op.IsrOp.{IsrOp};
 ghost use Rattle.model.specs.Scripts.{InRange};
 ghost use Rattle.grammar.specs.declared.object_sort.ObjectSort.TheVariants.{Queue};
-ghost use Rattle.grammar.specs.Grammar.{Naming, words_of, Done, Number, ObjectName, GroupName, Bits, WaitTime, forms, block_forms, queue_forms, semaphore_forms, group_forms, suspension_forms, CommandForm, isr_forms, read, read_by, if_in_range, is_isr_in_range, op_of, isr_op_of, Spells, SpellsIsr};
+ghost use Rattle.grammar.specs.Grammar.{Naming, words_of, Done, Number, ObjectName, GroupName, Bits, WaitTime, forms, block_forms, queue_forms, semaphore_forms, group_forms, suspension_forms, GivenValue, Operand, value_forms, CommandForm, isr_forms, read, read_by, if_in_range, is_isr_in_range, op_of, isr_op_of, Spells, SpellsIsr};
 
 use crate::finding::Finding;
 use crate::object_sort::ObjectSort;
-use crate::words::{Words, is};
-use model::{Access, Command, Condition, IsrOp, Op};
+use crate::words::{Words, given, is};
+use model::{Access, Arithmetic, Command, Condition, IsrOp, Op, Value, ValueOp};
 
 // The call that sends an item to the front or the back of a queue.
-fn sending(to_front: bool, item: u32) -> Access
+fn sending(to_front: bool, item: Value) -> Access<Value>
     ensures { result ≡ (if to_front then SendFront item else Send item) }
 {
     if to_front {
@@ -27,7 +29,7 @@ fn sending(to_front: bool, item: u32) -> Access
 
 // The op of a call on the object of this sort that the next word names.
 fn do_op<F: Finding>(
-    access: Access,
+    access: Access<Value>,
     sort: ObjectSort,
     words: &mut Words<'_>,
     finding: &F,
@@ -42,7 +44,7 @@ fn do_op<F: Finding>(
 
 // The op of a call that waits at the object of this sort that the next word names, for as long as the word after it says.
 fn await_op<F: Finding>(
-    access: Access,
+    access: Access<Value>,
     sort: ObjectSort,
     words: &mut Words<'_>,
     finding: &F,
@@ -57,17 +59,17 @@ fn await_op<F: Finding>(
     Some(Op::Await(object, access, ticks))
 }
 
-// The op that sends a number to the front or the back of a queue. The next word names the queue, the one after it the
-// number, and the third says how long the op waits.
+// The op that sends a value to the front or the back of a queue. The next word names the queue, the one after it the
+// value, and the third says how long the op waits.
 fn send_op<F: Finding>(to_front: bool, words: &mut Words<'_>, finding: &F) -> Option<Op>
     // What is still to be read is whether the text ends here.
-    ensures { let form = ObjectName Queue (λ queue. Number (λ n. WaitTime (λ ticks.
-        Done (Await queue (if to_front then SendFront n else Send n) ticks)))) in MatchOption result
+    ensures { let form = ObjectName Queue (λ queue. GivenValue (λ v. WaitTime (λ ticks.
+        Done (Await queue (if to_front then SendFront v else Send v) ticks)))) in MatchOption result
         (read (F.naming finding.now) form words.old ≡ None)
         (λ op. read (F.naming finding.now) form words.old ≡ read (F.naming finding.now) (Done op) words.new) }
 {
     let queue = words.object(ObjectSort::Queue, finding)?;
-    let item = words.number()?;
+    let item = given(words.number_unless("answer")?);
     let ticks = words.number_unless("forever")?;
     Some(Op::Await(queue, sending(to_front, item), ticks))
 }
@@ -104,12 +106,86 @@ fn wait_op<F: Finding>(words: &mut Words<'_>, finding: &F) -> Option<Op>
     Some(Op::WaitBits(group, condition, words.number_unless("forever")?))
 }
 
-// The op of this word by the forms of suspending and resuming and of critical sections. Its arguments are the next words.
+// The op that calculates with the operand that the next word writes.
+fn compute_op<F: Finding>(kind: Arithmetic, words: &mut Words<'_>, finding: &F) -> Option<ValueOp>
+    // What is still to be read is whether the text ends here.
+    ensures task { let form = Operand (λ v. Done (op.Value (Compute kind v))) in MatchOption result
+        (read (F.naming finding.now) form words.old ≡ None)
+        (λ values. read (F.naming finding.now) form words.old ≡ read (F.naming finding.now) (Done (op.Value values)) words.new) }
+    ensures handler { let form = Operand (λ v. Done (isr.Value (Compute kind v))) in MatchOption result
+        (read (F.naming finding.now) form words.old ≡ None)
+        (λ values. read (F.naming finding.now) form words.old ≡ read (F.naming finding.now) (Done (isr.Value values)) words.new) }
+{
+    Some(ValueOp::Compute(kind, words.operand(finding)?))
+}
+
+// The op of this word that calculates, whose arguments are the next words.
+fn arithmetic_op_after<F: Finding>(
+    word: &[u8],
+    words: &mut Words<'_>,
+    finding: &F,
+) -> Option<ValueOp>
+    // What is still to be read is whether the text ends here.
+    ensures task { let these = drop 2 (value_forms op.Value) in MatchOption result
+        (read_by (F.naming finding.now) these word.now words.old ≡ None)
+        (λ values. read_by (F.naming finding.now) these word.now words.old
+        ≡ read (F.naming finding.now) (Done (op.Value values)) words.new) }
+    ensures handler { let these = drop 2 (value_forms isr.Value) in MatchOption result
+        (read_by (F.naming finding.now) these word.now words.old ≡ None)
+        (λ values. read_by (F.naming finding.now) these word.now words.old
+        ≡ read (F.naming finding.now) (Done (isr.Value values)) words.new) }
+{
+    if is(word, "add") {
+        compute_op(Arithmetic::Add, words, finding)
+    } else if is(word, "sub") {
+        compute_op(Arithmetic::Sub, words, finding)
+    } else if is(word, "mul") {
+        compute_op(Arithmetic::Mul, words, finding)
+    } else if is(word, "div") {
+        compute_op(Arithmetic::Div, words, finding)
+    } else if is(word, "mod") {
+        compute_op(Arithmetic::Mod, words, finding)
+    } else if is(word, "and") {
+        compute_op(Arithmetic::And, words, finding)
+    } else if is(word, "or") {
+        compute_op(Arithmetic::Or, words, finding)
+    } else if is(word, "xor") {
+        compute_op(Arithmetic::Xor, words, finding)
+    } else {
+        None
+    }
+}
+
+// The op on values of this word, whose arguments are the next words.
+fn value_op_after<F: Finding>(word: &[u8], words: &mut Words<'_>, finding: &F) -> Option<ValueOp>
+    // What is still to be read is whether the text ends here.
+    ensures task { MatchOption result
+        (read_by (F.naming finding.now) (value_forms op.Value) word.now words.old ≡ None)
+        (λ values. read_by (F.naming finding.now) (value_forms op.Value) word.now words.old
+        ≡ read (F.naming finding.now) (Done (op.Value values)) words.new) }
+    ensures handler { MatchOption result
+        (read_by (F.naming finding.now) (value_forms isr.Value) word.now words.old ≡ None)
+        (λ values. read_by (F.naming finding.now) (value_forms isr.Value) word.now words.old
+        ≡ read (F.naming finding.now) (Done (isr.Value values)) words.new) }
+{
+    if is(word, "load") {
+        Some(ValueOp::Load(words.variable(finding)?))
+    } else if is(word, "store") {
+        let variable = words.variable(finding)?;
+        let value = given(words.number_unless("answer")?);
+        Some(ValueOp::Store(variable, value))
+    } else {
+        arithmetic_op_after(word, words, finding)
+    }
+}
+
+// The op of this word by the forms of suspending and resuming and of critical sections, and all behind them. Its arguments are
+// the next words.
 fn suspension_op_after<F: Finding>(word: &[u8], words: &mut Words<'_>, finding: &F) -> Option<Op>
     // What is still to be read is whether the text ends here.
-    ensures { MatchOption result
-        (read_by (F.naming finding.now) suspension_forms word.now words.old ≡ None)
-        (λ op. read_by (F.naming finding.now) suspension_forms word.now words.old
+    ensures { let these = suspension_forms ++ value_forms op.Value in MatchOption result
+        (read_by (F.naming finding.now) these word.now words.old ≡ None)
+        (λ op. read_by (F.naming finding.now) these word.now words.old
         ≡ read (F.naming finding.now) (Done op) words.new) }
 {
     if is(word, "suspend") {
@@ -125,14 +201,14 @@ fn suspension_op_after<F: Finding>(word: &[u8], words: &mut Words<'_>, finding: 
     } else if is(word, "exit_critical") {
         Some(Op::ExitCritical)
     } else {
-        None
+        Some(Op::Value(value_op_after(word, words, finding)?))
     }
 }
 
 // The op of this word by the forms of event groups and all behind them. Its arguments are the next words.
 fn group_op_after<F: Finding>(word: &[u8], words: &mut Words<'_>, finding: &F) -> Option<Op>
     // What is still to be read is whether the text ends here.
-    ensures { let these = group_forms ++ suspension_forms in MatchOption result
+    ensures { let these = group_forms ++ suspension_forms ++ value_forms op.Value in MatchOption result
         (read_by (F.naming finding.now) these word.now words.old ≡ None)
         (λ op. read_by (F.naming finding.now) these word.now words.old
         ≡ read (F.naming finding.now) (Done op) words.new) }
@@ -153,7 +229,7 @@ fn group_op_after<F: Finding>(word: &[u8], words: &mut Words<'_>, finding: &F) -
 // The op of this word by the forms of semaphores and mutexes and all behind them. Its arguments are the next words.
 fn semaphore_op_after<F: Finding>(word: &[u8], words: &mut Words<'_>, finding: &F) -> Option<Op>
     // What is still to be read is whether the text ends here.
-    ensures { let these = semaphore_forms ++ group_forms ++ suspension_forms in MatchOption result
+    ensures { let these = semaphore_forms ++ group_forms ++ suspension_forms ++ value_forms op.Value in MatchOption result
         (read_by (F.naming finding.now) these word.now words.old ≡ None)
         (λ op. read_by (F.naming finding.now) these word.now words.old
         ≡ read (F.naming finding.now) (Done op) words.new) }
@@ -175,7 +251,7 @@ fn semaphore_op_after<F: Finding>(word: &[u8], words: &mut Words<'_>, finding: &
 // The op of this word by the forms of queues that send nothing and all behind them. Its arguments are the next words.
 fn reading_op_after<F: Finding>(word: &[u8], words: &mut Words<'_>, finding: &F) -> Option<Op>
     // What is still to be read is whether the text ends here.
-    ensures { let these = drop 3 queue_forms ++ semaphore_forms ++ group_forms ++ suspension_forms in MatchOption result
+    ensures { let these = drop 3 queue_forms ++ semaphore_forms ++ group_forms ++ suspension_forms ++ value_forms op.Value in MatchOption result
         (read_by (F.naming finding.now) these word.now words.old ≡ None)
         (λ op. read_by (F.naming finding.now) these word.now words.old
         ≡ read (F.naming finding.now) (Done op) words.new) }
@@ -196,7 +272,7 @@ fn reading_op_after<F: Finding>(word: &[u8], words: &mut Words<'_>, finding: &F)
 // The op of this word by the forms of queues and all behind them. Its arguments are the next words.
 fn queue_op_after<F: Finding>(word: &[u8], words: &mut Words<'_>, finding: &F) -> Option<Op>
     // What is still to be read is whether the text ends here.
-    ensures { let these = queue_forms ++ semaphore_forms ++ group_forms ++ suspension_forms in MatchOption result
+    ensures { let these = queue_forms ++ semaphore_forms ++ group_forms ++ suspension_forms ++ value_forms op.Value in MatchOption result
         (read_by (F.naming finding.now) these word.now words.old ≡ None)
         (λ op. read_by (F.naming finding.now) these word.now words.old
         ≡ read (F.naming finding.now) (Done op) words.new) }
@@ -207,7 +283,8 @@ fn queue_op_after<F: Finding>(word: &[u8], words: &mut Words<'_>, finding: &F) -
         send_op(true, words, finding)
     } else if is(word, "overwrite") {
         let queue = words.object(ObjectSort::Queue, finding)?;
-        Some(Op::Do(queue, Access::Overwrite(words.number()?)))
+        let item = given(words.number_unless("answer")?);
+        Some(Op::Do(queue, Access::Overwrite(item)))
     } else {
         reading_op_after(word, words, finding)
     }
@@ -216,7 +293,7 @@ fn queue_op_after<F: Finding>(word: &[u8], words: &mut Words<'_>, finding: &F) -
 // The op of this word by the forms of blocks and all behind them. Its arguments are the next words.
 fn block_op_after<F: Finding>(word: &[u8], words: &mut Words<'_>, finding: &F) -> Option<Op>
     // What is still to be read is whether the text ends here; a number past what the code can hold is out of range.
-    ensures { let these = block_forms ++ queue_forms ++ semaphore_forms ++ group_forms ++ suspension_forms in MatchOption result
+    ensures { let these = block_forms ++ queue_forms ++ semaphore_forms ++ group_forms ++ suspension_forms ++ value_forms op.Value in MatchOption result
         (option_and_then if_in_range (read_by (F.naming finding.now) these word.now words.old) ≡ None)
         (λ op. read_by (F.naming finding.now) these word.now words.old
         ≡ read (F.naming finding.now) (Done op) words.new) }
@@ -227,7 +304,7 @@ fn block_op_after<F: Finding>(word: &[u8], words: &mut Words<'_>, finding: &F) -
             None => Some(Op::Repeat(None)),
         }
     } else if is(word, "if") {
-        Some(Op::If(words.condition()?))
+        Some(Op::If(words.condition(finding)?))
     } else if is(word, "else") {
         Some(Op::Else)
     } else if is(word, "end") {
@@ -254,9 +331,9 @@ fn later_op_after<F: Finding>(word: &[u8], words: &mut Words<'_>, finding: &F) -
     } else if is(word, "since") {
         Some(Op::Since)
     } else if is(word, "mark") {
-        Some(Op::Mark(words.number()?))
+        Some(Op::Mark(given(words.number_unless("answer")?)))
     } else if is(word, "expect") {
-        Some(Op::Expect(words.condition()?))
+        Some(Op::Expect(words.condition(finding)?))
     } else {
         block_op_after(word, words, finding)
     }
@@ -300,7 +377,7 @@ pub fn op_of<F: Finding>(text: &[u8], finding: &F) -> Option<Op>
 
 // The op of a handler that is a call on the object of this sort that the next word names.
 fn isr_do_op<F: Finding>(
-    access: Access,
+    access: Access<Value>,
     sort: ObjectSort,
     words: &mut Words<'_>,
     finding: &F,
@@ -313,17 +390,17 @@ fn isr_do_op<F: Finding>(
     Some(IsrOp::Do(words.object(sort, finding)?, access))
 }
 
-// The op of a handler that sends a number to the front or the back of a queue. The next word names the queue, and the one
-// after it the number.
+// The op of a handler that sends a value to the front or the back of a queue. The next word names the queue, and the one
+// after it the value.
 fn isr_send_op<F: Finding>(to_front: bool, words: &mut Words<'_>, finding: &F) -> Option<IsrOp>
     // What is still to be read is whether the text ends here.
-    ensures { let form = ObjectName Queue (λ queue. Number (λ n.
-        Done (isr.Do queue (if to_front then SendFront n else Send n)))) in MatchOption result
+    ensures { let form = ObjectName Queue (λ queue. GivenValue (λ v.
+        Done (isr.Do queue (if to_front then SendFront v else Send v)))) in MatchOption result
         (read (F.naming finding.now) form words.old ≡ None)
         (λ op. read (F.naming finding.now) form words.old ≡ read (F.naming finding.now) (Done op) words.new) }
 {
     let queue = words.object(ObjectSort::Queue, finding)?;
-    let item = words.number()?;
+    let item = given(words.number_unless("answer")?);
     Some(IsrOp::Do(queue, sending(to_front, item)))
 }
 
@@ -351,17 +428,17 @@ fn later_isr_op_after<F: Finding>(word: &[u8], words: &mut Words<'_>, finding: &
     if is(word, "bits") {
         Some(IsrOp::GetBits(words.group(finding)?))
     } else if is(word, "mark") {
-        Some(IsrOp::Mark(words.number()?))
+        Some(IsrOp::Mark(given(words.number_unless("answer")?)))
     } else if is(word, "expect") {
-        Some(IsrOp::Expect(words.condition()?))
+        Some(IsrOp::Expect(words.condition(finding)?))
     } else if is(word, "if") {
-        Some(IsrOp::If(words.condition()?))
+        Some(IsrOp::If(words.condition(finding)?))
     } else if is(word, "else") {
         Some(IsrOp::Else)
     } else if is(word, "end") {
         Some(IsrOp::EndIf)
     } else {
-        None
+        Some(IsrOp::Value(value_op_after(word, words, finding)?))
     }
 }
 
@@ -400,7 +477,8 @@ fn isr_op_after<F: Finding>(word: &[u8], words: &mut Words<'_>, finding: &F) -> 
         isr_send_op(true, words, finding)
     } else if is(word, "overwrite") {
         let queue = words.object(ObjectSort::Queue, finding)?;
-        Some(IsrOp::Do(queue, Access::Overwrite(words.number()?)))
+        let item = given(words.number_unless("answer")?);
+        Some(IsrOp::Do(queue, Access::Overwrite(item)))
     } else if is(word, "receive") {
         isr_do_op(Access::Receive, ObjectSort::Queue, words, finding)
     } else if is(word, "peek") {
@@ -416,6 +494,7 @@ fn is_isr_in_range(op: &IsrOp) -> bool
 {
     match *op {
         IsrOp::Command(command) => 1 <= command.mask && command.mask <= Op::MOST_BITS,
+        IsrOp::Value(op) => op.is_defined(),
         _ => true,
     }
 }

@@ -4,11 +4,11 @@ ghost use Rattle.std.specs.Char.{is_ascii_digit};
 ghost use Rattle.std.specs.List.{list_all, position_or_len};
 ghost use Rattle.std.specs.Str.Parse.{digits_value};
 ghost use Rattle.std.specs.Str.{bytes_eq};
-ghost use Rattle.grammar.specs.Grammar.{words_of, is_number, number_of, number_unless, answer_of, choice_of, OfObject, OfGroup, OfTask, take_by, take_condition};
+ghost use Rattle.grammar.specs.Grammar.{words_of, is_number, number_of, number_unless, given, is_of_conditions, operand_of, compared_of, answer_of, choice_of, OfObject, OfGroup, OfTask, OfVariable, take_by, take_condition};
 
 use crate::finding::Finding;
 use crate::object_sort::ObjectSort;
-use model::{AnswerCondition, GroupId, ObjectId, TaskId};
+use model::{AnswerCondition, GroupId, ObjectId, TaskId, Value, VariableId};
 use std::marker::Model;
 
 /// Whether a word is this one.
@@ -91,11 +91,53 @@ fn number_unless(word: &[u8], other: &str) -> Option<Option<u32>>
     }
 }
 
-// The answer that a word writes, which may be none.
-fn answer_of(word: &[u8]) -> Option<Option<u32>>
-    ensures { result ≡ answer_of word.now }
+/// This number as a value, or the last answer where there is none.
+pub(crate) fn given(number: Option<u32>) -> Value
+    ensures { result ≡ given number }
 {
-    number_unless(word, "none")
+    match number {
+        Some(number) => Value::Number(number),
+        None => Value::Answer,
+    }
+}
+
+// The operand that a word writes: a number, or a variable by its name.
+fn operand_of<F: Finding>(word: &[u8], finding: &F) -> Option<Value>
+    ensures { result ≡ operand_of (F.naming finding.now) word.now }
+{
+    match number_of(word) {
+        Some(number) => Some(Value::Number(number)),
+        None => Some(Value::Variable(finding.variable(word)?)),
+    }
+}
+
+// Whether a condition has a meaning of its own for the word.
+fn is_of_conditions(word: &[u8]) -> bool
+    ensures { result ≡ is_of_conditions word.now }
+{
+    is(word, "none") || is(word, "not") || is(word, "below") || is(word, "above")
+}
+
+// What a word writes that an answer is compared with.
+fn compared_of<F: Finding>(word: &[u8], finding: &F) -> Option<Value>
+    ensures { result ≡ compared_of (F.naming finding.now) word.now }
+{
+    if is_of_conditions(word) {
+        None
+    } else {
+        operand_of(word, finding)
+    }
+}
+
+// The answer that a word writes, which may be none.
+fn answer_of<F: Finding>(word: &[u8], finding: &F) -> Option<Option<Value>>
+    ensures { result ≡ answer_of (F.naming finding.now) word.now }
+{
+    if is(word, "none") {
+        Some(None)
+    } else {
+        Some(Some(compared_of(word, finding)?))
+    }
 }
 
 // Which of two words it is: whether it is the second.
@@ -164,28 +206,44 @@ impl<'a> Words<'a> {
         number_unless(self.next()?, other)
     }
 
-    // The answer that the next word writes, which may be none.
-    fn answer(&mut self) -> Option<Option<u32>>
-        ensures { MatchOption result (take_by answer_of self.old ≡ None)
-            (λ answer. take_by answer_of self.old ≡ Some (answer, self.new)) }
+    /// The operand that the next word writes: a number, or a variable by its name.
+    pub(crate) fn operand<F: Finding>(&mut self, finding: &F) -> Option<Value>
+        ensures { MatchOption result (take_by (operand_of (F.naming finding.now)) self.old ≡ None)
+            (λ v. take_by (operand_of (F.naming finding.now)) self.old ≡ Some (v, self.new)) }
     {
-        answer_of(self.next()?)
+        operand_of(self.next()?, finding)
+    }
+
+    // What the next word writes that an answer is compared with.
+    fn compared<F: Finding>(&mut self, finding: &F) -> Option<Value>
+        ensures { MatchOption result (take_by (compared_of (F.naming finding.now)) self.old ≡ None)
+            (λ v. take_by (compared_of (F.naming finding.now)) self.old ≡ Some (v, self.new)) }
+    {
+        compared_of(self.next()?, finding)
+    }
+
+    // The answer that the next word writes, which may be none.
+    fn answer<F: Finding>(&mut self, finding: &F) -> Option<Option<Value>>
+        ensures { MatchOption result (take_by (answer_of (F.naming finding.now)) self.old ≡ None)
+            (λ answer. take_by (answer_of (F.naming finding.now)) self.old ≡ Some (answer, self.new)) }
+    {
+        answer_of(self.next()?, finding)
     }
 
     /// The condition for the last answer that the next words write.
-    pub(crate) fn condition(&mut self) -> Option<AnswerCondition>
-        ensures { MatchOption result (take_condition self.old ≡ None)
-            (λ condition. take_condition self.old ≡ Some (condition, self.new)) }
+    pub(crate) fn condition<F: Finding>(&mut self, finding: &F) -> Option<AnswerCondition>
+        ensures { MatchOption result (take_condition (F.naming finding.now) self.old ≡ None)
+            (λ condition. take_condition (F.naming finding.now) self.old ≡ Some (condition, self.new)) }
     {
         let word = self.next()?;
         if is(word, "not") {
-            Some(AnswerCondition::IsNot(self.answer()?))
+            Some(AnswerCondition::IsNot(self.answer(finding)?))
         } else if is(word, "below") {
-            Some(AnswerCondition::Below(self.number()?))
+            Some(AnswerCondition::Below(self.compared(finding)?))
         } else if is(word, "above") {
-            Some(AnswerCondition::Above(self.number()?))
+            Some(AnswerCondition::Above(self.compared(finding)?))
         } else {
-            Some(AnswerCondition::Is(answer_of(word)?))
+            Some(AnswerCondition::Is(answer_of(word, finding)?))
         }
     }
 
@@ -211,6 +269,14 @@ impl<'a> Words<'a> {
             (λ task. take_by (F.naming finding.now OfTask) self.old ≡ Some (task, self.new)) }
     {
         finding.task(self.next()?)
+    }
+
+    /// The variable that the next word names.
+    pub(crate) fn variable<F: Finding>(&mut self, finding: &F) -> Option<VariableId>
+        ensures { let named = F.naming finding.now OfVariable in MatchOption result (take_by named self.old ≡ None)
+            (λ x. take_by named self.old ≡ Some (x.number, self.new)) }
+    {
+        finding.variable(self.next()?)
     }
 
     /// Which of two words the next word is: whether it is the second.

@@ -1,4 +1,4 @@
--- The lines of one task after the other.
+-- The lines of one task or variable after the other.
 use Rattle.std.proofs.Common.{◌≡◌, ◌<◌, ◌+◌, ℕ, zero, suc, List, [], ◌∷◌, ◌++◌, length, take, get_or, ap, sym, ◌∙◌, arith}
 use Rattle.std.proofs.Common.{append_assoc, append-nil}
 use Rattle.std.specs.Prelude.{Err, Ok, Option, Result}
@@ -7,34 +7,33 @@ use Rattle.std.specs.Result.{IsErr}
 use Rattle.std.proofs.lemmas.Bool.{false≢true}
 use Rattle.byte_io.specs.Bytes.{SentFront, Writes}
 use Rattle.byte_io.proofs.Sending.{SentFront_longer, Sent_all, Sent_longer, Writes_then}
-use Rattle.model.specs.Application.{Application}
-use Rattle.model.specs.declared.end_state.Situation.{Situation}
-use Rattle.report.specs.EndStates.{task_line, task_lines}
+use Rattle.report.specs.EndStates.{numbered_lines}
 
-pub lines_more : (app : Application) (task i : ℕ) (ss : List Situation) (d : Situation) → i < length ss
-    → task_lines app task (take (suc i) ss) ≡ task_lines app task (take i ss) ++ task_line app (task + i) (get_or ss i d)
-lines_more app task i [] d l = absurd (omega arith)
-lines_more app task zero (s ∷ ss) d l =
-    append-nil (task_line app task s) ∙ ap (λ (n : ℕ). task_line app n s) (let same : task ≡ task + 0 = omega arith in same)
-lines_more app task (suc i) (s ∷ ss) d l =
-    let next : task + 1 + i ≡ task + suc i = omega arith in
-    ap (λ (t : List ℕ). task_line app task s ++ t) (lines_more app (task + 1) i ss d (omega arith))
-    ∙ sym
-    (append_assoc (task_line app task s) (task_lines app (task + 1) (take i ss)) (task_line app (task + 1 + i) (get_or ss i d)))
-    ∙ ap (λ (n : ℕ). (task_line app task s ++ task_lines app (task + 1) (take i ss)) ++ task_line app n (get_or ss i d)) next
+module _ {X : Type 0} (line : ℕ → X → List ℕ) where
+  lines_more : (number i : ℕ) (xs : List X) (d : X) → i < length xs → numbered_lines line number (take (suc i) xs)
+      ≡ numbered_lines line number (take i xs) ++ line (number + i) (get_or xs i d)
+  lines_more number i [] d l = absurd (omega arith)
+  lines_more number zero (x ∷ xs) d l =
+      append-nil (line number x) ∙ ap (λ (n : ℕ). line n x) (let same : number ≡ number + 0 = omega arith in same)
+  lines_more number (suc i) (x ∷ xs) d l =
+      let next : number + 1 + i ≡ number + suc i = omega arith in
+      ap (λ (t : List ℕ). line number x ++ t) (lines_more (number + 1) i xs d (omega arith))
+      ∙ sym (append_assoc (line number x) (numbered_lines line (number + 1) (take i xs)) (line (number + 1 + i) (get_or xs i d)))
+      ∙ ap (λ (n : ℕ). (line number x ++ numbered_lines line (number + 1) (take i xs)) ++ line n (get_or xs i d)) next
 
--- one line more
-pub one_more : (app : Application) (i : ℕ) (ss : List Situation) (s d : Situation) → i < length ss
-    → s ≡ get_or ss i d → (page before after : List ℕ) → before ≡ page ++ task_lines app 0 (take i ss)
-    → after ≡ before ++ task_line app i s → after ≡ page ++ task_lines app 0 (take (i + 1) ss)
-one_more app i ss s d l is page before after b a =
-    a ∙ ap (λ (t : List ℕ). t ++ task_line app i s) b
-    ∙ append_assoc page (task_lines app 0 (take i ss)) (task_line app i s)
-    ∙ ap (λ (x : Situation). page ++ (task_lines app 0 (take i ss) ++ task_line app i x)) is
-    ∙ ap (λ (n : ℕ). page ++ (task_lines app 0 (take i ss) ++ task_line app n (get_or ss i d)))
-    (let same : i ≡ 0 + i = omega arith in same)
-    ∙ ap (λ (t : List ℕ). page ++ t) (sym (lines_more app 0 i ss d l))
-    ∙ ap (λ (n : ℕ). page ++ task_lines app 0 (take n ss)) (let same : suc i ≡ i + 1 = omega arith in same)
+  -- one line more
+  pub one_more : (i : ℕ) (xs : List X) (x d : X) → i < length xs → x ≡ get_or xs i d → (page before after : List ℕ)
+      → before ≡ page ++ numbered_lines line 0 (take i xs) → after ≡ before ++ line i x
+      → after ≡ page ++ numbered_lines line 0 (take (i + 1) xs)
+  one_more i xs x d l is page before after b a =
+      a
+      ∙ ap (λ (t : List ℕ). t ++ line i x) b
+      ∙ append_assoc page (numbered_lines line 0 (take i xs)) (line i x)
+      ∙ ap (λ (y : X). page ++ (numbered_lines line 0 (take i xs) ++ line i y)) is
+      ∙ ap (λ (n : ℕ). page ++ (numbered_lines line 0 (take i xs) ++ line n (get_or xs i d)))
+      (let same : i ≡ 0 + i = omega arith in same)
+      ∙ ap (λ (t : List ℕ). page ++ t) (sym (lines_more 0 i xs d l))
+      ∙ ap (λ (n : ℕ). page ++ numbered_lines line 0 (take n xs)) (let same : suc i ≡ i + 1 = omega arith in same)
 
 -- ---- the lines go out behind the report of the run
 

@@ -5,14 +5,18 @@ use Rattle.model.specs.declared.op.Op.{Op}
 use Rattle.model.specs.declared.op.Op.TheVariants.{Work, Delay, DelayUntil, Yield, Time, Mark, Expect, Repeat, End, If, Else, EndIf}
 use Rattle.model.specs.declared.op.Op.TheVariants.{Break, Stamp, Since, Await, Do, GiveMutex, MessagesWaiting, SpacesAvailable}
 use Rattle.model.specs.declared.op.Op.TheVariants.{SetBits, ClearBits, GetBits, WaitBits, Suspend, Resume, SuspendAll, ResumeAll}
-use Rattle.model.specs.declared.op.Op.TheVariants.{EnterCritical, ExitCritical, NextCommand, Obey}
+use Rattle.model.specs.declared.op.Op.TheVariants.{EnterCritical, ExitCritical, Value, NextCommand, Obey}
 use Rattle.model.specs.declared.op.Access.{Access}
 use Rattle.model.specs.declared.op.Access.TheVariants.{Send, SendFront, Overwrite, Receive, Peek, Take, Give, Lock}
+use Rattle.model.specs.declared.value.Arithmetic.{Arithmetic}
+use Rattle.model.specs.declared.value.Arithmetic.TheVariants.{Add, Sub, Mul, Div, Mod, And, Or, Xor}
+use Rattle.model.specs.declared.value.ValueOp.{ValueOp}
+use Rattle.model.specs.declared.value.ValueOp.TheVariants.{Load, Store, Compute}
 use Rattle.model.specs.declared.op.IsrOp.{IsrOp}
 use Rattle.model.specs.declared.op.IsrOp.TheVariants as isr_op
-use Rattle.model.specs.Words.{word_of, word_of_access, word_of_isr}
+use Rattle.model.specs.Words.{word_of, word_of_access, word_of_arithmetic, word_of_isr, word_of_value_op}
 
-access_short : (a : Access) → length (word_of_access a) ≤ 14
+access_short : {Item : Type 0} (a : Access Item) → length (word_of_access a) ≤ 14
 access_short (Send v) = lit≤ tt
 access_short (SendFront v) = lit≤ tt
 access_short (Overwrite v) = lit≤ tt
@@ -21,6 +25,21 @@ access_short Peek = lit≤ tt
 access_short Take = lit≤ tt
 access_short Give = lit≤ tt
 access_short Lock = lit≤ tt
+
+arithmetic_short : (a : Arithmetic) → length (word_of_arithmetic a) ≤ 14
+arithmetic_short Add = lit≤ tt
+arithmetic_short Sub = lit≤ tt
+arithmetic_short Mul = lit≤ tt
+arithmetic_short Div = lit≤ tt
+arithmetic_short Mod = lit≤ tt
+arithmetic_short And = lit≤ tt
+arithmetic_short Or = lit≤ tt
+arithmetic_short Xor = lit≤ tt
+
+value_short : (v : ValueOp) → length (word_of_value_op v) ≤ 14
+value_short (Load x) = lit≤ tt
+value_short (Store x v) = lit≤ tt
+value_short (Compute a v) = arithmetic_short a
 
 -- The first word of an op has at most fourteen letters.
 pub word_short : (op : Op) → length (word_of op) ≤ 14
@@ -54,6 +73,7 @@ word_short SuspendAll = lit≤ tt
 word_short ResumeAll = lit≤ tt
 word_short EnterCritical = lit≤ tt
 word_short ExitCritical = lit≤ tt
+word_short (Value v) = value_short v
 word_short (NextCommand o) = lit≤ tt
 word_short Obey = lit≤ tt
 
@@ -72,3 +92,4 @@ isr_word_short (isr_op.Expect c) = lit≤ tt
 isr_word_short (isr_op.If c) = lit≤ tt
 isr_word_short isr_op.Else = lit≤ tt
 isr_word_short isr_op.EndIf = lit≤ tt
+isr_word_short (isr_op.Value v) = value_short v

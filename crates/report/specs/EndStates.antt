@@ -27,15 +27,22 @@ situation_text situation.Ended = codes "ended"
 abbrev pub task_line : Application → (task : ℕ) → Situation → List ℕ
 task_line app task s = codes "state " ++ name_of app task ++ codes " " ++ situation_text s ++ codes "\n"
 
--- the lines of tasks, of which the first is the one of this number
-abbrev pub task_lines : Application → (task : ℕ) → List Situation → List ℕ
-task_lines app task [] = []
-task_lines app task (s ∷ ss) = task_line app task s ++ task_lines app (task + 1) ss
+-- the line of a variable
+abbrev pub variable_line : (variable value : ℕ) → List ℕ
+variable_line variable value = codes "variable " ++ decimal variable ++ codes " = " ++ decimal value ++ codes "\n"
+
+-- a line for each of these, of which the first has this number
+abbrev pub numbered_lines : {X : Type 0} → (line : ℕ → X → List ℕ) → (number : ℕ) → List X → List ℕ
+numbered_lines line number [] = []
+numbered_lines line number (x ∷ xs) = line number x ++ numbered_lines line (number + 1) xs
 
 -- the line of a mutex that is held
 abbrev pub held_line : Application → HeldMutex → List ℕ
 held_line app held = codes "held " ++ decimal held.object ++ codes " " ++ name_of app held.holder ++ codes "\n"
 
--- the end state of a run: a line for each task, and one for each mutex that is held
+-- the end state of a run: a line for each task, one for each mutex that is held, and one for each variable
 abbrev pub end_state_text : Application → EndState → List ℕ
-end_state_text app s = task_lines app 0 s.situations ++ flat_map (held_line app) s.held
+end_state_text app s =
+    numbered_lines (task_line app) 0 s.situations
+    ++ flat_map (held_line app) s.held
+    ++ numbered_lines variable_line 0 s.variables

@@ -7,6 +7,7 @@ use Rattle.model.specs.declared.op.Op.{Op}
 use Rattle.model.specs.declared.op.Op.TheVariants.{Delay, DelayUntil, Mark, Await, Do, GiveMutex, SetBits, ClearBits, GetBits}
 use Rattle.model.specs.declared.op.Op.TheVariants.{WaitBits, Suspend, Resume, SuspendAll, ResumeAll}
 use Rattle.model.specs.declared.op.Access.TheVariants.{SendFront, Take, Give, Lock}
+use Rattle.model.specs.declared.value.Value.TheVariants.{Number}
 use Rattle.model.specs.declared.op.IsrOp.{IsrOp}
 use Rattle.model.specs.declared.op.IsrOp.TheVariants as isr_op
 use Rattle.model.specs.declared.event.Event.{Event}
@@ -32,6 +33,7 @@ app_of tasks =
       limits = record { ticks = 1000000; steps = 1000000 };
       objects = [];
       group_count = 0;
+      variables = [];
       handlers = [];
       interrupts = [];
       tasks = tasks;
@@ -56,7 +58,7 @@ event_at step tick w = record { step = step; tick = tick; what = w }
 
 -- a `delay 1` beside a task that only marks
 abbrev pub delay_one : Application
-delay_one = app_of (a_task (codes "a") (Delay 1 ∷ Mark 1 ∷ []) ∷ a_task (codes "b") (Mark 2 ∷ []) ∷ [])
+delay_one = app_of (a_task (codes "a") (Delay 1 ∷ Mark (Number 1) ∷ []) ∷ a_task (codes "b") (Mark (Number 2) ∷ []) ∷ [])
 
 abbrev pub delay_one_run : Run
 delay_one_run = record {
@@ -122,7 +124,7 @@ each_hold_run = record {
 
 -- a handler that sends an item to the front of a queue
 abbrev pub a_handler : Handler
-a_handler = record { name = codes "ABCDEFGHIJKLMNOP"; ops = isr_op.Do 0 (SendFront 1) ∷ [] }
+a_handler = record { name = codes "ABCDEFGHIJKLMNOP"; ops = isr_op.Do 0 (SendFront (Number 1)) ∷ [] }
 
 -- one event of each form, with the largest numbers; no run reports these events
 abbrev pub each_form : Application
@@ -156,8 +158,8 @@ longest_row reached = Row 1000000 (last_injection ∷ last_injection ∷ last_in
 -- a task and a handler that mark
 abbrev pub two_marks : Application
 two_marks =
-    record (app_of (a_task (codes "a") (Mark 1 ∷ []) ∷ []))
-    { handlers = record { name = codes "h"; ops = isr_op.Mark 2 ∷ [] } ∷ [] }
+    record (app_of (a_task (codes "a") (Mark (Number 1) ∷ []) ∷ []))
+    { handlers = record { name = codes "h"; ops = isr_op.Mark (Number 2) ∷ [] } ∷ [] }
 
 -- the events of the task's step
 abbrev pub one_mark : List Event

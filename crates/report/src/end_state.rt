@@ -3,7 +3,7 @@ ghost use Rattle.std.specs.Prelude.{◌≡◌, ◌≤◌, ◌+◌, ◌*◌, ◌+
 ghost use Rattle.std.specs.List.{flat_map};
 ghost use Rattle.std.specs.Result.{is_err};
 ghost use Rattle.byte_io.specs.Bytes.{Writes};
-ghost use Rattle.report.specs.EndStates.{end_state_text, held_line, situation_text, task_line, task_lines, until_text};
+ghost use Rattle.report.specs.EndStates.{end_state_text, held_line, numbered_lines, situation_text, task_line, until_text, variable_line};
 ghost use Rattle.report.specs.Text.{run_text};
 
 use crate::run::write_run;
@@ -78,7 +78,7 @@ fn push_task_line(page: &mut Page, app: &App, task: TaskId, situation: Situation
 fn push_task_lines(page: &mut Page, app: &App, situations: &[Situation])
     requires few { length situations.now ≤ 32 }
     requires room { length page.old + 55 * length situations.now ≤ Page.SIZE }
-    ensures text { page.new ≡ page.old ++ task_lines app.now 0 situations.now }
+    ensures text { page.new ≡ page.old ++ numbered_lines (task_line app.now) 0 situations.now }
     ensures size { length page.new ≤ length page.old + 55 * length situations.now }
 {
     for number in 0..situations.len() {
@@ -105,9 +105,33 @@ fn push_held_line(page: &mut Page, app: &App, held: HeldMutex)
 fn push_held_lines(page: &mut Page, app: &App, held: &[HeldMutex])
     requires { length page.old + 33 * length held.now ≤ Page.SIZE }
     ensures text { page.new ≡ page.old ++ flat_map (held_line app.now) held.now }
+    ensures size { length page.new ≤ length page.old + 33 * length held.now }
 {
     for mutex in held {
         push_held_line(page, app, *mutex);
+    }
+}
+
+// Adds the line of a variable: two numbers of at most 10 digits, and 13 bytes more.
+fn push_variable_line(page: &mut Page, variable: u32, value: u32)
+    requires { length page.old + 33 ≤ Page.SIZE }
+    ensures text { page.new ≡ page.old ++ variable_line variable value }
+    ensures size { length page.new ≤ length page.old + 33 }
+{
+    page.push_array(b"variable ");
+    page.push_number(variable);
+    page.push_array(b" = ");
+    page.push_number(value);
+    page.push_array(b"\n");
+}
+
+fn push_variable_lines(page: &mut Page, variables: &[u32])
+    requires few { length variables.now ≤ 32 }
+    requires room { length page.old + 33 * length variables.now ≤ Page.SIZE }
+    ensures text { page.new ≡ page.old ++ numbered_lines variable_line 0 variables.now }
+{
+    for number in 0..variables.len() {
+        push_variable_line(page, number as u32, variables[number]);
     }
 }
 
@@ -124,11 +148,12 @@ fn write_end_state<W: Sink>(
     let mut page = Page::new();
     push_task_lines(&mut page, app, end_state.situations.as_slice());
     push_held_lines(&mut page, app, end_state.held.as_slice());
+    push_variable_lines(&mut page, end_state.variables.as_slice());
     flush(writer, &mut page)
 }
 
-/// Writes the report of a run, as `write_run` does, and behind it a line for each task, that says what it is doing at the end, and
-/// one for each mutex that is held then.
+/// Writes the report of a run, as `write_run` does, and behind it a line for each task, that says what it is doing at the end, one
+/// for each mutex that is held then, and one for each variable, that says what it is then.
 pub fn write_run_and_end_state<W: Sink>(
     writer: &mut W,
     app: &App,

@@ -50,7 +50,7 @@ module _ (app : Application) (kinds : List ObjectKind) (tasks : List Definition)
     script =
         ap (λ o. unwrap_or (option_map (λ (t : Definition). t.script) o) []) defined
         ∙ ap (λ n. NextCommand n ∷ Obey ∷ []) (same ∙ sym queue_number);
-    queue = ap (λ o. unwrap_or (option_map (λ k. fits k Receive) o) false) its_queue;
+    queue = ap (λ o. unwrap_or (option_map (λ k. fits {Item = ℕ} k Receive) o) false) its_queue;
   }
 
 -- the tasks of the file are those before it
@@ -76,10 +76,12 @@ module _ (app : Application) (entries : Entries)
       ∙ before_it (map (with_script entries) entries.tasks) (length entries.objects) (length entries.tasks) entries.daemon
       (sym (length-map entries.tasks (with_script entries)))
 
-  pub has_entries : app.group_count ≡ length entries.groups → HasEntries app entries
-  has_entries groups = record {
+  pub has_entries : app.group_count ≡ length entries.groups → length app.variables ≡ length entries.variables
+      → HasEntries app entries
+  has_entries groups variables = record {
     objects = objects;
     groups = groups;
+    variables = variables;
     tasks = ap length tasks_of_file ∙ length-map entries.tasks (with_script entries);
     daemon = ap is_some daemon ∙ same_presence (length entries.tasks) entries.daemon;
   }

@@ -10,16 +10,23 @@ use Rattle.std.proofs.lemmas.List.{length-map}
 use Rattle.model.specs.declared.object.ObjectKind.{ObjectKind}
 use Rattle.model.specs.declared.object.ObjectKind.TheVariants as kind
 use Rattle.model.specs.declared.op.Access.{Access}
+use Rattle.model.specs.declared.answer.AnswerCondition.{AnswerCondition}
+use Rattle.model.specs.declared.answer.AnswerCondition.TheVariants.{Is, IsNot, Below, Above}
+use Rattle.model.specs.declared.value.Value.{Value}
+use Rattle.model.specs.declared.value.Value.TheVariants as value
 use Rattle.model.specs.Application.{Application}
-use Rattle.model.specs.Scripts.{fits, fits_object, is_of_semaphore, is_of_mutex, has_group, has_task}
+use Rattle.model.specs.Scripts.{fits, fits_object, is_of_semaphore, is_of_mutex, has_group, has_task, has_variable, knows_value}
+use Rattle.model.specs.Scripts.{knows_condition}
 use Rattle.grammar.specs.declared.object_sort.ObjectSort.{ObjectSort}
 use Rattle.grammar.specs.declared.object_sort.ObjectSort.TheVariants.{Queue, Semaphore, Mutex}
-use Rattle.grammar.specs.Grammar.{Word, NameSort, OfObject, OfGroup, OfTask}
-use Rattle.script.specs.Entries.{ObjectEntry, GroupEntry, Raw, DaemonEntry, Entries, HasEntries, command_queue}
+use Rattle.grammar.specs.Grammar.{Word, NameSort, OfObject, OfGroup, OfTask, OfVariable}
+use Rattle.script.specs.Entries.{ObjectEntry, GroupEntry, VariableEntry, Raw, DaemonEntry, Entries, HasEntries}
+use Rattle.script.specs.Entries.{command_queue}
 use Rattle.grammar.specs.Finding.{is_of_sort}
 use Rattle.script.specs.Finding.{is_called, among}
 use Rattle.script.specs.Ops.{allows}
 use Rattle.grammar.proofs.Reading.{chosen}
+use Rattle.grammar.proofs.Forms.{AtValue, AtCondition}
 
 -- These objects have one of this index and this sort.
 abbrev is_at : List ObjectEntry → ObjectSort → ℕ → Bool
@@ -33,6 +40,7 @@ abbrev pub IsAt : Entries → NameSort → ℕ → Type 0
 IsAt entries (OfObject sort) n = IsObject entries.objects sort n
 IsAt entries OfGroup n = nat_lt n (length entries.groups) ≡ true
 IsAt entries OfTask n = nat_lt n (length entries.tasks) ≡ true
+IsAt entries OfVariable n = nat_lt n (length entries.variables) ≡ true
 
 found_from : (i : ℕ) (sort : ObjectSort) (w : Word) (objects : List ObjectEntry) (n : ℕ)
     → position_from (is_called sort w) i objects ≡ Some n
@@ -72,16 +80,21 @@ found_at entries OfTask w n e =
     let below = below_from 0 w names n e in
     let count : length names ≡ length entries.tasks = length-map entries.tasks (λ (t : Raw). t.name) in
     lt-ltb n (length entries.tasks) (omega arith)
+found_at entries OfVariable w n e =
+    let names = map (λ (v : VariableEntry). v.name) entries.variables in
+    let below = below_from 0 w names n e in
+    let count : length names ≡ length entries.variables = length-map entries.variables (λ (v : VariableEntry). v.name) in
+    lt-ltb n (length entries.variables) (omega arith)
 
 -- ---- which calls it allows
 
 -- Each object of the sort allows the call.
-abbrev Fit : ObjectSort → Access → Type 0
+abbrev Fit : {Item : Type 0} → ObjectSort → Access Item → Type 0
 Fit Queue access = (size : ℕ) → fits (kind.Queue size) access ≡ true
 Fit Semaphore access = is_of_semaphore access ≡ true
 Fit Mutex access = is_of_mutex access ≡ true
 
-kind_fits : (sort : ObjectSort) (access : Access) → Fit sort access
+kind_fits : {Item : Type 0} (sort : ObjectSort) (access : Access Item) → Fit sort access
     → (k : ObjectKind) → is_of_sort sort k ≡ true → fits k access ≡ true
 kind_fits Queue access fit (kind.Queue size) is = fit size
 kind_fits Queue access fit (kind.Semaphore max_count initial_count) is = cc
@@ -94,17 +107,17 @@ kind_fits Mutex access fit (kind.Semaphore max_count initial_count) is = cc
 kind_fits Mutex access fit kind.Mutex is = fit
 
 -- Of these objects the one of this index allows the call.
-abbrev fits_at : List ObjectKind → ℕ → Access → Bool
+abbrev fits_at : {Item : Type 0} → List ObjectKind → ℕ → Access Item → Bool
 fits_at kinds n access = unwrap_or (option_map (λ k. fits k access) (slice_get kinds n)) false
 
-sort_fits : (sort : ObjectSort) (access : Access) → Fit sort access → (objects : List ObjectEntry) (n : ℕ) → IsObject objects sort n
-    → fits_at (map (λ (o : ObjectEntry). o.kind) objects) n access ≡ true
+sort_fits : {Item : Type 0} (sort : ObjectSort) (access : Access Item) → Fit sort access → (objects : List ObjectEntry) (n : ℕ)
+    → IsObject objects sort n → fits_at (map (λ (o : ObjectEntry). o.kind) objects) n access ≡ true
 sort_fits sort access fit [] n at = cc
 sort_fits sort access fit (o ∷ os) zero at = kind_fits sort access fit o.kind at
 sort_fits sort access fit (o ∷ os) (suc n) at = sort_fits sort access fit os n at
 
 -- the same of these objects and others behind them
-fits_before : (kinds others : List ObjectKind) (n : ℕ) (access : Access)
+fits_before : {Item : Type 0} (kinds others : List ObjectKind) (n : ℕ) (access : Access Item)
     → fits_at kinds n access ≡ true → fits_at (kinds ++ others) n access ≡ true
 fits_before [] others n access at = cc
 fits_before (k ∷ ks) others zero access at = at
@@ -114,20 +127,21 @@ some_daemon : (o : Option DaemonEntry) → is_none o ≡ false → is_some o ≡
 some_daemon None e = cc
 some_daemon (Some d) e = refl
 
-same_fit : (access : Access) (objects : List ObjectEntry) (n : ℕ)
+same_fit : (access : Access Value) (objects : List ObjectEntry) (n : ℕ)
     → allows objects n access ≡ fits_at (map (λ (o : ObjectEntry). o.kind) objects) n access
 same_fit access [] n = refl
 same_fit access (o ∷ os) zero = refl
 same_fit access (o ∷ os) (suc n) = same_fit access os n
 
 module _ (app : Application) (entries : Entries) (has : HasEntries app entries) where
-  pub at_fits : (sort : ObjectSort) (access : Access) → Fit sort access → (n : ℕ) → IsAt entries (OfObject sort) n
+  pub at_fits : {Item : Type 0} (sort : ObjectSort) (access : Access Item) → Fit sort access → (n : ℕ)
+      → IsAt entries (OfObject sort) n
       → fits_object app n access ≡ true
   at_fits sort access fit n at =
       let kinds = map (λ (o : ObjectEntry). o.kind) entries.objects in
       rw has.objects (fits_before kinds (command_queue entries.daemon) n access (sort_fits sort access fit entries.objects n at))
 
-  pub allowed_fits : (access : Access) (n : ℕ) → allows entries.objects n access ≡ true → fits_object app n access ≡ true
+  pub allowed_fits : (access : Access Value) (n : ℕ) → allows entries.objects n access ≡ true → fits_object app n access ≡ true
   allowed_fits access n allowed =
       let kinds = map (λ (o : ObjectEntry). o.kind) entries.objects in
       rw has.objects (fits_before kinds (command_queue entries.daemon) n access (sym (same_fit access entries.objects n) ∙ allowed))
@@ -140,3 +154,19 @@ module _ (app : Application) (entries : Entries) (has : HasEntries app entries) 
 
   pub at_task : (n : ℕ) → IsAt entries OfTask n → has_task app n ≡ true
   at_task n at = rw has.tasks at
+
+  pub at_variable : (n : ℕ) → IsAt entries OfVariable n → has_variable app n ≡ true
+  at_variable n at = rw has.variables at
+
+  pub at_value : (v : Value) → AtValue (IsAt entries) v → knows_value app v ≡ true
+  at_value (value.Number n) at = refl
+  at_value value.Answer at = refl
+  at_value (value.Variable x) at = at_variable x.number at
+
+  pub at_condition : (condition : AnswerCondition) → AtCondition (IsAt entries) condition → knows_condition app condition ≡ true
+  at_condition (Is None) at = refl
+  at_condition (Is (Some v)) at = at_value v at
+  at_condition (IsNot None) at = refl
+  at_condition (IsNot (Some v)) at = at_value v at
+  at_condition (Below bound) at = at_value bound at
+  at_condition (Above bound) at = at_value bound at

@@ -8,17 +8,23 @@ use Rattle.toml.specs.Data.{Data, as_str}
 use Rattle.model.specs.declared.op.Access.TheVariants.{Send, SendFront, Overwrite, Receive, Peek, Take, Give, Lock}
 use Rattle.model.specs.declared.block.Block.{Block}
 use Rattle.model.specs.declared.op.Op.{Op}
+use Rattle.model.specs.declared.op.Op.TheVariants as op
 use Rattle.model.specs.declared.op.IsrOp.{IsrOp}
+use Rattle.model.specs.declared.op.IsrOp.TheVariants as isr
+use Rattle.model.specs.declared.value.Value.{Value}
+use Rattle.model.specs.declared.value.ValueOp.{ValueOp}
 use Rattle.model.specs.Application.{Application, Handler}
 use Rattle.model.specs.Blocks.{blocks_past, edge_of, ending, ends_loop, is_innermost, is_loop, with_ends}
-use Rattle.model.specs.Scripts.{is_in_range, knows, knows_isr, KnowsAll, IsHandler, most_name_bytes, most_handler_ops}
+use Rattle.model.specs.Scripts.{is_in_range, knows, knows_isr, knows_value, knows_values, KnowsAll, IsHandler, most_name_bytes}
+use Rattle.model.specs.Scripts.{most_handler_ops}
 use Rattle.model.proofs.Sorting.{by_test}
 use Rattle.grammar.specs.declared.object_sort.ObjectSort.TheVariants.{Queue, Semaphore, Mutex}
 use Rattle.script.specs.declared.place.Place.{Place}
 use Rattle.script.specs.Arrays.{each_fault}
 use Rattle.grammar.specs.Grammar.{Word, Form, forms, basic_forms, block_forms, queue_forms, semaphore_forms, group_forms}
-use Rattle.grammar.specs.Grammar.{CommandForm, isr_forms, read_by, if_in_range, is_isr_in_range, if_isr_in_range, op_of, isr_op_of}
-use Rattle.grammar.specs.Grammar.{suspension_forms, words_of}
+use Rattle.grammar.specs.Grammar.{suspension_forms, value_forms, given, CommandForm, isr_call_forms, isr_forms, read_by}
+use Rattle.grammar.specs.Grammar.{if_in_range}
+use Rattle.grammar.specs.Grammar.{is_isr_in_range, if_isr_in_range, op_of, isr_op_of, words_of}
 use Rattle.script.specs.Entries.{RawIsr, Raw, Entries, HasEntries}
 use Rattle.script.specs.Finding.{among}
 use Rattle.script.specs.Ops.{Ops, task_ops, handler_ops, is_allowed, is_isr_allowed, is_command, op_in, blocks_with, op_elements}
@@ -26,7 +32,8 @@ use Rattle.script.specs.Ops.{op_fault, script_fault, ops_named, handler_scripts,
 use Rattle.script.specs.Ops.{with_script, with_isr_ops}
 use Rattle.script.proofs.Checks.{none_fails}
 use Rattle.grammar.proofs.Forms.{Makes, read_by_holds}
-use Rattle.script.proofs.Fitting.{IsAt, found_at, at_fits, allowed_fits, at_group, at_task, has_daemon}
+use Rattle.script.proofs.Fitting.{IsAt, found_at, at_fits, allowed_fits, at_group, at_task, at_variable, at_value, at_condition}
+use Rattle.script.proofs.Fitting.{has_daemon}
 use Rattle.script.proofs.Scripts.{taken_stands, handler_nests}
 
 -- ---- the ops of any kind, where those that its texts spell are known wherever their object allows them and there is a daemon for
@@ -66,7 +73,52 @@ module _ {O : Type 0} (ops : Ops O) (entries : Entries) (Knows : O → Type 0) w
         → AllByRecursion Knows (ops_named ops entries ds)
     script_known p ds none = each_known p [] 0 ds (none_fails (each_fault (op_elements ops entries p) [] 0 ds) _ none).0
 
+-- what holds of these and of those
+both : {X : Type 0} (P : X → Type 0) (xs ys : List X) → AllByRecursion P xs → AllByRecursion P ys → AllByRecursion P (xs ++ ys)
+both P [] ys here others = others
+both P (x ∷ xs) ys here others = (here.0, both P xs ys here.1 others)
+
 module _ (app : Application) (entries : Entries) (has : HasEntries app entries) where
+  -- ---- of tasks and of handlers
+
+  -- what an op sends, stores or marks is no variable
+  given_known : (n : Option ℕ) → knows_value app (given n) ≡ true
+  given_known None = refl
+  given_known (Some n) = refl
+
+  -- What holds of each op on values of variables that are there holds of those that are made.
+  module _ {O : Type 0} (made : ValueOp → O) (Holds : O → Type 0)
+      (known : (values : ValueOp) → knows_values app values ≡ true → Holds (made values)) where
+    value_forms_make : AllByRecursion (λ (form : Word × Form O). Makes Holds (IsAt entries) form.1) (value_forms made)
+    value_forms_make = (
+      (λ x at. known _ (at_variable app entries has x at)),
+      (
+        (λ x at n. known _ (rw (at_variable app entries has x at, given_known n) refl)),
+        (
+          (λ v at. known _ (at_value app entries has v at)),
+          (
+            (λ v at. known _ (at_value app entries has v at)),
+            (
+              (λ v at. known _ (at_value app entries has v at)),
+              (
+                (λ v at. known _ (at_value app entries has v at)),
+                (
+                  (λ v at. known _ (at_value app entries has v at)),
+                  (
+                    (λ v at. known _ (at_value app entries has v at)),
+                    (
+                      (λ v at. known _ (at_value app entries has v at)),
+                      ((λ v at. known _ (at_value app entries has v at)), tt),
+                    ),
+                  ),
+                ),
+              ),
+            ),
+          ),
+        ),
+      ),
+    )
+
   -- ---- of tasks
 
   abbrev IsKnown : Op → Type 0
@@ -98,30 +150,30 @@ module _ (app : Application) (entries : Entries) (has : HasEntries app entries) 
 
   semaphore_forms_known : AllKnown semaphore_forms
   semaphore_forms_known = (
-    (λ s at ticks a. rw (at_fits app entries has Semaphore Take refl s at) refl),
+    (λ s at ticks a. rw (at_fits app entries has {Item = Value} Semaphore Take refl s at) refl),
     (
-      (λ s at a. rw (at_fits app entries has Semaphore Give refl s at) refl),
+      (λ s at a. rw (at_fits app entries has {Item = Value} Semaphore Give refl s at) refl),
       (
-        (λ m at ticks a. rw (at_fits app entries has Mutex Lock refl m at) refl),
-        ((λ m at a. at_fits app entries has Mutex Lock refl m at), tt),
+        (λ m at ticks a. rw (at_fits app entries has {Item = Value} Mutex Lock refl m at) refl),
+        ((λ m at a. at_fits app entries has {Item = ℕ} Mutex Lock refl m at), tt),
       ),
     ),
   )
 
   queue_forms_known : AllKnown queue_forms
   queue_forms_known = (
-    (λ q at n ticks a. rw (at_fits app entries has Queue (Send n) (λ size. refl) q at) refl),
+    (λ q at n ticks a. rw (at_fits app entries has Queue (Send (given n)) (λ size. refl) q at) refl),
     (
-      (λ q at n ticks a. rw (at_fits app entries has Queue (SendFront n) (λ size. refl) q at) refl),
+      (λ q at n ticks a. rw (at_fits app entries has Queue (SendFront (given n)) (λ size. refl) q at) refl),
       (
-        (λ q at n allowed. rw (allowed_fits app entries has (Overwrite n) q allowed) refl),
+        (λ q at n allowed. rw (allowed_fits app entries has (Overwrite (given n)) q allowed) refl),
         (
-          (λ q at ticks a. rw (at_fits app entries has Queue Receive (λ size. refl) q at) refl),
+          (λ q at ticks a. rw (at_fits app entries has {Item = Value} Queue Receive (λ size. refl) q at) refl),
           (
-            (λ q at ticks a. rw (at_fits app entries has Queue Peek (λ size. refl) q at) refl),
+            (λ q at ticks a. rw (at_fits app entries has {Item = Value} Queue Peek (λ size. refl) q at) refl),
             (
-              (λ q at a. at_fits app entries has Queue Receive (λ size. refl) q at),
-              ((λ q at a. at_fits app entries has Queue Receive (λ size. refl) q at), tt),
+              (λ q at a. at_fits app entries has {Item = ℕ} Queue Receive (λ size. refl) q at),
+              ((λ q at a. at_fits app entries has {Item = ℕ} Queue Receive (λ size. refl) q at), tt),
             ),
           ),
         ),
@@ -132,7 +184,7 @@ module _ (app : Application) (entries : Entries) (has : HasEntries app entries) 
   block_forms_known : AllKnown block_forms
   block_forms_known = (
     (λ turns a. refl),
-    ((λ condition a. refl), ((λ a. refl), ((λ a. refl), ((λ a. refl), tt)))),
+    ((λ condition at a. at_condition app entries has condition at), ((λ a. refl), ((λ a. refl), ((λ a. refl), tt)))),
   )
 
   basic_forms_known : AllKnown basic_forms
@@ -146,26 +198,32 @@ module _ (app : Application) (entries : Entries) (has : HasEntries app entries) 
           (λ a. refl),
           (
             (λ a. refl),
-            ((λ a. refl), ((λ a. refl), ((λ n a. refl), ((λ condition a. refl), tt)))),
+            ((λ a. refl), ((λ a. refl), ((λ n a. refl), ((λ condition at a. at_condition app entries has condition at), tt)))),
           ),
         ),
       ),
     ),
   )
 
+  value_forms_known : AllKnown (value_forms op.Value)
+  value_forms_known = value_forms_make op.Value IsKnown (λ values known a. known)
+
   both_known : (fs gs : List (Word × Form Op)) → AllKnown fs → AllKnown gs → AllKnown (fs ++ gs)
-  both_known [] gs known others = others
-  both_known (f ∷ fs) gs known others = (known.0, both_known fs gs known.1 others)
+  both_known fs gs known others = both (λ (form : Word × Form Op). Makes IsKnown (IsAt entries) form.1) fs gs known others
 
   forms_known : AllKnown forms
   forms_known =
-      let from_groups = both_known group_forms suspension_forms group_forms_known suspension_forms_known in
-      let from_semaphores = both_known semaphore_forms (group_forms ++ suspension_forms) semaphore_forms_known from_groups in
+      let values = value_forms op.Value in
+      let from_suspension = both_known suspension_forms values suspension_forms_known value_forms_known in
+      let from_groups = both_known group_forms (suspension_forms ++ values) group_forms_known from_suspension in
+      let from_semaphores =
+      both_known semaphore_forms (group_forms ++ suspension_forms ++ values) semaphore_forms_known from_groups in
       let from_queues =
-      both_known queue_forms (semaphore_forms ++ group_forms ++ suspension_forms) queue_forms_known from_semaphores in
+      both_known queue_forms (semaphore_forms ++ group_forms ++ suspension_forms ++ values) queue_forms_known from_semaphores in
       let from_blocks =
-      both_known block_forms (queue_forms ++ semaphore_forms ++ group_forms ++ suspension_forms) block_forms_known from_queues in
-      both_known basic_forms (block_forms ++ queue_forms ++ semaphore_forms ++ group_forms ++ suspension_forms)
+      both_known block_forms (queue_forms ++ semaphore_forms ++ group_forms ++ suspension_forms ++ values)
+      block_forms_known from_queues in
+      both_known basic_forms (block_forms ++ queue_forms ++ semaphore_forms ++ group_forms ++ suspension_forms ++ values)
       basic_forms_known from_blocks
 
   abbrev AreKnown : Option Op → Type 0
@@ -218,26 +276,32 @@ module _ (app : Application) (entries : Entries) (has : HasEntries app entries) 
   command_known clear g at mask within a served =
       rw (has_daemon app entries has served, at_group app entries has g at, within) refl
 
-  -- those that name nothing
-  plain_forms_known : AllByRecursion (λ (form : Word × Form IsrOp). Makes IsIsrKnown (IsAt entries) form.1) (drop 10 isr_forms)
+  abbrev AllIsrKnown : List (Word × Form IsrOp) → Type 0
+  AllIsrKnown fs = AllByRecursion (λ (form : Word × Form IsrOp). Makes IsIsrKnown (IsAt entries) form.1) fs
+
+  -- those that name no object, no event group and no task
+  plain_forms_known : AllIsrKnown (drop 10 isr_call_forms)
   plain_forms_known = (
     (λ n r a s. refl),
-    ((λ condition r a s. refl), ((λ condition r a s. refl), ((λ r a s. refl), ((λ r a s. refl), tt)))),
+    (
+      (λ condition at r a s. at_condition app entries has condition at),
+      ((λ condition at r a s. at_condition app entries has condition at), ((λ r a s. refl), ((λ r a s. refl), tt))),
+    ),
   )
 
-  isr_forms_known : AllByRecursion (λ (form : Word × Form IsrOp). Makes IsIsrKnown (IsAt entries) form.1) isr_forms
-  isr_forms_known = (
-    (λ q at n r a s. rw (at_fits app entries has Queue (Send n) (λ size. refl) q at) refl),
+  isr_call_forms_known : AllIsrKnown isr_call_forms
+  isr_call_forms_known = (
+    (λ q at n r a s. rw (at_fits app entries has Queue (Send (given n)) (λ size. refl) q at) refl),
     (
-      (λ q at n r a s. rw (at_fits app entries has Queue (SendFront n) (λ size. refl) q at) refl),
+      (λ q at n r a s. rw (at_fits app entries has Queue (SendFront (given n)) (λ size. refl) q at) refl),
       (
-        (λ q at n r allowed s. rw (allowed_fits app entries has (Overwrite n) q allowed) refl),
+        (λ q at n r allowed s. rw (allowed_fits app entries has (Overwrite (given n)) q allowed) refl),
         (
-          (λ q at r a s. rw (at_fits app entries has Queue Receive (λ size. refl) q at) refl),
+          (λ q at r a s. rw (at_fits app entries has {Item = Value} Queue Receive (λ size. refl) q at) refl),
           (
-            (λ q at r a s. rw (at_fits app entries has Queue Peek (λ size. refl) q at) refl),
+            (λ q at r a s. rw (at_fits app entries has {Item = Value} Queue Peek (λ size. refl) q at) refl),
             (
-              (λ o at r a s. rw (at_fits app entries has Semaphore Give refl o at) refl),
+              (λ o at r a s. rw (at_fits app entries has {Item = Value} Semaphore Give refl o at) refl),
               (
                 (λ t at r a s. at_task app entries has t at),
                 (
@@ -251,6 +315,11 @@ module _ (app : Application) (entries : Entries) (has : HasEntries app entries) 
       ),
     ),
   )
+
+  isr_forms_known : AllIsrKnown isr_forms
+  isr_forms_known =
+      both (λ (form : Word × Form IsrOp). Makes IsIsrKnown (IsAt entries) form.1) isr_call_forms (value_forms isr.Value)
+      isr_call_forms_known (value_forms_make isr.Value IsIsrKnown (λ values known r a s. rw (known, r) refl))
 
   abbrev AreIsrKnown : Option IsrOp → Type 0
   AreIsrKnown = Known handler_ops entries (λ (op : IsrOp). knows_isr app op ≡ true)

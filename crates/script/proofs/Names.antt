@@ -1,4 +1,4 @@
--- The objects, event groups, handlers and tasks of a document that is taken have names of their own.
+-- The objects, event groups, variables, handlers and tasks of a document that is taken have names of their own.
 use Rattle.std.proofs.Common.{◌≡◌, ◌≢◌, ◌<◌, ◌+◌, ◌-◌, ◌++◌, ℕ, false, not, List, [], ◌∷◌, length, map, get_or, Option, Some, None}
 use Rattle.std.proofs.Common.{option_map, nat_lt, nat_le, refl, sym, ap, subst, ◌∙◌, append_assoc, append-nil, arith}
 use Rattle.std.specs.Prelude.{◌==◌, ◌||◌, unwrap_or, option_and_then, codes}
@@ -11,7 +11,7 @@ use Rattle.std.proofs.lemmas.List.Folds.{list_any_at, list_any-append}
 use Rattle.std.proofs.lemmas.Slice.Eq.{bytes_eq-Decides}
 use Rattle.toml.specs.Data.{Data, Members, as_str, as_table, get_member}
 use Rattle.model.specs.Application.{Handler, Definition}
-use Rattle.model.specs.Scripts.{most_objects, most_groups, most_handlers, most_tasks}
+use Rattle.model.specs.Scripts.{most_objects, most_groups, most_variables, most_handlers, most_tasks}
 use Rattle.script.specs.declared.fault.FaultKind.TheVariants.{Missing, WrongKind, OutOfRange, DoubleName, TooMany}
 use Rattle.script.specs.declared.fault.Fault.{Fault}
 use Rattle.script.specs.declared.place.Place.{Place}
@@ -24,15 +24,16 @@ use Rattle.grammar.specs.Names.{is_name}
 use Rattle.script.specs.Names.{task_names, AreDistinct}
 use Rattle.script.specs.Values.{name_fault, name_named, text_named}
 use Rattle.script.specs.Arrays.{array_of, tables, each_fault, section_fault, section_named}
-use Rattle.script.specs.Entries.{ObjectEntry, GroupEntry, RawIsr, Raw, DaemonEntry, Entries, names_of}
+use Rattle.script.specs.Entries.{ObjectEntry, GroupEntry, VariableEntry, RawIsr, Raw, DaemonEntry, Entries, names_of}
 use Rattle.script.specs.Sections.{data_at, no_entries, section_of, object_keys, object_named, object_sections, with_objects}
 use Rattle.script.specs.Sections.{more_objects_fault, each_objects_fault, objects_fault, objects_named, group_keys, group_named}
-use Rattle.script.specs.Sections.{groups_fault, groups_named, handler_keys, handler_named, handlers_fault, handlers_named}
+use Rattle.script.specs.Sections.{groups_fault, groups_named, variable_keys, variable_named, variables_fault, variables_named}
+use Rattle.script.specs.Sections.{handler_keys, handler_named, handlers_fault, handlers_named}
 use Rattle.script.specs.Sections.{task_keys, task_named, tasks_fault, tasks_named, daemon_keys, daemon_entry, daemon_fault}
 use Rattle.script.specs.Sections.{daemon_named}
 use Rattle.script.specs.Ops.{with_script, with_isr_ops, daemon_task, all_tasks}
-use Rattle.script.specs.Load.{with_no_groups, with_no_handlers, with_no_tasks, with_no_daemon, entries_of, entries_fault}
-use Rattle.script.specs.Load.{load_fault, app_named, document_names}
+use Rattle.script.specs.Load.{with_no_groups, with_no_variables, with_no_handlers, with_no_tasks, with_no_daemon, entries_of}
+use Rattle.script.specs.Load.{entries_fault, load_fault, app_named, document_names}
 use Rattle.script.proofs.Checks.{none_fails, passes}
 use Rattle.script.proofs.Passing.{passed}
 
@@ -40,17 +41,19 @@ use Rattle.script.proofs.Passing.{passed}
 pub any_named : (name : List ℕ) (entries : Entries) → list_any (bytes_eq name) (names_of entries)
     ≡ (list_any (bytes_eq name) (map (λ (o : ObjectEntry). o.name) entries.objects)
     || (list_any (bytes_eq name) (map (λ (g : GroupEntry). g.name) entries.groups)
+    || (list_any (bytes_eq name) (map (λ (v : VariableEntry). v.name) entries.variables)
     || (list_any (bytes_eq name) (map (λ (h : RawIsr). h.name) entries.handlers)
-    || list_any (bytes_eq name) (map (λ (t : Raw). t.name) entries.tasks))))
+    || list_any (bytes_eq name) (map (λ (t : Raw). t.name) entries.tasks)))))
 any_named name entries = simp list_any-append
 
--- where no object, no event group and no handler has it
+-- where no object, no event group, no variable and no handler has it
 pub not_named : (name : List ℕ) (entries : Entries)
     → list_any (bytes_eq name) (map (λ (o : ObjectEntry). o.name) entries.objects) ≡ false
     → list_any (bytes_eq name) (map (λ (g : GroupEntry). g.name) entries.groups) ≡ false
+    → list_any (bytes_eq name) (map (λ (v : VariableEntry). v.name) entries.variables) ≡ false
     → list_any (bytes_eq name) (map (λ (h : RawIsr). h.name) entries.handlers) ≡ false
     → list_any (bytes_eq name) (names_of entries) ≡ list_any (bytes_eq name) (map (λ (t : Raw). t.name) entries.tasks)
-not_named name entries objects groups handlers = rw (any_named name entries, objects, groups, handlers) refl
+not_named name entries objects groups variables handlers = rw (any_named name entries, objects, groups, variables, handlers) refl
 
 -- ---- a name that is taken is none of those before it
 
@@ -171,6 +174,16 @@ groups_differ earlier document none distinct =
     most_groups section.Group [] (data_at section.Group document) none
     (subst AreDistinct (sym (append-nil (names_of earlier))) distinct)
 
+variables_differ : (earlier : Entries) (document : Members) → variables_fault earlier document ≡ None
+    → AreDistinct (names_of earlier)
+    → AreDistinct (names_of earlier ++ map (λ (v : VariableEntry). v.name) (variables_named document))
+unfolding variables_fault variables_named
+variables_differ earlier document none distinct =
+    section_differs (λ (v : VariableEntry). v.name) variable_named (variable_keys earlier) (names_of earlier)
+    (λ before p ms none. name_is_new p _ ms (none_fails (required p key.Name (name_fault _) ms) _ none).0)
+    most_variables section.Variable [] (data_at section.Variable document) none
+    (subst AreDistinct (sym (append-nil (names_of earlier))) distinct)
+
 handlers_differ : (earlier : Entries) (document : Members) → handlers_fault earlier document ≡ None → AreDistinct (names_of earlier)
     → AreDistinct (names_of earlier ++ map (λ (h : RawIsr). h.name) (handlers_named document))
 unfolding handlers_fault handlers_named
@@ -255,31 +268,36 @@ unfolding entries_fault
 entries_differ document none =
     let objects = none_fails (objects_fault document) _ none in
     let groups = none_fails (groups_fault (with_no_groups document) document) _ objects.1 in
-    let handlers = none_fails (handlers_fault (with_no_handlers document) document) _ groups.1 in
+    let variables = none_fails (variables_fault (with_no_variables document) document) _ groups.1 in
+    let handlers = none_fails (handlers_fault (with_no_handlers document) document) _ variables.1 in
     let tasks = none_fails (tasks_fault (with_no_tasks document) document) _ handlers.1 in
     let first = subst AreDistinct (sym (append-nil _)) (all_objects_differ document objects.0) in
     let second = groups_differ (with_no_groups document) document groups.0 first in
     let grouped : names_of (with_no_groups document) ++ map (λ (g : GroupEntry). g.name) (groups_named document)
-    ≡ names_of (with_no_handlers document) =
+    ≡ names_of (with_no_variables document) =
     simp append-nil in
-    let third = handlers_differ (with_no_handlers document) document handlers.0 (subst AreDistinct grouped second) in
+    let third = variables_differ (with_no_variables document) document variables.0 (subst AreDistinct grouped second) in
+    let stored : names_of (with_no_variables document) ++ map (λ (v : VariableEntry). v.name) (variables_named document)
+    ≡ names_of (with_no_handlers document) =
+    simp (append_assoc, append-nil) in
+    let fourth = handlers_differ (with_no_handlers document) document handlers.0 (subst AreDistinct stored third) in
     let handled : names_of (with_no_handlers document) ++ map (λ (h : RawIsr). h.name) (handlers_named document)
     ≡ names_of (with_no_tasks document) =
     simp (append_assoc, append-nil) in
-    let fourth = tasks_differ (with_no_tasks document) document tasks.0 (subst AreDistinct handled third) in
+    let fifth = tasks_differ (with_no_tasks document) document tasks.0 (subst AreDistinct handled fourth) in
     let all : names_of (with_no_tasks document) ++ map (λ (t : Raw). t.name) (tasks_named document)
     ≡ names_of (with_no_daemon document) =
     simp (append_assoc, append-nil) in
     let some = none_fails (fails_if (length (tasks_named document) == 0) (fault_at Missing (at_section section.Task)))
     (daemon_fault (with_no_daemon document) document ∷ []) tasks.1 in
     let daemon = none_fails (daemon_fault (with_no_daemon document) document) [] some.1 in
-    let fifth = daemon_differs (with_no_daemon document) document daemon.0 (subst AreDistinct all fourth) in
+    let sixth = daemon_differs (with_no_daemon document) document daemon.0 (subst AreDistinct all fifth) in
     subst
     (λ names. AreDistinct (names ++ (map (λ (t : Raw). t.name) (tasks_named document) ++ daemon_names (daemon_named document))))
     (sym handled)
     (subst AreDistinct (append_assoc (names_of (with_no_tasks document)) (map (λ (t : Raw). t.name) (tasks_named document))
     (daemon_names (daemon_named document)))
-    (subst (λ names. AreDistinct (names ++ daemon_names (daemon_named document))) (sym all) fifth))
+    (subst (λ names. AreDistinct (names ++ daemon_names (daemon_named document))) (sym all) sixth))
 
 pub names_differ : (document : Members) → load_fault document ≡ None → AreDistinct (document_names document)
 unfolding entries_of

@@ -7,6 +7,7 @@ use Rattle.model.specs.declared.object.ObjectKind.TheVariants as kind
 use Rattle.model.specs.Application.{Application, of_file}
 use Rattle.script.specs.declared.named_object.NamedObject.{NamedObject}
 use Rattle.script.specs.declared.named_group.NamedGroup.{NamedGroup}
+use Rattle.script.specs.declared.named_variable.NamedVariable.{NamedVariable}
 use Rattle.script.specs.declared.raw_handler.RawHandler.{RawHandler}
 use Rattle.script.specs.declared.raw_task.RawTask.{RawTask}
 use Rattle.script.specs.declared.named_daemon.NamedDaemon.{NamedDaemon}
@@ -18,6 +19,11 @@ pub record ObjectEntry : Type 0 where
 
 pub record GroupEntry : Type 0 where
   pub name : List ℕ
+
+-- a variable, and what it is at reset
+pub record VariableEntry : Type 0 where
+  pub name : List ℕ
+  pub initial : ℕ
 
 pub record RawIsr : Type 0 where
   pub name : List ℕ
@@ -38,6 +44,7 @@ pub record DaemonEntry : Type 0 where
 pub record Entries : Type 0 where
   pub objects : List ObjectEntry
   pub groups : List GroupEntry
+  pub variables : List VariableEntry
   pub handlers : List RawIsr
   pub tasks : List Raw
   pub daemon : Option DaemonEntry
@@ -49,6 +56,9 @@ object_view o = record { name = o.name.now; kind = o.kind }
 
 abbrev pub group_view : NamedGroup → GroupEntry
 group_view g = record { name = g.name.now }
+
+abbrev pub variable_view : NamedVariable → VariableEntry
+variable_view v = record { name = v.name.now; initial = v.initial }
 
 abbrev pub isr_view : RawHandler → RawIsr
 isr_view h = record { name = h.name.now; ops = map view h.ops.now }
@@ -63,6 +73,7 @@ abbrev pub entries_view : NamedEntries → Entries
 entries_view e = record {
   objects = map object_view e.objects.items;
   groups = map group_view e.groups.items;
+  variables = map variable_view e.variables.items;
   handlers = map isr_view e.handlers.items;
   tasks = map raw_view e.tasks.items;
   daemon = option_map daemon_view e.daemon;
@@ -79,7 +90,12 @@ abbrev pub names_of : Entries → List (List ℕ)
 names_of entries =
     map (λ (o : ObjectEntry). o.name) entries.objects
     ++ (map (λ (g : GroupEntry). g.name) entries.groups
-    ++ (isr_names entries ++ map (λ (t : Raw). t.name) entries.tasks))
+    ++ (map (λ (v : VariableEntry). v.name) entries.variables
+    ++ (isr_names entries ++ map (λ (t : Raw). t.name) entries.tasks)))
+
+-- what each variable is at reset
+abbrev pub initial_values : Entries → List ℕ
+initial_values entries = map (λ (v : VariableEntry). v.initial) entries.variables
 
 -- the daemon's queue, where there is a daemon
 abbrev pub command_queue : Option DaemonEntry → List ObjectKind
@@ -94,9 +110,11 @@ all_objects entries = map (λ (o : ObjectEntry). o.kind) entries.objects ++ comm
 abbrev pub daemon_of : Entries → Option ℕ
 daemon_of entries = option_map (λ (d : DaemonEntry). length entries.tasks) entries.daemon
 
--- The application has these objects, this many event groups, this many tasks of the file, and a daemon where these have one.
+-- The application has these objects, this many event groups, this many variables, this many tasks of the file, and a daemon where
+-- these have one.
 pub record HasEntries (app : Application) (entries : Entries) : Type 0 where
   pub objects : app.objects ≡ all_objects entries
   pub groups : app.group_count ≡ length entries.groups
+  pub variables : length app.variables ≡ length entries.variables
   pub tasks : length (of_file app.daemon app.tasks) ≡ length entries.tasks
   pub daemon : is_some app.daemon ≡ is_some entries.daemon

@@ -10,9 +10,10 @@ use Rattle.script.specs.declared.place.Key.TheVariants as key
 use Rattle.script.specs.Faults.{at_section, fault_at, first_fault, fails_if, need, optional}
 use Rattle.script.specs.Names.{handler_names, task_names}
 use Rattle.script.specs.Values.{member_of, number_fault, number_or, boolean_fault, boolean_named}
-use Rattle.script.specs.Entries.{Entries, all_objects, daemon_of, isr_names, names_of}
-use Rattle.script.specs.Sections.{data_at, no_entries, objects_fault, objects_named, groups_fault, groups_named, handlers_fault}
-use Rattle.script.specs.Sections.{handlers_named, tasks_fault, tasks_named, daemon_fault, daemon_named}
+use Rattle.script.specs.Entries.{Entries, all_objects, daemon_of, initial_values, isr_names, names_of}
+use Rattle.script.specs.Sections.{data_at, no_entries, objects_fault, objects_named, groups_fault, groups_named, variables_fault}
+use Rattle.script.specs.Sections.{variables_named, handlers_fault, handlers_named, tasks_fault, tasks_named, daemon_fault}
+use Rattle.script.specs.Sections.{daemon_named}
 use Rattle.script.specs.Ops.{handler_ops_fault, scripts_fault, with_isr_ops, all_tasks}
 use Rattle.script.specs.Interrupts.{interrupts_fault, interrupts_named}
 use Rattle.script.specs.Points.{campaign_fault, campaign_named}
@@ -47,8 +48,11 @@ limits_named d = record {
 abbrev pub with_no_groups : Members → Entries
 with_no_groups document = record no_entries { objects = objects_named document }
 
+abbrev pub with_no_variables : Members → Entries
+with_no_variables document = record (with_no_groups document) { groups = groups_named document }
+
 abbrev pub with_no_handlers : Members → Entries
-with_no_handlers document = record (with_no_groups document) { groups = groups_named document }
+with_no_handlers document = record (with_no_variables document) { variables = variables_named document }
 
 abbrev pub with_no_tasks : Members → Entries
 with_no_tasks document = record (with_no_handlers document) { handlers = handlers_named document }
@@ -64,6 +68,7 @@ unfoldable pub entries_fault : Members → Option Fault
 entries_fault document = first_fault (
     objects_fault document
     ∷ groups_fault (with_no_groups document) document
+    ∷ variables_fault (with_no_variables document) document
     ∷ handlers_fault (with_no_handlers document) document
     ∷ tasks_fault (with_no_tasks document) document
     ∷ fails_if (length (tasks_named document) == 0) (fault_at Missing (at_section section.Task))
@@ -98,6 +103,7 @@ app_named document =
       limits = limits_named (data_at section.Limits document);
       objects = all_objects entries;
       group_count = length entries.groups;
+      variables = initial_values entries;
       handlers = map (with_isr_ops entries) entries.handlers;
       interrupts = interrupts_named (isr_names entries) document;
       tasks = all_tasks entries;
@@ -105,7 +111,7 @@ app_named document =
       points = campaign_named (isr_names entries) document;
     }
 
--- the names of a document: those of its objects and event groups, and of the handlers and tasks of its application
+-- the names of a document: those of its objects, event groups and variables, and of the handlers and tasks of its application
 abbrev pub document_names : Members → List (List ℕ)
 document_names document =
     (names_of (with_no_handlers document) ++ handler_names (app_named document)) ++ task_names (app_named document)

@@ -4,6 +4,7 @@ use Rattle.std.specs.Prelude.{Some, None, is_none, slice_get, option_and_then}
 use Rattle.std.specs.Option.{option_map_or}
 use Rattle.toml.specs.Data.{Data, as_str}
 use Rattle.model.specs.declared.op.Access.{Access}
+use Rattle.model.specs.declared.value.Value.{Value}
 use Rattle.model.specs.declared.block.Block.{Block}
 use Rattle.model.specs.declared.block.Edge.{Edge}
 use Rattle.model.specs.declared.op.Op.{Op}
@@ -26,7 +27,7 @@ use Rattle.grammar.specs.Finding.{any_name}
 use Rattle.script.specs.Finding.{among}
 
 -- The object of this number allows the call: `overwrite` is for queues of length 1.
-abbrev pub allows : List ObjectEntry → ℕ → Access → Bool
+abbrev pub allows : List ObjectEntry → ℕ → Access Value → Bool
 allows objects object access = option_map_or (λ (o : ObjectEntry). fits o.kind access) (slice_get objects object) false
 
 -- What distinguishes the ops of tasks from those of handlers: which words spell which op, whether the daemon has to do it, and

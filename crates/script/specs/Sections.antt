@@ -4,8 +4,8 @@ use Rattle.std.specs.Prelude.{◌-◌, nat_le, List, [], ◌∷◌, ◌++◌, le
 use Rattle.toml.specs.Data.{Data, Members, as_table, get_member}
 use Rattle.model.specs.declared.object.ObjectKind.{ObjectKind}
 use Rattle.model.specs.declared.object.ObjectKind.TheVariants as kind
-use Rattle.model.specs.Scripts.{most_objects, most_groups, most_handlers, most_tasks, most_items, most_count, most_handler_ops}
-use Rattle.model.specs.Scripts.{most_ops, priorities}
+use Rattle.model.specs.Scripts.{most_objects, most_groups, most_variables, most_handlers, most_tasks, most_items, most_count}
+use Rattle.model.specs.Scripts.{most_handler_ops, most_ops, priorities}
 use Rattle.script.specs.declared.fault.Fault.{Fault}
 use Rattle.script.specs.declared.fault.FaultKind.TheVariants.{WrongKind, TooMany}
 use Rattle.script.specs.declared.place.Place.{Place}
@@ -18,14 +18,14 @@ use Rattle.script.specs.Faults.{at_section, fault_at, section_word, first_fault,
 use Rattle.script.specs.Values.{member_of, number_fault, number_named, boolean_fault, boolean_named, name_fault, name_named}
 use Rattle.script.specs.Values.{texts_fault, texts_named}
 use Rattle.script.specs.Arrays.{section_fault, section_named}
-use Rattle.script.specs.Entries.{ObjectEntry, GroupEntry, RawIsr, Raw, DaemonEntry, Entries, names_of}
+use Rattle.script.specs.Entries.{ObjectEntry, GroupEntry, VariableEntry, RawIsr, Raw, DaemonEntry, Entries, names_of}
 
 -- what is at a section
 abbrev pub data_at : Section → Members → Option Data
 data_at s document = get_member (section_word s) document
 
 abbrev pub no_entries : Entries
-no_entries = record { objects = []; groups = []; handlers = []; tasks = []; daemon = None }
+no_entries = record { objects = []; groups = []; variables = []; handlers = []; tasks = []; daemon = None }
 
 -- ---- objects
 
@@ -88,7 +88,7 @@ objects_fault document = each_objects_fault object_sections [] document
 unfoldable pub objects_named : Members → List ObjectEntry
 objects_named document = fold (λ before s. with_objects before s document) [] object_sections
 
--- ---- event groups, handlers and tasks, each after the entries of earlier sections
+-- ---- event groups, variables, handlers and tasks, each after the entries of earlier sections
 
 abbrev pub group_keys : Entries → List GroupEntry → Place → Members → Option Fault
 group_keys earlier before p ms =
@@ -103,6 +103,22 @@ groups_fault earlier document =
 
 unfoldable pub groups_named : Members → List GroupEntry
 groups_named document = section_named group_named (data_at section.Group document)
+
+abbrev pub variable_keys : Entries → List VariableEntry → Place → Members → Option Fault
+variable_keys earlier before p ms = first_fault (
+    required p key.Name (name_fault (names_of earlier ++ map (λ (v : VariableEntry). v.name) before)) ms
+    ∷ optional p key.Initial (number_fault 0 4294967295) ms
+    ∷ [])
+
+abbrev pub variable_named : Option Members → VariableEntry
+variable_named ms = record { name = name_named ms; initial = number_named key.Initial ms }
+
+unfoldable pub variables_fault : Entries → Members → Option Fault
+variables_fault earlier document =
+    section_fault most_variables section.Variable variable_named (variable_keys earlier) [] (data_at section.Variable document)
+
+unfoldable pub variables_named : Members → List VariableEntry
+variables_named document = section_named variable_named (data_at section.Variable document)
 
 abbrev pub handler_keys : Entries → List RawIsr → Place → Members → Option Fault
 handler_keys earlier before p ms = first_fault (

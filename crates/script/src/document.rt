@@ -7,9 +7,9 @@ ghost use Rattle.script.specs.declared.fault.Fault.{Fault};
 ghost use Rattle.script.specs.declared.place.Section.TheVariants as section;
 ghost use Rattle.model.specs.Application.{Handler, Definition};
 ghost use Rattle.model.specs.Blocks.{Nests, edges_of};
-ghost use Rattle.model.specs.Scripts.{IsObjectKind, IsDefinition, most_objects, most_handlers, most_handler_ops, most_name_bytes, most_tasks, most_ticks};
+ghost use Rattle.model.specs.Scripts.{IsObjectKind, IsDefinition, most_objects, most_variables, most_handlers, most_handler_ops, most_name_bytes, most_tasks, most_ticks};
 ghost use Rattle.script.specs.Faults.{Judges, Loads, first_fault};
-ghost use Rattle.script.specs.Entries.{all_objects, daemon_of, isr_names, entries_view};
+ghost use Rattle.script.specs.Entries.{all_objects, daemon_of, initial_values, isr_names, entries_view};
 ghost use Rattle.script.specs.Sections.{data_at};
 ghost use Rattle.script.specs.Ops.{all_tasks, handler_ops_fault, scripts_fault, with_isr_ops, with_script};
 ghost use Rattle.script.specs.Interrupts.{interrupts_fault, interrupts_named};
@@ -20,6 +20,7 @@ use crate::daemon::{all_objects, all_tasks};
 use crate::entries::NamedEntries;
 use crate::fault::{Fault, FaultKind, LoadError};
 use crate::interrupts::interrupts;
+use crate::named_variable::initial_values;
 use crate::ops::{check_handlers, check_scripts, handlers_of};
 use crate::place::{Key, Place, Section};
 use crate::points::points;
@@ -71,6 +72,7 @@ fn limits(document: &Table, tickless: bool) -> Result<Limits, Fault>
 #[derive(Drop)]
 struct Parts {
     objects: Vec<ObjectKind>,
+    variables: Vec<u32>,
     handlers: Vec<HandlerDefinition>,
     interrupts: BaseInterrupts,
     tasks: Vec<TaskDefinition>,
@@ -89,6 +91,8 @@ fn parts_of(
         (parts.objects.items ≡ all_objects (entries_view entries.now))
         × AllByRecursion IsObjectKind parts.objects.items
         × (length parts.objects.items ≤ most_objects + (if is_some (daemon_of (entries_view entries.now)) then 1 else 0))) }
+    ensures variables { IfOk result (λ parts.
+        (parts.variables.items ≡ initial_values (entries_view entries.now)) × (length parts.variables.items ≤ most_variables)) }
     ensures handlers { IfOk result (λ parts.
         (parts.handlers.items ≡ map (with_isr_ops (entries_view entries.now)) (entries_view entries.now).handlers)
         × AllByRecursion (λ (h : Handler). (length h.name ≤ most_name_bytes) × (length h.ops ≤ most_handler_ops)) parts.handlers.items
@@ -99,11 +103,13 @@ fn parts_of(
         × AllByRecursion IsDefinition parts.tasks.items × (length parts.tasks.items ≤ most_tasks)) }
 {
     let objects = all_objects(alloc, entries)?;
+    let variables = initial_values(alloc, entries.variables.as_slice())?;
     let handlers = handlers_of(alloc, entries)?;
     let interrupts = BaseInterrupts::new(alloc, listed)?;
     let tasks = all_tasks(alloc, entries)?;
     Ok(Parts {
         objects,
+        variables,
         handlers,
         interrupts,
         tasks,
@@ -131,6 +137,7 @@ fn app_of(
           limits = limits;
           objects = all_objects (entries_view entries.now);
           group_count = length (entries_view entries.now).groups;
+          variables = initial_values (entries_view entries.now);
           handlers = map (with_isr_ops (entries_view entries.now)) (entries_view entries.now).handlers;
           interrupts = interrupts_named (isr_names (entries_view entries.now)) (table_view document.now);
           tasks = all_tasks (entries_view entries.now);
@@ -150,6 +157,7 @@ fn app_of(
         limits,
         parts.objects,
         entries.group_count(),
+        parts.variables,
         parts.handlers,
         parts.interrupts,
         parts.tasks,

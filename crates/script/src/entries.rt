@@ -9,6 +9,7 @@ use crate::named::{Named, has_name};
 use crate::named_daemon::NamedDaemon;
 use crate::named_group::{Groups, NamedGroup};
 use crate::named_object::{NamedObject, Objects};
+use crate::named_variable::{NamedVariable, Variables};
 use crate::raw_handler::{RawHandler, RawHandlers};
 use crate::raw_task::{MOST_TASKS, RawTask, RawTasks};
 use arrayvec::ArrayVec;
@@ -19,6 +20,7 @@ use model::{ObjectId, TaskId};
 pub(crate) struct NamedEntries<'a> {
     pub(crate) objects: Objects<'a>,
     pub(crate) groups: Groups<'a>,
+    pub(crate) variables: Variables<'a>,
     pub(crate) handlers: RawHandlers<'a>,
     pub(crate) tasks: RawTasks<'a>,
     pub(crate) daemon: Option<NamedDaemon<'a>>,
@@ -46,6 +48,20 @@ impl Named for NamedGroup<'_> {
     ghost shown = { group_view };
 
     ghost name_of = { λ g. g.name };
+
+    fn name(&self) -> &str {
+        self.name
+    }
+}
+
+impl Named for NamedVariable<'_> {
+    ghost use Rattle.script.specs.Entries.{VariableEntry, variable_view};
+
+    ghost Shown = { VariableEntry };
+
+    ghost shown = { variable_view };
+
+    ghost name_of = { λ v. v.name };
 
     fn name(&self) -> &str {
         self.name
@@ -85,6 +101,7 @@ impl NamedEntries<'_> {
     pub(crate) fn none() -> Self
         ensures objects { result.objects.items ≡ [] }
         ensures groups { result.groups.items ≡ [] }
+        ensures variables { result.variables.items ≡ [] }
         ensures handlers { result.handlers.items ≡ [] }
         ensures tasks { result.tasks.items ≡ [] }
         ensures daemon { result.daemon ≡ None }
@@ -92,6 +109,7 @@ impl NamedEntries<'_> {
         NamedEntries {
             objects: ArrayVec::new(),
             groups: ArrayVec::new(),
+            variables: ArrayVec::new(),
             handlers: ArrayVec::new(),
             tasks: ArrayVec::new(),
             daemon: None,
@@ -106,6 +124,9 @@ impl NamedEntries<'_> {
             return true;
         }
         if has_name(self.groups.as_slice(), name) {
+            return true;
+        }
+        if has_name(self.variables.as_slice(), name) {
             return true;
         }
         if has_name(self.handlers.as_slice(), name) {

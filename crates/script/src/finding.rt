@@ -9,7 +9,7 @@ use crate::entries::NamedEntries;
 use crate::named::index_of;
 use crate::named_object::NamedObject;
 use grammar::{Finding, ObjectSort};
-use model::{GroupId, ObjectId, TaskId};
+use model::{GroupId, ObjectId, TaskId, VariableId};
 
 // Whether it is an object of this sort and this name.
 fn is_called(object: &NamedObject<'_>, sort: ObjectSort, word: &[u8]) -> bool
@@ -50,5 +50,10 @@ impl Finding for NamedEntries<'_> {
     fn task(&self, word: &[u8]) -> Option<TaskId> {
         let index = index_of(self.tasks.as_slice(), word)?;
         TaskId::new(index as u8)
+    }
+
+    fn variable(&self, word: &[u8]) -> Option<VariableId> {
+        let index = index_of(self.variables.as_slice(), word)?;
+        VariableId::new(index as u8)
     }
 }

@@ -12,6 +12,7 @@ mod named;
 mod named_daemon;
 mod named_group;
 mod named_object;
+mod named_variable;
 mod object_section;
 mod objects;
 mod ops;

@@ -51,7 +51,7 @@ pub(crate) trait TextOp: Copy {
 }
 
 // Whether the object of this number allows a call.
-fn allows(objects: &[NamedObject<'_>], object: ObjectId, access: Access) -> bool
+fn allows(objects: &[NamedObject<'_>], object: ObjectId, access: Access<model::Value>) -> bool
     ensures { result ≡ allows (map object_view objects.now) object access }
 {
     match objects.get(object.number as usize) {

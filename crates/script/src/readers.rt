@@ -1,22 +1,23 @@
-//! The event groups, the handlers and the tasks of a document.
+//! The event groups, the variables, the handlers and the tasks of a document.
 ghost use Rattle.std.specs.Prelude.{◌≤◌, ◌<◌, map, length, IfOk, IfSome};
 ghost use Rattle.toml.specs.View.{table_view};
 ghost use Rattle.model.specs.Scripts.{most_tasks};
 ghost use Rattle.script.specs.Faults.{Judges, seen};
-ghost use Rattle.script.specs.Entries.{group_view, isr_view, raw_view, entries_view};
-ghost use Rattle.script.specs.Sections.{groups_fault, groups_named, handlers_fault, handlers_named, tasks_fault, tasks_named};
+ghost use Rattle.script.specs.Entries.{group_view, variable_view, isr_view, raw_view, entries_view};
+ghost use Rattle.script.specs.Sections.{groups_fault, groups_named, variables_fault, variables_named, handlers_fault, handlers_named, tasks_fault, tasks_named};
 ghost use Rattle.script.specs.Load.{entries_fault, entries_of};
 
 use crate::daemon::daemon;
 use crate::entries::NamedEntries;
 use crate::fault::{Fault, FaultKind};
 use crate::named_group::{Groups, NamedGroup};
+use crate::named_variable::{NamedVariable, Variables};
 use crate::objects::objects;
 use crate::place::{Key, Place, Section};
 use crate::raw_handler::{RawHandler, RawHandlers};
 use crate::raw_task::{RawTask, RawTasks};
 use crate::sections::{EntryReader, whole_section};
-use crate::values::{at_key, new_name, optional_boolean, required_number, texts};
+use crate::values::{at_key, new_name, optional_boolean, optional_number, required_number, texts};
 use model::{HandlerDefinition, Script};
 use toml::Table;
 
@@ -26,6 +27,9 @@ pub(crate) const HIGHEST_PRIORITY: u32 = 31;
 // Each reads the entries of a section after the entries of earlier sections.
 #[derive(Drop)]
 struct GroupReader<'e>(&'e NamedEntries<'e>);
+
+#[derive(Drop)]
+struct VariableReader<'e>(&'e NamedEntries<'e>);
 
 #[derive(Drop)]
 struct HandlerReader<'e>(&'e NamedEntries<'e>);
@@ -55,6 +59,33 @@ impl<'a> EntryReader<'a> for GroupReader<'_> {
     ) -> Result<NamedGroup<'a>, Fault> {
         let name = new_name(table, place, self.0, before)?;
         Ok(NamedGroup { name })
+    }
+}
+
+impl<'a> EntryReader<'a> for VariableReader<'_> {
+    type Entry = NamedVariable<'a>;
+
+    ghost use Rattle.script.specs.Entries.{VariableEntry, variable_view, entries_view};
+    ghost use Rattle.script.specs.Sections.{variable_keys, variable_named};
+
+    ghost Shown = { VariableEntry };
+
+    ghost shown = { variable_view };
+
+    ghost keys = { λ r. variable_keys (entries_view r.0.now) };
+
+    ghost named = { λ _. variable_named };
+
+    fn read(
+        &self,
+        table: &'a Table,
+        place: Place,
+        before: &[NamedVariable<'a>],
+    ) -> Result<NamedVariable<'a>, Fault> {
+        let name = new_name(table, place, self.0, before)?;
+        let value = at_key(table, Key::Initial);
+        let initial = optional_number(value, place.key(Key::Initial), 0, u32::MAX, 0)?;
+        Ok(NamedVariable { name, initial })
     }
 }
 
@@ -126,6 +157,14 @@ fn groups<'a>(document: &'a Table, earlier: &NamedEntries<'_>) -> Result<Groups<
     whole_section(&GroupReader(earlier), Section::Group, document)
 }
 
+#[tactic(auto, unfolding(crate::specs::Sections::variables_fault, crate::specs::Sections::variables_named))]
+fn variables<'a>(document: &'a Table, earlier: &NamedEntries<'_>) -> Result<Variables<'a>, Fault>
+    ensures { Judges (seen (λ v. map variable_view v.items) result)
+        (variables_fault (entries_view earlier.now) (table_view document.now)) (variables_named (table_view document.now)) }
+{
+    whole_section(&VariableReader(earlier), Section::Variable, document)
+}
+
 #[tactic(auto, unfolding(crate::specs::Sections::handlers_fault, crate::specs::Sections::handlers_named))]
 fn handlers<'a>(document: &'a Table, earlier: &NamedEntries<'_>) -> Result<RawHandlers<'a>, Fault>
     ensures { Judges (seen (λ v. map isr_view v.items) result)
@@ -153,6 +192,7 @@ pub(crate) fn named_entries(document: &Table) -> Result<NamedEntries<'_>, Fault>
     let mut entries = NamedEntries::none();
     entries.objects = objects(document)?;
     entries.groups = groups(document, &entries)?;
+    entries.variables = variables(document, &entries)?;
     entries.handlers = handlers(document, &entries)?;
     entries.tasks = tasks(document, &entries)?;
     if entries.tasks.is_empty() {

@@ -6,7 +6,7 @@ use Rattle.std.proofs.lemmas.List.{length-map}
 use Rattle.model.specs.Application.{Application, Handler, of_file}
 use Rattle.model.specs.Scripts.{IsHandler, KnowsAll, most_name_bytes, most_handler_ops, most_objects}
 use Rattle.toml.specs.View.{table_view}
-use Rattle.script.specs.Entries.{RawIsr, Entries, HasEntries, isr_names, raw_view, entries_view}
+use Rattle.script.specs.Entries.{VariableEntry, RawIsr, Entries, HasEntries, isr_names, raw_view, entries_view}
 use Rattle.script.specs.Ops.{with_script, with_isr_ops, daemon_task}
 use Rattle.script.specs.Interrupts.{interrupts_named}
 use Rattle.script.specs.Points.{campaign_named}
@@ -35,6 +35,7 @@ new-requires c =
       limits = c.args.limits;
       objects = c.in_ok-parts.parts.objects.items;
       group_count = c.group_count.result;
+      variables = c.in_ok-parts.parts.variables.items;
       handlers = c.in_ok-parts.parts.handlers.items;
       interrupts = c.in_ok-parts.parts.interrupts;
       tasks = c.in_ok-parts.parts.tasks.items;
@@ -53,7 +54,8 @@ new-requires c =
     length-map entries.handlers (λ (h : RawIsr). h.name)
     ∙ sym (ap length of_handlers ∙ length-map entries.handlers (with_isr_ops entries)) in
     let has : HasEntries app entries =
-    has_entries app entries parts.objects.0 parts.tasks.0 c.daemon_number.ensures c.group_count.ensures.count in
+    has_entries app entries parts.objects.0 parts.tasks.0 c.daemon_number.ensures c.group_count.ensures.count
+    (ap length parts.variables.0 ∙ length-map entries.variables (λ (v : VariableEntry). v.initial)) in
     let interrupts : AreInterrupts (length app.handlers) app.interrupts =
     subst (λ n. AreInterrupts n app.interrupts) count
     (subst (AreInterrupts (length names)) (sym of_interrupts) (taken_interrupts names document c.in_ok-listed.ensures.0)) in
@@ -78,6 +80,7 @@ new-requires c =
           (sym c.daemon_number.ensures) parts.objects.2;
       daemon = daemon_formed app entries parts.objects.0 parts.tasks.0 c.daemon_number.ensures some;
       few_groups = c.group_count.ensures.few;
+      few_variables = parts.variables.1;
       handlers =
           subst (AllByRecursion (IsHandler app)) (sym of_handlers)
           (known_handlers app entries has c.in_ok-check_handlers.ensures.0 few);

@@ -8,7 +8,7 @@ use Rattle.script.specs.declared.fault.LoadError.{LoadError}
 use Rattle.script.specs.declared.place.Section.TheVariants as section
 use Rattle.script.specs.Faults.{Loads, first_fault, at_section}
 use Rattle.script.specs.Values.{data_of, number_fault, number_or, boolean_fault, boolean_named}
-use Rattle.script.specs.Entries.{Entries, all_objects, daemon_of, isr_names, entries_view}
+use Rattle.script.specs.Entries.{Entries, all_objects, daemon_of, initial_values, isr_names, entries_view}
 use Rattle.script.specs.Sections.{data_at}
 use Rattle.script.specs.Ops.{handler_ops_fault, scripts_fault, with_isr_ops, all_tasks}
 use Rattle.script.specs.Interrupts.{interrupts_fault, interrupts_named}
@@ -34,6 +34,7 @@ app_with document entries start tickless limits = record {
   limits = limits;
   objects = all_objects entries;
   group_count = length entries.groups;
+  variables = initial_values entries;
   handlers = map (with_isr_ops entries) entries.handlers;
   interrupts = interrupts_named (isr_names entries) document;
   tasks = all_tasks entries;
