@@ -167,7 +167,7 @@ over_loop script n blocks ops is h none =
 -- ---- branches
 
 module _ (app : Application) (i : ℕ) (s : State) (l : i < length s.tasks) where
-  pub takes : (c : AnswerCondition) → holds c (progress_at s i).answer ≡ true
+  pub takes : (c : AnswerCondition) → holds s.variables c (progress_at s i).answer ≡ true
       → (progress_at (branch app i c s) i).op_index ≡ (progress_at s i).op_index + 1
   unfolding branch
   takes c t = rw t (next-go_to app i ((progress_at s i).op_index + 1) (progress_at s i) s l)
@@ -175,7 +175,7 @@ module _ (app : Application) (i : ℕ) (s : State) (l : i < length s.tasks) wher
   pub skips : (c : AnswerCondition) (ops : List Op) (last : Op)
       → slice_get (script_of app i) (progress_at s i).op_index ≡ Some (If c)
       → Encloses (script_of app i) (progress_at s i).op_index [] ops last → ends_branch (edge_of last) ≡ true
-      → holds c (progress_at s i).answer ≡ false
+      → holds s.variables c (progress_at s i).answer ≡ false
       → (progress_at (branch app i c s) i).op_index ≡ (progress_at s i).op_index + 1 + (length ops + 1)
   unfolding branch
   skips c ops last is h ends t =
@@ -255,7 +255,7 @@ module _ (app : Application) (i : ℕ) (s : State) (l : i < length s.tasks) wher
   unfolding branch
   stay-branch c =
       let p : Progress = progress_at s i in
-      by_test (holds c p.answer)
+      by_test (holds s.variables c p.answer)
       (λ t. rw t (same_stay (p.op_index + 1) p refl))
       (λ t. rw t (same_stay (jump_from (script_of app i) p.op_index) p refl))
 
@@ -303,7 +303,7 @@ module _ (app : Application) (i : ℕ) (s : State) (l : i < length s.tasks) wher
   unfolding branch
   quiet-branch c =
       let p : Progress = progress_at s i in
-      by_test (holds c p.answer)
+      by_test (holds s.variables c p.answer)
       (λ t. rw t (quiet-go_to (p.op_index + 1) p refl))
       (λ t. rw t (quiet-go_to (jump_from (script_of app i) p.op_index) p refl))
 

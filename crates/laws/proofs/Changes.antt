@@ -1,5 +1,17 @@
 -- What every deed keeps of who sleeps and who has which ticket, and so every step.
-use Rattle.std.proofs.Common.{drop, get_or-set_same, ◌-◌, ◌&&◌, length, ltb-false, min, ◌≡◌, ◌≢◌, ◌<◌, ◌+◌, ◌||◌, ℕ, zero, suc}
+use Rattle.model.specs.declared.op.Op.TheVariants.{Value}
+use Rattle.model.specs.declared.value.ValueOp.{ValueOp}
+use Rattle.model.specs.declared.event.End.TheVariants.{Check}
+use Rattle.model.specs.Ops.{calculate, store}
+use Rattle.model.specs.Step.{act_by_value, call_with_number}
+use Rattle.model.specs.declared.value.ValueOp.TheVariants as value_op
+use Rattle.model.specs.Values.{answer_of, number_of, stored, variable_in, with_number}
+use Rattle.std.specs.List.{AllByRecursion}
+use Rattle.std.proofs.lemmas.List.{get_or-set_other}
+use Rattle.model.proofs.Lists.{eqb-refl}
+use Rattle.laws.specs.Values.{NoHandlerStores, is_store_to, isr_stores_to, stores_to}
+use Rattle.soundness.proofs.Passing.{by_value}
+use Rattle.std.proofs.Common.{drop, get_or-set_same, ◌-◌, length, ltb-false, min, ◌≡◌, ◌≢◌, ◌<◌, ◌+◌, ◌||◌, ℕ, zero, suc}
 use Rattle.std.proofs.Common.{true, false, eqb, leb, ltb, leb-false, inl, inr, ◌⊎◌, List, [], ◌∷◌, map, get_or, set, Option, Some}
 use Rattle.std.proofs.Common.{None, refl, ap, ap₂, sym, subst, ◌∙◌, arith}
 use Rattle.std.specs.Prelude.{Bool, ◌++◌}
@@ -60,7 +72,7 @@ use Rattle.model.specs.Suspension.{can_suspend, can_resume, suspend, resumed, re
 use Rattle.model.specs.Suspension.{resume_scheduler, resume_all}
 use Rattle.model.specs.Daemon.{item_of, received, take_command, next_command, obeyed, clear_by_daemon, end_set_by_daemon, obey}
 use Rattle.model.specs.Daemon.{command_at}
-use Rattle.model.specs.Step.{is_ended, judge, act, misuse, act_unless, act_if, act_current, before_step, step, nobody_ready}
+use Rattle.model.specs.Step.{judge, act, misuse, act_unless, act_if, act_current, before_step, step, nobody_ready}
 use Rattle.model.specs.Step.{ready_at_reset, reset, task_at_reset, with_ops}
 use Rattle.model.specs.Run.{injected, state_after}
 use Rattle.model.proofs.Sorting.{by_test}
@@ -155,21 +167,43 @@ stops-fail (Some end) check is = inl refl
 
 -- ---- what a task keeps
 
--- its base priority, and, where it may not stamp, its stamp
-abbrev pub Remains : (stamps : Bool) → Task → Task → Type 0
-Remains stamps old new = (new.base_priority ≡ old.base_priority) × (stamps ≡ false → new.progress.stamp ≡ old.progress.stamp)
+-- its base priority; its stamp, unless it may stamp; and its last answer, unless it may answer
+abbrev pub Remains : (stamps answers : Bool) → Task → Task → Type 0
+Remains stamps answers old new =
+    (new.base_priority ≡ old.base_priority) × (stamps ≡ false → new.progress.stamp ≡ old.progress.stamp)
+    × (answers ≡ false → new.progress.answer ≡ old.progress.answer)
+
+-- ---- what is left of a variable
+
+-- The variable is as it was, unless it may be stored.
+abbrev pub IsLeft : (x : ℕ) (stores : Bool) → State → State → Type 0
+IsLeft x stores old new = stores ≡ false → variable_in new.variables x ≡ variable_in old.variables x
+
+-- An op that doesn't store to it leaves it.
+left_by_op : (x : ℕ) (op : ValueOp) (a : Option ℕ) (variables : List ℕ) → is_store_to x op ≡ false
+    → variable_in (stored op a variables) x ≡ variable_in variables x
+left_by_op x (value_op.Load y) a variables other = refl
+left_by_op x (value_op.Compute kind value) a variables other = refl
+left_by_op x (value_op.Store y value) None variables other = refl
+left_by_op x (value_op.Store y value) (Some n) variables other =
+    let apart : x ≢ y.number = (λ e. let same : eqb y.number x ≡ true = rw e (eqb-refl y.number) in absurd (cc)) in
+    get_or-set_other variables y.number x n 0 apart
 
 -- ---- what every step keeps, if four kinds of change keep it
 
 module _ (P : State → Type 0)
     -- which tasks may stamp
     (stamps : ℕ → Bool)
+    -- which tasks may answer: one of their calls may be complete
+    (answers : ℕ → Bool)
+    -- a variable, and whether it may be stored
+    (x : ℕ) (stores : Bool)
     -- neither the clock's count of ticks, nor who runs, nor the steps and events matter; a run may be stopped
     (framed : (s t : State) → t.tasks ≡ s.tasks → t.next_ticket ≡ s.next_ticket
-    → t.time ≡ s.time → Stops s.stopped t.stopped → P s → P t)
+    → t.time ≡ s.time → Stops s.stopped t.stopped → IsLeft x stores s t → P s → P t)
     -- a task goes on, or is Suspended or Ended
     (moved : (s : State) (i : ℕ) (t : Task) → Stays (status_at s i) t.status
-    → Remains (stamps i) (task_at s i) t → P s → P (with_task i t s))
+    → Remains (stamps i) (answers i) (task_at s i) t → P s → P (with_task i t s))
     -- a task takes a ticket, and wakes by itself later, if it does
     (taken : (s : State) (i : ℕ) (status : ℕ → Status) → ticket_of (status s.next_ticket) ≡ Some s.next_ticket
     → IfSome (wake_time_of (status s.next_ticket)) (λ w. s.time < w) → P s → P (take_ticket i status s))
@@ -190,7 +224,7 @@ module _ (P : State → Type 0)
   unfolding choose dispatch
   kept-choose s h =
       by_test (is_same (choice s) s.current) (λ t. rw t h)
-      (λ t. rw t (framed s (write (what.Run (choice s)) (record s { current = choice s })) refl refl refl (inl refl) h))
+      (λ t. rw t (framed s (write (what.Run (choice s)) (record s { current = choice s })) refl refl refl (inl refl) (λ _. refl) h))
 
   kept-yield_now : (s : State) → P s → P (yield_now s)
   unfolding yield_now
@@ -204,36 +238,37 @@ module _ (P : State → Type 0)
   unfolding settle
   kept-settle s h = by_test (is_off s s.current) (λ t. rw t (kept-choose s h)) (λ t. rw t h)
 
-  -- where a task that may not stamp goes on, it has the stamp that it had
-  abbrev SameStamp : ℕ → Progress → State → Type 0
-  SameStamp i p s = stamps i ≡ false → p.stamp ≡ (progress_at s i).stamp
+  -- A task that goes on has the stamp that it had, unless it may stamp, and the last answer, unless it may answer.
+  abbrev IsAsBefore : ℕ → Progress → State → Type 0
+  IsAsBefore i p s =
+      (stamps i ≡ false → p.stamp ≡ (progress_at s i).stamp) × (answers i ≡ false → p.answer ≡ (progress_at s i).answer)
 
   kept-go_to : (app : Application) (i op_index : ℕ) (p : Progress) (s : State)
-      → SameStamp i p s → P s → P (go_to app i op_index p s)
+      → IsAsBefore i p s → P s → P (go_to app i op_index p s)
   unfolding go_to
   kept-go_to app i op_index p s same h = by_test (eqb op_index (op_count app i))
       (λ t.
       rw t (moved s i
       (record (task_at s i) { progress = record p { op_index = op_index; used = 0; call = no_call }; status = Ended })
-      (inr (refl, refl)) (refl, same) h))
+      (inr (refl, refl)) (refl, same.0, same.1) h))
       (λ t.
       rw t (moved s i (record (task_at s i) { progress = record p { op_index = op_index; used = 0; call = no_call } })
-      (inl (refl, refl)) (refl, same) h))
+      (inl (refl, refl)) (refl, same.0, same.1) h))
 
-  kept-answer : (app : Application) (i : ℕ) (a : Option ℕ) (s : State) → P s → P (answer app i a s)
+  kept-answer : (app : Application) (i : ℕ) → answers i ≡ true → (a : Option ℕ) (s : State) → P s → P (answer app i a s)
   unfolding answer
-  kept-answer app i a s h =
+  kept-answer app i ma a s h =
       let p : Progress = record (progress_at s i) { answer = a } in
       let t : State = write (called i p.op_index a) s in
-      kept-go_to app i (p.op_index + 1) p t (λ _. refl) (framed s t refl refl refl (inl refl) h)
+      kept-go_to app i (p.op_index + 1) p t (λ _. refl, λ no. absurd (cc)) (framed s t refl refl refl (inl refl) (λ _. refl) h)
 
   kept-use_up : (app : Application) (i n : ℕ) (s : State) → P s → P (use_up app i n s)
   unfolding use_up
   kept-use_up app i n s h = by_test (eqb ((progress_at s i).used + 1) n)
-      (λ t. rw t (kept-go_to app i ((progress_at s i).op_index + 1) (progress_at s i) s (λ _. refl) h))
+      (λ t. rw t (kept-go_to app i ((progress_at s i).op_index + 1) (progress_at s i) s (λ _. refl, λ _. refl) h))
       (λ t.
       rw t (moved s i (record (task_at s i) { progress = record (progress_at s i) { used = (progress_at s i).used + 1 } })
-      (inl (refl, refl)) (refl, λ _. refl) h))
+      (inl (refl, refl)) (refl, λ _. refl, λ _. refl) h))
 
   kept-sleep : (i w : ℕ) (s : State) → s.time < w → P s → P (sleep i w s)
   unfolding sleep
@@ -243,56 +278,57 @@ module _ (P : State → Type 0)
   unfolding set_previous_wake
   kept-set_previous_wake i time s h =
       moved s i (record (task_at s i) { progress = record (progress_at s i) { previous_wake = time } })
-      (inl (refl, refl)) (refl, λ _. refl) h
+      (inl (refl, refl)) (refl, λ _. refl, λ _. refl) h
 
-  kept-delay : (app : Application) (i n : ℕ) (s : State) → P s → P (delay app i n s)
+  kept-delay : (app : Application) (i : ℕ) → answers i ≡ true → (n : ℕ) (s : State) → P s → P (delay app i n s)
   unfolding delay
-  kept-delay app i n s h =
+  kept-delay app i ma n s h =
       let t : State = answer app i (Some 0) s in
-      let k : P t = kept-answer app i (Some 0) s h in
+      let k : P t = kept-answer app i ma (Some 0) s h in
       let now : t.time ≡ s.time = (keeps-answer app i (Some 0) s).time in
       by_test (eqb n 0)
       (λ q. rw q (kept-yield_now t k))
       (λ q. let some : n ≢ 0 = (λ e. let f : eqb n 0 ≡ true = rw e refl in absurd (cc)) in
       rw q (kept-sleep i (s.time + n) t (omega arith) k))
 
-  kept-delay_until : (app : Application) (i w : ℕ) (s : State) → P s → P (delay_until app i w s)
+  kept-delay_until : (app : Application) (i : ℕ) → answers i ≡ true → (w : ℕ) (s : State) → P s → P (delay_until app i w s)
   unfolding delay_until
-  kept-delay_until app i w s h =
+  kept-delay_until app i ma w s h =
       let one : State = answer app i (Some 1) s in
       let now : one.time ≡ s.time = (keeps-answer app i (Some 1) s).time in
       by_test (ltb s.time w)
       (λ t. let l = ltb-true s.time w t in
-      rw t (kept-set_previous_wake i w (sleep i w one) (kept-sleep i w one (omega arith) (kept-answer app i (Some 1) s h))))
-      (λ t. rw t (kept-set_previous_wake i w (answer app i (Some 0) s) (kept-answer app i (Some 0) s h)))
+      rw t (kept-set_previous_wake i w (sleep i w one) (kept-sleep i w one (omega arith) (kept-answer app i ma (Some 1) s h))))
+      (λ t. rw t (kept-set_previous_wake i w (answer app i (Some 0) s) (kept-answer app i ma (Some 0) s h)))
 
   kept-fail : (check : Ending) (s : State) → is_failed_check (Some check) ≡ true → P s → P (fail check s)
-  kept-fail check s is h = framed s (fail check s) refl refl refl (stops-fail s.stopped check is) h
+  kept-fail check s is h = framed s (fail check s) refl refl refl (stops-fail s.stopped check is) (λ _. refl) h
 
   kept-stamp : (app : Application) (i : ℕ) (s : State) → stamps i ≡ true → P s → P (stamp app i s)
   unfolding stamp
   kept-stamp app i s may h =
-      kept-go_to app i ((progress_at s i).op_index + 1) (record (progress_at s i) { stamp = s.time }) s (λ no. absurd (cc)) h
+      kept-go_to app i ((progress_at s i).op_index + 1) (record (progress_at s i) { stamp = s.time }) s
+      (λ no. absurd (cc), λ _. refl) h
 
-  kept-since : (app : Application) (i : ℕ) (s : State) → P s → P (since app i s)
+  kept-since : (app : Application) (i : ℕ) → answers i ≡ true → (s : State) → P s → P (since app i s)
   unfolding since
-  kept-since app i s h = kept-answer app i (Some (min (s.time - (progress_at s i).stamp) 4294967295)) s h
+  kept-since app i ma s h = kept-answer app i ma (Some (min (s.time - (progress_at s i).stamp) 4294967295)) s h
 
   kept-expect : (app : Application) (i : ℕ) (condition : AnswerCondition) (s : State) → P s → P (expect app i condition s)
   unfolding expect
-  kept-expect app i condition s h = by_test (holds condition (progress_at s i).answer)
-      (λ t. rw t (kept-go_to app i ((progress_at s i).op_index + 1) (progress_at s i) s (λ _. refl) h))
+  kept-expect app i condition s h = by_test (holds s.variables condition (progress_at s i).answer)
+      (λ t. rw t (kept-go_to app i ((progress_at s i).op_index + 1) (progress_at s i) s (λ _. refl, λ _. refl) h))
       (λ t. rw t (kept-fail (Check i (progress_at s i).op_index) s refl h))
 
   kept-next_turn : (app : Application) (i : ℕ) (p : Progress) (l : Loop) (ls : List Loop) (left : Option ℕ) (s : State)
-      → SameStamp i p s → P s → P (next_turn app i p l ls left s)
+      → IsAsBefore i p s → P s → P (next_turn app i p l ls left s)
   kept-next_turn app i p l ls None s same h = kept-go_to app i l.start p s same h
   kept-next_turn app i p l ls (Some left) s same h = by_test (leb left 1)
       (λ q. rw q (kept-go_to app i (p.op_index + 1) (record p { loops = ls }) s same h))
       (λ q. rw q (kept-go_to app i l.start _ s same h))
 
   kept-turn : (app : Application) (i : ℕ) (p : Progress) (ls : List Loop) (s : State)
-      → SameStamp i p s → P s → P (turn app i p ls s)
+      → IsAsBefore i p s → P s → P (turn app i p ls s)
   kept-turn app i p [] s same h = kept-go_to app i (p.op_index + 1) p s same h
   kept-turn app i p (l ∷ ls) s same h = kept-next_turn app i p l ls l.left s same h
 
@@ -300,15 +336,15 @@ module _ (P : State → Type 0)
   unfolding branch
   kept-branch app i condition s h =
       let p : Progress = progress_at s i in
-      by_test (holds condition p.answer)
-      (λ q. rw q (kept-go_to app i (p.op_index + 1) p s (λ _. refl) h))
-      (λ q. rw q (kept-go_to app i (jump_from (script_of app i) p.op_index) p s (λ _. refl) h))
+      by_test (holds s.variables condition p.answer)
+      (λ q. rw q (kept-go_to app i (p.op_index + 1) p s (λ _. refl, λ _. refl) h))
+      (λ q. rw q (kept-go_to app i (jump_from (script_of app i) p.op_index) p s (λ _. refl, λ _. refl) h))
 
   kept-leave_loop : (app : Application) (i : ℕ) (s : State) → P s → P (leave_loop app i s)
   unfolding leave_loop
   kept-leave_loop app i s h =
       let p : Progress = progress_at s i in
-      kept-go_to app i (jump_from (script_of app i) p.op_index) (record p { loops = drop 1 p.loops }) s (λ _. refl) h
+      kept-go_to app i (jump_from (script_of app i) p.op_index) (record p { loops = drop 1 p.loops }) s (λ _. refl, λ _. refl) h
 
   -- ---- calls on objects
 
@@ -329,20 +365,21 @@ module _ (P : State → Type 0)
   kept-wake_one i list s h = by_test (is_locked s.locked list)
       (λ t.
       rw t (moved s i (record (task_at s i) { status = awake_status (status_at s i) })
-      (inl (same_awake (status_at s i))) (refl, λ _. refl) h))
+      (inl (same_awake (status_at s i))) (refl, λ _. refl, λ _. refl) h))
       (λ t. rw t (made_ready s i h))
 
   kept-wake_best : (list : WaitList) (s : State) → P s → P (wake_best list s)
   unfolding wake_best
   kept-wake_best list s h = kept-one (λ i. wake_one i list) (task_of (first (waiters s list))) s (λ i. kept-wake_one i list s) h
 
-  kept-fulfil : (caller : Option ℕ) (o : ℕ) (a : Access) (s : State) → P s → P (fulfil caller o a s)
+  kept-fulfil : (caller : Option ℕ) (o : ℕ) (a : Access ℕ) (s : State) → P s → P (fulfil caller o a s)
   unfolding fulfil
   kept-fulfil caller o a s h =
       let t : State = with_object o (object_after caller a (object_at s o)) s in
-      kept-one wake_best (list_woken caller o a) t (λ list. kept-wake_best list t) (framed s t refl refl refl (inl refl) h)
+      kept-one wake_best (list_woken caller o a) t (λ list. kept-wake_best list t)
+      (framed s t refl refl refl (inl refl) (λ _. refl) h)
 
-  kept-attempt : (caller : Option ℕ) (o : ℕ) (a : Access) (s : State) → P s → P (attempt caller o a s)
+  kept-attempt : (caller : Option ℕ) (o : ℕ) (a : Access ℕ) (s : State) → P s → P (attempt caller o a s)
   unfolding attempt
   kept-attempt caller o a s h = by_test (possible s o a) (λ t. rw t (kept-fulfil caller o a s h)) (λ t. rw t h)
 
@@ -350,7 +387,7 @@ module _ (P : State → Type 0)
   kept-with_call : (i : ℕ) (call : CallProgress) (s : State) → P s → P (with_call i call s)
   kept-with_call i call s h =
       moved s i (record (task_at s i) { progress = record (progress_at s i) { call = call } })
-      (inl (refl, refl)) (refl, λ _. refl) h
+      (inl (refl, refl)) (refl, λ _. refl, λ _. refl) h
 
   kept-set_deadline : (i : ℕ) (ticks : Option ℕ) (s : State) → P s → P (set_deadline i ticks s)
   unfolding set_deadline
@@ -364,7 +401,7 @@ module _ (P : State → Type 0)
       let t : Task = record (task_at s i) { priority = priority } in
       by_test (eqb (task_at s i).priority priority)
       (λ e. rw e h)
-      (λ e. rw e (kept-to_back i (with_task i t s) (moved s i t (inl (refl, refl)) (refl, λ _. refl) h)))
+      (λ e. rw e (kept-to_back i (with_task i t s) (moved s i t (inl (refl, refl)) (refl, λ _. refl, λ _. refl) h)))
 
   kept-raise : (holder priority : ℕ) (s : State) → P s → P (raise holder priority s)
   kept-raise holder priority s h = by_test (ltb (task_at s holder).priority priority)
@@ -394,21 +431,21 @@ module _ (P : State → Type 0)
       (λ t. rw t (kept-set_priority i _ s h))
       (λ t. rw t h)
 
-  kept-give_mutex : (app : Application) (i o : ℕ) (s : State) → P s → P (give_mutex app i o s)
+  kept-give_mutex : (app : Application) (i : ℕ) → answers i ≡ true → (o : ℕ) (s : State) → P s → P (give_mutex app i o s)
   unfolding give_mutex
-  kept-give_mutex app i o s h =
+  kept-give_mutex app i ma o s h =
       let free : State = with_object o (record (object_at s o) { holder = None }) s in
-      kept-preempt _ (kept-answer app i (Some 1) _
-      (kept-wake_best (ToReceive o) _ (kept-disinherit i free (framed s free refl refl refl (inl refl) h))))
+      kept-preempt _ (kept-answer app i ma (Some 1) _
+      (kept-wake_best (ToReceive o) _ (kept-disinherit i free (framed s free refl refl refl (inl refl) (λ _. refl) h))))
 
   -- ---- calls that may wait, and those that don't
 
-  kept-try : (app : Application) (i o : ℕ) (a : Access) (s : State) → P s → P (try app i o a s)
+  kept-try : (app : Application) (i : ℕ) → answers i ≡ true → (o : ℕ) (a : Access ℕ) (s : State) → P s → P (try app i o a s)
   unfolding try
-  kept-try app i o a s h = by_test (possible s o a)
-      (λ p. rw p (kept-preempt _ (kept-answer app i (answer_to s o a) _ (kept-fulfil (Some i) o a s h))))
+  kept-try app i ma o a s h = by_test (possible s o a)
+      (λ p. rw p (kept-preempt _ (kept-answer app i ma (answer_to s o a) _ (kept-fulfil (Some i) o a s h))))
       (λ p. rw p (by_test (is_expired s i)
-      (λ q. rw q (kept-answer app i (answer_to s o a) (after_timeout i o s) (kept-after_timeout i o s h)))
+      (λ q. rw q (kept-answer app i ma (answer_to s o a) (after_timeout i o s) (kept-after_timeout i o s h)))
       (λ q. rw q (kept-with_call i _ s h))))
 
   kept-wait_in : (i : ℕ) (list : WaitList) (s : State) → is_expired s i ≡ false → P s → P (wait_in i list s)
@@ -424,9 +461,9 @@ module _ (P : State → Type 0)
   kept-lock : (i o : ℕ) (phase : Phase) (s : State) → P s → P (lock i o phase s)
   kept-lock i o phase s h =
       let t : State = record s { call_hold = true; locked = Some o } in
-      kept-with_call i _ t (framed s t refl refl refl (inl refl) h)
+      kept-with_call i _ t (framed s t refl refl refl (inl refl) (λ _. refl) h)
 
-  kept-decide : (i o : ℕ) (a : Access) (s : State) → P s → P (decide i o a s)
+  kept-decide : (i o : ℕ) (a : Access ℕ) (s : State) → P s → P (decide i o a s)
   unfolding decide
   kept-decide i o a s h = by_test (possible s o a || is_expired s i)
       (λ t. rw t (kept-lock i o Unlock s h))
@@ -441,37 +478,38 @@ module _ (P : State → Type 0)
       kept-one unlock_object s.locked s
       (λ o k.
       kept-all_ready (tasks_of (awakened s (ToReceive o)) ++ tasks_of (awakened s (ToSend o)))
-      (record s { locked = None }) (framed s (record s { locked = None }) refl refl refl (inl refl) k))
+      (record s { locked = None }) (framed s (record s { locked = None }) refl refl refl (inl refl) (λ _. refl) k))
       h
 
   kept-leave_call : (i : ℕ) (s : State) → P s → P (leave_call i s)
   unfolding leave_call
   kept-leave_call i s h =
       let t : State = record s { call_hold = false } in
-      let free : P (end_hold i Try s) = kept-with_call i _ t (framed s t refl refl refl (inl refl) h) in
+      let free : P (end_hold i Try s) = kept-with_call i _ t (framed s t refl refl refl (inl refl) (λ _. refl) h) in
       by_test (call_at s i).waits
       (λ q. rw q (kept-choose (end_hold i Try s) free))
       (λ q. rw q (kept-preempt (end_hold i Try s) free))
 
-  kept-await : (app : Application) (i o : ℕ) (a : Access) (ticks : Option ℕ) (phase : Phase) (s : State)
+  kept-await : (app : Application) (i : ℕ) → answers i ≡ true
+      → (o : ℕ) (a : Access ℕ) (ticks : Option ℕ) (phase : Phase) (s : State)
       → P s → P (await app i o a ticks phase s)
-  kept-await app i o a ticks Start s h = kept-try app i o a _ (kept-set_deadline i ticks s h)
-  kept-await app i o a ticks Try s h = kept-try app i o a s h
-  kept-await app i o a ticks Decide s h = kept-decide i o a s h
-  kept-await app i o a ticks Place s h = kept-with_call i _ s h
-  kept-await app i o a ticks Unlock s h = kept-with_call i _ (unlock s) (kept-unlock s h)
-  kept-await app i o a ticks Leave s h = kept-leave_call i s h
+  kept-await app i ma o a ticks Start s h = kept-try app i ma o a _ (kept-set_deadline i ticks s h)
+  kept-await app i ma o a ticks Try s h = kept-try app i ma o a s h
+  kept-await app i ma o a ticks Decide s h = kept-decide i o a s h
+  kept-await app i ma o a ticks Place s h = kept-with_call i _ s h
+  kept-await app i ma o a ticks Unlock s h = kept-with_call i _ (unlock s) (kept-unlock s h)
+  kept-await app i ma o a ticks Leave s h = kept-leave_call i s h
 
-  kept-do_now : (app : Application) (i o : ℕ) (a : Access) (s : State) → P s → P (do_now app i o a s)
+  kept-do_now : (app : Application) (i : ℕ) → answers i ≡ true → (o : ℕ) (a : Access ℕ) (s : State) → P s → P (do_now app i o a s)
   unfolding do_now
-  kept-do_now app i o a s h = kept-preempt _ (kept-answer app i (answer_to s o a) _ (kept-attempt (Some i) o a s h))
+  kept-do_now app i ma o a s h = kept-preempt _ (kept-answer app i ma (answer_to s o a) _ (kept-attempt (Some i) o a s h))
 
   -- ---- tasks suspended and resumed
 
   kept-suspend : (i : ℕ) (s : State) → P s → P (suspend i s)
   unfolding suspend
   kept-suspend i s h = by_test (can_suspend (status_at s i))
-      (λ t. rw t (moved s i (record (task_at s i) { status = Suspended }) (inr (refl, refl)) (refl, λ _. refl) h))
+      (λ t. rw t (moved s i (record (task_at s i) { status = Suspended }) (inr (refl, refl)) (refl, λ _. refl, λ _. refl) h))
       (λ t. rw t h)
 
   kept-resume : (i : ℕ) (s : State) → P s → P (resume i s)
@@ -479,16 +517,16 @@ module _ (P : State → Type 0)
   kept-resume i s h = by_test (can_resume (status_at s i))
       (λ t.
       rw t (made_ready _ i (moved s i (record (task_at s i) { progress = resumed s.time (progress_at s i) })
-      (inl (refl, refl)) (refl, λ _. refl) h)))
+      (inl (refl, refl)) (refl, λ _. refl, λ _. refl) h)))
       (λ t. rw t h)
 
-  kept-replied : (app : Application) (i : ℕ) (a : Option ℕ) (s : State) → P s → P (preempt (answer app i a s))
-  kept-replied app i a s h = kept-preempt (answer app i a s) (kept-answer app i a s h)
+  kept-replied : (app : Application) (i : ℕ) → answers i ≡ true → (a : Option ℕ) (s : State) → P s → P (preempt (answer app i a s))
+  kept-replied app i ma a s h = kept-preempt (answer app i a s) (kept-answer app i ma a s h)
 
   -- ---- event groups
 
   kept-with_bits : (group bits : ℕ) (s : State) → P s → P (with_bits group bits s)
-  kept-with_bits group bits s h = framed s (with_bits group bits s) refl refl refl (inl refl) h
+  kept-with_bits group bits s h = framed s (with_bits group bits s) refl refl refl (inl refl) (λ _. refl) h
 
   kept-wake_all : (bits : ℕ) (is : List ℕ) (s : State) → P s → P (wake_all is bits s)
   kept-wake_all bits [] s h = h
@@ -506,29 +544,32 @@ module _ (P : State → Type 0)
   unfolding begin_set
   kept-begin_set i group mask s h =
       let t : State = record s { call_hold = true } in
-      kept-with_call i _ _ (kept-with_call i _ _ (kept-set group mask t (framed s t refl refl refl (inl refl) h)))
+      kept-with_call i _ _ (kept-with_call i _ _ (kept-set group mask t (framed s t refl refl refl (inl refl) (λ _. refl) h)))
 
   kept-end_hold : (i : ℕ) (phase : Phase) (s : State) → P s → P (end_hold i phase s)
   kept-end_hold i phase s h =
       let t : State = record s { call_hold = false } in
-      kept-with_call i _ t (framed s t refl refl refl (inl refl) h)
+      kept-with_call i _ t (framed s t refl refl refl (inl refl) (λ _. refl) h)
 
-  kept-end_set : (app : Application) (i : ℕ) (s : State) → P s → P (preempt (answer app i (call_at s i).kept (end_hold i Start s)))
-  kept-end_set app i s h = kept-replied app i (call_at s i).kept (end_hold i Start s) (kept-end_hold i Start s h)
+  kept-end_set : (app : Application) (i : ℕ) → answers i ≡ true → (s : State) → P s
+      → P (preempt (answer app i (call_at s i).kept (end_hold i Start s)))
+  kept-end_set app i ma s h = kept-replied app i ma (call_at s i).kept (end_hold i Start s) (kept-end_hold i Start s h)
 
-  kept-set_bits : (app : Application) (i group mask : ℕ) (phase : Phase) (s : State) → P s → P (set_bits app i group mask phase s)
-  kept-set_bits app i group mask Start s h = kept-begin_set i group mask s h
-  kept-set_bits app i group mask Try s h = kept-end_set app i s h
-  kept-set_bits app i group mask Decide s h = kept-end_set app i s h
-  kept-set_bits app i group mask Place s h = kept-end_set app i s h
-  kept-set_bits app i group mask Unlock s h = kept-end_set app i s h
-  kept-set_bits app i group mask Leave s h = kept-end_set app i s h
+  kept-set_bits : (app : Application) (i : ℕ) → answers i ≡ true → (group mask : ℕ) (phase : Phase) (s : State) → P s
+      → P (set_bits app i group mask phase s)
+  kept-set_bits app i ma group mask Start s h = kept-begin_set i group mask s h
+  kept-set_bits app i ma group mask Try s h = kept-end_set app i ma s h
+  kept-set_bits app i ma group mask Decide s h = kept-end_set app i ma s h
+  kept-set_bits app i ma group mask Place s h = kept-end_set app i ma s h
+  kept-set_bits app i ma group mask Unlock s h = kept-end_set app i ma s h
+  kept-set_bits app i ma group mask Leave s h = kept-end_set app i ma s h
 
-  kept-answer_bits : (app : Application) (i group : ℕ) (c : Condition) (s : State) → P s → P (answer_bits app i group c s)
+  kept-answer_bits : (app : Application) (i : ℕ) → answers i ≡ true → (group : ℕ) (c : Condition) (s : State) → P s
+      → P (answer_bits app i group c s)
   unfolding answer_bits
-  kept-answer_bits app i group c s h = by_test (is_met (bits_at s group) c)
-      (λ t. rw t (kept-answer app i (Some (bits_at s group)) _ (kept-with_bits group _ s h)))
-      (λ t. rw t (kept-answer app i (Some (bits_at s group)) s h))
+  kept-answer_bits app i ma group c s h = by_test (is_met (bits_at s group) c)
+      (λ t. rw t (kept-answer app i ma (Some (bits_at s group)) _ (kept-with_bits group _ s h)))
+      (λ t. rw t (kept-answer app i ma (Some (bits_at s group)) s h))
 
   kept-begin_bits_wait : (i group : ℕ) (c : Condition) (ticks : Option ℕ) (s : State)
       → option_eq eqb ticks (Some 0) ≡ false → P s → P (begin_bits_wait i group c ticks s)
@@ -538,115 +579,140 @@ module _ (P : State → Type 0)
       let u : State = want i c (set_deadline i ticks t) in
       kept-with_call i _ _ (taken u i (λ ticket. WaitingForBits group ticket (call_at u i).deadline)
       refl (begun_later i c ticks t some)
-      (kept-with_call i _ _ (kept-set_deadline i ticks t (framed s t refl refl refl (inl refl) h))))
+      (kept-with_call i _ _ (kept-set_deadline i ticks t (framed s t refl refl refl (inl refl) (λ _. refl) h))))
 
-  kept-check : (app : Application) (i group : ℕ) (c : Condition) (ticks : Option ℕ) (s : State)
+  kept-check : (app : Application) (i : ℕ) → answers i ≡ true → (group : ℕ) (c : Condition) (ticks : Option ℕ) (s : State)
       → P s → P (check app i group c ticks s)
   unfolding check
-  kept-check app i group c ticks s h = by_test (is_met (bits_at s group) c || option_eq eqb ticks (Some 0))
-      (λ t. rw t (kept-answer_bits app i group c s h))
+  kept-check app i ma group c ticks s h = by_test (is_met (bits_at s group) c || option_eq eqb ticks (Some 0))
+      (λ t. rw t (kept-answer_bits app i ma group c s h))
       (λ t.
       rw t
       (kept-begin_bits_wait i group c ticks s (or_false_right (is_met (bits_at s group) c) (option_eq eqb ticks (Some 0)) t) h))
 
-  kept-final_bits : (app : Application) (i group : ℕ) (c : Condition) (kept : Option ℕ) (s : State)
+  kept-final_bits : (app : Application) (i : ℕ) → answers i ≡ true → (group : ℕ) (c : Condition) (kept : Option ℕ) (s : State)
       → P s → P (final_bits app i group c kept s)
-  kept-final_bits app i group c None s h = kept-answer_bits app i group c s h
-  kept-final_bits app i group c (Some bits) s h = kept-answer app i (Some bits) s h
+  kept-final_bits app i ma group c None s h = kept-answer_bits app i ma group c s h
+  kept-final_bits app i ma group c (Some bits) s h = kept-answer app i ma (Some bits) s h
 
-  kept-wait_bits : (app : Application) (i group : ℕ) (c : Condition) (ticks : Option ℕ) (phase : Phase) (s : State)
+  kept-wait_bits : (app : Application) (i : ℕ) → answers i ≡ true
+      → (group : ℕ) (c : Condition) (ticks : Option ℕ) (phase : Phase) (s : State)
       → P s → P (wait_bits app i group c ticks phase s)
-  kept-wait_bits app i group c ticks Start s h = kept-check app i group c ticks s h
-  kept-wait_bits app i group c ticks Leave s h = kept-choose (end_hold i Try s) (kept-end_hold i Try s h)
-  kept-wait_bits app i group c ticks Try s h = kept-final_bits app i group c (call_at s i).kept s h
-  kept-wait_bits app i group c ticks Decide s h = kept-final_bits app i group c (call_at s i).kept s h
-  kept-wait_bits app i group c ticks Place s h = kept-final_bits app i group c (call_at s i).kept s h
-  kept-wait_bits app i group c ticks Unlock s h = kept-final_bits app i group c (call_at s i).kept s h
+  kept-wait_bits app i ma group c ticks Start s h = kept-check app i ma group c ticks s h
+  kept-wait_bits app i ma group c ticks Leave s h = kept-choose (end_hold i Try s) (kept-end_hold i Try s h)
+  kept-wait_bits app i ma group c ticks Try s h = kept-final_bits app i ma group c (call_at s i).kept s h
+  kept-wait_bits app i ma group c ticks Decide s h = kept-final_bits app i ma group c (call_at s i).kept s h
+  kept-wait_bits app i ma group c ticks Place s h = kept-final_bits app i ma group c (call_at s i).kept s h
+  kept-wait_bits app i ma group c ticks Unlock s h = kept-final_bits app i ma group c (call_at s i).kept s h
 
   -- ---- the daemon
 
-  kept-received : (app : Application) (i : ℕ) (a : Option ℕ) (s : State) → P s → P (received app i a s)
+  kept-received : (app : Application) (i : ℕ) → answers i ≡ true → (a : Option ℕ) (s : State) → P s → P (received app i a s)
   unfolding received
-  kept-received app i a s h =
-      kept-go_to app i ((progress_at s i).op_index + 1) (record (progress_at s i) { answer = a }) s (λ _. refl) h
+  kept-received app i ma a s h =
+      kept-go_to app i ((progress_at s i).op_index + 1) (record (progress_at s i) { answer = a }) s (λ _. refl, λ no. absurd (cc)) h
 
-  kept-take_command : (app : Application) (i o : ℕ) (s : State) → P s → P (take_command app i o s)
+  kept-take_command : (app : Application) (i : ℕ) → answers i ≡ true → (o : ℕ) (s : State) → P s → P (take_command app i o s)
   unfolding take_command
-  kept-take_command app i o s h = by_test (possible s o Receive)
-      (λ t. rw t (kept-preempt _ (kept-received app i (answer_to s o Receive) _ (kept-fulfil (Some i) o Receive s h))))
+  kept-take_command app i ma o s h = by_test (possible s o Receive)
+      (λ t. rw t (kept-preempt _ (kept-received app i ma (answer_to s o Receive) _ (kept-fulfil (Some i) o Receive s h))))
       (λ t. rw t (kept-with_call i _ s h))
 
-  kept-next_command : (app : Application) (i o : ℕ) (phase : Phase) (s : State) → P s → P (next_command app i o phase s)
-  kept-next_command app i o Start s h = kept-take_command app i o s h
-  kept-next_command app i o Try s h = kept-take_command app i o s h
-  kept-next_command app i o Decide s h = kept-await app i o Receive None Decide s h
-  kept-next_command app i o Place s h = kept-await app i o Receive None Place s h
-  kept-next_command app i o Unlock s h = kept-await app i o Receive None Unlock s h
-  kept-next_command app i o Leave s h = kept-await app i o Receive None Leave s h
+  kept-next_command : (app : Application) (i : ℕ) → answers i ≡ true → (o : ℕ) (phase : Phase) (s : State) → P s
+      → P (next_command app i o phase s)
+  kept-next_command app i ma o Start s h = kept-take_command app i ma o s h
+  kept-next_command app i ma o Try s h = kept-take_command app i ma o s h
+  kept-next_command app i ma o Decide s h = kept-await app i ma o Receive None Decide s h
+  kept-next_command app i ma o Place s h = kept-await app i ma o Receive None Place s h
+  kept-next_command app i ma o Unlock s h = kept-await app i ma o Receive None Unlock s h
+  kept-next_command app i ma o Leave s h = kept-await app i ma o Receive None Leave s h
 
-  kept-obeyed : (app : Application) (i : ℕ) (clear : Bool) (bits : ℕ) (s : State) → P s → P (obeyed app i clear bits s)
+  kept-obeyed : (app : Application) (i : ℕ) → answers i ≡ true → (clear : Bool) (bits : ℕ) (s : State) → P s
+      → P (obeyed app i clear bits s)
   unfolding obeyed
-  kept-obeyed app i clear bits s h =
+  kept-obeyed app i ma clear bits s h =
       let t : State = write (what.Obeyed i clear bits) s in
-      kept-go_to app i 0 (record (progress_at s i) { answer = Some bits }) t (λ _. refl) (framed s t refl refl refl (inl refl) h)
+      kept-go_to app i 0 (record (progress_at s i) { answer = Some bits }) t (λ _. refl, λ no. absurd (cc))
+      (framed s t refl refl refl (inl refl) (λ _. refl) h)
 
-  kept-clear_by_daemon : (app : Application) (i group mask : ℕ) (s : State) → P s → P (clear_by_daemon app i group mask s)
+  kept-clear_by_daemon : (app : Application) (i : ℕ) → answers i ≡ true → (group mask : ℕ) (s : State) → P s
+      → P (clear_by_daemon app i group mask s)
   unfolding clear_by_daemon
-  kept-clear_by_daemon app i group mask s h = kept-obeyed app i true (bits_at s group) _ (kept-with_bits group _ s h)
+  kept-clear_by_daemon app i ma group mask s h = kept-obeyed app i ma true (bits_at s group) _ (kept-with_bits group _ s h)
 
-  kept-end_set_by_daemon : (app : Application) (i group : ℕ) (s : State) → P s → P (end_set_by_daemon app i group s)
-  kept-end_set_by_daemon app i group s h =
-      kept-preempt _ (kept-obeyed app i false (bits_at s group) (end_hold i Start s) (kept-end_hold i Start s h))
+  kept-end_set_by_daemon : (app : Application) (i : ℕ) → answers i ≡ true → (group : ℕ) (s : State) → P s
+      → P (end_set_by_daemon app i group s)
+  kept-end_set_by_daemon app i ma group s h =
+      kept-preempt _ (kept-obeyed app i ma false (bits_at s group) (end_hold i Start s) (kept-end_hold i Start s h))
 
-  kept-begin_command : (app : Application) (i : ℕ) (c : Command) (s : State) → P s → P (obey app i c Start s)
-  kept-begin_command app i c s h = by_test c.clear
-      (λ t. rw t (kept-clear_by_daemon app i c.group c.mask s h))
+  kept-begin_command : (app : Application) (i : ℕ) → answers i ≡ true → (c : Command) (s : State) → P s → P (obey app i c Start s)
+  kept-begin_command app i ma c s h = by_test c.clear
+      (λ t. rw t (kept-clear_by_daemon app i ma c.group c.mask s h))
       (λ t. rw t (kept-begin_set i c.group c.mask s h))
 
-  kept-obey : (app : Application) (i : ℕ) (c : Command) (phase : Phase) (s : State) → P s → P (obey app i c phase s)
-  kept-obey app i c Start s h = kept-begin_command app i c s h
-  kept-obey app i c Try s h = kept-end_set_by_daemon app i c.group s h
-  kept-obey app i c Decide s h = kept-end_set_by_daemon app i c.group s h
-  kept-obey app i c Place s h = kept-end_set_by_daemon app i c.group s h
-  kept-obey app i c Unlock s h = kept-end_set_by_daemon app i c.group s h
-  kept-obey app i c Leave s h = kept-end_set_by_daemon app i c.group s h
+  kept-obey : (app : Application) (i : ℕ) → answers i ≡ true → (c : Command) (phase : Phase) (s : State) → P s
+      → P (obey app i c phase s)
+  kept-obey app i ma c Start s h = kept-begin_command app i ma c s h
+  kept-obey app i ma c Try s h = kept-end_set_by_daemon app i ma c.group s h
+  kept-obey app i ma c Decide s h = kept-end_set_by_daemon app i ma c.group s h
+  kept-obey app i ma c Place s h = kept-end_set_by_daemon app i ma c.group s h
+  kept-obey app i ma c Unlock s h = kept-end_set_by_daemon app i ma c.group s h
+  kept-obey app i ma c Leave s h = kept-end_set_by_daemon app i ma c.group s h
 
   -- ---- handlers
 
   kept-write : (w : What) (s : State) → P s → P (write w s)
-  kept-write w s h = framed s (write w s) refl refl refl (inl refl) h
+  kept-write w s h = framed s (write w s) refl refl refl (inl refl) (λ _. refl) h
 
-  kept-isr : (app : Application) (handler op_index : ℕ) (op : IsrOp) (s : State) → P s → P (isr app handler op_index op s)
-  kept-isr app handler op_index (isr_op.Do o a) s h =
-      kept-write (isr_told handler op_index (answer_to s o a)) (attempt None o a s) (kept-attempt None o a s h)
-  kept-isr app handler op_index (isr_op.Command c) s h =
-      let send : Access = Send (item_of c) in
+  -- No op of a handler stores to the variable, unless it may be stored.
+  abbrev AreSpared : Application → Type 0
+  AreSpared app = stores ≡ false → NoHandlerStores app x
+
+  kept-store : (op : ValueOp) (a : Option ℕ) (s : State) → (stores ≡ false → is_store_to x op ≡ false) → P s → P (store op a s)
+  kept-store op a s may h =
+      framed s (store op a s) refl refl refl (inl refl) (λ no. left_by_op x op a s.variables (may no)) h
+
+  kept-isr : (app : Application) (handler op_index : ℕ) (op : IsrOp) (last : Option ℕ) (s : State)
+      → (stores ≡ false → isr_stores_to x op ≡ false) → P s → P (isr app handler op_index op last s)
+  kept-isr app handler op_index (isr_op.Do o a) last s may h =
+      let access : Access ℕ = with_number s.variables last a in
+      kept-write (isr_told handler op_index (answer_to s o access)) (attempt None o access s) (kept-attempt None o access s h)
+  kept-isr app handler op_index (isr_op.Command c) last s may h =
+      let send : Access ℕ = Send (item_of c) in
       kept-write (isr_told handler op_index (answer_to s (commands_of app) send))
       (attempt None (commands_of app) send s) (kept-attempt None (commands_of app) send s h)
-  kept-isr app handler op_index (isr_op.Resume i) s h =
+  kept-isr app handler op_index (isr_op.Resume i) last s may h =
       kept-write (isr_told handler op_index (one_if (can_resume (status_at s i)))) (resume i s) (kept-resume i s h)
-  kept-isr app handler op_index (isr_op.GetBits group) s h = kept-write (isr_told handler op_index (Some (bits_at s group))) s h
-  kept-isr app handler op_index (isr_op.Mark n) s h = kept-write (what.IsrMark handler n) s h
-  kept-isr app handler op_index (isr_op.Expect condition) s h = h
-  kept-isr app handler op_index (isr_op.If condition) s h = h
-  kept-isr app handler op_index isr_op.Else s h = h
-  kept-isr app handler op_index isr_op.EndIf s h = h
+  kept-isr app handler op_index (isr_op.GetBits group) last s may h =
+      kept-write (isr_told handler op_index (Some (bits_at s group))) s h
+  kept-isr app handler op_index (isr_op.Value op) last s may h =
+      let a : Option ℕ = answer_of s.variables last op in
+      kept-write (isr_told handler op_index a) (store op a s) (kept-store op a s may h)
+  kept-isr app handler op_index (isr_op.Mark value) last s may h =
+      kept-write (what.IsrMark handler (number_of s.variables last value)) s h
+  kept-isr app handler op_index (isr_op.Expect condition) last s may h = h
+  kept-isr app handler op_index (isr_op.If condition) last s may h = h
+  kept-isr app handler op_index isr_op.Else last s may h = h
+  kept-isr app handler op_index isr_op.EndIf last s may h = h
 
   kept-isr_each : (app : Application) (handler op_index over : ℕ) (answer : Option ℕ) (ops : List IsrOp) (s : State)
+      → (stores ≡ false → AllByRecursion (λ o. isr_stores_to x o ≡ false) ops)
       → P s → P (isr_each app handler op_index over answer ops s)
-  kept-isr_each app handler op_index over answer [] s h = h
-  kept-isr_each app handler op_index (suc over) answer (op ∷ ops) s h = kept-isr_each app handler (op_index + 1) over answer ops s h
-  kept-isr_each app handler op_index zero answer (op ∷ ops) s h =
-      let t : State = isr app handler op_index op s in
-      by_test (is_failed op answer)
+  kept-isr_each app handler op_index over answer [] s may h = h
+  kept-isr_each app handler op_index (suc over) answer (op ∷ ops) s may h =
+      kept-isr_each app handler (op_index + 1) over answer ops s (λ no. (may no).1) h
+  kept-isr_each app handler op_index zero answer (op ∷ ops) s may h =
+      let t : State = isr app handler op_index op answer s in
+      by_test (is_failed s op answer)
       (λ f. rw f (kept-fail (HandlerCheck handler op_index) s refl h))
       (λ f.
-      rw f (kept-isr_each app handler (op_index + 1) (isr_jump op answer ops)
-      (isr_answer app s op answer) ops t (kept-isr app handler op_index op s h)))
+      rw f (kept-isr_each app handler (op_index + 1) (isr_jump s op answer ops)
+      (isr_answer app s op answer) ops t (λ no. (may no).1)
+      (kept-isr app handler op_index op answer s (λ no. (may no).0) h)))
 
-  kept-handle : (app : Application) (handler : ℕ) (s : State) → P s → P (handle app handler s)
+  kept-handle : (app : Application) → AreSpared app → (handler : ℕ) (s : State) → P s → P (handle app handler s)
   unfolding handle
-  kept-handle app handler s h = kept-isr_each app handler 0 0 None (ops_of app handler) s h
+  kept-handle app spared handler s h = kept-isr_each app handler 0 0 None (ops_of app handler) s (λ no. spared no handler) h
 
   kept-each : {A : Type 0} (deed : A → State → State) (k : (a : A) (s : State) → P s → P (deed a s)) (ones : List A) (s : State)
       → P s → P (for_each deed ones s)
@@ -658,62 +724,64 @@ module _ (P : State → Type 0)
       (λ t. subst P (sym (when_held deed s t)) h)
       (λ t. subst P (sym (when_free deed s t)) (k s h))
 
-  kept-serve : (app : Application) (handler : ℕ) (s : State) → P s → P (serve app handler s)
+  kept-serve : (app : Application) → AreSpared app → (handler : ℕ) (s : State) → P s → P (serve app handler s)
   unfolding serve
-  kept-serve app handler s h = kept-unless_held preempt kept-preempt (handle app handler s) (kept-handle app handler s h)
+  kept-serve app spared handler s h =
+      kept-unless_held preempt kept-preempt (handle app handler s) (kept-handle app spared handler s h)
 
-  kept-inject : (app : Application) (handler : ℕ) (s : State) → P s → P (inject app handler s)
+  kept-inject : (app : Application) → AreSpared app → (handler : ℕ) (s : State) → P s → P (inject app handler s)
   unfolding inject
-  kept-inject app handler s h = kept-serve app handler s h
+  kept-inject app spared handler s h = kept-serve app spared handler s h
 
   kept-pend : (handler : ℕ) (s : State) → P s → P (pend handler s)
-  kept-pend handler s h = framed s (pend handler s) refl refl refl (inl refl) h
+  kept-pend handler s h = framed s (pend handler s) refl refl refl (inl refl) (λ _. refl) h
 
-  kept-before_step : (app : Application) (handlers : List ℕ) (s : State) → P s → P (before_step app handlers s)
+  pub kept-before_step : (app : Application) → AreSpared app → (handlers : List ℕ) (s : State) → P s
+      → P (before_step app handlers s)
   unfolding before_step serve_pending
-  kept-before_step app handlers s h =
+  kept-before_step app spared handlers s h =
       let t : State = record s { log = [] } in
       let none : State = none_pending t in
       by_test (is_critical t)
-      (λ q. rw q (kept-each pend kept-pend handlers t (framed s t refl refl refl (inl refl) h)))
+      (λ q. rw q (kept-each pend kept-pend handlers t (framed s t refl refl refl (inl refl) (λ _. refl) h)))
       (λ q.
-      rw q (kept-each (inject app) (kept-inject app) handlers (for_each (serve app) (pending_of t) none)
-      (kept-each (serve app) (kept-serve app) (pending_of t) none (framed s none refl refl refl (inl refl) h))))
+      rw q (kept-each (inject app) (kept-inject app spared) handlers (for_each (serve app) (pending_of t) none)
+      (kept-each (serve app) (kept-serve app spared) (pending_of t) none (framed s none refl refl refl (inl refl) (λ _. refl) h))))
 
   kept-increment : (s : State) → P s → P (increment_tick s)
   unfolding increment_tick advance
   kept-increment s h =
       let t : State = record s { elapsed = s.elapsed + 1 } in
       by_test (is_scheduler_suspended s)
-      (λ u. rw u (framed s (record t { held_ticks = s.held_ticks + 1 }) refl refl refl (inl refl) h))
-      (λ u. rw u (passed 1 t (none_in_one t) (framed s t refl refl refl (inl refl) h)))
+      (λ u. rw u (framed s (record t { held_ticks = s.held_ticks + 1 }) refl refl refl (inl refl) (λ _. refl) h))
+      (λ u. rw u (passed 1 t (none_in_one t) (framed s t refl refl refl (inl refl) (λ _. refl) h)))
 
-  kept-tick : (app : Application) (s : State) → P s → P (tick_interrupt app s)
+  kept-tick : (app : Application) → AreSpared app → (s : State) → P s → P (tick_interrupt app s)
   unfolding tick_interrupt interrupt
-  kept-tick app s h =
+  kept-tick app spared s h =
       let come : State = increment_tick s in
       kept-unless_held slice kept-slice _
-      (kept-each (handle app) (kept-handle app) (interrupts_at app come.elapsed) come (kept-increment s h))
+      (kept-each (handle app) (kept-handle app spared) (interrupts_at app come.elapsed) come (kept-increment s h))
 
   kept-jump : (n : ℕ) (s : State) → NoneBetween n s → P s → P (jump n s)
   unfolding jump
   kept-jump n s none h =
       let t : State = record s { elapsed = s.elapsed + n } in
-      passed n t none (framed s t refl refl refl (inl refl) h)
+      passed n t none (framed s t refl refl refl (inl refl) (λ _. refl) h)
 
-  kept-jumped : (app : Application) (n : ℕ) (s : State) → NoneBetween n s → P s → P (jumped app n s)
+  kept-jumped : (app : Application) → AreSpared app → (n : ℕ) (s : State) → NoneBetween n s → P s → P (jumped app n s)
   unfolding interrupt
-  kept-jumped app n s none h =
+  kept-jumped app spared n s none h =
       let come : State = jump n s in
       kept-unless_held slice kept-slice _
-      (kept-each (handle app) (kept-handle app) (interrupts_at app come.elapsed) come (kept-jump n s none h))
+      (kept-each (handle app) (kept-handle app spared) (interrupts_at app come.elapsed) come (kept-jump n s none h))
 
-  kept-idle : (app : Application) (limits : Limits) (s : State) → P s → P (idle app limits s)
+  kept-idle : (app : Application) → AreSpared app → (limits : Limits) (s : State) → P s → P (idle app limits s)
   unfolding idle
-  kept-idle app limits s h =
+  kept-idle app spared limits s h =
       let n : ℕ = ticks_ahead app limits s in
       either_way P app.tickless (jumped app n s) (tick_interrupt app s)
-      (kept-jumped app n s (none_ahead app limits s) h) (kept-tick app s h)
+      (kept-jumped app spared n s (none_ahead app limits s) h) (kept-tick app spared s h)
 
   -- ---- the scheduler suspended and resumed
 
@@ -722,109 +790,122 @@ module _ (P : State → Type 0)
   kept-applied zero s h = h
   kept-applied (suc n) s h =
       let t : State = record s { held_ticks = s.held_ticks - 1 } in
-      kept-applied n (apply_one s) (passed 1 t (none_in_one t) (framed s t refl refl refl (inl refl) h))
+      kept-applied n (apply_one s) (passed 1 t (none_in_one t) (framed s t refl refl refl (inl refl) (λ _. refl) h))
 
   kept-resume_scheduler : (s : State) → P s → P (resume_scheduler s)
   unfolding resume_scheduler
   kept-resume_scheduler s h =
       let t : State = record s { suspensions = s.suspensions - 1 } in
-      let less : P t = framed s t refl refl refl (inl refl) h in
+      let less : P t = framed s t refl refl refl (inl refl) (λ _. refl) h in
       by_test (eqb s.suspensions 1)
       (λ q. rw q (kept-applied s.held_ticks t less))
       (λ q. rw q less)
 
   kept-judge : (i op_index : ℕ) (s : State) → P s → P (judge i op_index s)
-  kept-judge i op_index s h = by_judgement P i op_index s h (λ kind. framed s _ refl refl refl (inr (inr refl)) h)
+  kept-judge i op_index s h = by_judgement P i op_index s h (λ kind. framed s _ refl refl refl (inr (inr refl)) (λ _. refl) h)
 
   kept-sections : (app : Application) (i n : ℕ) (s : State) → P s → P (with_sections app i n s)
   unfolding with_sections
   kept-sections app i n s h =
       let t : State = record s { sections = n } in
-      kept-go_to app i ((progress_at s i).op_index + 1) (progress_at s i) t (λ _. refl) (framed s t refl refl refl (inl refl) h)
+      kept-go_to app i ((progress_at s i).op_index + 1) (progress_at s i) t (λ _. refl, λ _. refl)
+      (framed s t refl refl refl (inl refl) (λ _. refl) h)
 
   -- ---- a step, and a run
 
-  -- who may not stamp does no `stamp`
-  abbrev MayStamp : ℕ → Option Op → Type 0
-  MayStamp i op = op ≡ Some Stamp → stamps i ≡ true
+  -- A task that may not stamp does no `stamp`. The op doesn't store to the variable, unless that may be stored.
+  -- The task may answer.
+  abbrev IsAllowed : ℕ → Option Op → Type 0
+  IsAllowed i op =
+      (op ≡ Some Stamp → stamps i ≡ true) × (stores ≡ false → IfSome op (λ o. stores_to x o ≡ false)) × (answers i ≡ true)
 
-  kept-act : (app : Application) (i : ℕ) (op : Op) (s : State) → MayStamp i (Some op) → P s → P (act app i op s)
-  unfolding open_loop close_turn skip_branch clear call_suspend call_resume suspend_all resume_all
-  kept-act app i (Work n) s may h = kept-tick app (use_up app i n s) (kept-use_up app i n s h)
-  kept-act app i (Delay n) s may h = kept-delay app i n s h
-  kept-act app i (DelayUntil n) s may h = kept-delay_until app i ((progress_at s i).previous_wake + n) s h
-  kept-act app i Yield s may h = kept-yield_now (answer app i (Some 0) s) (kept-answer app i (Some 0) s h)
-  kept-act app i Time s may h = kept-answer app i (Some (printed s.time)) s h
-  kept-act app i (Mark n) s may h =
-      let t : State = write (what.Mark i n) s in
-      kept-go_to app i ((progress_at s i).op_index + 1) (progress_at s i) t (λ _. refl) (framed s t refl refl refl (inl refl) h)
-  kept-act app i (Expect condition) s may h = kept-expect app i condition s h
-  kept-act app i (Repeat n) s may h = kept-go_to app i ((progress_at s i).op_index + 1) _ s (λ _. refl) h
-  kept-act app i End s may h = kept-turn app i (progress_at s i) (progress_at s i).loops s (λ _. refl) h
-  kept-act app i (If condition) s may h = kept-branch app i condition s h
-  kept-act app i Else s may h =
-      kept-go_to app i (jump_from (script_of app i) (progress_at s i).op_index) (progress_at s i) s (λ _. refl) h
-  kept-act app i EndIf s may h = kept-go_to app i ((progress_at s i).op_index + 1) (progress_at s i) s (λ _. refl) h
-  kept-act app i Break s may h = kept-leave_loop app i s h
-  kept-act app i Stamp s may h = kept-stamp app i s (may refl) h
-  kept-act app i Since s may h = kept-since app i s h
-  kept-act app i (Await o a ticks) s may h = kept-await app i o a ticks (call_at s i).phase s h
-  kept-act app i (Do o a) s may h = kept-do_now app i o a s h
-  kept-act app i (GiveMutex o) s may h = kept-give_mutex app i o s h
-  kept-act app i (MessagesWaiting o) s may h = kept-answer app i _ s h
-  kept-act app i (SpacesAvailable o) s may h = kept-answer app i _ s h
-  kept-act app i (SetBits g m) s may h = kept-set_bits app i g m (call_at s i).phase s h
-  kept-act app i (ClearBits g m) s may h = kept-answer app i _ _ (kept-with_bits g _ s h)
-  kept-act app i (GetBits g) s may h = kept-answer app i _ s h
-  kept-act app i (WaitBits g c ticks) s may h = kept-wait_bits app i g c ticks (call_at s i).phase s h
-  kept-act app i (Suspend j) s may h = kept-replied app i _ (suspend j s) (kept-suspend j s h)
-  kept-act app i (Resume j) s may h = kept-replied app i _ (resume j s) (kept-resume j s h)
-  kept-act app i (NextCommand o) s may h = kept-next_command app i o (call_at s i).phase s h
-  kept-act app i Obey s may h = kept-obey app i (command_at s i) (call_at s i).phase s h
-  kept-act app i SuspendAll s may h =
+  kept-act : (app : Application) → AreSpared app → (i : ℕ) (op : Op) (s : State) → IsAllowed i (Some op) → P s → P (act app i op s)
+  unfolding open_loop close_turn skip_branch clear call_suspend call_resume suspend_all resume_all calculate
+  kept-act app spared i (Work n) s may h = kept-tick app spared (use_up app i n s) (kept-use_up app i n s h)
+  kept-act app spared i (Delay n) s may h = kept-delay app i may.2 n s h
+  kept-act app spared i (DelayUntil n) s may h = kept-delay_until app i may.2 ((progress_at s i).previous_wake + n) s h
+  kept-act app spared i Yield s may h = kept-yield_now (answer app i (Some 0) s) (kept-answer app i may.2 (Some 0) s h)
+  kept-act app spared i Time s may h = kept-answer app i may.2 (Some (printed s.time)) s h
+  kept-act app spared i (Value op) s may h =
+      let a : Option ℕ = answer_of s.variables (progress_at s i).answer op in
+      kept-answer app i may.2 a (store op a s) (kept-store op a s may.1 h)
+  kept-act app spared i (Mark value) s may h =
+      let t : State = write (what.Mark i (number_of s.variables (progress_at s i).answer value)) s in
+      kept-go_to app i ((progress_at s i).op_index + 1) (progress_at s i) t (λ _. refl, λ _. refl)
+      (framed s t refl refl refl (inl refl) (λ _. refl) h)
+  kept-act app spared i (Expect condition) s may h = kept-expect app i condition s h
+  kept-act app spared i (Repeat n) s may h = kept-go_to app i ((progress_at s i).op_index + 1) _ s (λ _. refl, λ _. refl) h
+  kept-act app spared i End s may h = kept-turn app i (progress_at s i) (progress_at s i).loops s (λ _. refl, λ _. refl) h
+  kept-act app spared i (If condition) s may h = kept-branch app i condition s h
+  kept-act app spared i Else s may h =
+      kept-go_to app i (jump_from (script_of app i) (progress_at s i).op_index) (progress_at s i) s (λ _. refl, λ _. refl) h
+  kept-act app spared i EndIf s may h =
+      kept-go_to app i ((progress_at s i).op_index + 1) (progress_at s i) s (λ _. refl, λ _. refl) h
+  kept-act app spared i Break s may h = kept-leave_loop app i s h
+  kept-act app spared i Stamp s may h = kept-stamp app i s (may.0 refl) h
+  kept-act app spared i Since s may h = kept-since app i may.2 s h
+  kept-act app spared i (Await o a ticks) s may h = kept-await app i may.2 o (call_with_number s i a) ticks (call_at s i).phase s h
+  kept-act app spared i (Do o a) s may h = kept-do_now app i may.2 o (call_with_number s i a) s h
+  kept-act app spared i (GiveMutex o) s may h = kept-give_mutex app i may.2 o s h
+  kept-act app spared i (MessagesWaiting o) s may h = kept-answer app i may.2 _ s h
+  kept-act app spared i (SpacesAvailable o) s may h = kept-answer app i may.2 _ s h
+  kept-act app spared i (SetBits g m) s may h = kept-set_bits app i may.2 g m (call_at s i).phase s h
+  kept-act app spared i (ClearBits g m) s may h = kept-answer app i may.2 _ _ (kept-with_bits g _ s h)
+  kept-act app spared i (GetBits g) s may h = kept-answer app i may.2 _ s h
+  kept-act app spared i (WaitBits g c ticks) s may h = kept-wait_bits app i may.2 g c ticks (call_at s i).phase s h
+  kept-act app spared i (Suspend j) s may h = kept-replied app i may.2 _ (suspend j s) (kept-suspend j s h)
+  kept-act app spared i (Resume j) s may h = kept-replied app i may.2 _ (resume j s) (kept-resume j s h)
+  kept-act app spared i (NextCommand o) s may h = kept-next_command app i may.2 o (call_at s i).phase s h
+  kept-act app spared i Obey s may h = kept-obey app i may.2 (command_at s i) (call_at s i).phase s h
+  kept-act app spared i SuspendAll s may h =
       let t : State = record s { suspensions = s.suspensions + 1 } in
-      kept-answer app i (Some 0) t (framed s t refl refl refl (inl refl) h)
-  kept-act app i ResumeAll s may h =
-      kept-unless_held preempt kept-preempt _ (kept-answer app i (Some 0) (resume_scheduler s) (kept-resume_scheduler s h))
-  kept-act app i EnterCritical s may h = kept-sections app i (s.sections + 1) s h
-  kept-act app i ExitCritical s may h = kept-sections app i (s.sections - 1) s h
+      kept-answer app i may.2 (Some 0) t (framed s t refl refl refl (inl refl) (λ _. refl) h)
+  kept-act app spared i ResumeAll s may h =
+      kept-unless_held preempt kept-preempt _ (kept-answer app i may.2 (Some 0) (resume_scheduler s) (kept-resume_scheduler s h))
+  kept-act app spared i EnterCritical s may h = kept-sections app i (s.sections + 1) s h
+  kept-act app spared i ExitCritical s may h = kept-sections app i (s.sections - 1) s h
 
-  kept-act_unless : (app : Application) (i : ℕ) (kind : Option Misuse) (op : Op) (s : State)
-      → MayStamp i (Some op) → P s → P (act_unless app i kind op s)
-  kept-act_unless app i None op s may h = kept-judge i (progress_at s i).op_index (act app i op s) (kept-act app i op s may h)
-  kept-act_unless app i (Some kind) op s may h = framed s (act_unless app i (Some kind) op s) refl refl refl (inr (inr refl)) h
+  kept-act_unless : (app : Application) → AreSpared app → (i : ℕ) (kind : Option Misuse) (op : Op) (s : State)
+      → IsAllowed i (Some op) → P s → P (act_unless app i kind op s)
+  kept-act_unless app spared i None op s may h =
+      kept-judge i (progress_at s i).op_index (act_by_value app i op s)
+      (by_value P app i op s (kept-fail (Check i (progress_at s i).op_index) s refl h) (kept-act app spared i op s may h))
+  kept-act_unless app spared i (Some kind) op s may h =
+      framed s (act_unless app i (Some kind) op s) refl refl refl (inr (inr refl)) (λ _. refl) h
 
-  kept-act_if : (app : Application) (i : ℕ) (o : Option Op) (s : State) → MayStamp i o → P s → P (act_if app i o s)
-  kept-act_if app i None s may h = h
-  kept-act_if app i (Some op) s may h = kept-act_unless app i (misuse s i op) op s may h
+  kept-act_if : (app : Application) → AreSpared app → (i : ℕ) (o : Option Op) (s : State) → IsAllowed i o → P s
+      → P (act_if app i o s)
+  kept-act_if app spared i None s may h = h
+  kept-act_if app spared i (Some op) s may h = kept-act_unless app spared i (misuse s i op) op s may h
 
   -- the same of the running task, if there is one
-  abbrev pub RunsAndMayStamp : Application → Option ℕ → State → Type 0
-  RunsAndMayStamp app running s = (i : ℕ) → running ≡ Some i → MayStamp i (op_at app i (progress_at s i).op_index)
+  abbrev pub RunsAllowed : Application → Option ℕ → State → Type 0
+  RunsAllowed app running s = (i : ℕ) → running ≡ Some i → IsAllowed i (op_at app i (progress_at s i).op_index)
 
-  pub kept-act_current : (app : Application) (limits : Limits) (r : Option ℕ) (s : State)
-      → RunsAndMayStamp app r s → P s → P (act_current app limits r s)
-  kept-act_current app limits None s may h = kept-idle app limits s h
-  kept-act_current app limits (Some i) s may h = kept-act_if app i (op_at app i (progress_at s i).op_index) s (may i refl) h
+  pub kept-act_current : (app : Application) → AreSpared app → (limits : Limits) (r : Option ℕ) (s : State)
+      → RunsAllowed app r s → P s → P (act_current app limits r s)
+  kept-act_current app spared limits None s may h = kept-idle app spared limits s h
+  kept-act_current app spared limits (Some i) s may h =
+      kept-act_if app spared i (op_at app i (progress_at s i).op_index) s (may i refl) h
 
-  pub kept-step : (app : Application) (limits : Limits) (handlers : List ℕ) (s : State)
-      → RunsAndMayStamp app (before_step app handlers s).current (before_step app handlers s) → P s → P (step app limits handlers s)
+  pub kept-step : (app : Application) → AreSpared app → (limits : Limits) (handlers : List ℕ) (s : State)
+      → RunsAllowed app (before_step app handlers s).current (before_step app handlers s) → P s → P (step app limits handlers s)
   unfolding step
-  kept-step app limits handlers s may h =
+  kept-step app spared limits handlers s may h =
       let begun : State = before_step app handlers s in
       let acted : State = unless_held settle (act_current app limits begun.current begun) in
-      framed acted (record acted { steps = s.steps + 1 }) refl refl refl (inl refl)
+      framed acted (record acted { steps = s.steps + 1 }) refl refl refl (inl refl) (λ _. refl)
       (kept-unless_held settle kept-settle (act_current app limits begun.current begun)
-      (kept-act_current app limits begun.current begun may (kept-before_step app handlers s h)))
+      (kept-act_current app spared limits begun.current begun may (kept-before_step app spared handlers s h)))
 
   pub kept-reset : (app : Application) → P (nobody_ready app) → P (reset app)
   unfolding reset ready_at_reset
   kept-reset app h =
       let s : State = for_each make_ready (with_ops 0 app.tasks) (nobody_ready app) in
-      framed s (record s { current = choice s }) refl refl refl (inl refl)
+      framed s (record s { current = choice s }) refl refl refl (inl refl) (λ _. refl)
       (kept-all_ready (with_ops 0 app.tasks) (nobody_ready app) h)
 
--- any task may stamp
+-- any task may stamp, or answer
 abbrev pub anyone : ℕ → Bool
 anyone i = true
 
@@ -833,16 +914,19 @@ module _ (P : State → Type 0)
     (framed : (s t : State) → t.tasks ≡ s.tasks → t.next_ticket ≡ s.next_ticket
     → t.time ≡ s.time → Stops s.stopped t.stopped → P s → P t)
     (moved : (s : State) (i : ℕ) (t : Task) → Stays (status_at s i) t.status
-    → Remains true (task_at s i) t → P s → P (with_task i t s))
+    → Remains true true (task_at s i) t → P s → P (with_task i t s))
     (taken : (s : State) (i : ℕ) (status : ℕ → Status) → ticket_of (status s.next_ticket) ≡ Some s.next_ticket
     → IfSome (wake_time_of (status s.next_ticket)) (λ w. s.time < w) → P s → P (take_ticket i status s))
     (passed : (n : ℕ) (s : State) → NoneBetween n s → P s → P (wake_due (record s { time = s.time + n }))) where
   pub kept_after : (app : Application) → P (nobody_ready app)
       → (limits : Limits) (plan : List Injection) (n : ℕ) → P (state_after app limits plan n)
-  kept_after app h limits plan zero = kept-reset P anyone framed moved taken passed app h
+  kept_after app h limits plan zero =
+      kept-reset P anyone anyone 0 true (λ s t e n m stops left. framed s t e n m stops) moved taken passed app h
   kept_after app h limits plan (suc n) =
-      kept-step P anyone framed moved taken passed app limits (injected plan n)
-      (state_after app limits plan n) (λ i runs is. refl) (kept_after app h limits plan n)
+      kept-step P anyone anyone 0 true (λ s t e n m stops left. framed s t e n m stops) moved taken passed app
+      (λ no. absurd (cc)) limits
+      (injected plan n)
+      (state_after app limits plan n) (λ i runs. (λ is. refl, λ no. absurd (cc), refl)) (kept_after app h limits plan n)
 
 -- ---- a change of one task
 

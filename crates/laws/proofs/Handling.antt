@@ -1,4 +1,5 @@
 -- Handlers that look: what their checks and branches come to, and by what a run is stopped.
+use Rattle.model.specs.Values.{with_number}
 use Rattle.std.proofs.Common.{◌≡◌, ◌+◌, ◌++◌, ◌⊎◌, inl, inr, ℕ, zero, suc, true, false, length, List, [], ◌∷◌, Option, Some, None}
 use Rattle.std.proofs.Common.{refl, ap, sym, subst, ◌∙◌, arith}
 use Rattle.std.proofs.lemmas.List.{length-map, map-append}
@@ -40,13 +41,13 @@ use Rattle.laws.proofs.Sleeping.{NoneBetween}
 
 pub passes : (app : Application) (handler op_index : ℕ)
     (condition : AnswerCondition) (answer : Option ℕ) (ops : List IsrOp) (s : State)
-    → holds condition answer ≡ true
+    → holds s.variables condition answer ≡ true
     → isr_each app handler op_index 0 answer (isr_op.Expect condition ∷ ops) s ≡ isr_each app handler (op_index + 1) 0 answer ops s
 passes app handler op_index condition answer ops s h = rw h refl
 
 pub fails : (app : Application) (handler op_index : ℕ) (condition : AnswerCondition)
     (answer : Option ℕ) (ops : List IsrOp) (s : State)
-    → holds condition answer ≡ false
+    → holds s.variables condition answer ≡ false
     → isr_each app handler op_index 0 answer (isr_op.Expect condition ∷ ops) s ≡ fail (HandlerCheck handler op_index) s
 fails app handler op_index condition answer ops s h = rw h refl
 
@@ -56,7 +57,7 @@ ends_so app limits check s none = rw none refl
 
 pub takes_branch : (app : Application) (handler op_index : ℕ)
     (condition : AnswerCondition) (answer : Option ℕ) (ops : List IsrOp) (s : State)
-    → holds condition answer ≡ true
+    → holds s.variables condition answer ≡ true
     → isr_each app handler op_index 0 answer (isr_op.If condition ∷ ops) s ≡ isr_each app handler (op_index + 1) 0 answer ops s
 takes_branch app handler op_index condition answer ops s h = rw h refl
 
@@ -84,12 +85,12 @@ past_ops ops last behind whole ends =
 
 pub skips_branch : (app : Application) (handler op_index : ℕ)
     (condition : AnswerCondition) (answer : Option ℕ) (ops : List IsrOp) (last : IsrOp)
-    (behind : List IsrOp) (s : State) → holds condition answer ≡ false
+    (behind : List IsrOp) (s : State) → holds s.variables condition answer ≡ false
     → AreWhole [] (isr_edges_of ops) → ends_branch (edge_of_isr last) ≡ true
     → isr_each app handler op_index 0 answer (isr_op.If condition ∷ ops ++ last ∷ behind) s
     ≡ isr_each app handler (op_index + 1 + (length ops + 1)) 0 answer behind s
 skips_branch app handler op_index condition answer ops last behind s h whole ends =
-    let jumps : isr_jump (isr_op.If condition) answer (ops ++ last ∷ behind) ≡ length ops + 1 =
+    let jumps : isr_jump s (isr_op.If condition) answer (ops ++ last ∷ behind) ≡ length ops + 1 =
     rw h (past_ops ops last behind whole ends) in
     ap (λ n. isr_each app handler (op_index + 1) n answer (ops ++ last ∷ behind) s) jumps
     ∙ jumps_over app handler (op_index + 1) answer ops last behind s
@@ -115,7 +116,7 @@ stopped-wake_best list s = of_first (task_of (first (waiters s list))) where
   of_first None = refl
   of_first (Some i) = stopped-wake_one s i list
 
-stopped-fulfil : (caller : Option ℕ) (o : ℕ) (a : Access) (s : State) → (fulfil caller o a s).stopped ≡ s.stopped
+stopped-fulfil : (caller : Option ℕ) (o : ℕ) (a : Access ℕ) (s : State) → (fulfil caller o a s).stopped ≡ s.stopped
 unfolding fulfil
 stopped-fulfil caller o a s = of_list (list_woken caller o a) where
   of_list : (list : Option WaitList)
@@ -123,7 +124,7 @@ stopped-fulfil caller o a s = of_list (list_woken caller o a) where
   of_list None = refl
   of_list (Some list) = stopped-wake_best list (with_object o (object_after caller a (object_at s o)) s)
 
-stopped-attempt : (caller : Option ℕ) (o : ℕ) (a : Access) (s : State) → (attempt caller o a s).stopped ≡ s.stopped
+stopped-attempt : (caller : Option ℕ) (o : ℕ) (a : Access ℕ) (s : State) → (attempt caller o a s).stopped ≡ s.stopped
 unfolding attempt
 stopped-attempt caller o a s = by_test (possible s o a) (λ t. rw t (stopped-fulfil caller o a s)) (λ t. rw t refl)
 
@@ -131,17 +132,18 @@ stopped-resume : (i : ℕ) (s : State) → (resume i s).stopped ≡ s.stopped
 unfolding resume
 stopped-resume i s = by_test (can_resume (status_at s i)) (λ t. rw t refl) (λ t. rw t refl)
 
-stopped-isr : (app : Application) (handler op_index : ℕ) (op : IsrOp) (s : State)
-    → (isr app handler op_index op s).stopped ≡ s.stopped
-stopped-isr app handler op_index (isr_op.Do o a) s = stopped-attempt None o a s
-stopped-isr app handler op_index (isr_op.Command c) s = stopped-attempt None (commands_of app) (Send (item_of c)) s
-stopped-isr app handler op_index (isr_op.Resume i) s = stopped-resume i s
-stopped-isr app handler op_index (isr_op.GetBits group) s = refl
-stopped-isr app handler op_index (isr_op.Mark n) s = refl
-stopped-isr app handler op_index (isr_op.Expect condition) s = refl
-stopped-isr app handler op_index (isr_op.If condition) s = refl
-stopped-isr app handler op_index isr_op.Else s = refl
-stopped-isr app handler op_index isr_op.EndIf s = refl
+stopped-isr : (app : Application) (handler op_index : ℕ) (op : IsrOp) (last : Option ℕ) (s : State)
+    → (isr app handler op_index op last s).stopped ≡ s.stopped
+stopped-isr app handler op_index (isr_op.Do o a) last s = stopped-attempt None o (with_number s.variables last a) s
+stopped-isr app handler op_index (isr_op.Command c) last s = stopped-attempt None (commands_of app) (Send (item_of c)) s
+stopped-isr app handler op_index (isr_op.Resume i) last s = stopped-resume i s
+stopped-isr app handler op_index (isr_op.GetBits group) last s = refl
+stopped-isr app handler op_index (isr_op.Value op) last s = refl
+stopped-isr app handler op_index (isr_op.Mark value) last s = refl
+stopped-isr app handler op_index (isr_op.Expect condition) last s = refl
+stopped-isr app handler op_index (isr_op.If condition) last s = refl
+stopped-isr app handler op_index isr_op.Else last s = refl
+stopped-isr app handler op_index isr_op.EndIf last s = refl
 
 module _ (end : End) where
   -- The run is stopped by this.
@@ -157,12 +159,12 @@ module _ (end : End) where
   stands-isr_each app handler op_index (suc over) answer (op ∷ ops) s h =
       stands-isr_each app handler (op_index + 1) over answer ops s h
   stands-isr_each app handler op_index zero answer (op ∷ ops) s h =
-      let t : State = isr app handler op_index op s in
-      by_test (is_failed op answer)
+      let t : State = isr app handler op_index op answer s in
+      by_test (is_failed s op answer)
       (λ f. rw f (stands-fail (HandlerCheck handler op_index) s h))
       (λ f.
-      rw f (stands-isr_each app handler (op_index + 1) (isr_jump op answer ops)
-      (isr_answer app s op answer) ops t (stopped-isr app handler op_index op s ∙ h)))
+      rw f (stands-isr_each app handler (op_index + 1) (isr_jump s op answer ops)
+      (isr_answer app s op answer) ops t (stopped-isr app handler op_index op answer s ∙ h)))
 
   stands-handle : (app : Application) (handler : ℕ) (s : State) → IsStopped s → IsStopped (handle app handler s)
   unfolding handle
@@ -246,5 +248,7 @@ module _ (end : End) where
   pub stands_in_step : (app : Application) (limits : Limits) (running : Option ℕ) (s : State)
       → IsStopped s → StandsOrMisused (act_current app limits running s)
   stands_in_step app limits running s h =
-      kept-act_current StandsOrMisused anyone stands-framed (λ s i t u remains k. k)
-      (λ s i status is later k. k) stands-passed app limits running s (λ i runs is. refl) (inl h)
+      kept-act_current StandsOrMisused anyone anyone 0 true (λ s t e n m stops left. stands-framed s t e n m stops)
+      (λ s i t u remains k. k)
+      (λ s i status is later k. k) stands-passed app (λ no. absurd (cc)) limits running s
+      (λ i runs. (λ is. refl, λ no. absurd (cc), refl)) (inl h)

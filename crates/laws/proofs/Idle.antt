@@ -1,6 +1,11 @@
 -- Idle runs only where no task is Ready, and after a tick nobody outranks the running task.
-use Rattle.std.proofs.Common.{◌≡◌, ◌≤◌, ◌||◌, ◌&&◌, ◌+◌, ℕ, zero, suc, Bool, true, false, eqb, leb, ltb, List, [], ◌∷◌, Option}
-use Rattle.std.proofs.Common.{Some, None, refl, ap, ap₂, sym, subst, ◌∙◌, arith}
+use Rattle.model.specs.declared.op.Op.TheVariants.{Value}
+use Rattle.model.specs.declared.event.End.TheVariants.{Check}
+use Rattle.model.specs.Ops.{calculate, fail}
+use Rattle.model.specs.Step.{act_by_value, call_with_number}
+use Rattle.soundness.proofs.Passing.{by_value}
+use Rattle.std.proofs.Common.{◌≡◌, ◌≤◌, ◌||◌, ◌+◌, ℕ, zero, suc, Bool, true, false, eqb, leb, ltb, List, [], ◌∷◌, Option}
+use Rattle.std.proofs.Common.{Some, None, refl, sym, subst, ◌∙◌, arith}
 use Rattle.std.specs.List.{AllByRecursion, list_any}
 use Rattle.std.specs.Option.{option_eq}
 use Rattle.std.proofs.lemmas.Bool.{le-ltb}
@@ -20,7 +25,7 @@ use Rattle.model.specs.declared.loops.Loop.{Loop}
 use Rattle.model.specs.declared.answer.AnswerCondition.{AnswerCondition}
 use Rattle.model.specs.Answers.{holds}
 use Rattle.model.specs.Application.{Application, Limits, interrupts_at, op_at}
-use Rattle.model.specs.State.{State, Progress, status_at, task_at, progress_at, call_at, bits_at, go_on, for_each, for_one}
+use Rattle.model.specs.State.{State, Progress, task_at, progress_at, call_at, bits_at, go_on, for_each, for_one}
 use Rattle.model.specs.Order.{Entry, first, task_of, tasks_of}
 use Rattle.model.specs.Switching.{to_back, dispatch, choose, choice, is_same, is_ready, ready_list, ready_key, yield_now, is_above}
 use Rattle.model.specs.Switching.{is_outranked, is_sharing, preempt, slice, settle, is_off, is_held, is_scheduler_suspended}
@@ -37,7 +42,7 @@ use Rattle.model.specs.Groups.{is_met, begin_set, set_bits, clear, answer_bits, 
 use Rattle.model.specs.Groups.{wait_bits}
 use Rattle.model.specs.Suspension.{call_suspend, call_resume, suspend_all, resume_scheduler, resume_all}
 use Rattle.model.specs.Daemon.{take_command, next_command, obeyed, clear_by_daemon, obey, command_at}
-use Rattle.model.specs.Step.{is_ended, judge, act, misuse, act_unless, act_if, act_current, before_step, step, ready_at_reset}
+use Rattle.model.specs.Step.{judge, act, misuse, act_unless, act_if, act_current, before_step, step, ready_at_reset}
 use Rattle.model.specs.Step.{reset}
 use Rattle.model.specs.Run.{injected, state_after}
 use Rattle.model.proofs.Sorting.{by_test, Falls, Falls-in_order, IsAfter}
@@ -51,7 +56,7 @@ use Rattle.soundness.proofs.Handled.{spares-handle}
 use Rattle.soundness.proofs.Frames.{Keeps, keeps_both, keeps-interrupt, keeps-wake_due}
 use Rattle.soundness.proofs.Reached.{reached_after}
 use Rattle.soundness.proofs.Stepped.{reached_before_step}
-use Rattle.model.specs.Invariant.{Hold, Suspension, IsState, RunsIn}
+use Rattle.model.specs.Invariant.{IsState, RunsIn}
 use Rattle.model.specs.Scripts.{IsWellFormed}
 use Rattle.model.proofs.Unlocking.{opened_by, current-all_ready}
 use Rattle.soundness.proofs.Inheriting.{reranks-after_timeout, reranks-inherit}
@@ -175,7 +180,7 @@ current-delay_until app i w s = by_test (ltb s.time w) (λ t. rw t (current-slee
 current-expect : (app : Application) (i : ℕ) (condition : AnswerCondition) (s : State)
     → (expect app i condition s).current ≡ s.current
 unfolding expect go_to
-current-expect app i condition s = by_test (holds condition (progress_at s i).answer) (λ t. rw t refl) (λ t. rw t refl)
+current-expect app i condition s = by_test (holds s.variables condition (progress_at s i).answer) (λ t. rw t refl) (λ t. rw t refl)
 
 current-next_turn : (app : Application) (i : ℕ) (p : Progress) (l : Loop) (ls : List Loop) (left : Option ℕ) (s : State)
     → (next_turn app i p l ls left s).current ≡ s.current
@@ -191,7 +196,7 @@ current-turn app i p (l ∷ ls) s = current-next_turn app i p l ls l.left s
 current-branch : (app : Application) (i : ℕ) (condition : AnswerCondition) (s : State)
     → (branch app i condition s).current ≡ s.current
 unfolding branch go_to
-current-branch app i condition s = by_test (holds condition (progress_at s i).answer) (λ t. rw t refl) (λ t. rw t refl)
+current-branch app i condition s = by_test (holds s.variables condition (progress_at s i).answer) (λ t. rw t refl) (λ t. rw t refl)
 
 still_runs : (i : ℕ) (s t : State) → s.current ≡ Some i → t.current ≡ s.current → IdleAlone t
 still_runs i s t r e = λ n. absurd (let f : Some i ≡ None = sym r ∙ sym e ∙ n in cc)
@@ -204,7 +209,7 @@ idle-delay app i n s r = by_test (eqb n 0)
     rw t (still_runs i s (sleep i (s.time + n) (answer app i (Some 0) s))
     r (current-sleep i (s.time + n) (answer app i (Some 0) s))))
 
-idle-try : (app : Application) (i o : ℕ) (a : Access) (s : State) → s.current ≡ Some i → IdleAlone (try app i o a s)
+idle-try : (app : Application) (i o : ℕ) (a : Access ℕ) (s : State) → s.current ≡ Some i → IdleAlone (try app i o a s)
 unfolding try answer go_to
 idle-try app i o a s r = by_test (possible s o a)
     (λ t. rw t (idle-preempt _))
@@ -212,7 +217,7 @@ idle-try app i o a s r = by_test (possible s o a)
     (λ q. rw q (still_runs i s (answer app i (answer_to s o a) (after_timeout i o s)) r (reranks-after_timeout s i o).current))
     (λ q. rw q (still_runs i s (go_on i Decide s) r refl))))
 
-idle-decide : (i o : ℕ) (a : Access) (s : State) → s.current ≡ Some i → IdleAlone (decide i o a s)
+idle-decide : (i o : ℕ) (a : Access ℕ) (s : State) → s.current ≡ Some i → IdleAlone (decide i o a s)
 unfolding decide wait_in
 idle-decide i o a s r = by_test (possible s o a || is_expired s i)
     (λ t. rw t (still_runs i s (lock i o Unlock s) r refl))
@@ -231,7 +236,7 @@ idle-leave_call i s = by_test (call_at s i).waits
     (λ t. rw t (idle-choose (end_hold i Try s)))
     (λ t. rw t (idle-preempt (end_hold i Try s)))
 
-idle-await : (app : Application) (i o : ℕ) (a : Access) (ticks : Option ℕ) (phase : Phase) (s : State)
+idle-await : (app : Application) (i o : ℕ) (a : Access ℕ) (ticks : Option ℕ) (phase : Phase) (s : State)
     → s.current ≡ Some i → IdleAlone (await app i o a ticks phase s)
 unfolding set_deadline
 idle-await app i o a ticks Start s r = idle-try app i o a (set_deadline i ticks s) r
@@ -241,7 +246,7 @@ idle-await app i o a ticks Place s r = still_runs i s (go_on i Unlock s) r refl
 idle-await app i o a ticks Unlock s r = still_runs i s (go_on i Leave (unlock s)) r (current-unlock s)
 idle-await app i o a ticks Leave s r = idle-leave_call i s
 
-idle-do_now : (app : Application) (i o : ℕ) (a : Access) (s : State) → IdleAlone (do_now app i o a s)
+idle-do_now : (app : Application) (i o : ℕ) (a : Access ℕ) (s : State) → IdleAlone (do_now app i o a s)
 unfolding do_now
 idle-do_now app i o a s = idle-preempt _
 
@@ -339,7 +344,7 @@ idle-judge i op_index s h = by_judgement IdleAlone i op_index s h (λ kind. h)
 
 idle-act : (app : Application) (i : ℕ) (op : Op) (s : State) → s.current ≡ Some i → IdleAlone (act app i op s)
 unfolding answer go_to open_loop close_turn skip_branch leave_loop stamp since clear call_suspend call_resume suspend_all
-    with_sections
+    with_sections calculate
 idle-act app i (Work n) s r = idle-work app i (use_up app i n s) (current-use_up app i n s ∙ r)
 idle-act app i (Delay n) s r = idle-delay app i n s r
 idle-act app i (DelayUntil n) s r =
@@ -357,8 +362,9 @@ idle-act app i EndIf s r = still_runs i s (act app i EndIf s) r refl
 idle-act app i Break s r = still_runs i s (leave_loop app i s) r refl
 idle-act app i Stamp s r = still_runs i s (stamp app i s) r refl
 idle-act app i Since s r = still_runs i s (since app i s) r refl
-idle-act app i (Await o a ticks) s r = idle-await app i o a ticks (call_at s i).phase s r
-idle-act app i (Do o a) s r = idle-do_now app i o a s
+idle-act app i (Value op) s r = still_runs i s (calculate app i op s) r refl
+idle-act app i (Await o a ticks) s r = idle-await app i o (call_with_number s i a) ticks (call_at s i).phase s r
+idle-act app i (Do o a) s r = idle-do_now app i o (call_with_number s i a) s
 idle-act app i (GiveMutex o) s r = idle-give_mutex app i o s
 idle-act app i (MessagesWaiting o) s r = still_runs i s (act app i (MessagesWaiting o) s) r refl
 idle-act app i (SpacesAvailable o) s r = still_runs i s (act app i (SpacesAvailable o) s) r refl
@@ -377,7 +383,9 @@ idle-act app i ExitCritical s r = still_runs i s (act app i ExitCritical s) r re
 
 idle-act_unless : (app : Application) (i : ℕ) (kind : Option Misuse) (op : Op) (s : State)
     → s.current ≡ Some i → IdleAlone (act_unless app i kind op s)
-idle-act_unless app i None op s r = idle-judge i (progress_at s i).op_index (act app i op s) (idle-act app i op s r)
+idle-act_unless app i None op s r =
+    idle-judge i (progress_at s i).op_index (act_by_value app i op s)
+    (by_value IdleAlone app i op s (still_runs i s (fail (Check i (progress_at s i).op_index) s) r refl) (idle-act app i op s r))
 idle-act_unless app i (Some kind) op s r = still_runs i s (act_unless app i (Some kind) op s) r refl
 
 idle-act_if : (app : Application) (i : ℕ) (o : Option Op) (s : State) → s.current ≡ Some i → IdleAlone (act_if app i o s)

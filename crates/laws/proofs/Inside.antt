@@ -1,7 +1,11 @@
 -- While a critical section is open no step looks at what is pending, and no handler comes. Then what is pending comes.
-use Rattle.std.proofs.Common.{◌≡◌, ◌≢◌, ◌<◌, ◌≤◌, ◌+◌, ◌-◌, ◌∙◌, ◌++◌, ◌&&◌, ℕ, zero, suc, Bool, true, false, eqb, leb, ltb, List}
+use Rattle.model.specs.declared.op.Op.TheVariants.{Value}
+use Rattle.model.specs.Step.{act_by_value, lacks_value}
+use Rattle.soundness.proofs.Passing.{by_value}
+use Rattle.model.specs.Ops.{calculate}
+use Rattle.std.proofs.Common.{◌≡◌, ◌≢◌, ◌<◌, ◌≤◌, ◌+◌, ◌∙◌, ◌++◌, ◌&&◌, ℕ, zero, suc, Bool, true, false, eqb, leb, ltb, List}
 use Rattle.std.proofs.Common.{[], ◌∷◌}
-use Rattle.std.proofs.Common.{length, map, get_or, set, drop, min, Option, Some, None, refl, ap, ap₂, sym, subst, arith}
+use Rattle.std.proofs.Common.{length, map, get_or, set, Option, Some, None, refl, ap, ap₂, sym, subst, arith}
 use Rattle.std.proofs.Common.{get_or-set_same}
 use Rattle.std.proofs.Common.{get_or-set_other}
 use Rattle.std.specs.List.{AllByRecursion, filter, range_with_len}
@@ -9,8 +13,6 @@ use Rattle.std.proofs.Math.ListN.{length-set}
 use Rattle.model.specs.declared.answer.AnswerCondition.{AnswerCondition}
 use Rattle.model.specs.declared.event.Event.{Event}
 use Rattle.model.specs.declared.event.Misuse.{Misuse}
-use Rattle.model.specs.declared.event.What.{What}
-use Rattle.model.specs.declared.event.What.TheVariants as what
 use Rattle.model.specs.declared.loops.Loop.{Loop}
 use Rattle.model.specs.declared.op.Op.{Op}
 use Rattle.model.specs.declared.op.Op.TheVariants.{Work, Delay, DelayUntil, Yield, Time, Mark, Expect, Repeat, End, If, Else, EndIf}
@@ -21,7 +23,7 @@ use Rattle.model.specs.Answers.{holds}
 use Rattle.model.specs.Application.{Application, Limits, op_at}
 use Rattle.model.specs.Scripts.{IsWellFormed}
 use Rattle.model.specs.State.{State, Source, Progress, no_source, source_at, progress_at, status_at, for_one, for_each}
-use Rattle.model.specs.Switching.{write, is_same, choice, is_off, settle, choose, dispatch, is_held, is_critical, unless_held}
+use Rattle.model.specs.Switching.{is_same, choice, is_off, settle, choose, dispatch, is_held, is_critical, unless_held}
 use Rattle.model.specs.Ops.{go_to, answer, called, expect, open_loop, next_turn, turn, close_turn, branch, skip_branch, leave_loop}
 use Rattle.model.specs.Ops.{stamp, since, with_sections}
 use Rattle.model.specs.Groups.{clear}
@@ -53,7 +55,7 @@ module _ (xs : List Source) where
   module _ (app : Application) (i : ℕ) where
     blind-expect : (condition : AnswerCondition) (s : State) → IsBlind (expect app i condition) s
     unfolding expect go_to
-    blind-expect condition s = by_test (holds condition (progress_at s i).answer) (λ t. rw t refl) (λ t. rw t refl)
+    blind-expect condition s = by_test (holds s.variables condition (progress_at s i).answer) (λ t. rw t refl) (λ t. rw t refl)
 
     blind-next_turn : (p : Progress) (l : Loop) (ls : List Loop) (left : Option ℕ) (s : State)
         → IsBlind (next_turn app i p l ls left) s
@@ -72,17 +74,18 @@ module _ (xs : List Source) where
 
     blind-branch : (condition : AnswerCondition) (s : State) → IsBlind (branch app i condition) s
     unfolding branch go_to
-    blind-branch condition s = by_test (holds condition (progress_at s i).answer) (λ t. rw t refl) (λ t. rw t refl)
+    blind-branch condition s = by_test (holds s.variables condition (progress_at s i).answer) (λ t. rw t refl) (λ t. rw t refl)
 
     -- an op that has its place in a critical section
     blind-act : (op : Op) (s : State) → is_barred op ≡ false → IsBlind (act app i op) s
-    unfolding go_to answer open_loop skip_branch leave_loop stamp since clear with_sections
+    unfolding go_to answer open_loop skip_branch leave_loop stamp since clear with_sections calculate
     blind-act (Work n) s t = absurd (cc)
     blind-act (Delay n) s t = absurd (cc)
     blind-act (DelayUntil n) s t = absurd (cc)
     blind-act Yield s t = absurd (cc)
     blind-act Time s t = refl
-    blind-act (Mark n) s t = refl
+    blind-act (Mark value) s t = refl
+    blind-act (Value op) s t = refl
     blind-act (Expect c) s t = blind-expect c s
     blind-act (Repeat n) s t = refl
     blind-act End s t = blind-close_turn s
@@ -110,6 +113,11 @@ module _ (xs : List Source) where
     blind-act (NextCommand o) s t = absurd (cc)
     blind-act Obey s t = absurd (cc)
 
+    blind-act_by_value : (op : Op) (s : State) → is_barred op ≡ false → IsBlind (act_by_value app i op) s
+    blind-act_by_value op s t = by_test (lacks_value s i op)
+        (λ lacks. rw lacks refl)
+        (λ has. rw has (blind-act op s t))
+
     blind-judge : (op_index : ℕ) (s : State) → IsBlind (judge i op_index) s
     unfolding judge
     blind-judge op_index s = by_test (is_ended (status_at s i))
@@ -124,8 +132,8 @@ module _ (xs : List Source) where
     blind-act_if (Some op) s open_ = by_kind (misuse s i op) refl where
       by_kind : (kind : Option Misuse) → misuse s i op ≡ kind → IsBlind (act_unless app i kind op) s
       by_kind None e =
-          ap (judge i (progress_at s i).op_index) (blind-act op s (not_barred s i op open_ e))
-          ∙ blind-judge (progress_at s i).op_index (act app i op s)
+          ap (judge i (progress_at s i).op_index) (blind-act_by_value op s (not_barred s i op open_ e))
+          ∙ blind-judge (progress_at s i).op_index (act_by_value app i op s)
       by_kind (Some kind) e = refl
 
   blind-settle : (s : State) → IsBlind settle s
@@ -326,7 +334,7 @@ module _ (app : Application) (i : ℕ) where
 
   tells-expect : (condition : AnswerCondition) (s : State) → AreTasks s.log → AreTasks (expect app i condition s).log
   unfolding expect go_to
-  tells-expect condition s h = by_test (holds condition (progress_at s i).answer) (λ t. rw t h) (λ t. rw t h)
+  tells-expect condition s h = by_test (holds s.variables condition (progress_at s i).answer) (λ t. rw t h) (λ t. rw t h)
 
   tells-next_turn : (p : Progress) (l : Loop) (ls : List Loop) (left : Option ℕ) (s : State) → AreTasks s.log
       → AreTasks (next_turn app i p l ls left s).log
@@ -341,16 +349,17 @@ module _ (app : Application) (i : ℕ) where
 
   tells-branch : (condition : AnswerCondition) (s : State) → AreTasks s.log → AreTasks (branch app i condition s).log
   unfolding branch go_to
-  tells-branch condition s h = by_test (holds condition (progress_at s i).answer) (λ t. rw t h) (λ t. rw t h)
+  tells-branch condition s h = by_test (holds s.variables condition (progress_at s i).answer) (λ t. rw t h) (λ t. rw t h)
 
   tells-act : (op : Op) (s : State) → is_barred op ≡ false → AreTasks s.log → AreTasks (act app i op s).log
-  unfolding go_to open_loop close_turn skip_branch leave_loop stamp since clear with_sections
+  unfolding go_to open_loop close_turn skip_branch leave_loop stamp since clear with_sections calculate
   tells-act (Work n) s t h = absurd (cc)
   tells-act (Delay n) s t h = absurd (cc)
   tells-act (DelayUntil n) s t h = absurd (cc)
   tells-act Yield s t h = absurd (cc)
   tells-act Time s t h = tells-answer _ s h
-  tells-act (Mark n) s t h = tells s.log _ h refl
+  tells-act (Mark value) s t h = tells s.log _ h refl
+  tells-act (Value op) s t h = tells-answer _ _ h
   tells-act (Expect c) s t h = tells-expect c s h
   tells-act (Repeat n) s t h = h
   tells-act End s t h = tells-turn (progress_at s i) (progress_at s i).loops s h
@@ -383,8 +392,9 @@ module _ (app : Application) (i : ℕ) where
   tells-act_if (Some op) s open_ h = by_kind (misuse s i op) refl where
     by_kind : (kind : Option Misuse) → misuse s i op ≡ kind → AreTasks (act_unless app i kind op s).log
     by_kind None e =
-        let acted = tells-act op s (not_barred s i op open_ e) h in
-        by_judgement (λ (t : State). AreTasks t.log) i (progress_at s i).op_index (act app i op s) acted (λ kind. acted)
+        let acted : AreTasks (act_by_value app i op s).log =
+        by_value (λ (t : State). AreTasks t.log) app i op s h (tells-act op s (not_barred s i op open_ e) h) in
+        by_judgement (λ (t : State). AreTasks t.log) i (progress_at s i).op_index (act_by_value app i op s) acted (λ kind. acted)
     by_kind (Some kind) e = h
 
 tells-settle : (s : State) → AreTasks s.log → AreTasks (settle s).log

@@ -15,3 +15,7 @@ pub mod Awaited
 pub mod Handling
 pub mod Measuring
 pub mod Inside
+pub mod Calculating
+pub mod Storing
+pub mod Answering
+pub mod LastAnswers

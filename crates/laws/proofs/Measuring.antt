@@ -16,7 +16,7 @@ use Rattle.model.proofs.Lists.{eqb-refl, eqb-same}
 use Rattle.model.proofs.Sorting.{by_test}
 use Rattle.laws.specs.Branches.{IsQuiet}
 use Rattle.laws.proofs.Blocks.{at-go_to, fits_held, quiet-go_to}
-use Rattle.laws.proofs.Changes.{Remains, Stays, Stops, kept-step, one_task}
+use Rattle.laws.proofs.Changes.{Remains, Stays, Stops, anyone, kept-step, one_task}
 use Rattle.laws.proofs.Sleeping.{NoneBetween}
 
 -- ---- what the two ops do
@@ -93,7 +93,7 @@ module _ (i : ℕ) (noted : ℕ) where
   others j = not (eqb i j)
 
   has-moved : (s : State) (j : ℕ) (t : Task) → Stays (status_at s j) t.status
-      → Remains (others j) (task_at s j) t → HasStamp s → HasStamp (with_task j t s)
+      → Remains (others j) true (task_at s j) t → HasStamp s → HasStamp (with_task j t s)
   has-moved s j t u remains h = has-changed s j t (λ e. remains.1 (rw e (ap not (eqb-refl j)))) h
 
   -- It does no `stamp` in this state, if it runs.
@@ -110,8 +110,9 @@ module _ (i : ℕ) (noted : ℕ) where
       → DoesNoStamp app (before_step app handlers s) i
       → HasStamp s → HasStamp (step app limits handlers s)
   stays_noted app limits handlers s never h =
-      kept-step HasStamp others has-framed has-moved (λ s j status is later. has-taken s j status) has-passed app limits handlers s
-      (others_stamp app (before_step app handlers s) never) h
+      kept-step HasStamp others anyone 0 true (λ s t e n m stops left. has-framed s t e n m stops) has-moved
+      (λ s j status is later. has-taken s j status) has-passed app (λ no. absurd (cc)) limits handlers s
+      (λ j runs. (others_stamp app (before_step app handlers s) never j runs, λ no. absurd (cc), refl)) h
 
 pub noted_at_reset : (app : Application) (i : ℕ) → IfSome (definition_of app i) (λ d. (progress_at (reset app) i).stamp ≡ app.start)
 unfolding reset ready_at_reset nobody_ready

@@ -30,7 +30,7 @@ module _ (app : Application) where
   base-framed s t e n m stops h = λ i. ap (λ (ts : List Task). (get_or ts i no_task).base_priority) e ∙ h i
 
   base-moved : (s : State) (i : ℕ) (t : Task) → Stays (status_at s i) t.status
-      → Remains true (task_at s i) t → AreAtReset s → AreAtReset (with_task i t s)
+      → Remains true true (task_at s i) t → AreAtReset s → AreAtReset (with_task i t s)
   base-moved s i t u remains h = each-set no_task (λ j v. v.base_priority ≡ base_at_reset j) s.tasks i t (remains.0 ∙ h i) h
 
   base-taken : (s : State) (i : ℕ) (f : ℕ → Status) → AreAtReset s → AreAtReset (take_ticket i f s)

@@ -83,7 +83,7 @@ module _ (s : State) (k : ℕ) (t : Task) (h : TicketsApart s) where
   ]
 
 apart-moved : (s : State) (i : ℕ) (t : Task) → Stays (status_at s i) t.status
-    → Remains true (task_at s i) t → TicketsApart s → TicketsApart (with_task i t s)
+    → Remains true true (task_at s i) t → TicketsApart s → TicketsApart (with_task i t s)
 unfolding new_at
 apart-moved s i t u remains h =
     let B : Option ℕ → Type 0 = λ o. IfSome o (λ ticket. ticket < s.next_ticket) in

@@ -42,7 +42,7 @@ later-set s i t now l h j = elim (one_task s.tasks i t j) [
 ]
 
 later-moved : (s : State) (i : ℕ) (t : Task) → Stays (status_at s i) t.status
-    → Remains true (task_at s i) t → WakeLater s → WakeLater (with_task i t s)
+    → Remains true true (task_at s i) t → WakeLater s → WakeLater (with_task i t s)
 later-moved s i t u remains h =
     let W : Option ℕ → Type 0 = λ o. IfSome o (λ w. s.time < w) in
     later-set s i t s.time (elim u [ inl e ↦ subst W (sym e.1) (h i) | inr e ↦ subst W (sym e.1) tt ]) h

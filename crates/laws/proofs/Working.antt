@@ -1,4 +1,6 @@
 -- A step in which a task runs lets one tick pass at most: only idle sleeps.
+use Rattle.model.specs.Step.{act_by_value}
+use Rattle.soundness.proofs.Passing.{by_value}
 use Rattle.std.proofs.Common.{◌≡◌, ◌≤◌, ◌+◌, ◌-◌, ℕ, true, List, Option, Some, None, arith}
 use Rattle.std.specs.Option.{is_some}
 use Rattle.model.specs.declared.op.Op.{Op}
@@ -24,8 +26,9 @@ one-act app i op s = by_op (λ op. (act app i op s).elapsed ≤ s.elapsed + 1)
 one-act_unless : (app : Application) (i : ℕ) (kind : Option Misuse) (op : Op) (s : State)
     → (act_unless app i kind op s).elapsed ≤ s.elapsed + 1
 one-act_unless app i None op s =
-    let e = (judged i (progress_at s i).op_index (act app i op s)).elapsed in
-    let one = one-act app i op s in
+    let e = (judged i (progress_at s i).op_index (act_by_value app i op s)).elapsed in
+    let one : (act_by_value app i op s).elapsed ≤ s.elapsed + 1 =
+    by_value (λ t. t.elapsed ≤ s.elapsed + 1) app i op s (omega arith) (one-act app i op s) in
     omega arith
 one-act_unless app i (Some kind) op s = omega arith
 

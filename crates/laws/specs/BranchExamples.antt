@@ -1,4 +1,5 @@
 -- Worked examples with branches, loops without end and `break`: applications, what is injected, and what their runs come to.
+use Rattle.model.specs.declared.value.Value.TheVariants.{Number}
 use Rattle.std.specs.Prelude.{List, [], ◌∷◌, Some, None, codes}
 use Rattle.model.specs.declared.answer.AnswerCondition.TheVariants.{Is, IsNot, Below, Above}
 use Rattle.model.specs.declared.object.ObjectKind.TheVariants.{Queue}
@@ -26,9 +27,12 @@ abbrev pub each_condition : Injected
 each_condition = record {
   app = the_application 0 (
       a_task (codes "a") (
-      If (Is None) ∷ Mark 1 ∷ EndIf ∷ If (IsNot (Some 0)) ∷ Mark 2 ∷ EndIf ∷ If (Below 5) ∷ Mark 3 ∷ Else ∷ Mark 4 ∷ EndIf
-      ∷ If (Above 0) ∷ Mark 5 ∷ EndIf ∷ Time ∷ If (Below 1) ∷ Mark 6 ∷ EndIf ∷ If (Above 0) ∷ Mark 7 ∷ Else ∷ Mark 8 ∷ EndIf
-      ∷ If (IsNot None) ∷ Mark 9 ∷ EndIf ∷ Expect (Below 1) ∷ Expect (IsNot (Some 4294967295)) ∷ Expect (Above 4294967295)
+      If (Is None) ∷ Mark (Number 1) ∷ EndIf ∷ If (IsNot (Some (Number 0))) ∷ Mark (Number 2) ∷ EndIf
+      ∷ If (Below (Number 5)) ∷ Mark (Number 3) ∷ Else ∷ Mark (Number 4) ∷ EndIf
+      ∷ If (Above (Number 0)) ∷ Mark (Number 5) ∷ EndIf ∷ Time ∷ If (Below (Number 1)) ∷ Mark (Number 6) ∷ EndIf
+      ∷ If (Above (Number 0)) ∷ Mark (Number 7) ∷ Else ∷ Mark (Number 8) ∷ EndIf
+      ∷ If (IsNot None) ∷ Mark (Number 9) ∷ EndIf ∷ Expect (Below (Number 1)) ∷ Expect (IsNot (Some (Number 4294967295)))
+      ∷ Expect (Above (Number 4294967295))
       ∷ []) ∷ []);
   plan = [];
   run = record {
@@ -48,8 +52,9 @@ abbrev pub three_tries : Application
 three_tries =
     with_handler (Queue 1 ∷ []) (sends 0 7 ∷ []) (
     a_task (codes "a") (
-    Repeat (Some 3) ∷ on_queue Receive 1 ∷ If (Is None) ∷ Mark 1 ∷ Else ∷ Expect (Is (Some 7)) ∷ Break ∷ EndIf ∷ EndLoop
-    ∷ Mark 2 ∷ []) ∷ [])
+    Repeat (Some 3) ∷ on_queue Receive 1 ∷ If (Is None) ∷ Mark (Number 1) ∷ Else ∷ Expect (Is (Some (Number 7))) ∷ Break
+    ∷ EndIf ∷ EndLoop
+    ∷ Mark (Number 2) ∷ []) ∷ [])
 
 -- The item comes when the first receive has timed out: the task takes the other branch then, and leaves the loop.
 abbrev pub on_the_second_try : Injected
@@ -105,8 +110,9 @@ abbrev pub leaves_the_inner_loop : Injected
 leaves_the_inner_loop = record {
   app = the_application 0 (
       a_task (codes "a") (
-      Repeat (Some 2) ∷ forever ∷ If (Is None) ∷ If (IsNot (Some 5)) ∷ Break ∷ EndIf ∷ Mark 1 ∷ EndIf ∷ EndLoop ∷ Mark 3
-      ∷ EndLoop ∷ Mark 4 ∷ []) ∷ []);
+      Repeat (Some 2) ∷ forever ∷ If (Is None) ∷ If (IsNot (Some (Number 5))) ∷ Break ∷ EndIf ∷ Mark (Number 1) ∷ EndIf
+      ∷ EndLoop ∷ Mark (Number 3)
+      ∷ EndLoop ∷ Mark (Number 4) ∷ []) ∷ []);
   plan = [];
   run = record {
     events =
@@ -122,7 +128,7 @@ abbrev pub until_an_item_comes : Injected
 until_an_item_comes = record {
   app = interrupted_at 3 (with_handler (Queue 1 ∷ []) (sends 0 7 ∷ []) (
       a_task (codes "a") (
-      forever ∷ on_queue Receive 1 ∷ If (IsNot None) ∷ Break ∷ EndIf ∷ EndLoop ∷ Mark 6 ∷ []) ∷ []));
+      forever ∷ on_queue Receive 1 ∷ If (IsNot None) ∷ Break ∷ EndIf ∷ EndLoop ∷ Mark (Number 6) ∷ []) ∷ []));
   plan = [];
   run = record {
     events =
@@ -140,7 +146,7 @@ until_an_item_comes = record {
 -- An `if` that jumps over the last branch ends the script.
 abbrev pub ends_by_an_if : Injected
 ends_by_an_if = record {
-  app = the_application 0 (a_task (codes "a") (If (Is (Some 1)) ∷ Mark 1 ∷ EndIf ∷ []) ∷ []);
+  app = the_application 0 (a_task (codes "a") (If (Is (Some (Number 1))) ∷ Mark (Number 1) ∷ EndIf ∷ []) ∷ []);
   plan = [];
   run = record {
     events = event_at 0 0 idles ∷ [];
@@ -153,7 +159,7 @@ ends_by_an_if = record {
 -- So does an `else` that does.
 abbrev pub ends_by_an_else : Injected
 ends_by_an_else = record {
-  app = the_application 0 (a_task (codes "a") (If (Is None) ∷ Mark 1 ∷ Else ∷ Mark 2 ∷ EndIf ∷ []) ∷ []);
+  app = the_application 0 (a_task (codes "a") (If (Is None) ∷ Mark (Number 1) ∷ Else ∷ Mark (Number 2) ∷ EndIf ∷ []) ∷ []);
   plan = [];
   run = record {
     events = event_at 1 0 (what.Mark a 1) ∷ event_at 2 0 idles ∷ [];
@@ -181,8 +187,10 @@ abbrev pub eight_blocks : Injected
 eight_blocks = record {
   app = the_application 0 (
       a_task (codes "a") (
-      If (Is (Some 1)) ∷ If (Is (Some 1)) ∷ If (Is (Some 1)) ∷ If (Is (Some 1)) ∷ If (Is (Some 1)) ∷ If (Is (Some 1))
-      ∷ If (Is (Some 1)) ∷ If (Is (Some 1)) ∷ EndIf ∷ EndIf ∷ EndIf ∷ EndIf ∷ EndIf ∷ EndIf ∷ EndIf ∷ EndIf ∷ []) ∷ []);
+      If (Is (Some (Number 1))) ∷ If (Is (Some (Number 1))) ∷ If (Is (Some (Number 1))) ∷ If (Is (Some (Number 1)))
+      ∷ If (Is (Some (Number 1))) ∷ If (Is (Some (Number 1)))
+      ∷ If (Is (Some (Number 1))) ∷ If (Is (Some (Number 1))) ∷ EndIf ∷ EndIf ∷ EndIf ∷ EndIf ∷ EndIf ∷ EndIf ∷ EndIf
+      ∷ EndIf ∷ []) ∷ []);
   plan = [];
   run = record {
     events = event_at 0 0 idles ∷ [];
@@ -197,7 +205,9 @@ eight_blocks = record {
 -- Branches may be taken while the scheduler is held, which may be released in one of them.
 abbrev pub branches_while_held : Injected
 branches_while_held = record {
-  app = the_application 0 (a_task (codes "a") (SuspendAll ∷ If (Is (Some 0)) ∷ ResumeAll ∷ Else ∷ Mark 1 ∷ EndIf ∷ []) ∷ []);
+  app =
+      the_application 0 (a_task (codes "a") (SuspendAll ∷ If (Is (Some (Number 0))) ∷ ResumeAll ∷ Else ∷ Mark (Number 1)
+      ∷ EndIf ∷ []) ∷ []);
   plan = [];
   run = record {
     events = event_at 0 0 (call a 0 0) ∷ event_at 2 0 (call a 2 0) ∷ event_at 3 0 idles ∷ [];
@@ -210,7 +220,7 @@ branches_while_held = record {
 -- An `if` that ends the script while the scheduler is held is a misuse.
 abbrev pub ends_and_holds_by_an_if : Injected
 ends_and_holds_by_an_if = record {
-  app = the_application 0 (a_task (codes "a") (SuspendAll ∷ If (Is (Some 1)) ∷ Mark 1 ∷ EndIf ∷ []) ∷ []);
+  app = the_application 0 (a_task (codes "a") (SuspendAll ∷ If (Is (Some (Number 1))) ∷ Mark (Number 1) ∷ EndIf ∷ []) ∷ []);
   plan = [];
   run = record {
     events = event_at 0 0 (call a 0 0) ∷ [];

@@ -1,4 +1,6 @@
 -- Worked examples of the end state: applications, what is injected, and the state after this many steps.
+use Rattle.model.specs.declared.value.Arithmetic.TheVariants.{Add}
+use Rattle.model.specs.declared.value.Value.TheVariants.{Number, Answer}
 use Rattle.std.specs.Prelude.{◌≡◌, ℕ, List, [], ◌∷◌, Some, None, codes}
 use Rattle.model.specs.declared.object.ObjectKind.TheVariants.{Queue, Mutex}
 use Rattle.model.specs.declared.op.Access.TheVariants.{Receive}
@@ -11,6 +13,7 @@ use Rattle.model.specs.declared.end_state.Situation.TheVariants.{Runs, Ready, Aw
 use Rattle.model.specs.EndStates.{EndState, end_state_of, held_by}
 use Rattle.laws.specs.Examples.{a_task, a_task_of, on_queue, a, b, c, with_objects}
 use Rattle.laws.specs.HandlerExamples.{point_at, sends, with_handler}
+use Rattle.laws.specs.ValueExamples.{compute, isr_store, load, store, task_alone, with_variables, x, y}
 use Rattle.laws.specs.MutexExamples.{lock, lock_forever, m, n}
 use Rattle.laws.specs.DaemonExamples.{deferred}
 
@@ -35,23 +38,43 @@ one_wait = with_handler (Queue 1 ∷ []) (sends 0 7 ∷ []) (a_task (codes "a") 
 
 -- The task has tried, and runs on.
 abbrev pub tried : Stopped
-tried = record { app = one_wait; plan = []; steps = 1; stands = record { situations = Runs 0 ∷ []; held = [] } }
+tried = record { app = one_wait; plan = []; steps = 1; stands = record { situations = Runs 0 ∷ []; held = []; variables = [] } }
 
 -- It has decided to wait, and isn't in its list yet.
 abbrev pub decided : Stopped
-decided = record { app = one_wait; plan = []; steps = 2; stands = record { situations = Waits 0 (Some 9) ∷ []; held = [] } }
+decided = record {
+  app = one_wait;
+  plan = [];
+  steps = 2;
+  stands = record { situations = Waits 0 (Some 9) ∷ []; held = []; variables = [] };
+}
 
 -- It is in its list, and the queue is locked.
 abbrev pub placed : Stopped
-placed = record { app = one_wait; plan = []; steps = 3; stands = record { situations = Waits 0 (Some 9) ∷ []; held = [] } }
+placed = record {
+  app = one_wait;
+  plan = [];
+  steps = 3;
+  stands = record { situations = Waits 0 (Some 9) ∷ []; held = []; variables = [] };
+}
 
 -- The handler has sent, before it was put into its list.
 abbrev pub woken : Stopped
-woken = record { app = one_wait; plan = point_at 2; steps = 3; stands = record { situations = Awake 0 ∷ []; held = [] } }
+woken = record {
+  app = one_wait;
+  plan = point_at 2;
+  steps = 3;
+  stands = record { situations = Awake 0 ∷ []; held = []; variables = [] };
+}
 
 -- The queue is unlocked, and the call holds the scheduler still.
 abbrev pub unlocked : Stopped
-unlocked = record { app = one_wait; plan = point_at 2; steps = 4; stands = record { situations = Runs 0 ∷ []; held = [] } }
+unlocked = record {
+  app = one_wait;
+  plan = point_at 2;
+  steps = 4;
+  stands = record { situations = Runs 0 ∷ []; held = []; variables = [] };
+}
 
 -- ---- mutexes
 
@@ -66,7 +89,7 @@ stuck = record {
   app = opposite_locks;
   plan = [];
   steps = 15;
-  stands = record { situations = Waits 2 None ∷ Waits 2 None ∷ []; held = held_by m b ∷ held_by n a ∷ [] };
+  stands = record { situations = Waits 2 None ∷ Waits 2 None ∷ []; held = held_by m b ∷ held_by n a ∷ []; variables = [] };
 }
 
 -- the same beside a task that suspends itself, one that only asks the time, and one that computes;
@@ -86,7 +109,11 @@ begun = record {
   app = five_tasks;
   plan = [];
   steps = 3;
-  stands = record { situations = Sleeps 1 1 ∷ Runs 1 ∷ Suspended 1 ∷ Ready 0 ∷ Ready 0 ∷ []; held = held_by m b ∷ [] };
+  stands = record {
+    situations = Sleeps 1 1 ∷ Runs 1 ∷ Suspended 1 ∷ Ready 0 ∷ Ready 0 ∷ [];
+    held = held_by m b ∷ [];
+    variables = [];
+  };
 }
 
 abbrev pub waiting : Stopped
@@ -98,6 +125,7 @@ waiting = record {
       record {
         situations = Waits 2 None ∷ Waits 2 (Some 7) ∷ Suspended 1 ∷ Ended ∷ Runs 0 ∷ [];
         held = held_by m b ∷ held_by n a ∷ [];
+        variables = [];
       };
 }
 
@@ -106,18 +134,53 @@ resumed = record {
   app = five_tasks;
   plan = point_at 3;
   steps = 20;
-  stands =
-      record { situations = Waits 2 None ∷ Waits 2 (Some 7) ∷ Ended ∷ Ended ∷ Runs 0 ∷ []; held = held_by m b ∷ held_by n a ∷ [] };
+  stands = record {
+    situations = Waits 2 None ∷ Waits 2 (Some 7) ∷ Ended ∷ Ended ∷ Runs 0 ∷ [];
+    held = held_by m b ∷ held_by n a ∷ [];
+    variables = [];
+  };
 }
 
 -- ---- bits
 
 -- The daemon waits for a command, and the task for bits.
 abbrev pub nobody_sets : Stopped
-nobody_sets =
-    record { app = deferred; plan = []; steps = 7; stands = record { situations = Waits 0 None ∷ Waits 0 None ∷ []; held = [] } }
+nobody_sets = record {
+  app = deferred;
+  plan = [];
+  steps = 7;
+  stands = record { situations = Waits 0 None ∷ Waits 0 None ∷ []; held = []; variables = [] };
+}
+
+-- ---- variables
+
+-- A task locks a mutex, and adds 4 to a variable, which becomes another. A handler stores the first.
+abbrev pub stores : Application
+stores =
+    with_variables (3 ∷ 0 ∷ []) (with_handler (Mutex ∷ []) (isr_store x (Number 1) ∷ []) (
+    a_task (codes "a") (lock m 0 ∷ load x ∷ compute Add (Number 4) ∷ store y Answer ∷ []) ∷ []))
+
+-- The handler has stored it before the load.
+abbrev pub both_stored : Stopped
+both_stored = record {
+  app = stores;
+  plan = point_at 1;
+  steps = 4;
+  stands = record { situations = Ended ∷ []; held = held_by m a ∷ []; variables = 1 ∷ 5 ∷ [] };
+}
+
+-- The task stores the last answer, which is `none`.
+abbrev pub nothing_stored : Stopped
+nothing_stored = record {
+  app = task_alone (3 ∷ []) (store x Answer ∷ []);
+  plan = [];
+  steps = 1;
+  stands = record { situations = Runs 0 ∷ []; held = []; variables = 3 ∷ [] };
+}
 
 -- ---- the table
 
 abbrev pub end_states : List Stopped
-end_states = tried ∷ decided ∷ placed ∷ woken ∷ unlocked ∷ stuck ∷ begun ∷ waiting ∷ resumed ∷ nobody_sets ∷ []
+end_states =
+    tried ∷ decided ∷ placed ∷ woken ∷ unlocked ∷ stuck ∷ begun ∷ waiting ∷ resumed ∷ nobody_sets ∷ both_stored
+    ∷ nothing_stored ∷ []

@@ -1,4 +1,5 @@
 -- Worked examples with endless tasks: applications, and what their runs come to.
+use Rattle.model.specs.declared.value.Value.TheVariants.{Number}
 use Rattle.std.specs.Prelude.{ℕ, true, List, [], ◌∷◌, Some, codes}
 use Rattle.model.specs.declared.answer.AnswerCondition.TheVariants.{Is}
 use Rattle.model.specs.declared.op.Access.TheVariants.{Send, Receive}
@@ -22,8 +23,8 @@ endless_task priority name script = record (a_task_of priority name script) { en
 abbrev pub serves_and_passes : Injected
 serves_and_passes = record {
   app = with_queue (
-      endless_task 2 (codes "a") (forever ∷ on_queue_forever Receive ∷ Expect (Is (Some 7)) ∷ EndLoop ∷ [])
-      ∷ a_task (codes "b") (on_queue (Send 7) 0 ∷ Delay 2 ∷ on_queue (Send 7) 0 ∷ Delay 1 ∷ []) ∷ []);
+      endless_task 2 (codes "a") (forever ∷ on_queue_forever Receive ∷ Expect (Is (Some (Number 7))) ∷ EndLoop ∷ [])
+      ∷ a_task (codes "b") (on_queue (Send (Number 7)) 0 ∷ Delay 2 ∷ on_queue (Send (Number 7)) 0 ∷ Delay 1 ∷ []) ∷ []);
   plan = [];
   run = record {
     events =
@@ -41,8 +42,8 @@ serves_and_passes = record {
 abbrev pub serves_and_fails : Injected
 serves_and_fails = record {
   app = with_queue (
-      endless_task 2 (codes "a") (forever ∷ on_queue_forever Receive ∷ Expect (Is (Some 7)) ∷ EndLoop ∷ [])
-      ∷ a_task (codes "b") (on_queue (Send 7) 0 ∷ on_queue (Send 8) 0 ∷ Delay 1 ∷ []) ∷ []);
+      endless_task 2 (codes "a") (forever ∷ on_queue_forever Receive ∷ Expect (Is (Some (Number 7))) ∷ EndLoop ∷ [])
+      ∷ a_task (codes "b") (on_queue (Send (Number 7)) 0 ∷ on_queue (Send (Number 8)) 0 ∷ Delay 1 ∷ []) ∷ []);
   plan = [];
   run = record {
     events =

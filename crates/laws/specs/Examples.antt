@@ -1,4 +1,6 @@
 -- Worked examples: applications, and what their runs come to.
+use Rattle.model.specs.declared.value.Value as value
+use Rattle.model.specs.declared.value.Value.TheVariants.{Number}
 use Rattle.std.specs.Prelude.{ℕ, false, List, [], ◌∷◌, Some, None, codes}
 use Rattle.model.specs.declared.answer.AnswerCondition.TheVariants.{Is}
 use Rattle.model.specs.declared.object.ObjectKind.{ObjectKind}
@@ -33,6 +35,7 @@ the_application start tasks = record {
   limits = wide;
   objects = [];
   group_count = 0;
+  variables = [];
   handlers = [];
   interrupts = [];
   tasks = tasks;
@@ -53,11 +56,11 @@ abbrev pub with_queue : List Definition → Application
 with_queue tasks = with_objects (Queue 1 ∷ []) tasks
 
 -- a call on that queue, which may wait for this many ticks
-abbrev pub on_queue : Access → ℕ → Op
+abbrev pub on_queue : Access value.Value → ℕ → Op
 on_queue access ticks = Await 0 access (Some ticks)
 
 -- the same, which may wait for ever
-abbrev pub on_queue_forever : Access → Op
+abbrev pub on_queue_forever : Access value.Value → Op
 on_queue_forever access = Await 0 access None
 
 -- the first task
@@ -116,7 +119,7 @@ round_robin = record {
 -- `delay 0` yields to an equal, and doesn't sleep
 abbrev pub delay_zero : Example
 delay_zero = record {
-  app = the_application 0 (a_task (codes "a") (Delay 0 ∷ Mark 1 ∷ []) ∷ a_task (codes "b") (Mark 2 ∷ []) ∷ []);
+  app = the_application 0 (a_task (codes "a") (Delay 0 ∷ Mark (Number 1) ∷ []) ∷ a_task (codes "b") (Mark (Number 2) ∷ []) ∷ []);
   run = record {
     events =
         event_at 0 0 (call a 0 0) ∷ event_at 0 0 (runs b) ∷ event_at 1 0 (what.Mark b 2)
@@ -130,7 +133,7 @@ delay_zero = record {
 -- `delay 1` sleeps until the next tick
 abbrev pub delay_one : Example
 delay_one = record {
-  app = the_application 0 (a_task (codes "a") (Delay 1 ∷ Mark 1 ∷ []) ∷ a_task (codes "b") (Mark 2 ∷ []) ∷ []);
+  app = the_application 0 (a_task (codes "a") (Delay 1 ∷ Mark (Number 1) ∷ []) ∷ a_task (codes "b") (Mark (Number 2) ∷ []) ∷ []);
   run = record {
     events =
         event_at 0 0 (call a 0 0) ∷ event_at 0 0 (runs b) ∷ event_at 1 0 (what.Mark b 2) ∷ event_at 1 0 idles
@@ -145,7 +148,8 @@ delay_one = record {
 abbrev pub across_the_wrap : Example
 across_the_wrap = record {
   app = the_application 4294967294 (
-      a_task (codes "a") (Yield ∷ Work 1 ∷ Delay 2 ∷ Mark 1 ∷ []) ∷ a_task (codes "b") (Delay 3 ∷ Mark 2 ∷ []) ∷ []);
+      a_task (codes "a") (Yield ∷ Work 1 ∷ Delay 2 ∷ Mark (Number 1) ∷ [])
+      ∷ a_task (codes "b") (Delay 3 ∷ Mark (Number 2) ∷ []) ∷ []);
   run = record {
     events =
         event_at 0 4294967294 (call a 0 0) ∷ event_at 0 4294967294 (runs b)
@@ -183,7 +187,7 @@ two_turns = record {
 -- a failed `expect` ends the run
 abbrev pub failed_expect : Example
 failed_expect = record {
-  app = the_application 0 (a_task (codes "a") (Time ∷ Expect (Is (Some 1)) ∷ []) ∷ []);
+  app = the_application 0 (a_task (codes "a") (Time ∷ Expect (Is (Some (Number 1))) ∷ []) ∷ []);
   run = record { events = event_at 0 0 (call a 0 0) ∷ []; steps = 2; ticks = 0; end = Check a 1 };
 }
 
@@ -207,7 +211,7 @@ abbrev pub peek_passes_on : Example
 peek_passes_on = record {
   app = with_queue (
       a_task_of 3 (codes "a") (on_queue Peek 9 ∷ []) ∷ a_task_of 2 (codes "b") (on_queue Receive 9 ∷ [])
-      ∷ a_task_of 1 (codes "c") (on_queue (Send 5) 0 ∷ []) ∷ []);
+      ∷ a_task_of 1 (codes "c") (on_queue (Send (Number 5)) 0 ∷ []) ∷ []);
   run = record {
     events =
         event_at 4 0 (runs b) ∷ event_at 9 0 (runs c) ∷ event_at 10 0 (call c 0 1) ∷ event_at 10 0 (runs a)
@@ -222,7 +226,8 @@ peek_passes_on = record {
 abbrev pub send_wakes : Example
 send_wakes = record {
   app = with_queue (
-      a_task_of 1 (codes "a") (on_queue (Send 7) 0 ∷ Mark 1 ∷ []) ∷ a_task_of 2 (codes "b") (on_queue_forever Receive ∷ []) ∷ []);
+      a_task_of 1 (codes "a") (on_queue (Send (Number 7)) 0 ∷ Mark (Number 1) ∷ [])
+      ∷ a_task_of 2 (codes "b") (on_queue_forever Receive ∷ []) ∷ []);
   run = record {
     events =
         event_at 4 0 (runs a) ∷ event_at 5 0 (call a 0 1) ∷ event_at 5 0 (runs b) ∷ event_at 6 0 (call b 0 7)
@@ -237,9 +242,11 @@ send_wakes = record {
 abbrev pub two_writers : Example
 two_writers = record {
   app = with_queue (
-      a_task_of 1 (codes "a") (on_queue_forever (Send 1) ∷ []) ∷ a_task_of 2 (codes "b") (on_queue_forever (Send 2) ∷ [])
+      a_task_of 1 (codes "a") (on_queue_forever (Send (Number 1)) ∷ [])
+      ∷ a_task_of 2 (codes "b") (on_queue_forever (Send (Number 2)) ∷ [])
       ∷ a_task_of 3 (codes "c") (
-      on_queue (Send 3) 0 ∷ Delay 1 ∷ on_queue Receive 0 ∷ Delay 1 ∷ on_queue Receive 0 ∷ on_queue_forever Receive ∷ []) ∷ []);
+      on_queue (Send (Number 3)) 0 ∷ Delay 1 ∷ on_queue Receive 0 ∷ Delay 1 ∷ on_queue Receive 0 ∷ on_queue_forever Receive
+      ∷ []) ∷ []);
   run = record {
     events =
         event_at 0 0 (call c 0 1) ∷ event_at 1 0 (call c 1 0) ∷ event_at 1 0 (runs b) ∷ event_at 6 0 (runs a)

@@ -1,4 +1,5 @@
 -- Worked examples with interrupt handlers: applications, what is injected, and what their runs come to.
+use Rattle.model.specs.declared.value.Value.TheVariants.{Number}
 use Rattle.std.specs.Prelude.{ℕ, Bool, true, false, List, [], ◌∷◌, Some, None, codes}
 use Rattle.model.specs.declared.object.ObjectKind.{ObjectKind}
 use Rattle.model.specs.declared.object.ObjectKind.TheVariants.{Queue}
@@ -29,6 +30,7 @@ with_handler objects ops tasks = record {
   limits = wide;
   objects = objects;
   group_count = 0;
+  variables = [];
   handlers = record { name = codes "h"; ops = ops } ∷ [];
   interrupts = [];
   tasks = tasks;
@@ -42,7 +44,7 @@ interrupted_at tick app = record app { interrupts = record { tick = tick; handle
 
 -- The handler sends an item to the queue, or asks for one.
 abbrev pub sends : ℕ → ℕ → IsrOp
-sends queue item = isr_op.Do queue (Send item)
+sends queue item = isr_op.Do queue (Send (Number item))
 
 abbrev pub receives : ℕ → IsrOp
 receives queue = isr_op.Do queue Receive
@@ -281,7 +283,7 @@ more_items = record {
 abbrev pub room_taken : Injected
 room_taken = record {
   app = with_handler (Queue 1 ∷ []) (receives 0 ∷ sends 0 9 ∷ []) (
-      a_task (codes "a") (on_queue (Send 1) 0 ∷ on_queue (Send 2) 3 ∷ []) ∷ []);
+      a_task (codes "a") (on_queue (Send (Number 1)) 0 ∷ on_queue (Send (Number 2)) 3 ∷ []) ∷ []);
   plan = point_at 4;
   run = record {
     events =
@@ -331,8 +333,8 @@ still_to_come = record {
 -- what ops of a handler answer: `none` of an empty queue, 1 and 0 of a send with and without room
 abbrev pub answers : Injected
 answers = record {
-  app = with_handler (Queue 1 ∷ []) (isr_op.Mark 3 ∷ receives 0 ∷ sends 0 8 ∷ sends 0 9 ∷ isr_op.Do 0 Peek ∷ []) (
-      a_task (codes "a") (Mark 1 ∷ []) ∷ []);
+  app = with_handler (Queue 1 ∷ []) (isr_op.Mark (Number 3) ∷ receives 0 ∷ sends 0 8 ∷ sends 0 9 ∷ isr_op.Do 0 Peek ∷ []) (
+      a_task (codes "a") (Mark (Number 1) ∷ []) ∷ []);
   plan = point_at 0;
   run = record {
     events =

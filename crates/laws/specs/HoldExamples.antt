@@ -1,4 +1,5 @@
 -- Worked examples with event groups, suspended tasks and a held scheduler: applications, and what their runs come to.
+use Rattle.model.specs.declared.value.Value.TheVariants.{Number}
 use Rattle.std.specs.Prelude.{ℕ, true, false, List, [], ◌∷◌, None, codes}
 use Rattle.model.specs.declared.object.ObjectKind.TheVariants.{Queue}
 use Rattle.model.specs.declared.op.Access.TheVariants.{Send, Receive}
@@ -127,7 +128,7 @@ interrupt_while_held = record {
 -- A call that may wait is a misuse while the scheduler is held, also where it wouldn't wait.
 abbrev pub waits_while_held : Injected
 waits_while_held = record {
-  app = with_queue (a_task (codes "a") (SuspendAll ∷ on_queue (Send 1) 0 ∷ []) ∷ []);
+  app = with_queue (a_task (codes "a") (SuspendAll ∷ on_queue (Send (Number 1)) 0 ∷ []) ∷ []);
   plan = [];
   run = record { events = event_at 0 0 (call a 0 0) ∷ []; steps = 2; ticks = 0; end = Misuse a 1 WhileSuspended };
 }

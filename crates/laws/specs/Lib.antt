@@ -15,3 +15,5 @@ pub mod SectionExamples
 pub mod Sections
 pub mod StampExamples
 pub mod TicklessExamples
+pub mod ValueExamples
+pub mod Values

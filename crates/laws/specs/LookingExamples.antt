@@ -1,4 +1,5 @@
 -- Worked examples of handlers that look at what was answered: applications, what is injected, and what their runs come to.
+use Rattle.model.specs.declared.value.Value.TheVariants.{Number}
 use Rattle.std.specs.Prelude.{ℕ, List, [], ◌∷◌, Some, None, codes}
 use Rattle.model.specs.declared.answer.AnswerCondition.TheVariants.{Is, IsNot}
 use Rattle.model.specs.declared.object.ObjectKind.TheVariants.{Queue}
@@ -18,7 +19,7 @@ use Rattle.laws.specs.HandlerExamples.{Injected, with_handler, interrupted_at, p
 -- wherever else a plan has it.
 abbrev pub expects_room : Application
 expects_room =
-    interrupted_at 1 (with_handler (Queue 1 ∷ []) (sends 0 7 ∷ isr_op.Expect (Is (Some 1)) ∷ []) (
+    interrupted_at 1 (with_handler (Queue 1 ∷ []) (sends 0 7 ∷ isr_op.Expect (Is (Some (Number 1))) ∷ []) (
     a_task (codes "a") (on_queue Receive 2 ∷ Delay 1 ∷ on_queue Receive 0 ∷ []) ∷ []))
 
 -- It comes at its tick alone: the second receive is in vain.
@@ -168,8 +169,9 @@ comes_at_the_end = record {
 abbrev pub answers_none_at_first : Injected
 answers_none_at_first = record {
   app = with_handler [] (
-      isr_op.Expect (Is None) ∷ isr_op.Mark 3 ∷ isr_op.Expect (Is None) ∷ isr_op.Expect (Is (Some 0)) ∷ isr_op.Mark 4 ∷ []) (
-      a_task (codes "a") (Expect (Is (Some 5)) ∷ []) ∷ []);
+      isr_op.Expect (Is None) ∷ isr_op.Mark (Number 3) ∷ isr_op.Expect (Is None) ∷ isr_op.Expect (Is (Some (Number 0)))
+      ∷ isr_op.Mark (Number 4) ∷ []) (
+      a_task (codes "a") (Expect (Is (Some (Number 5))) ∷ []) ∷ []);
   plan = point_at 0;
   run = record {
     events = event_at 0 0 (what.IsrMark h 3) ∷ [];
@@ -183,8 +185,9 @@ answers_none_at_first = record {
 abbrev pub fails_twice : Injected
 fails_twice = record {
   app = with_handler (Queue 1 ∷ []) (
-      sends 0 7 ∷ isr_op.If (Is (Some 1)) ∷ isr_op.Expect (Is (Some 2)) ∷ isr_op.EndIf ∷ isr_op.Expect (Is (Some 3)) ∷ []) (
-      a_task (codes "a") (Mark 1 ∷ []) ∷ []);
+      sends 0 7 ∷ isr_op.If (Is (Some (Number 1))) ∷ isr_op.Expect (Is (Some (Number 2))) ∷ isr_op.EndIf
+      ∷ isr_op.Expect (Is (Some (Number 3))) ∷ []) (
+      a_task (codes "a") (Mark (Number 1) ∷ []) ∷ []);
   plan = at 0 ∷ at 0 ∷ [];
   run = record {
     events =
@@ -198,7 +201,7 @@ fails_twice = record {
 -- The step whose handler fails is a misuse of its task, and that is the run's end.
 abbrev pub fails_before_a_misuse : Injected
 fails_before_a_misuse = record {
-  app = with_handler [] (isr_op.Expect (Is (Some 0)) ∷ []) (a_task (codes "a") (ResumeAll ∷ []) ∷ []);
+  app = with_handler [] (isr_op.Expect (Is (Some (Number 0))) ∷ []) (a_task (codes "a") (ResumeAll ∷ []) ∷ []);
   plan = point_at 0;
   run = record {
     events = [];
@@ -214,8 +217,9 @@ fails_before_a_misuse = record {
 abbrev pub makes_room : Application
 makes_room =
     interrupted_at 2 (with_handler (Queue 1 ∷ []) (
-    sends 0 7 ∷ isr_op.If (Is (Some 0)) ∷ receives 0 ∷ isr_op.Mark 9 ∷ isr_op.Else ∷ isr_op.Mark 1 ∷ isr_op.EndIf ∷ isr_op.Mark 2
-    ∷ isr_op.Expect (IsNot (Some 0)) ∷ []) (
+    sends 0 7 ∷ isr_op.If (Is (Some (Number 0))) ∷ receives 0 ∷ isr_op.Mark (Number 9) ∷ isr_op.Else
+    ∷ isr_op.Mark (Number 1) ∷ isr_op.EndIf ∷ isr_op.Mark (Number 2)
+    ∷ isr_op.Expect (IsNot (Some (Number 0))) ∷ []) (
     a_task (codes "a") (Work 2 ∷ MessagesWaiting 0 ∷ []) ∷ []))
 
 -- At its tick alone it finds room.
@@ -285,10 +289,11 @@ makes_room_before_a_step = record {
 abbrev pub branches_in_branches : Injected
 branches_in_branches = record {
   app = with_handler [] (
-      isr_op.If (Is None) ∷ isr_op.Mark 1 ∷ isr_op.If (Is (Some 5))
-      ∷ isr_op.Mark 2 ∷ isr_op.If (Is None) ∷ isr_op.Else ∷ isr_op.EndIf
-      ∷ isr_op.Else ∷ isr_op.Mark 3 ∷ isr_op.EndIf ∷ isr_op.Else ∷ isr_op.If (Is None) ∷ isr_op.Mark 4 ∷ isr_op.EndIf ∷ isr_op.EndIf
-      ∷ isr_op.Mark 5 ∷ []) (a_task (codes "a") (Mark 1 ∷ []) ∷ []);
+      isr_op.If (Is None) ∷ isr_op.Mark (Number 1) ∷ isr_op.If (Is (Some (Number 5)))
+      ∷ isr_op.Mark (Number 2) ∷ isr_op.If (Is None) ∷ isr_op.Else ∷ isr_op.EndIf
+      ∷ isr_op.Else ∷ isr_op.Mark (Number 3) ∷ isr_op.EndIf ∷ isr_op.Else ∷ isr_op.If (Is None) ∷ isr_op.Mark (Number 4)
+      ∷ isr_op.EndIf ∷ isr_op.EndIf
+      ∷ isr_op.Mark (Number 5) ∷ []) (a_task (codes "a") (Mark (Number 1) ∷ []) ∷ []);
   plan = point_at 0;
   run = record {
     events =

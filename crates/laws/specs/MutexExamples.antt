@@ -1,4 +1,5 @@
 -- Worked examples with semaphores and mutexes: applications, and what their runs come to.
+use Rattle.model.specs.declared.value.Value.TheVariants.{Number}
 use Rattle.std.specs.Prelude.{ℕ, List, [], ◌∷◌, Some, None, codes}
 use Rattle.model.specs.declared.object.ObjectKind.TheVariants.{Semaphore, Mutex}
 use Rattle.model.specs.declared.op.Access.TheVariants.{Take, Give, Lock}
@@ -53,8 +54,8 @@ give semaphore = Do semaphore Give
 abbrev pub inversion_cured : Example
 inversion_cured = record {
   app = with_objects (Mutex ∷ []) (
-      a_task_of 1 (codes "a") (lock m 0 ∷ Work 2 ∷ unlock m ∷ Mark 1 ∷ [])
-      ∷ a_task_of 2 (codes "b") (Delay 1 ∷ Work 1 ∷ Mark 2 ∷ [])
+      a_task_of 1 (codes "a") (lock m 0 ∷ Work 2 ∷ unlock m ∷ Mark (Number 1) ∷ [])
+      ∷ a_task_of 2 (codes "b") (Delay 1 ∷ Work 1 ∷ Mark (Number 2) ∷ [])
       ∷ a_task_of 3 (codes "c") (Delay 1 ∷ lock_forever m ∷ unlock m ∷ []) ∷ []);
   run = record {
     events =
@@ -74,7 +75,7 @@ abbrev pub falls_to_the_next : Example
 falls_to_the_next = record {
   app = with_objects (Mutex ∷ []) (
       a_task_of 1 (codes "a") (lock m 0 ∷ Work 6 ∷ unlock m ∷ []) ∷ a_task_of 2 (codes "b") (Delay 1 ∷ lock m 20 ∷ [])
-      ∷ a_task_of 3 (codes "c") (Delay 2 ∷ lock m 2 ∷ []) ∷ a_task_of 2 (codes "d") (Delay 4 ∷ Work 2 ∷ Mark 7 ∷ []) ∷ []);
+      ∷ a_task_of 3 (codes "c") (Delay 2 ∷ lock m 2 ∷ []) ∷ a_task_of 2 (codes "d") (Delay 4 ∷ Work 2 ∷ Mark (Number 7) ∷ []) ∷ []);
   run = record {
     events =
         event_at 0 0 (call c 0 0) ∷ event_at 0 0 (runs b) ∷ event_at 1 0 (call b 0 0) ∷ event_at 1 0 (runs d)
@@ -95,7 +96,7 @@ keeps_it_for_another = record {
   app = with_objects (Mutex ∷ Mutex ∷ []) (
       a_task_of 1 (codes "a") (lock m 0 ∷ lock n 0 ∷ Work 6 ∷ unlock m ∷ unlock n ∷ [])
       ∷ a_task_of 2 (codes "b") (Delay 1 ∷ lock m 20 ∷ []) ∷ a_task_of 3 (codes "c") (Delay 2 ∷ lock m 2 ∷ [])
-      ∷ a_task_of 2 (codes "d") (Delay 4 ∷ Work 2 ∷ Mark 7 ∷ []) ∷ []);
+      ∷ a_task_of 2 (codes "d") (Delay 4 ∷ Work 2 ∷ Mark (Number 7) ∷ []) ∷ []);
   run = record {
     events =
         event_at 0 0 (call c 0 0) ∷ event_at 0 0 (runs b) ∷ event_at 1 0 (call b 0 0) ∷ event_at 1 0 (runs d)
@@ -115,7 +116,7 @@ keeps_it_for_another = record {
 abbrev pub one_of_two_given : Example
 one_of_two_given = record {
   app = with_objects (Mutex ∷ Mutex ∷ []) (
-      a_task_of 1 (codes "a") (lock m 0 ∷ lock n 0 ∷ Work 1 ∷ unlock m ∷ Mark 1 ∷ unlock n ∷ Mark 2 ∷ [])
+      a_task_of 1 (codes "a") (lock m 0 ∷ lock n 0 ∷ Work 1 ∷ unlock m ∷ Mark (Number 1) ∷ unlock n ∷ Mark (Number 2) ∷ [])
       ∷ a_task_of 3 (codes "b") (Delay 1 ∷ lock_forever m ∷ []) ∷ []);
   run = record {
     events =
@@ -134,8 +135,9 @@ one_of_two_given = record {
 abbrev pub locks_its_own : Example
 locks_its_own = record {
   app = with_objects (Mutex ∷ Mutex ∷ []) (
-      a_task_of 1 (codes "a") (lock m 0 ∷ lock n 0 ∷ Work 1 ∷ unlock n ∷ lock m 1 ∷ Work 1 ∷ Mark 1 ∷ [])
-      ∷ a_task_of 2 (codes "b") (Delay 1 ∷ Work 2 ∷ Mark 2 ∷ []) ∷ a_task_of 3 (codes "c") (Delay 1 ∷ lock_forever n ∷ []) ∷ []);
+      a_task_of 1 (codes "a") (lock m 0 ∷ lock n 0 ∷ Work 1 ∷ unlock n ∷ lock m 1 ∷ Work 1 ∷ Mark (Number 1) ∷ [])
+      ∷ a_task_of 2 (codes "b") (Delay 1 ∷ Work 2 ∷ Mark (Number 2) ∷ [])
+      ∷ a_task_of 3 (codes "c") (Delay 1 ∷ lock_forever n ∷ []) ∷ []);
   run = record {
     events =
         event_at 0 0 (call c 0 0) ∷ event_at 0 0 (runs b) ∷ event_at 1 0 (call b 0 0) ∷ event_at 1 0 (runs a)

@@ -1,4 +1,5 @@
 -- Worked examples of placements: all of them in an application of two steps, and of one.
+use Rattle.model.specs.declared.value.Value.TheVariants.{Number}
 use Rattle.std.specs.Prelude.{◌≡◌, ℕ, ⊤, true, List, [], ◌∷◌, codes, length, map}
 use Rattle.std.specs.List.{AllByRecursion}
 use Rattle.model.specs.declared.op.Op.{Op}
@@ -18,10 +19,10 @@ with_script script = record (the_application 0 (a_task (codes "a") script ∷ []
 
 -- its run has two steps
 abbrev pub two_steps : Application
-two_steps = with_script (Mark 1 ∷ Mark 2 ∷ [])
+two_steps = with_script (Mark (Number 1) ∷ Mark (Number 2) ∷ [])
 
 abbrev pub one_step : Application
-one_step = with_script (Mark 1 ∷ [])
+one_step = with_script (Mark (Number 1) ∷ [])
 
 -- With at most so many injections of these handlers it has this many placements.
 pub record HasPlacements (app : Application) (handlers : List ℕ) (most number : ℕ) : Type 0 where

@@ -1,4 +1,5 @@
 -- Worked examples with critical sections: applications, what is injected, and what their runs come to.
+use Rattle.model.specs.declared.value.Value.TheVariants.{Number}
 use Rattle.std.specs.Prelude.{ℕ, List, [], ◌∷◌, codes}
 use Rattle.model.specs.declared.object.ObjectKind.TheVariants.{Queue, Mutex}
 use Rattle.model.specs.declared.op.Access.TheVariants.{Receive}
@@ -11,7 +12,7 @@ use Rattle.model.specs.declared.event.Misuse.TheVariants as misuse
 use Rattle.model.specs.declared.event.End.TheVariants as end
 use Rattle.model.specs.declared.event.What.{What}
 use Rattle.model.specs.declared.event.What.TheVariants as what
-use Rattle.model.specs.Application.{Application, Definition}
+use Rattle.model.specs.Application.{Application}
 use Rattle.laws.specs.Examples.{a_task, a_task_of, the_application, with_objects, on_queue_forever, a, b, event_at, call, runs}
 use Rattle.laws.specs.Examples.{idles}
 use Rattle.laws.specs.HandlerExamples.{Injected, with_handler, sends, h, at, point_at, isr}
@@ -23,7 +24,8 @@ abbrev pub with_two_handlers : List Op → Application
 with_two_handlers script =
     record (the_application 0 (a_task (codes "a") script ∷ [])) {
       handlers =
-          record { name = codes "h"; ops = isr_op.Mark 1 ∷ [] } ∷ record { name = codes "second"; ops = isr_op.Mark 2 ∷ [] } ∷ [];
+          record { name = codes "h"; ops = isr_op.Mark (Number 1) ∷ [] }
+          ∷ record { name = codes "second"; ops = isr_op.Mark (Number 2) ∷ [] } ∷ [];
     }
 
 -- the second of these handlers
@@ -60,7 +62,7 @@ abbrev pub after_the_outer_exit : Injected
 after_the_outer_exit = record {
   app = with_handler (Queue 1 ∷ []) (sends 0 4 ∷ []) (
       a_task (codes "a") (
-      EnterCritical ∷ EnterCritical ∷ Mark 1 ∷ ExitCritical ∷ Mark 2 ∷ ExitCritical ∷ Mark 3 ∷ [])
+      EnterCritical ∷ EnterCritical ∷ Mark (Number 1) ∷ ExitCritical ∷ Mark (Number 2) ∷ ExitCritical ∷ Mark (Number 3) ∷ [])
       ∷ a_task_of 2 (codes "b") (on_queue_forever Receive ∷ []) ∷ []);
   plan = point_at 8;
   run = record {
@@ -94,8 +96,8 @@ inside_a_suspension = record {
 -- Where the exit is the last op of all that run, the handler comes before the step of idle.
 abbrev pub before_idle : Injected
 before_idle = record {
-  app = with_handler [] (isr_op.Mark 1 ∷ []) (
-      a_task_of 2 (codes "a") (EnterCritical ∷ ExitCritical ∷ []) ∷ a_task_of 3 (codes "b") (Delay 1 ∷ Mark 2 ∷ []) ∷ []);
+  app = with_handler [] (isr_op.Mark (Number 1) ∷ []) (
+      a_task_of 2 (codes "a") (EnterCritical ∷ ExitCritical ∷ []) ∷ a_task_of 3 (codes "b") (Delay 1 ∷ Mark (Number 2) ∷ []) ∷ []);
   plan = point_at 2;
   run = record {
     events =
@@ -110,7 +112,7 @@ before_idle = record {
 -- Where the run ends with the exit, it never comes.
 abbrev pub after_the_end : Injected
 after_the_end = record {
-  app = with_handler [] (isr_op.Mark 1 ∷ []) (a_task (codes "a") (EnterCritical ∷ ExitCritical ∷ []) ∷ []);
+  app = with_handler [] (isr_op.Mark (Number 1) ∷ []) (a_task (codes "a") (EnterCritical ∷ ExitCritical ∷ []) ∷ []);
   plan = point_at 1;
   run = record { events = event_at 1 0 idles ∷ []; steps = 2; ticks = 0; end = end.Pass };
 }
@@ -118,7 +120,7 @@ after_the_end = record {
 -- Pending ones come in the order of the file, and before that which is injected at the step after the exit.
 abbrev pub in_the_order_of_the_file : Injected
 in_the_order_of_the_file = record {
-  app = with_two_handlers (EnterCritical ∷ Mark 7 ∷ ExitCritical ∷ Mark 8 ∷ []);
+  app = with_two_handlers (EnterCritical ∷ Mark (Number 7) ∷ ExitCritical ∷ Mark (Number 8) ∷ []);
   plan = record { step = 1; handler = second } ∷ at 2 ∷ record { step = 3; handler = second } ∷ [];
   run = record {
     events =
@@ -133,7 +135,7 @@ in_the_order_of_the_file = record {
 -- One that is injected before the section comes at once. One that is injected inside twice comes once.
 abbrev pub twice_and_once : Injected
 twice_and_once = record {
-  app = with_two_handlers (EnterCritical ∷ Mark 7 ∷ ExitCritical ∷ Mark 8 ∷ []);
+  app = with_two_handlers (EnterCritical ∷ Mark (Number 7) ∷ ExitCritical ∷ Mark (Number 8) ∷ []);
   plan = at 0 ∷ at 1 ∷ at 2 ∷ [];
   run = record {
     events =

@@ -1,4 +1,5 @@
 -- Worked examples of tasks that measure time: applications, what is injected, and what their runs come to.
+use Rattle.model.specs.declared.value.Value.TheVariants.{Number}
 use Rattle.std.specs.Prelude.{List, [], ◌∷◌, codes}
 use Rattle.model.specs.declared.answer.AnswerCondition.TheVariants.{Below, Above}
 use Rattle.model.specs.declared.op.Op.TheVariants.{Work, Delay, Expect, Stamp, Since, SuspendAll, ResumeAll}
@@ -11,7 +12,8 @@ use Rattle.laws.specs.TicklessExamples.{sleeper}
 abbrev pub measures_its_time : Injected
 measures_its_time = record {
   app = the_application 4294967290 (a_task (codes "a") (
-      Since ∷ Delay 9 ∷ Since ∷ Stamp ∷ Work 2 ∷ Since ∷ Expect (Below 3) ∷ Expect (Above 1) ∷ SuspendAll ∷ Stamp ∷ Work 3 ∷ Since
+      Since ∷ Delay 9 ∷ Since ∷ Stamp ∷ Work 2 ∷ Since ∷ Expect (Below (Number 3)) ∷ Expect (Above (Number 1)) ∷ SuspendAll
+      ∷ Stamp ∷ Work 3 ∷ Since
       ∷ ResumeAll ∷ Since ∷ []) ∷ []);
   plan = [];
   run = record {
@@ -47,7 +49,7 @@ abbrev pub misses_its_deadline : Injected
 misses_its_deadline = record {
   app = the_application 0 (
       a_task (codes "a") (
-      Stamp ∷ Delay 4 ∷ Since ∷ Expect (Below 6) ∷ Stamp ∷ Delay 4 ∷ Since ∷ Expect (Below 6) ∷ [])
+      Stamp ∷ Delay 4 ∷ Since ∷ Expect (Below (Number 6)) ∷ Stamp ∷ Delay 4 ∷ Since ∷ Expect (Below (Number 6)) ∷ [])
       ∷ a_task_of 2 (codes "b") (Delay 6 ∷ Work 5 ∷ []) ∷ []);
   plan = [];
   run = record {

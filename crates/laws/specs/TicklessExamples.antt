@@ -1,4 +1,5 @@
 -- Worked examples that are tickless: applications, what is injected, and what their runs come to.
+use Rattle.model.specs.declared.value.Value.TheVariants.{Number}
 use Rattle.std.specs.Prelude.{ℕ, true, List, [], ◌∷◌, codes}
 use Rattle.model.specs.declared.object.ObjectKind.TheVariants.{Queue}
 use Rattle.model.specs.declared.op.Access.TheVariants.{Receive}
@@ -23,7 +24,7 @@ sleeper ticks script = tickless_within ticks (the_application 0 (a_task (codes "
 
 -- one of one task that sleeps for ten ticks, and a handler that writes
 abbrev pub ten_ticks : Application
-ten_ticks = with_handler [] (isr_op.Mark 1 ∷ []) (a_task (codes "a") (Delay 10 ∷ Time ∷ []) ∷ [])
+ten_ticks = with_handler [] (isr_op.Mark (Number 1) ∷ []) (a_task (codes "a") (Delay 10 ∷ Time ∷ []) ∷ [])
 
 -- ---- the table
 
@@ -77,7 +78,8 @@ abbrev pub all_at_the_wrap : Injected
 all_at_the_wrap = record {
   app =
       let tasks = a_task (codes "a") (Delay 6 ∷ Delay 5000000 ∷ Time ∷ []) ∷ a_task (codes "b") (DelayUntil 6 ∷ Time ∷ []) ∷ [] in
-      record (tickless_within 10000000 (interrupted_at 6 (with_handler [] (isr_op.Mark 1 ∷ []) tasks))) { start = 4294967290 };
+      let app = with_handler [] (isr_op.Mark (Number 1) ∷ []) tasks in
+      record (tickless_within 10000000 (interrupted_at 6 app)) { start = 4294967290 };
   plan = [];
   run = record {
     events =

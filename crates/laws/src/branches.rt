@@ -17,12 +17,12 @@ ghost use Rattle.laws.specs.Branches.{AllStay, Encloses, IsQuiet, ends_branch, i
 /// at its end, goes on behind the `end` of the other.
 pub fn one_branch_is_done()
     ensures taken { (app : Application) (task : ℕ) (condition : AnswerCondition) (s : State) → task < length s.tasks
-        → holds condition (progress_at s task).answer ≡ true
+        → holds s.variables condition (progress_at s task).answer ≡ true
         → (progress_at (act app task (If condition) s) task).op_index ≡ (progress_at s task).op_index + 1 }
     ensures skipped { (app : Application) (task : ℕ) (condition : AnswerCondition) (s : State) (first : List Op) (last : Op)
         → task < length s.tasks → op_at app task (progress_at s task).op_index ≡ Some (If condition)
         → Encloses (script_of app task) (progress_at s task).op_index [] first last → ends_branch (edge_of last) ≡ true
-        → holds condition (progress_at s task).answer ≡ false
+        → holds s.variables condition (progress_at s task).answer ≡ false
         → (progress_at (act app task (If condition) s) task).op_index ≡ (progress_at s task).op_index + 1 + (length first + 1) }
     ensures other { (app : Application) (task : ℕ) (s : State) (second : List Op) → task < length s.tasks
         → op_at app task (progress_at s task).op_index ≡ Some Else

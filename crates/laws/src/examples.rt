@@ -10,6 +10,7 @@ ghost use Rattle.laws.specs.BranchExamples.{branch_examples};
 ghost use Rattle.laws.specs.EndlessExamples.{endless_examples};
 ghost use Rattle.laws.specs.LookingExamples.{looking_examples};
 ghost use Rattle.laws.specs.SectionExamples.{section_examples};
+ghost use Rattle.laws.specs.ValueExamples.{value_examples};
 ghost use Rattle.laws.specs.StampExamples.{stamp_examples};
 ghost use Rattle.laws.specs.EndStateExamples.{StandsSo, end_states};
 
@@ -103,10 +104,17 @@ pub fn examples_with_sections_run()
     ensures { AllByRecursion RunsWith section_examples }
 {}
 
+/// Each application of the table of examples with variables and values runs as the table says: an update of a counter that is lost between
+/// a task's load and its store, and none in a critical section; each operation, modulo 2^32 and rounded down; ops that have no value to
+/// work with, of tasks and of handlers; a value that is received and passed on, also by a send that waits; conditions that name a variable.
+pub fn examples_with_values_run()
+    ensures { AllByRecursion RunsWith value_examples }
+{}
+
 /// The state after the steps of each of these is what the table says: a receive that has tried, that waits and isn't in its list yet, that
 /// waits there, that a handler woke through the locked queue, and that runs on once the queue is unlocked; two tasks that wait for each
 /// other's mutex, for ever and until a tick; a task that is suspended, one that sleeps, two that are Ready, and those whose scripts are done;
-/// a daemon without a command.
+/// a daemon without a command; variables that a task and a handler have stored, and one that an op without a value hasn't.
 pub fn end_states_of_examples()
     ensures { AllByRecursion StandsSo end_states }
 {}

@@ -12,6 +12,7 @@ mod runs;
 mod sections;
 mod stamps;
 mod states;
+mod values;
 
 pub use branches::{
     branches_are_quiet, breaks_end_the_innermost_loop, loops_for_ever_go_on, one_branch_is_done,
@@ -24,8 +25,8 @@ pub use examples::{
     end_states_of_examples, examples_run, examples_with_a_daemon_run, examples_with_branches_run,
     examples_with_endless_tasks_run, examples_with_handlers_run,
     examples_with_handlers_that_look_run, examples_with_holds_run, examples_with_mutexes_run,
-    examples_with_sections_run, examples_with_stamps_run, rows_of_one_receive,
-    rows_of_two_injections, tickless_examples_run,
+    examples_with_sections_run, examples_with_stamps_run, examples_with_values_run,
+    rows_of_one_receive, rows_of_two_injections, tickless_examples_run,
 };
 pub use looking::{
     failed_checks_end_the_handler, first_failed_check_counts, handlers_do_one_branch,
@@ -47,4 +48,8 @@ pub use states::{
     priorities_are_at_least_those_of_the_file, running_task_is_ready, sleepers_wake_later,
     states_are_sound, steps_keep_states_sound, tickets_differ, ticks_pass_up_to_the_limit,
     time_is_start_and_elapsed,
+};
+pub use values::{
+    arithmetic_is_modular, last_answers_stay_in_a_call, loads_find_what_was_stored,
+    ops_without_a_value_change_nothing, variables_keep_their_value,
 };

@@ -19,7 +19,7 @@ ghost use Rattle.laws.specs.Looking.{is_misused};
 /// A check of a handler that holds changes nothing: the ops behind it are done as if it weren't there.
 pub fn passed_checks_change_nothing()
     ensures { (app : Application) (handler op_index : ℕ) (condition : AnswerCondition) (answer : Option ℕ) (ops : List IsrOp) (s : State)
-        → holds condition answer ≡ true
+        → holds s.variables condition answer ≡ true
         → isr_each app handler op_index 0 answer (Expect condition ∷ ops) s ≡ isr_each app handler (op_index + 1) 0 answer ops s }
 {}
 
@@ -28,7 +28,7 @@ pub fn passed_checks_change_nothing()
 pub fn failed_checks_end_the_handler()
     ensures nothing { (app : Application) (handler op_index : ℕ) (condition : AnswerCondition) (answer : Option ℕ) (ops : List IsrOp)
         (s : State)
-        → holds condition answer ≡ false
+        → holds s.variables condition answer ≡ false
         → isr_each app handler op_index 0 answer (Expect condition ∷ ops) s ≡ fail (HandlerCheck handler op_index) s }
     ensures ends { (app : Application) (limits : Limits) (check : End) (s : State) → s.stopped ≡ None
         → end_of app limits (fail check s) ≡ Some check }
@@ -49,10 +49,10 @@ pub fn first_failed_check_counts()
 pub fn handlers_do_one_branch()
     ensures taken { (app : Application) (handler op_index : ℕ) (condition : AnswerCondition) (answer : Option ℕ) (ops : List IsrOp)
         (s : State)
-        → holds condition answer ≡ true
+        → holds s.variables condition answer ≡ true
         → isr_each app handler op_index 0 answer (If condition ∷ ops) s ≡ isr_each app handler (op_index + 1) 0 answer ops s }
     ensures skipped { (app : Application) (handler op_index : ℕ) (condition : AnswerCondition) (answer : Option ℕ) (first : List IsrOp)
-        (last : IsrOp) (behind : List IsrOp) (s : State) → holds condition answer ≡ false
+        (last : IsrOp) (behind : List IsrOp) (s : State) → holds s.variables condition answer ≡ false
         → AreWhole [] (isr_edges_of first) → ends_branch (edge_of_isr last) ≡ true
         → isr_each app handler op_index 0 answer (If condition ∷ first ++ last ∷ behind) s
         ≡ isr_each app handler (op_index + 1 + (length first + 1)) 0 answer behind s }

@@ -1,4 +1,4 @@
-use Rattle.std.proofs.Common.{◌≡◌, ◌<◌, ◌∙◌, ℕ, suc, [], length, ap, arith}
+use Rattle.std.proofs.Common.{◌≡◌, ◌∙◌, suc, [], length, ap, arith}
 use Rattle.model.specs.State.{State}
 use Rattle.model.specs.Step.{step}
 use Rattle.laws.specs.Sections.{alone}
