@@ -18,4 +18,6 @@ mod sinks;
 #[cfg(test)]
 mod streams;
 #[cfg(test)]
+mod values;
+#[cfg(test)]
 mod words;

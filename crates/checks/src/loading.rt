@@ -1,8 +1,8 @@
 //! What a file is loaded as.
 
 use model::{
-    Access, AnswerCondition, App, Command, Condition, GroupId, HandlerId, IsrOp, ObjectId,
-    ObjectKind, Op, Point, PointEntry, TaskId,
+    Access, AnswerCondition, App, Arithmetic, Command, Condition, GroupId, HandlerId, IsrOp,
+    ObjectId, ObjectKind, Op, Point, PointEntry, TaskId, Value, ValueOp, VariableId,
 };
 use script::FromDocument;
 use std::alloc::Global;
@@ -60,9 +60,13 @@ fn queues_and_the_ops_on_them_are_loaded(rt: HostRuntime) {
     let one = ObjectId { number: 0 };
     let many = ObjectId { number: 1 };
     let ops = [
-        Op::Await(many, Access::Send(4_294_967_295), Some(4_294_967_294)),
-        Op::Await(one, Access::SendFront(7), Some(0)),
-        Op::Do(one, Access::Overwrite(8)),
+        Op::Await(
+            many,
+            Access::Send(Value::Number(4_294_967_295)),
+            Some(4_294_967_294),
+        ),
+        Op::Await(one, Access::SendFront(Value::Number(7)), Some(0)),
+        Op::Do(one, Access::Overwrite(Value::Number(8))),
         Op::Await(one, Access::Receive, None),
         Op::Await(many, Access::Peek, Some(1)),
         Op::MessagesWaiting(one),
@@ -99,12 +103,12 @@ fn branches_and_endless_tasks_are_loaded(rt: HostRuntime) {
         Op::Expect(AnswerCondition::IsNot(None)),
         Op::EndIf,
         Op::End,
-        Op::If(AnswerCondition::Below(7)),
-        Op::If(AnswerCondition::IsNot(Some(4_294_967_295))),
+        Op::If(AnswerCondition::Below(Value::Number(7))),
+        Op::If(AnswerCondition::IsNot(Some(Value::Number(4_294_967_295)))),
         Op::EndIf,
         Op::EndIf,
-        Op::If(AnswerCondition::Above(0)),
-        Op::Expect(AnswerCondition::Is(Some(4))),
+        Op::If(AnswerCondition::Above(Value::Number(0))),
+        Op::Expect(AnswerCondition::Is(Some(Value::Number(4)))),
         Op::EndIf,
         Op::End,
     ];
@@ -139,23 +143,116 @@ fn handlers_that_look_and_tasks_that_measure_time_are_loaded(rt: HostRuntime) {
     let app = loaded(&rt, rt.alloc(), LOOKING_HANDLERS);
     let isr_ops = [
         IsrOp::Expect(AnswerCondition::Is(None)),
-        IsrOp::If(AnswerCondition::Below(7)),
+        IsrOp::If(AnswerCondition::Below(Value::Number(7))),
         IsrOp::If(AnswerCondition::IsNot(None)),
-        IsrOp::Mark(1),
+        IsrOp::Mark(Value::Number(1)),
         IsrOp::Else,
-        IsrOp::Expect(AnswerCondition::Above(4_294_967_295)),
+        IsrOp::Expect(AnswerCondition::Above(Value::Number(4_294_967_295))),
         IsrOp::EndIf,
         IsrOp::Else,
-        IsrOp::If(AnswerCondition::Is(Some(4_294_967_295))),
-        IsrOp::Expect(AnswerCondition::IsNot(Some(0))),
+        IsrOp::If(AnswerCondition::Is(Some(Value::Number(4_294_967_295)))),
+        IsrOp::Expect(AnswerCondition::IsNot(Some(Value::Number(0)))),
         IsrOp::EndIf,
         IsrOp::EndIf,
     ];
     has_isr_ops(&rt, &app, &isr_ops);
     let deep = app.handlers().last().expect(&rt, "a second handler");
     assert!(rt; deep.ops().len() == 16);
-    let ops = [Op::Stamp, Op::Since, Op::Expect(AnswerCondition::Below(6))];
+    let ops = [
+        Op::Stamp,
+        Op::Since,
+        Op::Expect(AnswerCondition::Below(Value::Number(6))),
+    ];
     has_ops(&rt, &app, &ops);
+}
+
+// A word of the grammar may be the name of a variable. `answer` is the last answer if a value is wanted, and the variable otherwise.
+const VARIABLES: &str = "
+[[queue]]
+name = 'q'
+length = 1
+
+[[handler]]
+name = 'h'
+ops = ['load x', 'mark answer', 'send q answer', 'xor answer', '  store  x 007 ', 'if above x', 'end']
+
+[[variable]]
+name = 'x'
+initial = 4294967295
+
+[[task]]
+name = 'a'
+priority = 1
+script = [
+    'load answer', 'store answer answer', 'store x 4294967295', 'add answer', 'sub 1', 'mul x', 'div x',
+    'mod 4294967295', 'and 0', 'or x', 'xor 000', 'send q answer forever', 'send_front q answer 0',
+    'overwrite q answer', 'mark answer', 'if x', 'end', 'if not x', 'end', 'expect below x', 'expect above answer',
+]
+
+[[variable]]
+name = 'answer'
+";
+
+const X: VariableId = VariableId { number: 0 };
+
+/// The variable that is named `answer`.
+const ANSWER: VariableId = VariableId { number: 1 };
+
+/// An op of a task that calculates with the last answer and this value.
+fn calculation(kind: Arithmetic, value: Value) -> Op {
+    Op::Value(ValueOp::Compute(kind, value))
+}
+
+#[test]
+fn variables_and_the_ops_of_tasks_on_values_are_loaded(rt: HostRuntime) {
+    let app = loaded(&rt, rt.alloc(), VARIABLES);
+    let q = ObjectId { number: 0 };
+    assert!(rt; app.variables() == [4_294_967_295, 0].as_slice());
+    let ops = [
+        Op::Value(ValueOp::Load(ANSWER)),
+        Op::Value(ValueOp::Store(ANSWER, Value::Answer)),
+        Op::Value(ValueOp::Store(X, Value::Number(4_294_967_295))),
+        calculation(Arithmetic::Add, Value::Variable(ANSWER)),
+        calculation(Arithmetic::Sub, Value::Number(1)),
+        calculation(Arithmetic::Mul, Value::Variable(X)),
+        calculation(Arithmetic::Div, Value::Variable(X)),
+        calculation(Arithmetic::Mod, Value::Number(4_294_967_295)),
+        calculation(Arithmetic::And, Value::Number(0)),
+        calculation(Arithmetic::Or, Value::Variable(X)),
+        calculation(Arithmetic::Xor, Value::Number(0)),
+        Op::Await(q, Access::Send(Value::Answer), None),
+        Op::Await(q, Access::SendFront(Value::Answer), Some(0)),
+        Op::Do(q, Access::Overwrite(Value::Answer)),
+        Op::Mark(Value::Answer),
+        Op::If(AnswerCondition::Is(Some(Value::Variable(X)))),
+        Op::EndIf,
+        Op::If(AnswerCondition::IsNot(Some(Value::Variable(X)))),
+        Op::EndIf,
+        Op::Expect(AnswerCondition::Below(Value::Variable(X))),
+        Op::Expect(AnswerCondition::Above(Value::Variable(ANSWER))),
+    ];
+    has_ops(&rt, &app, &ops);
+}
+
+#[test]
+fn the_ops_of_handlers_on_values_are_loaded(rt: HostRuntime) {
+    let app = loaded(&rt, rt.alloc(), VARIABLES);
+    let isr_ops = [
+        IsrOp::Value(ValueOp::Load(X)),
+        IsrOp::Mark(Value::Answer),
+        IsrOp::Do(ObjectId { number: 0 }, Access::Send(Value::Answer)),
+        IsrOp::Value(ValueOp::Compute(Arithmetic::Xor, Value::Variable(ANSWER))),
+        IsrOp::Value(ValueOp::Store(X, Value::Number(7))),
+        IsrOp::If(AnswerCondition::Above(Value::Variable(X))),
+        IsrOp::EndIf,
+    ];
+    has_isr_ops(&rt, &app, &isr_ops);
+}
+
+#[test]
+fn an_application_without_variables(rt: HostRuntime) {
+    let app = loaded(&rt, rt.alloc(), QUEUES);
+    assert!(rt; app.variables().is_empty());
 }
 
 const SEMAPHORES_AND_MUTEXES: &str = "
@@ -339,7 +436,7 @@ fn a_daemon_and_the_commands_to_it_are_loaded(rt: HostRuntime) {
     let isr_ops = [
         IsrOp::Command(command(g, 16_777_215, false)),
         IsrOp::Command(command(f, 1, true)),
-        IsrOp::Do(ObjectId { number: 0 }, Access::Send(5)),
+        IsrOp::Do(ObjectId { number: 0 }, Access::Send(Value::Number(5))),
     ];
     has_isr_ops(&rt, &app, &isr_ops);
     has_ops(&rt, &app, &[Op::SetBits(g, 1), Op::ClearBits(g, 2)]);

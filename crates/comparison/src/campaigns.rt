@@ -267,12 +267,13 @@ fn fail(rt: &impl Abort, alloc: Global, seed: u32, app: &App, points: &[Point], 
     panic!(rt; "seed {seed}, {manner:?}: another report, of points{told} on this file\n{file}");
 }
 
-/// For applications whose tasks crowd about objects, and every fourth time for those whose tasks go by what was answered, or open
-/// critical sections.
+/// For applications whose tasks crowd about objects, and as often for those whose tasks go by what was answered, open critical
+/// sections, or calculate.
 fn dice_of(seed: u32) -> Dice {
-    match seed % 4 {
+    match seed % 8 {
         0 => Dice::deciding(seed),
-        2 => Dice::masking(seed),
+        2 | 6 => Dice::masking(seed),
+        4 => Dice::calculating(seed),
         _ => Dice::crowding(seed),
     }
 }

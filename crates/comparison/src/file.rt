@@ -2,7 +2,7 @@
 
 use model::{
     Access, AnswerCondition, App, Condition, HandlerDefinition, Injection, Interrupt, IsrOp,
-    ObjectId, ObjectKind, Op, Plan, Point, TaskDefinition,
+    ObjectId, ObjectKind, Op, Plan, Point, TaskDefinition, Value, ValueOp,
 };
 use std::alloc::{AllocError, Global};
 
@@ -17,14 +17,23 @@ fn push_number(file: &mut String, number: u32) -> Result<(), AllocError> {
     write!(file, " {number}")
 }
 
-// The name of an object or of an event group, as a word: a letter for its kind, and its number.
+// The name of an object, of an event group or of a variable, as a word: a letter for its kind, and its number.
 fn push_name(file: &mut String, letter: &str, number: u8) -> Result<(), AllocError> {
     push_word(file, letter)?;
     write!(file, "{number}")
 }
 
+// A value, as a word.
+fn push_value(file: &mut String, value: Value) -> Result<(), AllocError> {
+    match value {
+        Value::Number(number) => push_number(file, number),
+        Value::Answer => push_word(file, "answer"),
+        Value::Variable(variable) => push_name(file, "x", variable.number),
+    }
+}
+
 // The letter of the objects that allow a call.
-fn letter_for(access: Access) -> &'static str {
+fn letter_for(access: Access<Value>) -> &'static str {
     if access.is_of_queue() {
         "q"
     } else if access.is_of_semaphore() {
@@ -35,11 +44,15 @@ fn letter_for(access: Access) -> &'static str {
 }
 
 // The object of a call, and the item that it puts in, as words.
-fn push_access(file: &mut String, object: ObjectId, access: Access) -> Result<(), AllocError> {
+fn push_access(
+    file: &mut String,
+    object: ObjectId,
+    access: Access<Value>,
+) -> Result<(), AllocError> {
     push_name(file, letter_for(access), object.number)?;
     match access {
         Access::Send(item) | Access::SendFront(item) | Access::Overwrite(item) => {
-            push_number(file, item)
+            push_value(file, item)
         }
         Access::Receive | Access::Peek | Access::Take | Access::Give | Access::Lock => Ok(()),
     }
@@ -53,16 +66,42 @@ fn push_number_or(file: &mut String, number: Option<u32>, none: &str) -> Result<
     }
 }
 
+// A value, or `none` where there is none, as a word.
+fn push_value_or_none(file: &mut String, value: Option<Value>) -> Result<(), AllocError> {
+    match value {
+        Some(value) => push_value(file, value),
+        None => push_word(file, "none"),
+    }
+}
+
 // What a script or a handler asks of the last answer, as words.
 fn push_answer_condition(file: &mut String, condition: AnswerCondition) -> Result<(), AllocError> {
     match condition {
-        AnswerCondition::Is(wanted) => push_number_or(file, wanted, "none"),
+        AnswerCondition::Is(wanted) => push_value_or_none(file, wanted),
         AnswerCondition::IsNot(other) => {
             push_word(file, "not")?;
-            push_number_or(file, other, "none")
+            push_value_or_none(file, other)
         }
-        AnswerCondition::Below(bound) => write!(file, " below {bound}"),
-        AnswerCondition::Above(bound) => write!(file, " above {bound}"),
+        AnswerCondition::Below(bound) => {
+            push_word(file, "below")?;
+            push_value(file, bound)
+        }
+        AnswerCondition::Above(bound) => {
+            push_word(file, "above")?;
+            push_value(file, bound)
+        }
+    }
+}
+
+// The words of an op on values after its first.
+fn push_rest_on_values(file: &mut String, op: ValueOp) -> Result<(), AllocError> {
+    match op {
+        ValueOp::Load(variable) => push_name(file, "x", variable.number),
+        ValueOp::Store(variable, value) => {
+            push_name(file, "x", variable.number)?;
+            push_value(file, value)
+        }
+        ValueOp::Compute(_, value) => push_value(file, value),
     }
 }
 
@@ -109,9 +148,9 @@ fn push_rest_on_group(file: &mut String, op: &Op) -> Result<(), AllocError> {
 // Those of any op.
 fn push_rest(file: &mut String, app: &App, op: &Op) -> Result<(), AllocError> {
     match *op {
-        Op::Work(number) | Op::Delay(number) | Op::DelayUntil(number) | Op::Mark(number) => {
-            push_number(file, number)
-        }
+        Op::Work(number) | Op::Delay(number) | Op::DelayUntil(number) => push_number(file, number),
+        Op::Mark(value) => push_value(file, value),
+        Op::Value(op) => push_rest_on_values(file, op),
         Op::Repeat(Some(turns)) => push_number(file, turns as u32),
         Op::Repeat(None) => push_word(file, "forever"),
         Op::Expect(condition) | Op::If(condition) => push_answer_condition(file, condition),
@@ -130,7 +169,8 @@ fn push_op(file: &mut String, app: &App, op: &Op) -> Result<(), AllocError> {
 // The words of a handler's op behind its first.
 fn push_isr_rest(file: &mut String, app: &App, op: &IsrOp) -> Result<(), AllocError> {
     match *op {
-        IsrOp::Mark(number) => push_number(file, number),
+        IsrOp::Mark(value) => push_value(file, value),
+        IsrOp::Value(op) => push_rest_on_values(file, op),
         IsrOp::Do(object, access) => push_access(file, object, access),
         IsrOp::Resume(task) => push_word(file, app.name(task)),
         IsrOp::GetBits(group) => push_name(file, "e", group.number),
@@ -227,6 +267,16 @@ fn push_objects(file: &mut String, app: &App) -> Result<(), AllocError> {
     Ok(())
 }
 
+fn push_variables(file: &mut String, app: &App) -> Result<(), AllocError> {
+    for (index, initial) in app.variables().iter().enumerate() {
+        write!(
+            file,
+            "\n[[variable]]\nname = 'x{index}'\ninitial = {initial}\n"
+        )?;
+    }
+    Ok(())
+}
+
 fn push_handlers(file: &mut String, app: &App) -> Result<(), AllocError> {
     for handler in app.handlers() {
         push_handler(file, app, handler)?;
@@ -270,6 +320,7 @@ fn push_tasks(file: &mut String, app: &App) -> Result<(), AllocError> {
 fn push_app(file: &mut String, app: &App) -> Result<(), AllocError> {
     push_head(file, app)?;
     push_objects(file, app)?;
+    push_variables(file, app)?;
     push_handlers(file, app)?;
     push_tasks(file, app)
 }

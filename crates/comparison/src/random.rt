@@ -146,6 +146,30 @@ struct Seen {
     passes_beside_endless: usize,
     /// Only endless tasks were there, and all were Ended.
     endless_alone_ended: usize,
+    /// A task stored a variable.
+    stores: usize,
+    /// A handler did.
+    stores_by_handlers: usize,
+    /// A task calculated.
+    results: usize,
+    /// A task loaded, stored or calculated in a critical section, or while the scheduler was suspended.
+    values_in_holds: usize,
+    /// An op of a task had no value to work with.
+    valueless_ops: usize,
+    /// One of a handler had none.
+    valueless_by_handlers: usize,
+    /// A task would have divided by a variable that was 0.
+    zero_divisors: usize,
+    /// A task asked for a variable in a condition.
+    named_conditions: usize,
+    /// A handler did.
+    named_by_handlers: usize,
+    /// A task sent its last answer to a queue.
+    sent_answers: usize,
+    /// It sent an item that it had received.
+    passed_on: usize,
+    /// A handler sent its last answer.
+    answers_sent_by_handlers: usize,
     injections: Injections,
 }
 
@@ -172,6 +196,7 @@ impl Seen {
         self.count_branches(slow);
         self.count_looks(slow);
         self.count_measures(slow);
+        self.count_values(slow);
         self.count_endless(slow, app);
         self.count_injections(injections);
     }
@@ -277,6 +302,25 @@ impl Seen {
         add(&mut self.endless_alone_ended, is_alone as usize);
     }
 
+    fn count_values(&mut self, slow: &SlowKernel) {
+        let tally = slow.tally;
+        see(&mut self.stores, tally.stores);
+        see(&mut self.stores_by_handlers, tally.stores_by_handlers);
+        see(&mut self.results, tally.results);
+        see(&mut self.values_in_holds, tally.values_in_holds);
+        see(&mut self.valueless_ops, tally.valueless_ops);
+        see(&mut self.valueless_by_handlers, tally.valueless_by_handlers);
+        see(&mut self.zero_divisors, tally.zero_divisors);
+        see(&mut self.named_conditions, tally.named_conditions);
+        see(&mut self.named_by_handlers, tally.named_by_handlers);
+        see(&mut self.sent_answers, tally.sent_answers);
+        see(&mut self.passed_on, tally.passed_on);
+        see(
+            &mut self.answers_sent_by_handlers,
+            tally.answers_sent_by_handlers,
+        );
+    }
+
     fn count_injections(&mut self, injections: &Injections) {
         add(&mut self.injections.all, injections.all);
         add(&mut self.injections.inside_calls, injections.inside_calls);
@@ -313,12 +357,17 @@ fn compare(
     let made = planner.made;
     let plan = Plan::new(planner.injections).ok().expect(rt, "a plan");
     let mut meter = Meter::new();
-    let run = kernel::run(alloc, app, &plan, limits, &mut meter).expect(rt, "memory");
+    let (run, end_state) = kernel::run_to_end_state(alloc, app, &plan, limits, &mut meter).expect(
+        rt, "memory",
+    );
     if run.events.as_slice() != slow.events.as_slice() {
         fail(rt, alloc, seed, app, &plan, "events");
     }
     if (run.end, run.steps, run.ticks) != (end, slow.steps, slow.elapsed) {
         fail(rt, alloc, seed, app, &plan, "end, steps or ticks");
+    }
+    if end_state.variables.as_slice() != slow.variables(app) {
+        fail(rt, alloc, seed, app, &plan, "variables at the end");
     }
     if meter.steps() != run.steps as u64 {
         fail(rt, alloc, seed, app, &plan, "metered steps");
@@ -344,6 +393,8 @@ enum Sort {
     Decision,
     /// Tasks open critical sections. Handlers are injected in three of four runs.
     Section,
+    /// Tasks and handlers calculate. Handlers are injected in three of four runs.
+    Calculation,
 }
 
 impl Sort {
@@ -356,6 +407,7 @@ impl Sort {
             Sort::Suspension => Dice::suspending(seed),
             Sort::Decision => Dice::deciding(seed),
             Sort::Section => Dice::masking(seed),
+            Sort::Calculation => Dice::calculating(seed),
         }
     }
 
@@ -364,7 +416,7 @@ impl Sort {
             Sort::Any => false,
             Sort::Crowd => true,
             Sort::Contest | Sort::Gathering | Sort::Decision => seed % 2 != 0,
-            Sort::Suspension | Sort::Section => seed % 4 != 0,
+            Sort::Suspension | Sort::Section | Sort::Calculation => seed % 4 != 0,
         }
     }
 
@@ -550,6 +602,19 @@ fn the_slow_program_agrees_where_tasks_open_critical_sections(rt: HostRuntime) {
     has_enough(&rt, &seen, has_misuses && seen.ended_critical > 3_270);
 }
 
+#[test]
+fn the_slow_program_agrees_where_tasks_and_handlers_calculate(rt: HostRuntime) {
+    let seen = seen_in(&rt, rt.alloc(), Sort::Calculation);
+    let has_stores = seen.stores > 9_000 && seen.stores_by_handlers > 3_000;
+    has_enough(&rt, &seen, has_stores && seen.results > 8_500);
+    let has_none = seen.valueless_ops > 3_800 && seen.valueless_by_handlers > 800;
+    has_enough(&rt, &seen, has_none && seen.zero_divisors > 1_600);
+    let has_named = seen.named_conditions > 1_800 && seen.named_by_handlers > 3_500;
+    has_enough(&rt, &seen, has_named && seen.values_in_holds > 7_000);
+    let has_sent = seen.sent_answers > 2_300 && seen.answers_sent_by_handlers > 550;
+    has_enough(&rt, &seen, has_sent && seen.passed_on > 400);
+}
+
 /// The application that a file describes.
 pub(crate) fn loaded(rt: &impl Abort, alloc: Global, file: &str) -> App {
     let document = toml::table_from_str(alloc, file)
@@ -598,6 +663,7 @@ fn has_same_rest(one: &App, other: &App) -> bool {
         && one.limits() == other.limits()
         && one.objects() == other.objects()
         && one.group_count() == other.group_count()
+        && one.variables() == other.variables()
         && one.daemon() == other.daemon()
 }
 
@@ -618,6 +684,10 @@ fn an_application_that_is_shown_as_a_file_is_loaded_as_it_was(rt: HostRuntime) {
         let app = Dice::deciding(seed).app(rt.alloc()).expect(&rt, "memory");
         load_again(&rt, rt.alloc(), &app);
         let app = Dice::masking(seed).app(rt.alloc()).expect(&rt, "memory");
+        load_again(&rt, rt.alloc(), &app);
+        let app = Dice::calculating(seed)
+            .app(rt.alloc())
+            .expect(&rt, "memory");
         load_again(&rt, rt.alloc(), &app);
     }
 }

@@ -1,6 +1,6 @@
--- Ops that an application of given objects, two event groups and four tasks of the file knows.
+-- Ops that an application of given objects, two event groups, four variables and four tasks of the file knows.
 use Rattle.std.proofs.Common.{◌≡◌, ◌&&◌, not, ◌≤◌, ◌<◌, ◌+◌, ℕ, Bool, ap, arith, length, length-append, refl, true, false, List, []}
-use Rattle.std.proofs.Common.{◌∷◌, ◌++◌, Option, Some, sym, subst}
+use Rattle.std.proofs.Common.{◌∷◌, ◌++◌, Option, Some, None, sym, subst}
 use Rattle.std.specs.Prelude.{Result, Ok, Err, IfOk, IsTrue, OnOk, OnErr, filter, is_ok, nat_eq, nat_lt, unwrap_or, if◌then◌else◌}
 use Rattle.std.specs.List.{AllByRecursion}
 use Rattle.std.specs.Option.{is_some}
@@ -14,16 +14,27 @@ use Rattle.std.proofs.lemmas.List.{length-map}
 use Rattle.model.specs.declared.op.Command.{Command}
 use Rattle.model.specs.declared.op.IsrOp.{IsrOp}
 use Rattle.model.specs.declared.op.IsrOp.TheVariants as isr
+use Rattle.model.specs.declared.op.Op.TheVariants as op
+use Rattle.model.specs.declared.ids.VariableId.{VariableId}
+use Rattle.model.specs.declared.answer.AnswerCondition.{AnswerCondition}
+use Rattle.model.specs.declared.answer.AnswerCondition.TheVariants.{Is, IsNot, Below, Above}
+use Rattle.model.specs.declared.value.Value.{Value}
+use Rattle.model.specs.declared.value.Value.TheVariants.{Number, Answer, Variable}
+use Rattle.model.specs.declared.value.Arithmetic.{Arithmetic}
+use Rattle.model.specs.declared.value.ValueOp.{ValueOp}
+use Rattle.model.specs.declared.value.ValueOp.TheVariants.{Load, Store, Compute}
 use Rattle.model.specs.Application.{Application, Definition, Handler, Interrupt, interrupts_at, of_file}
-use Rattle.model.specs.Scripts.{IsHandler, IsInterrupt, KnowsAll, is_mask, knows, knows_isr, most_handler_ops, most_name_bytes}
+use Rattle.model.specs.Scripts.{IsHandler, IsInterrupt, KnowsAll, is_defined, is_mask, knows, knows_isr, most_handler_ops}
+use Rattle.model.specs.Scripts.{most_name_bytes}
 use Rattle.model.proofs.Nesting.{all-append}
 use Rattle.model.proofs.Sorting.{by_test}
-use Rattle.dice.specs.Known.{AreInterrupts, AreKnown, IsKnown, IsKnownHandler, IsKnownIsrWith}
+use Rattle.dice.specs.Known.{AreInterrupts, AreKnown, AreKnownValues, IsKnown, IsKnownAnswer, IsKnownCondition, IsKnownHandler}
+use Rattle.dice.specs.Known.{IsKnownIsr, IsKnownIsrWith, IsKnownValue}
 
 -- an `end` is known, whatever it ends
 known-ending : (objects : List ObjectKind) (blocks : List Block) (op : Op) → IsKnown objects op → IsKnown objects (ending blocks op)
 known-ending objects blocks op k = by_test (ends_loop (edge_of op) && is_innermost (λ b. not (is_loop b)) blocks)
-    (λ t. rw t (λ app same two four. refl))
+    (λ t. rw t (λ app same two four more. refl))
     (λ t. rw t k)
 
 -- a script to which an op was pushed, or not
@@ -35,7 +46,8 @@ known-pushed objects old new op (Ok x) ok err h k =
     let pushed : Op = ending (open_behind old) op in
     let is : IsKnown objects pushed = known-ending objects (open_behind old) op k in
     subst (AreKnown objects) (sym ok)
-    (λ app same two four. all-append (λ op. knows app op ≡ true) old pushed (h app same two four) (is app same two four))
+    (λ app same two four more.
+    all-append (λ op. knows app op ≡ true) old pushed (h app same two four more) (is app same two four more))
 known-pushed objects old new op (Err e) ok err h k = subst (AreKnown objects) (sym err) h
 
 pub few-pushed : {A B : Type 0} (old new : List Op) (op : Op) (result : Result A B)
@@ -44,10 +56,11 @@ few-pushed old new op (Ok x) ok err = let n = ap length ok in omega (arith, n, l
 few-pushed old new op (Err e) ok err = let n = ap length err in omega (arith, n)
 
 -- such an application knows all ops of such tasks
-pub known_all : (app : Application) → app.group_count ≡ 2 → length (of_file app.daemon app.tasks) ≡ 4 → (tasks : List Definition)
+pub known_all : (app : Application) → app.group_count ≡ 2 → length (of_file app.daemon app.tasks) ≡ 4
+    → 4 ≤ length app.variables → (tasks : List Definition)
     → AllByRecursion (λ (d : Definition). AreKnown app.objects d.script) tasks → AllByRecursion (KnowsAll app) tasks
-known_all app two four [] h = tt
-known_all app two four (d ∷ ds) h = (h.0 app refl two four, known_all app two four ds h.1)
+known_all app two four more [] h = tt
+known_all app two four more (d ∷ ds) h = (h.0 app refl two four more, known_all app two four more ds h.1)
 
 -- ---- groups and tasks
 
@@ -60,6 +73,74 @@ pub knows_task : (app : Application) (task : ℕ) → length (of_file app.daemon
     → nat_lt task (length (of_file app.daemon app.tasks)) ≡ true
 knows_task app task four first = lt-ltb task (length (of_file app.daemon app.tasks)) (omega arith)
 
+-- ---- values
+
+pub known_number : (number : ℕ) → IsKnownValue (Number number)
+known_number number app more = refl
+
+pub known_answer : IsKnownValue Answer
+known_answer app more = refl
+
+-- one of four variables
+has_one : (app : Application) (number : ℕ) → number < 4 → 4 ≤ length app.variables → nat_lt number (length app.variables) ≡ true
+has_one app number first more = lt-ltb number (length app.variables) (omega arith)
+
+pub known_variable : (variable : VariableId) → variable.number < 4 → IsKnownValue (Variable variable)
+known_variable variable first app more = has_one app variable.number first more
+
+pub known_none : IsKnownAnswer None
+known_none app more = refl
+
+pub known_some : (value : Value) → IsKnownValue value → IsKnownAnswer (Some value)
+known_some value known app more = known app more
+
+pub known_is : (wanted : Option Value) → IsKnownAnswer wanted → IsKnownCondition (Is wanted)
+known_is wanted known app more = known app more
+
+pub known_is_not : (other : Option Value) → IsKnownAnswer other → IsKnownCondition (IsNot other)
+known_is_not other known app more = known app more
+
+pub known_below : (bound : Value) → IsKnownValue bound → IsKnownCondition (Below bound)
+known_below bound known app more = known app more
+
+pub known_above : (bound : Value) → IsKnownValue bound → IsKnownCondition (Above bound)
+known_above bound known app more = known app more
+
+pub known_load : (variable : VariableId) → variable.number < 4 → AreKnownValues (Load variable)
+known_load variable first app more = has_one app variable.number first more
+
+pub known_store : (variable : VariableId) (value : Value) → variable.number < 4 → IsKnownValue value
+    → AreKnownValues (Store variable value)
+known_store variable value first known app more = rw (has_one app variable.number first more, known app more) refl
+
+pub known_result : (kind : Arithmetic) (value : Value) → IsKnownValue value → AreKnownValues (Compute kind value)
+known_result kind value known app more = known app more
+
+-- ---- ops with values
+
+pub known_expect : (objects : List ObjectKind) (condition : AnswerCondition) → IsKnownCondition condition
+    → IsKnown objects (op.Expect condition)
+known_expect objects condition known app same two four more = known app more
+
+pub known_if : (objects : List ObjectKind) (condition : AnswerCondition) → IsKnownCondition condition
+    → IsKnown objects (op.If condition)
+known_if objects condition known app same two four more = known app more
+
+pub known_values : (objects : List ObjectKind) (values : ValueOp) → AreKnownValues values → IsKnown objects (op.Value values)
+known_values objects values known app same two four more = known app more
+
+pub known_isr_expect : (objects : List ObjectKind) (condition : AnswerCondition) → IsKnownCondition condition
+    → IsKnownIsr objects (isr.Expect condition)
+known_isr_expect objects condition known app same two four more = known app more
+
+pub known_isr_if : (objects : List ObjectKind) (condition : AnswerCondition) → IsKnownCondition condition
+    → IsKnownIsr objects (isr.If condition)
+known_isr_if objects condition known app same two four more = known app more
+
+pub known_isr_values : (objects : List ObjectKind) (values : ValueOp) → AreKnownValues values → is_defined values ≡ true
+    → IsKnownIsr objects (isr.Value values)
+known_isr_values objects values known defined app same two four more = rw (known app more, defined) refl
+
 -- ---- handlers
 
 -- a command of one of two event groups, where there is a daemon
@@ -69,30 +150,31 @@ known_command app true c has is two first mask = rw (has, knows_group app c.grou
 known_command app false c has is two first mask = absurd (cc)
 
 known_ops : (app : Application) (has_daemon : Bool) (objects : List ObjectKind) → app.objects ≡ objects → app.group_count ≡ 2
-    → length (of_file app.daemon app.tasks) ≡ 4 → is_some app.daemon ≡ has_daemon → (ops : List IsrOp)
+    → length (of_file app.daemon app.tasks) ≡ 4 → 4 ≤ length app.variables → is_some app.daemon ≡ has_daemon → (ops : List IsrOp)
     → AllByRecursion (IsKnownIsrWith has_daemon objects) ops → AllByRecursion (λ op. knows_isr app op ≡ true) ops
-known_ops app has_daemon objects same two four has [] h = tt
-known_ops app has_daemon objects same two four has (op ∷ ops) h =
-    (h.0 app same two four has, known_ops app has_daemon objects same two four has ops h.1)
+known_ops app has_daemon objects same two four more has [] h = tt
+known_ops app has_daemon objects same two four more has (op ∷ ops) h =
+    (h.0 app same two four more has, known_ops app has_daemon objects same two four more has ops h.1)
 
 -- a handler of a short name and few ops that nest and are known
 pub known_handler : (has_daemon : Bool) (objects : List ObjectKind) (handler : Handler) → length handler.name ≤ most_name_bytes
     → length handler.ops ≤ most_handler_ops → Nests [] (isr_edges_of handler.ops)
     → AllByRecursion (IsKnownIsrWith has_daemon objects) handler.ops
     → IsKnownHandler has_daemon objects handler
-known_handler has_daemon objects handler name few nests known app same two four has = record {
+known_handler has_daemon objects handler name few nests known app same two four more has = record {
   name = name;
   few = few;
   nests = nests;
-  known = known_ops app has_daemon objects same two four has handler.ops known;
+  known = known_ops app has_daemon objects same two four more has handler.ops known;
 }
 
 pub are_handlers : (app : Application) (has_daemon : Bool) (objects : List ObjectKind) → app.objects ≡ objects → app.group_count ≡ 2
-    → length (of_file app.daemon app.tasks) ≡ 4 → is_some app.daemon ≡ has_daemon → (handlers : List Handler)
+    → length (of_file app.daemon app.tasks) ≡ 4 → 4 ≤ length app.variables → is_some app.daemon ≡ has_daemon
+    → (handlers : List Handler)
     → AllByRecursion (IsKnownHandler has_daemon objects) handlers → AllByRecursion (IsHandler app) handlers
-are_handlers app has_daemon objects same two four has [] h = tt
-are_handlers app has_daemon objects same two four has (handler ∷ handlers) h =
-    (h.0 app same two four has, are_handlers app has_daemon objects same two four has handlers h.1)
+are_handlers app has_daemon objects same two four more has [] h = tt
+are_handlers app has_daemon objects same two four more has (handler ∷ handlers) h =
+    (h.0 app same two four more has, are_handlers app has_daemon objects same two four more has handlers h.1)
 
 -- ---- base interrupts
 

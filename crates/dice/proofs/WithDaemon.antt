@@ -1,5 +1,5 @@
 -- The daemon behind four tasks, and its queue behind the objects of the file.
-use Rattle.std.proofs.Common.{◌≡◌, ◌≤◌, ◌-◌, Bool, true, false, List, [], ◌∷◌, ◌++◌, length, take, Option, Some, None, refl, ap}
+use Rattle.std.proofs.Common.{ℕ, ◌≡◌, ◌≤◌, ◌-◌, Bool, true, false, List, [], ◌∷◌, ◌++◌, length, take, Option, Some, None, refl, ap}
 use Rattle.std.proofs.Common.{sym, subst, ◌∙◌, arith}
 use Rattle.std.specs.Prelude.{IsSomeAnd, IfSome, unwrap_or}
 use Rattle.std.specs.List.{AllByRecursion, slice_get}
@@ -90,7 +90,8 @@ script_is : (objects : List ObjectKind) (o : Option Definition) → IsSomeAnd o 
 script_is objects None h = absurd h
 script_is objects (Some d) h = h.script
 
-is_queue : (o : Option ObjectKind) → IsSomeAnd o IsCommandQueue → unwrap_or (option_map (λ kind. fits kind Receive) o) false ≡ true
+is_queue : (o : Option ObjectKind) → IsSomeAnd o IsCommandQueue
+    → unwrap_or (option_map (λ kind. fits {Item = ℕ} kind Receive) o) false ≡ true
 is_queue None h = absurd h
 is_queue (Some kind) h = h
 
@@ -113,8 +114,9 @@ pub four_of_file : (app : Application) (has_daemon : Bool) → app.daemon ≡ da
 four_of_file app has_daemon is tasks = subst (λ o. length (of_file o app.tasks) ≡ 4) (sym is) tasks.four
 
 pub known_of_file : (app : Application) (has_daemon : Bool) → app.daemon ≡ daemon_number has_daemon → app.group_count ≡ 2
-    → AreTasks has_daemon app.objects app.tasks → AllByRecursion (KnowsAll app) (of_file app.daemon app.tasks)
-known_of_file app has_daemon is two tasks =
+    → 4 ≤ length app.variables → AreTasks has_daemon app.objects app.tasks
+    → AllByRecursion (KnowsAll app) (of_file app.daemon app.tasks)
+known_of_file app has_daemon is two more tasks =
     let known : AllKnown app.objects (of_file app.daemon app.tasks) =
     subst (λ o. AllKnown app.objects (of_file o app.tasks)) (sym is) tasks.known in
-    known_all app two (four_of_file app has_daemon is tasks) (of_file app.daemon app.tasks) known
+    known_all app two (four_of_file app has_daemon is tasks) more (of_file app.daemon app.tasks) known

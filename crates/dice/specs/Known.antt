@@ -1,44 +1,69 @@
--- What may be in an application as soon as it has these objects, two event groups, four tasks of the file, or three handlers.
+-- What may be in an application as soon as it has these objects, two event groups, four variables, four tasks of the file, or three
+-- handlers.
 use Rattle.std.specs.Prelude.{ℕ, ◌≡◌, ◌≤◌, ◌<◌, ◌+◌, ◌-◌, Bool, true, false, List, [], ◌∷◌, Option, Some, None, is_some, IfSome}
-use Rattle.std.specs.Prelude.{IsSomeAnd, length}
+use Rattle.std.specs.Prelude.{IsSomeAnd, length, option_map, unwrap_or}
 use Rattle.std.specs.List.{AllByRecursion, slice_get}
 use Rattle.model.specs.declared.object.ObjectKind.{ObjectKind}
 use Rattle.model.specs.declared.op.Access.TheVariants.{Receive}
 use Rattle.model.specs.declared.op.Op.{Op}
 use Rattle.model.specs.declared.op.Op.TheVariants.{NextCommand, Obey}
 use Rattle.model.specs.declared.op.IsrOp.{IsrOp}
+use Rattle.model.specs.declared.answer.AnswerCondition.{AnswerCondition}
+use Rattle.model.specs.declared.value.Value.{Value}
+use Rattle.model.specs.declared.value.ValueOp.{ValueOp}
 use Rattle.model.specs.Application.{Application, Definition, Handler, Interrupt, of_file}
-use Rattle.model.specs.Scripts.{IsDefinition, IsHandler, fits, knows, knows_isr}
+use Rattle.model.specs.Scripts.{IsDefinition, IsHandler, fits, knows, knows_condition, knows_isr, knows_value, knows_values}
 
--- Every application of these objects, two event groups and four tasks of the file knows the op.
+-- Every application of these objects, two event groups, four tasks of the file and four variables or more knows the op.
 abbrev pub IsKnown : List ObjectKind → Op → Type 0
 IsKnown objects op =
     (app : Application) → app.objects ≡ objects → app.group_count ≡ 2 → length (of_file app.daemon app.tasks) ≡ 4
-    → knows app op ≡ true
+    → 4 ≤ length app.variables → knows app op ≡ true
 
 -- It knows each of them.
 abbrev pub AreKnown : List ObjectKind → List Op → Type 0
 AreKnown objects ops =
     (app : Application) → app.objects ≡ objects → app.group_count ≡ 2 → length (of_file app.daemon app.tasks) ≡ 4
-    → AllByRecursion (λ op. knows app op ≡ true) ops
+    → 4 ≤ length app.variables → AllByRecursion (λ op. knows app op ≡ true) ops
 
 -- Every such application knows the op of a handler.
 abbrev pub IsKnownIsr : List ObjectKind → IsrOp → Type 0
 IsKnownIsr objects op =
     (app : Application) → app.objects ≡ objects → app.group_count ≡ 2 → length (of_file app.daemon app.tasks) ≡ 4
-    → knows_isr app op ≡ true
+    → 4 ≤ length app.variables → knows_isr app op ≡ true
 
 -- Every such application that has a daemon, or has none, knows it.
 abbrev pub IsKnownIsrWith : (has_daemon : Bool) → List ObjectKind → IsrOp → Type 0
 IsKnownIsrWith has_daemon objects op =
     (app : Application) → app.objects ≡ objects → app.group_count ≡ 2 → length (of_file app.daemon app.tasks) ≡ 4
-    → is_some app.daemon ≡ has_daemon → knows_isr app op ≡ true
+    → 4 ≤ length app.variables → is_some app.daemon ≡ has_daemon → knows_isr app op ≡ true
 
 -- Every such application may have the handler.
 abbrev pub IsKnownHandler : (has_daemon : Bool) → List ObjectKind → Handler → Type 0
 IsKnownHandler has_daemon objects handler =
     (app : Application) → app.objects ≡ objects → app.group_count ≡ 2 → length (of_file app.daemon app.tasks) ≡ 4
-    → is_some app.daemon ≡ has_daemon → IsHandler app handler
+    → 4 ≤ length app.variables → is_some app.daemon ≡ has_daemon → IsHandler app handler
+
+-- ---- values
+
+-- Every application of four variables or more has the one that the value is, if it is one.
+abbrev pub IsKnownValue : Value → Type 0
+IsKnownValue value = (app : Application) → 4 ≤ length app.variables → knows_value app value ≡ true
+
+-- It has the one with which an answer is compared, if that is one.
+abbrev pub IsKnownAnswer : Option Value → Type 0
+IsKnownAnswer wanted =
+    (app : Application) → 4 ≤ length app.variables → unwrap_or (option_map (knows_value app) wanted) true ≡ true
+
+-- It has the one that the condition names, if it names one.
+abbrev pub IsKnownCondition : AnswerCondition → Type 0
+IsKnownCondition condition = (app : Application) → 4 ≤ length app.variables → knows_condition app condition ≡ true
+
+-- It has those that the op on values names.
+abbrev pub AreKnownValues : ValueOp → Type 0
+AreKnownValues op = (app : Application) → 4 ≤ length app.variables → knows_values app op ≡ true
+
+-- ---- base interrupts
 
 -- base interrupts of three handlers, none after this tick
 pub record AreInterrupts (tick : ℕ) (interrupts : List Interrupt) : Type 0 where
@@ -55,7 +80,7 @@ daemon_number false = None
 
 -- a queue
 abbrev pub IsCommandQueue : ObjectKind → Type 0
-IsCommandQueue kind = fits kind Receive ≡ true
+IsCommandQueue kind = fits {Item = ℕ} kind Receive ≡ true
 
 -- The last object is a queue, if there is a daemon.
 abbrev pub EndsWithQueue : (has_daemon : Bool) → List ObjectKind → Type 0

@@ -1,23 +1,27 @@
 //! Branches and loops: scripts that go by what was answered.
 ghost use Rattle.std.specs.Prelude.{◌≡◌, ◌≤◌, length};
 ghost use Rattle.model.specs.Scripts.{InRange};
-ghost use Rattle.dice.specs.Known.{AreKnown, IsKnown};
+ghost use Rattle.dice.specs.Known.{AreKnown, IsKnown, IsKnownAnswer, IsKnownCondition, IsKnownValue};
 
 use super::{Dice, Theme};
-use model::{AnswerCondition, ObjectKind, Op, ScriptBuilder};
+use model::{AnswerCondition, ObjectKind, Op, ScriptBuilder, Value};
 
 impl Dice {
-    /// An answer for which a script may ask: `none`, or mostly a small number.
-    fn some_answer(&mut self) -> Option<u32> {
-        match self.roll(6) {
-            0..=1 => None,
-            2..=4 => Some(self.roll(3)),
-            _ => Some(u32::MAX - self.roll(8)),
-        }
+    /// An answer for which a script may ask: `none`, a variable if tasks calculate, or mostly a small number.
+    #[tactic(auto, using(crate::proofs::Known::known_none, crate::proofs::Known::known_some))]
+    fn some_answer(&mut self) -> Option<Value>
+        ensures { IsKnownAnswer result }
+    {
+        let number = match self.roll(6) {
+            0..=1 => return None,
+            2..=4 => self.roll(3),
+            _ => u32::MAX - self.roll(8),
+        };
+        Some(self.operand(number))
     }
 
     /// A bound for answers: mostly a small number, or about the printed ticks.
-    fn bound(&mut self) -> u32 {
+    pub(super) fn bound(&mut self) -> u32 {
         if self.roll(4) == 0 {
             u32::MAX - self.roll(8)
         } else {
@@ -25,13 +29,24 @@ impl Dice {
         }
     }
 
+    /// The same, or a variable if tasks calculate.
+    fn bounding_value(&mut self) -> Value
+        ensures { IsKnownValue result }
+    {
+        let number = self.bound();
+        self.operand(number)
+    }
+
     /// What a script asks of the last answer.
-    pub(super) fn answer_condition(&mut self) -> AnswerCondition {
+    #[tactic(auto, using(crate::proofs::Known::known_is, crate::proofs::Known::known_is_not, crate::proofs::Known::known_below, crate::proofs::Known::known_above))]
+    pub(super) fn answer_condition(&mut self) -> AnswerCondition
+        ensures { IsKnownCondition result }
+    {
         match self.roll(8) {
             0..=1 => AnswerCondition::Is(self.some_answer()),
             2..=3 => AnswerCondition::IsNot(self.some_answer()),
-            4..=5 => AnswerCondition::Below(self.bound()),
-            _ => AnswerCondition::Above(self.bound()),
+            4..=5 => AnswerCondition::Below(self.bounding_value()),
+            _ => AnswerCondition::Above(self.bounding_value()),
         }
     }
 
@@ -48,6 +63,7 @@ impl Dice {
     }
 
     /// An op that opens or ends a branch or a loop, or leaves one.
+    #[tactic(auto, using(crate::proofs::Known::known_if))]
     pub(super) fn block_op(&mut self, objects: &[ObjectKind]) -> Op
         ensures range { InRange result }
         ensures known { IsKnown objects.now result }
@@ -62,6 +78,7 @@ impl Dice {
     }
 
     /// An op of a task that goes by what was answered.
+    #[tactic(auto, using(crate::proofs::Known::known_expect))]
     pub(super) fn deciding_op(&mut self, objects: &[ObjectKind]) -> Op
         ensures range { InRange result }
         ensures known { IsKnown objects.now result }
@@ -69,7 +86,7 @@ impl Dice {
         match self.roll(26) {
             0..=11 => self.block_op(objects),
             12..=14 => self.clock_op(objects),
-            15 => Op::Mark(self.roll(10)),
+            15 => Op::Mark(self.value(10)),
             16 => Op::Expect(self.answer_condition()),
             17..=18 => Op::Delay(self.ticks(4)),
             19 => Op::Work(1 + self.roll(2)),
@@ -87,7 +104,7 @@ impl Dice {
     {
         match self.theme {
             Theme::Decision => 4 + self.roll(21),
-            Theme::Section => 4 + self.roll(13),
+            Theme::Section | Theme::Calculation => 4 + self.roll(13),
             _ => self.roll(9),
         }
     }

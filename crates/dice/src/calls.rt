@@ -6,11 +6,11 @@ ghost use Rattle.model.specs.Scripts.{InRange, fits, is_wait, may_interrupt, may
 ghost use Rattle.dice.specs.Known.{IsKnown};
 
 use super::{Dice, Role, Theme};
-use model::{Access, ObjectId, ObjectKind, Op};
+use model::{Access, ObjectId, ObjectKind, Op, Value};
 
 impl Dice {
     /// A call on a queue of this length that may wait, and that a handler may make too.
-    pub(super) fn queue_access(&mut self, length: u16) -> Access
+    pub(super) fn queue_access(&mut self, length: u16) -> Access<Value>
         ensures fits { fits (of_kind.Queue length) result ≡ true }
         ensures waits { may_wait result ≡ true }
         ensures interrupts { may_interrupt result ≡ true }
@@ -22,8 +22,8 @@ impl Dice {
             Role::Receives => 3 + self.roll(3),
         };
         match face {
-            0..=1 => Access::Send(self.roll(9)),
-            2 => Access::SendFront(self.roll(9)),
+            0..=1 => Access::Send(self.value(9)),
+            2 => Access::SendFront(self.value(9)),
             3..=4 => Access::Receive,
             _ => Access::Peek,
         }
@@ -40,7 +40,7 @@ impl Dice {
         match first + self.roll(9 - first) {
             0 => Op::MessagesWaiting(queue),
             1 => Op::SpacesAvailable(queue),
-            2 if length == 1 => Op::Do(queue, Access::Overwrite(self.roll(9))),
+            2 if length == 1 => Op::Do(queue, Access::Overwrite(self.value(9))),
             _ => Op::Await(queue, self.queue_access(length), self.wait()),
         }
     }

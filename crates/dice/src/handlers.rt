@@ -3,7 +3,7 @@ ghost use Rattle.std.specs.Prelude.{◌+◌, ◌≤◌, ◌≡◌, [], IsTrue, S
 ghost use Rattle.std.specs.List.{AllByRecursion, slice_get};
 ghost use Rattle.model.specs.declared.object.ObjectKind.TheVariants as of_kind;
 ghost use Rattle.model.specs.Blocks.{Nests, isr_edges_of};
-ghost use Rattle.dice.specs.Known.{AreInterrupts, IsKnownHandler, IsKnownIsr, IsKnownIsrWith};
+ghost use Rattle.dice.specs.Known.{AreInterrupts, IsKnownCondition, IsKnownHandler, IsKnownIsr, IsKnownIsrWith};
 
 use super::handler_ops::HandlerOps;
 use super::{Dice, Role, Theme};
@@ -34,7 +34,7 @@ impl Dice {
     {
         let _ = objects;
         if length == 1 && self.roll(4) == 0 {
-            return IsrOp::Do(queue, Access::Overwrite(self.roll(9)));
+            return IsrOp::Do(queue, Access::Overwrite(self.value(9)));
         }
         IsrOp::Do(queue, self.queue_access(length))
     }
@@ -83,7 +83,8 @@ impl Dice {
     fn resumes(&mut self) -> bool {
         match self.theme {
             Theme::Crowd | Theme::Contest => false,
-            Theme::Any | Theme::Gathering | Theme::Decision | Theme::Section => self.roll(4) == 0,
+            Theme::Any | Theme::Gathering | Theme::Decision | Theme::Section | Theme::Calculation =>
+                self.roll(4) == 0,
             Theme::Suspension => self.roll(2) == 0,
         }
     }
@@ -107,7 +108,11 @@ impl Dice {
     fn commands(&mut self) -> bool {
         match self.theme {
             Theme::Crowd | Theme::Contest => self.roll(8) == 0,
-            Theme::Any | Theme::Suspension | Theme::Decision | Theme::Section => self.roll(3) == 0,
+            Theme::Any
+            | Theme::Suspension
+            | Theme::Decision
+            | Theme::Section
+            | Theme::Calculation => self.roll(3) == 0,
             Theme::Gathering => self.roll(3) > 0,
         }
     }
@@ -118,20 +123,25 @@ impl Dice {
         match self.theme {
             Theme::Decision => self.roll(5) < 3,
             Theme::Any | Theme::Section => self.roll(10) == 0,
+            Theme::Calculation => self.roll(4) == 0,
             Theme::Crowd | Theme::Contest | Theme::Gathering | Theme::Suspension => false,
         }
     }
 
     /// What a handler expects of its last answer: mostly something that holds.
-    fn expectation(&mut self) -> AnswerCondition {
+    #[tactic(auto, using(crate::proofs::Known::known_is_not, crate::proofs::Known::known_some))]
+    fn expectation(&mut self) -> AnswerCondition
+        ensures { IsKnownCondition result }
+    {
         if self.roll(3) == 0 {
-            self.answer_condition()
-        } else {
-            AnswerCondition::IsNot(Some(9 + self.roll(3)))
+            return self.answer_condition();
         }
+        let number = 9 + self.roll(3);
+        AnswerCondition::IsNot(Some(self.operand(number)))
     }
 
     /// An op of a handler that looks: it opens or ends a branch, or expects something.
+    #[tactic(auto, using(crate::proofs::Known::known_isr_if, crate::proofs::Known::known_isr_expect))]
     fn looking_op(&mut self, objects: &[ObjectKind]) -> IsrOp
         ensures { IsKnownIsr objects.now result }
     {
@@ -150,6 +160,9 @@ impl Dice {
         if self.looks() {
             return self.looking_op(objects);
         }
+        if self.calculates() {
+            return self.isr_value_op(objects);
+        }
         if has_daemon && self.commands() {
             return self.isr_command(objects, has_daemon);
         }
@@ -158,10 +171,11 @@ impl Dice {
         }
         if self.roll(8) > 0 {
             if let Some(op) = self.isr_call(objects) {
+                self.has_answer = true;
                 return op;
             }
         }
-        IsrOp::Mark(self.roll(10))
+        IsrOp::Mark(self.value(10))
     }
 
     /// How many ops a handler may have before its end.
@@ -169,13 +183,13 @@ impl Dice {
         ensures { result ≤ 8 }
     {
         match self.theme {
-            Theme::Decision => self.roll(9),
+            Theme::Decision | Theme::Calculation => self.roll(9),
             _ => self.roll(6),
         }
     }
 
-    /// Up to five ops of a handler, or eight where it goes by what was answered. One that isn't allowed where it would be is left out.
-    /// Then the branches that are open end.
+    /// Up to five ops of a handler, or eight where it goes by what was answered or calculates. An op that isn't allowed in its place
+    /// is left out. Then the branches that are open end.
     fn isr_ops(
         &mut self,
         alloc: Global,
@@ -207,6 +221,7 @@ impl Dice {
         ensures { IfSome result (λ handler. IsKnownHandler has_daemon objects.now handler) }
     {
         self.role = Role::Any;
+        self.has_answer = false;
         let ops = self.isr_ops(alloc, objects, has_daemon)?;
         let name = String::from_str(alloc, name).ok()?;
         Some(HandlerDefinition::new(name, ops))

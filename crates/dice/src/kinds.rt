@@ -47,7 +47,7 @@ impl Dice {
     fn face(&mut self) -> u32 {
         match self.theme {
             Theme::Any | Theme::Gathering | Theme::Suspension | Theme::Section => self.roll(16),
-            Theme::Crowd | Theme::Decision => self.roll(11),
+            Theme::Crowd | Theme::Decision | Theme::Calculation => self.roll(11),
             Theme::Contest => 12 + self.roll(4),
         }
     }
@@ -58,8 +58,12 @@ impl Dice {
     {
         match self.theme {
             Theme::Any => self.roll(5),
-            Theme::Crowd | Theme::Contest | Theme::Suspension | Theme::Decision | Theme::Section =>
-                1 + self.roll(2),
+            Theme::Crowd
+            | Theme::Contest
+            | Theme::Suspension
+            | Theme::Decision
+            | Theme::Section
+            | Theme::Calculation => 1 + self.roll(2),
             Theme::Gathering => self.roll(2),
         }
     }

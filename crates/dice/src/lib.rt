@@ -23,6 +23,7 @@ mod handlers;
 mod kinds;
 mod ops;
 mod sections;
+mod values;
 
 /// Numbers that follow from a seed.
 #[derive(Drop)]
@@ -41,6 +42,8 @@ pub struct Dice {
     suspensions: u8,
     /// How many critical sections the present script has opened and not closed yet.
     sections: u8,
+    /// Whether the present script or handler has an op that gives it a last answer.
+    has_answer: bool,
     /// The number of the present task, and the other task that it has suspended last and not resumed yet.
     present: u8,
     suspended: Option<TaskId>,
@@ -66,6 +69,8 @@ enum Theme {
     Decision,
     /// They open and close critical sections, and call on objects in between.
     Section,
+    /// They load and store variables, calculate, and pass on what was answered. So do the handlers.
+    Calculation,
 }
 
 /// What calls do.
@@ -104,6 +109,7 @@ impl Dice {
             held: [false; 4],
             suspensions: 0,
             sections: 0,
+            has_answer: false,
             present: 0,
             suspended: None,
             sleeps_long: false,
@@ -144,6 +150,11 @@ impl Dice {
     /// For applications whose tasks open and close critical sections.
     pub fn masking(seed: u32) -> Self {
         Dice::of_theme(seed, Theme::Section)
+    }
+
+    /// For applications whose tasks and handlers calculate.
+    pub fn calculating(seed: u32) -> Self {
+        Dice::of_theme(seed, Theme::Calculation)
     }
 
     /// A number below this one.
@@ -207,7 +218,7 @@ impl Dice {
             Theme::Any => 0,
             Theme::Crowd => 4,
             Theme::Contest | Theme::Gathering | Theme::Suspension => 2,
-            Theme::Decision | Theme::Section => 1,
+            Theme::Decision | Theme::Section | Theme::Calculation => 1,
         };
         match first + self.roll(8 - first) {
             0..=1 => Some(0),
@@ -304,9 +315,9 @@ impl Dice {
         }
     }
 
-    /// Up to eight ops, or 24 where tasks go by what was answered, or 16 where they open critical sections. One that isn't allowed where
-    /// it would be is left out. Then sections that are open are closed, the scheduler is resumed if it is suspended, mutexes that are
-    /// held are given back, and branches and loops that are open end.
+    /// Up to eight ops, or 24 where tasks go by what was answered, or 16 where they open critical sections or calculate. An op that
+    /// isn't allowed in its place is left out. Then sections that are open are closed, the scheduler is resumed if it is suspended,
+    /// mutexes that are held are given back, and branches and loops that are open end.
     fn script(&mut self, alloc: Global, objects: &[ObjectKind]) -> Option<Script>
         ensures script { IfSome result (λ script. IsScript script) }
         ensures known { IfSome result (λ script. AreKnown objects.now script) }
@@ -316,6 +327,7 @@ impl Dice {
         self.held = [false; 4];
         self.suspensions = 0;
         self.sections = 0;
+        self.has_answer = false;
         self.suspended = None;
         for index in 0..length {
             let _ = script.push(self.op_at(index, objects));
@@ -334,7 +346,9 @@ impl Dice {
         ensures { result < 4 }
     {
         match self.theme {
-            Theme::Any | Theme::Decision | Theme::Section => self.roll(3) as u8,
+            Theme::Any | Theme::Decision | Theme::Section | Theme::Calculation => self.roll(
+                3,
+            ) as u8,
             Theme::Crowd | Theme::Gathering if self.is_late => 1 + self.roll(2) as u8,
             Theme::Crowd | Theme::Gathering => 1,
             Theme::Contest | Theme::Suspension if self.is_late => 1 + self.roll(3) as u8,
@@ -399,7 +413,10 @@ impl Dice {
         self.present = 1;
         self.add_task(&mut tasks, alloc, "b", objects)?;
         self.role = late;
-        self.is_late = !matches!(self.theme, Theme::Any | Theme::Decision | Theme::Section);
+        self.is_late = !matches!(
+            self.theme,
+            Theme::Any | Theme::Decision | Theme::Section | Theme::Calculation
+        );
         self.present = 2;
         self.add_task(&mut tasks, alloc, "c", objects)?;
         self.present = 3;
@@ -421,15 +438,16 @@ impl Dice {
         Limits::new(ticks, 20 + self.roll(300))
     }
 
-    /// Four tasks, three handlers, two event groups and up to four objects and four base interrupts, shortly before the tick
-    /// wraps; and as often a daemon as none. Every other one is tickless, and in half of these tasks sleep for long. In some of them
-    /// a few tasks or all are endless. It has no points, which no run depends on.
+    /// Four tasks, three handlers, two event groups, four variables or more, and up to four objects and four base interrupts, shortly
+    /// before the tick wraps; and as often a daemon as none. Every other one is tickless, and in half of these tasks sleep for long.
+    /// In some of them a few tasks or all are endless. It has no points, which no run depends on.
     pub fn app(&mut self, alloc: Global) -> Option<App> {
         let has_daemon = self.roll(2) == 0;
         let tickless = self.roll(2) == 0;
         self.sleeps_long = tickless && self.roll(2) == 0;
         self.endless = self.some_endless();
         let objects = self.all_objects(alloc, has_daemon)?;
+        let variables = self.variables(alloc)?;
         let tasks = self.all_tasks(alloc, objects.as_slice(), has_daemon)?;
         let start = u32::MAX - self.roll(8);
         let limits = self.limits()?;
@@ -439,7 +457,8 @@ impl Dice {
         let daemon = daemon_of(has_daemon);
         let points = Vec::new(alloc);
         Some(App::new(
-            start, tickless, limits, objects, 2, handlers, interrupts, tasks, daemon, points,
+            start, tickless, limits, objects, 2, variables, handlers, interrupts, tasks, daemon,
+            points,
         ))
     }
 }

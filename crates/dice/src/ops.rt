@@ -13,7 +13,10 @@ impl Dice {
         ensures known { IsKnown objects.now result }
     {
         let _ = objects;
-        if !matches!(self.theme, Theme::Any | Theme::Decision | Theme::Section) {
+        if !matches!(
+            self.theme,
+            Theme::Any | Theme::Decision | Theme::Section | Theme::Calculation
+        ) {
             return Op::Time;
         }
         match self.roll(5) {
@@ -24,6 +27,7 @@ impl Dice {
     }
 
     /// An op that speaks of no object, no event group and no task.
+    #[tactic(auto, using(crate::proofs::Known::known_expect))]
     fn plain_op(&mut self, objects: &[ObjectKind]) -> Op
         ensures range { InRange result }
         ensures known { IsKnown objects.now result }
@@ -34,7 +38,7 @@ impl Dice {
             9..=12 => Op::DelayUntil(self.period(4)),
             13..=15 => Op::Yield,
             16..=18 => self.clock_op(objects),
-            19 => Op::Mark(self.roll(10)),
+            19 => Op::Mark(self.value(10)),
             20..=21 => self.repeat(objects, 12),
             22 => self.block_op(objects),
             23..=26 => Op::End,
@@ -159,10 +163,13 @@ impl Dice {
         ensures range { InRange result }
         ensures known { IsKnown objects.now result }
     {
+        if self.calculates() {
+            return self.task_value_op(objects);
+        }
         match self.roll(16) {
             0..=6 => Op::Work(1 + self.roll(4)),
             7 => self.clock_op(objects),
-            8 => Op::Mark(self.roll(10)),
+            8 => Op::Mark(self.value(10)),
             9 => Op::GetBits(self.group()),
             10 => Op::ClearBits(self.group(), self.mask()),
             11 => self.block_op(objects),
@@ -260,6 +267,7 @@ impl Dice {
             Theme::Suspension => self.suspending_op(objects),
             Theme::Decision => self.deciding_op(objects),
             Theme::Section => self.masking_op(objects),
+            Theme::Calculation => self.calculating_op(objects),
         }
     }
 }

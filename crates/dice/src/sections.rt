@@ -41,7 +41,7 @@ impl Dice {
         match objects.get(object.number as usize).copied() {
             Some(ObjectKind::Queue(_)) if self.roll(2) == 0 => Op::MessagesWaiting(object),
             Some(ObjectKind::Queue(_)) => Op::SpacesAvailable(object),
-            _ => Op::Mark(self.roll(10)),
+            _ => Op::Mark(self.value(10)),
         }
     }
 
@@ -52,20 +52,23 @@ impl Dice {
     {
         match self.object_number() {
             Some(object) => self.look_at(objects, object),
-            None => Op::Mark(self.roll(10)),
+            None => Op::Mark(self.value(10)),
         }
     }
 
     /// An op that may be done while a critical section is open.
-    #[tactic(auto, using(crate::proofs::Known::knows_group))]
+    #[tactic(auto, using(crate::proofs::Known::knows_group, crate::proofs::Known::known_expect))]
     pub(super) fn critical_op(&mut self, objects: &[ObjectKind]) -> Op
         ensures range { InRange result }
         ensures known { IsKnown objects.now result }
     {
+        if self.calculates() {
+            return self.task_value_op(objects);
+        }
         match self.roll(16) {
             0..=2 => self.look(objects),
             3 => self.clock_op(objects),
-            4 => Op::Mark(self.roll(10)),
+            4 => Op::Mark(self.value(10)),
             5 => Op::GetBits(self.group()),
             6 => Op::ClearBits(self.group(), self.mask()),
             7 => self.block_op(objects),

@@ -5,7 +5,7 @@ ghost use Rattle.machine.specs.StandsFor.{progress_in};
 use dice::Dice;
 use kernel::Kernel;
 use machine::Machine;
-use model::{App, Loop, TaskId};
+use model::{App, Loop, TaskId, Value, ValueOp, VariableId};
 use std::process::Abort;
 
 /// The kernel at reset, where no task has an open loop.
@@ -37,6 +37,24 @@ fn a_loop_that_is_closed_makes_no_difference(rt: HostRuntime) {
     machine.set_used(task, 1);
     assert!(rt; !machine.is_at(&snapshot, 32));
     assert!(rt; machine.hint(32) != hint);
+}
+
+#[test]
+fn a_variable_makes_a_difference(rt: HostRuntime) {
+    let app = Dice::new(1).app(rt.alloc()).expect(&rt, "an application");
+    let mut machine = at_reset(&app);
+    let snapshot = machine.snapshot(rt.alloc(), 32).ok().expect(&rt, "memory");
+    let hint = machine.hint(32);
+    let op = ValueOp::Store(VariableId { number: 3 }, Value::Answer);
+    machine.store(op, Some(4_294_967_295));
+    assert!(rt; machine.variables.values() == [0, 0, 0, 4_294_967_295].as_slice());
+    assert!(rt; !machine.is_at(&snapshot, 32));
+    assert!(rt; machine.hint(32) != hint);
+    machine.store(op, None);
+    assert!(rt; !machine.is_at(&snapshot, 32));
+    machine.store(op, Some(0));
+    assert!(rt; machine.is_at(&snapshot, 32));
+    assert!(rt; machine.hint(32) == hint);
 }
 
 #[test]

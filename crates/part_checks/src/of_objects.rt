@@ -202,7 +202,7 @@ fn succeed(
     objects: &mut Objects,
     caller: Option<TaskId>,
     object: ObjectId,
-    access: Access,
+    access: Access<u32>,
 )
     requires { HasRoom objects.old object access }
     ensures { objects.new.number ≡ objects.old.number }

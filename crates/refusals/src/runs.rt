@@ -18,6 +18,7 @@ use std::thread::Threads;
 const FILE: &str = "
 queue = [{ name = 'q', length = 2 }]
 group = [{ name = 'g' }]
+variable = [{ name = 'x', initial = 3 }]
 handler = [{ name = 'h', ops = ['send q 7', 'mark 9'] }]
 interrupt = [{ tick = 1, handler = 'h' }]
 task = [

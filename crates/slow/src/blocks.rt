@@ -3,16 +3,6 @@
 use super::{SlowKernel, Task, count_if};
 use model::{AnswerCondition, App, End, Loop, Op, Script, TaskId};
 
-/// Whether a condition holds of an answer.
-pub(super) fn is_so(condition: AnswerCondition, answer: Option<u32>) -> bool {
-    match condition {
-        AnswerCondition::Is(wanted) => answer == wanted,
-        AnswerCondition::IsNot(other) => answer != other,
-        AnswerCondition::Below(bound) => answer.is_some_and(|number| number < bound),
-        AnswerCondition::Above(bound) => answer.is_some_and(|number| number > bound),
-    }
-}
-
 /// Where a task goes on that leaves the branch or the loop whose first op is this one: behind its `else` or its `end`. Blocks that
 /// open on the way are passed whole.
 fn behind_block(app: &App, id: TaskId, first: u16) -> u16 {
@@ -52,7 +42,8 @@ impl SlowKernel {
     /// `if`.
     pub(super) fn branch(&mut self, app: &App, id: TaskId, condition: AnswerCondition) {
         let task = self.task(id);
-        let is_taken = is_so(condition, task.answer);
+        let is_taken = self.is_so(condition, task.answer);
+        self.count_condition(condition);
         self.count_branch(is_taken);
         if is_taken {
             self.complete(app, id, task);
@@ -71,7 +62,8 @@ impl SlowKernel {
     /// `expect`.
     pub(super) fn expect(&mut self, app: &App, id: TaskId, condition: AnswerCondition) {
         let task = self.task(id);
-        if is_so(condition, task.answer) {
+        self.count_condition(condition);
+        if self.is_so(condition, task.answer) {
             self.complete(app, id, task);
         } else {
             self.fail(End::Check(id, task.op_index));

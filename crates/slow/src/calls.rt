@@ -1,7 +1,7 @@
 //! Calls on objects: who waits, who is woken, and the phases of a call that waits.
 
 use super::{Call, SlowKernel, Status, Task, Wait, count_if};
-use model::{Access, App, Phase, TaskId};
+use model::{Access, App, Phase, TaskId, Value};
 
 /// What a task waits for at an object: an item, a count or a mutex; or room.
 #[derive(Clone, Copy, PartialEq, Eq)]
@@ -10,8 +10,16 @@ pub(super) enum Side {
     Senders,
 }
 
+/// What a call puts into a queue, if it puts anything there.
+pub(super) fn item_of(access: Access<Value>) -> Option<Value> {
+    match access {
+        Access::Send(item) | Access::SendFront(item) | Access::Overwrite(item) => Some(item),
+        Access::Receive | Access::Peek | Access::Take | Access::Give | Access::Lock => None,
+    }
+}
+
 /// What a call answers that fails.
-fn failure(access: Access) -> Option<u32> {
+fn failure(access: Access<u32>) -> Option<u32> {
     match access {
         Access::Receive | Access::Peek => None,
         Access::Send(_)
@@ -24,7 +32,7 @@ fn failure(access: Access) -> Option<u32> {
 }
 
 /// Where a call waits.
-fn own_side(access: Access) -> Side {
+fn own_side(access: Access<u32>) -> Side {
     match access {
         Access::Send(_) | Access::SendFront(_) | Access::Overwrite(_) => Side::Senders,
         Access::Receive | Access::Peek | Access::Take | Access::Give | Access::Lock => {
@@ -35,7 +43,7 @@ fn own_side(access: Access) -> Side {
 
 /// Where a call of a task or (none) of a handler wakes one who waits. A task's peek leaves the item to the next one, and
 /// that of a handler wakes nobody.
-fn woken_side(caller: Option<TaskId>, access: Access) -> Option<Side> {
+fn woken_side(caller: Option<TaskId>, access: Access<u32>) -> Option<Side> {
     match access {
         Access::Send(_) | Access::SendFront(_) | Access::Overwrite(_) | Access::Give => {
             Some(Side::Receivers)
@@ -119,7 +127,7 @@ impl SlowKernel {
         &mut self,
         caller: Option<TaskId>,
         object: u8,
-        access: Access,
+        access: Access<u32>,
     ) -> Option<u32> {
         let done = self.objects.get_mut(object as usize)?.act(caller, access);
         if let Some(side) = woken_side(caller, access) {
@@ -139,7 +147,7 @@ impl SlowKernel {
         &mut self,
         caller: Option<TaskId>,
         object: u8,
-        access: Access,
+        access: Access<u32>,
     ) -> Option<u32> {
         if self.is_possible(object, access) {
             self.fulfil(caller, object, access)
@@ -149,7 +157,7 @@ impl SlowKernel {
     }
 
     /// A call that doesn't wait.
-    pub(super) fn act_at_once(&mut self, app: &App, id: TaskId, object: u8, access: Access) {
+    pub(super) fn act_at_once(&mut self, app: &App, id: TaskId, object: u8, access: Access<u32>) {
         let answer = self.attempt(Some(id), object, access);
         self.answer(app, id, answer);
         self.preempt();
@@ -189,7 +197,7 @@ impl SlowKernel {
         self.set_call(id, Call { deadline, ..call });
     }
 
-    fn try_again(&mut self, app: &App, id: TaskId, object: u8, access: Access) {
+    fn try_again(&mut self, app: &App, id: TaskId, object: u8, access: Access<u32>) {
         if self.is_possible(object, access) {
             self.act_at_once(app, id, object, access);
         } else if self.is_expired(id) {
@@ -200,7 +208,7 @@ impl SlowKernel {
         }
     }
 
-    fn decide(&mut self, id: TaskId, object: u8, access: Access) {
+    fn decide(&mut self, id: TaskId, object: u8, access: Access<u32>) {
         self.is_held = true;
         self.locked = Some(object);
         if self.is_possible(object, access) || self.is_expired(id) {
@@ -284,7 +292,7 @@ impl SlowKernel {
         app: &App,
         id: TaskId,
         object: u8,
-        access: Access,
+        access: Access<u32>,
         ticks: Option<u32>,
     ) {
         match self.task(id).call.phase {

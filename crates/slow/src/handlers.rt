@@ -1,6 +1,5 @@
 //! Interrupt handlers: their ops, and how they come.
 
-use super::blocks::is_so;
 use super::{SlowKernel, count_if};
 use model::{Access, AnswerCondition, App, End, HandlerDefinition, HandlerId, IsrOp, What};
 
@@ -21,7 +20,7 @@ fn behind_branch(ops: &[IsrOp], first: u16) -> u16 {
 
 impl SlowKernel {
     /// A call of a handler is tried once, and never waits.
-    fn attempt_isr(&mut self, object: u8, access: Access) -> Option<u32> {
+    fn attempt_isr(&mut self, object: u8, access: Access<u32>) -> Option<u32> {
         let answer = self.attempt(None, object, access);
         let is_locked_give = access == Access::Give && self.locked == Some(object);
         let gives = is_locked_give && answer == Some(1);
@@ -39,15 +38,20 @@ impl SlowKernel {
         last: Option<u32>,
     ) -> Option<u32> {
         let answer = match *op {
-            IsrOp::Mark(number) => {
+            IsrOp::Mark(value) => {
+                let number = self.shown(value, last);
                 self.write(What::IsrMark(handler, number));
                 return last;
             }
             IsrOp::Expect(_) | IsrOp::If(_) | IsrOp::Else | IsrOp::EndIf => return last,
-            IsrOp::Do(object, access) => self.attempt_isr(object.number, access),
+            IsrOp::Do(object, access) => {
+                self.count_isr_sent(object.number, access, last);
+                self.attempt_isr(object.number, self.asked(access, last))
+            }
             IsrOp::Command(command) => self.send_command(app, command),
             IsrOp::Resume(task) => Some(self.resume(task) as u32),
             IsrOp::GetBits(group) => Some(self.bits(group)),
+            IsrOp::Value(op) => self.isr_values(op, last),
         };
         self.write(match answer {
             Some(answer) => What::Isr(handler, op_index, answer),
@@ -56,12 +60,13 @@ impl SlowKernel {
         answer
     }
 
-    /// Whether an op is an `expect` that fails.
+    /// Whether an op is an `expect` that fails, or has no value to work with.
     fn is_failing(&mut self, op: &IsrOp, last: Option<u32>) -> bool {
         let IsrOp::Expect(condition) = *op else {
-            return false;
+            return self.is_isr_without_value(op, last);
         };
-        let is_passed = is_so(condition, last);
+        let is_passed = self.is_so(condition, last);
+        self.count_isr_condition(condition);
         count_if(&mut self.tally.passed_checks, is_passed);
         count_if(&mut self.tally.failed_checks, !is_passed);
         !is_passed
@@ -69,7 +74,8 @@ impl SlowKernel {
 
     /// Whether the first branch of an `if` is done.
     fn is_taken(&mut self, condition: AnswerCondition, last: Option<u32>) -> bool {
-        let is_taken = is_so(condition, last);
+        let is_taken = self.is_so(condition, last);
+        self.count_isr_condition(condition);
         count_if(&mut self.tally.taken_by_handlers, is_taken);
         count_if(&mut self.tally.skipped_by_handlers, !is_taken);
         is_taken

@@ -6,6 +6,7 @@ use calls::Side;
 use model::{App, End, Event, Injection, Limits, Loop, Op, Phase, TaskId, What};
 use shared::Object;
 use std::alloc::Global;
+use values::receives;
 use waits_for_bits::BitWait;
 
 mod blocks;
@@ -18,6 +19,7 @@ mod mutexes;
 mod sections;
 mod shared;
 mod suspension;
+mod values;
 mod waits_for_bits;
 
 /// A wait that has begun: at which side of which object, with the priority that the task had then.
@@ -71,6 +73,8 @@ struct Task {
     loops: [Loop; 4],
     nesting: usize,
     answer: Option<u32>,
+    /// Whether that is an item from a queue.
+    has_received: bool,
     previous_wake: u64,
     stamp: u64,
     call: Call,
@@ -173,6 +177,23 @@ pub struct Tally {
     pub stamps: u32,
     pub measures: u32,
     pub long_measures: u32,
+    /// A task stored a variable; a handler did.
+    pub stores: u32,
+    pub stores_by_handlers: u32,
+    /// A task calculated. It loaded, stored or calculated while a critical section was open, or the scheduler suspended.
+    pub results: u32,
+    pub values_in_holds: u32,
+    /// An op of a task had no value to work with; one of a handler; a task's would have divided by 0.
+    pub valueless_ops: u32,
+    pub valueless_by_handlers: u32,
+    pub zero_divisors: u32,
+    /// A condition of a task named a variable; one of a handler.
+    pub named_conditions: u32,
+    pub named_by_handlers: u32,
+    /// A task put its last answer into a queue; one that it had received from a queue; a handler put its own.
+    pub sent_answers: u32,
+    pub passed_on: u32,
+    pub answers_sent_by_handlers: u32,
 }
 
 /// Counts something, where it is so.
@@ -186,6 +207,8 @@ pub struct SlowKernel {
     objects: Vec<Object>,
     /// Which bits of each event group are set.
     groups: [u32; 16],
+    /// The value of each variable.
+    variables: [u32; 32],
     time: u64,
     pub elapsed: u64,
     current: Option<TaskId>,
@@ -218,6 +241,7 @@ impl SlowKernel {
             loops: [Loop::default(); 4],
             nesting: 0,
             answer: None,
+            has_received: false,
             previous_wake: app.start() as u64,
             stamp: app.start() as u64,
             call: Call::default(),
@@ -227,6 +251,7 @@ impl SlowKernel {
             tasks: [no_task; 32],
             objects: Vec::new(alloc),
             groups: [0; 16],
+            variables: [0; 32],
             time: app.start() as u64,
             elapsed: 0,
             current: None,
@@ -244,6 +269,7 @@ impl SlowKernel {
             is_out_of_memory: false,
         };
         kernel.make_objects(alloc, app);
+        kernel.reset_variables(app);
         kernel.make_all_ready(app);
         kernel.current = kernel.choice();
         kernel
@@ -489,8 +515,17 @@ impl SlowKernel {
             Some(number) => What::Call(id, task.op_index, number),
             None => What::CallNone(id, task.op_index),
         };
+        let has_received = answer.is_some() && receives(app.op(id, task.op_index));
         self.write(what);
-        self.complete(app, id, Task { answer, ..task });
+        self.complete(
+            app,
+            id,
+            Task {
+                answer,
+                has_received,
+                ..task
+            },
+        );
     }
 
     fn to_back(&mut self, id: TaskId) {
@@ -588,7 +623,8 @@ impl SlowKernel {
                 self.yield_now();
             }
             Op::Time => self.answer(app, id, Some(self.tick_now())),
-            Op::Mark(number) => {
+            Op::Mark(value) => {
+                let number = self.shown(value, self.task(id).answer);
                 self.write(What::Mark(id, number));
                 self.complete(app, id, self.task(id));
             }
@@ -602,9 +638,15 @@ impl SlowKernel {
             Op::Stamp => self.stamp(app, id),
             Op::Since => self.since(app, id),
             Op::Await(object, access, ticks) => {
+                self.count_passed_on(id, object.number, access);
+                let access = self.asked(access, self.task(id).answer);
                 self.go_on_waiting(app, id, object.number, access, ticks);
             }
-            Op::Do(object, access) => self.act_at_once(app, id, object.number, access),
+            Op::Do(object, access) => {
+                self.count_passed_on(id, object.number, access);
+                let access = self.asked(access, self.task(id).answer);
+                self.act_at_once(app, id, object.number, access);
+            }
             Op::GiveMutex(object) => self.give_back(app, id, object.number),
             Op::MessagesWaiting(object) => {
                 let (items, _) = self.fill(object.number);
@@ -626,6 +668,7 @@ impl SlowKernel {
             Op::ResumeAll => self.resume_all(app, id),
             Op::EnterCritical => self.enter_critical(app, id),
             Op::ExitCritical => self.exit_critical(app, id),
+            Op::Value(op) => self.work_with_values(app, id, op),
             Op::NextCommand(queue) => self.next_command(app, id, queue.number),
             Op::Obey => self.obey(app, id),
         }

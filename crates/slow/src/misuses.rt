@@ -27,6 +27,7 @@ fn may_be_held(op: Op) -> bool {
             | Op::ResumeAll
             | Op::EnterCritical
             | Op::ExitCritical
+            | Op::Value(_)
     )
 }
 
@@ -97,11 +98,12 @@ impl SlowKernel {
         }
     }
 
-    /// The running task does its op, or ends the run by a misuse.
+    /// The running task does its op, or ends the run by a misuse. If the op has no value to work with, it is a failed check.
     pub(super) fn act_unless_misuse(&mut self, app: &App, id: TaskId, op: Op) {
         let op_index = self.task(id).op_index;
         match self.misuse(app, id) {
             Some(misuse) => self.stop(id, op_index, misuse),
+            None if self.is_without_value(app, id) => self.fail(End::Check(id, op_index)),
             None => {
                 self.act(app, id, op);
                 self.stop_at_end(id, op_index);

@@ -27,7 +27,7 @@ pub(super) struct Semaphore {
 }
 
 impl Queue {
-    fn is_possible(&self, access: Access) -> bool {
+    fn is_possible(&self, access: Access<u32>) -> bool {
         match access {
             Access::Send(_) | Access::SendFront(_) => self.items.len() < self.length,
             Access::Overwrite(_) => true,
@@ -36,7 +36,7 @@ impl Queue {
         }
     }
 
-    fn act(&mut self, access: Access) -> Result<Option<u32>, AllocError> {
+    fn act(&mut self, access: Access<u32>) -> Result<Option<u32>, AllocError> {
         match access {
             Access::Receive => return Ok(self.items.pop_front()),
             Access::Peek => return Ok(self.items.front().copied()),
@@ -53,7 +53,7 @@ impl Queue {
 }
 
 impl Semaphore {
-    fn is_possible(&self, access: Access) -> bool {
+    fn is_possible(&self, access: Access<u32>) -> bool {
         match access {
             Access::Take => self.count > 0,
             Access::Give => self.count < self.max_count,
@@ -61,7 +61,7 @@ impl Semaphore {
         }
     }
 
-    fn act(&mut self, access: Access) {
+    fn act(&mut self, access: Access<u32>) {
         self.count = match access {
             Access::Take => self.count.wrapping_sub(1),
             Access::Give => self.count.wrapping_add(1),
@@ -85,7 +85,7 @@ impl Object {
         }
     }
 
-    pub(super) fn is_possible(&self, access: Access) -> bool {
+    pub(super) fn is_possible(&self, access: Access<u32>) -> bool {
         match self {
             Object::Queue(queue) => queue.is_possible(access),
             Object::Semaphore(semaphore) => semaphore.is_possible(access),
@@ -97,7 +97,7 @@ impl Object {
     pub(super) fn act(
         &mut self,
         caller: Option<TaskId>,
-        access: Access,
+        access: Access<u32>,
     ) -> Result<Option<u32>, AllocError> {
         match self {
             Object::Queue(queue) => queue.act(access),
@@ -136,7 +136,7 @@ impl SlowKernel {
         (number_of(items), number_of(room))
     }
 
-    pub(super) fn is_possible(&self, object: u8, access: Access) -> bool {
+    pub(super) fn is_possible(&self, object: u8, access: Access<u32>) -> bool {
         self.objects
             .get(object as usize)
             .is_some_and(|object| object.is_possible(access))

@@ -1,4 +1,4 @@
-use Rattle.std.proofs.Common.{arith, ◌-◌, ◌≤◌, refl, ap, subst, sym, length, Bool, List, ◌≡◌, ◌∙◌, eqb}
+use Rattle.std.proofs.Common.{arith, ℕ, ◌-◌, ◌≤◌, refl, ap, subst, sym, length, Bool, List, ◌≡◌, ◌∙◌, eqb}
 use Rattle.std.specs.List.{AllByRecursion}
 use Rattle.std.specs.Option.{is_some}
 use Rattle.model.specs.declared.object.ObjectKind.{ObjectKind}
@@ -15,6 +15,9 @@ new-requires-2 c =
     let kinds : List ObjectKind = c.in_ok-objects.objects.items in
     let handlers : List Handler = c.in_ok-handlers.handlers.items in
     let tasks : List Definition = c.in_ok-tasks.tasks.items in
+    let variables : List ℕ = c.in_ok-variables.variables.items in
+    let more : 4 ≤ length variables = c.in_ok-variables.ensures.some in
+    let few_variables : length variables ≤ 32 = c.in_ok-variables.ensures.few in
     let has_daemon : Bool = eqb c.roll-has_daemon.result 0 in
     let app : Application = record {
       start = 4294967295 - c.roll-start.result;
@@ -22,6 +25,7 @@ new-requires-2 c =
       limits = c.in_ok-limits.limits;
       objects = kinds;
       group_count = 2;
+      variables = variables;
       handlers = handlers;
       interrupts = c.in_ok-interrupts.interrupts;
       tasks = tasks;
@@ -52,15 +56,16 @@ new-requires-2 c =
       few_objects = omega arith;
       daemon = is_daemon app has_daemon is c.in_ok-objects.ensures.queue are;
       few_groups = omega arith;
+      few_variables = few_variables;
       handlers =
-          are_handlers app has_daemon kinds refl refl four has handlers
+          are_handlers app has_daemon kinds refl refl four more has handlers
           (subst (λ (objects : List ObjectKind). AllByRecursion (IsKnownHandler has_daemon objects) handlers)
           c.as_slice-2.ensures.value c.in_ok-handlers.ensures.known);
       few_handlers = omega arith;
       interrupts = are_interrupts app three app.interrupts formed.first formed.last formed.known;
       few_interrupts = omega arith;
       few_at_once = λ tick. let here = few_at app tick in omega arith;
-      known = known_of_file app has_daemon is refl are;
+      known = known_of_file app has_daemon is refl more are;
       points = subst (AllByRecursion (IsPointEntry app)) (sym c.new-points.ensures.items) tt;
       few_points = subst (λ (points : List PointEntry). length points ≤ most_points) (sym c.new-points.ensures.items) (omega arith);
       start = omega arith;
