@@ -2,12 +2,12 @@
 # must be read as TOML. An application is plain whose headers and keys are bare words, a line each, and whose values are numbers, booleans,
 # texts without a backslash, and arrays of such texts. Of one of more than a megabyte the rest isn't looked at.
 BEGIN {
-    count = split("limits queue binary counting mutex group handler task daemon interrupt campaign", sections)
+    count = split("limits queue binary counting mutex group variable handler task daemon interrupt campaign", sections)
     for (at = 1; at <= count; at++) is_single[sections[at]] = sections[at] ~ /^(limits|daemon|campaign)$/
     for (name in is_single) headers[is_single[name] ? "[" name "]" : "[[" name "]]"] = name
     keys = ".start .tickless limits.ticks limits.steps queue.name queue.length binary.name counting.name counting.max counting.initial"
-    keys = keys " mutex.name group.name handler.name handler.ops task.name task.priority task.endless task.script daemon.name"
-    keys = keys " daemon.priority daemon.length interrupt.tick interrupt.handler campaign.points"
+    keys = keys " mutex.name group.name variable.name variable.initial handler.name handler.ops task.name task.priority task.endless"
+    keys = keys " task.script daemon.name daemon.priority daemon.length interrupt.tick interrupt.handler campaign.points"
     count = split(keys, names, " ")
     for (at = 1; at <= count; at++) is_known[names[at]] = 1
     section = ""

@@ -2,7 +2,7 @@
 import itertools
 import os
 
-from . import base_ends, explaining, ignored, points, reach, unused
+from . import base_ends, explaining, ignored, points, reach, unused, values
 from .application import Application
 from .findings import FAULT, Checked, Finding
 from .formats import MOST_POINTS
@@ -132,6 +132,12 @@ def other_encoding(content):
 # -- a file that the program takes
 
 
+def without_ends(findings):
+    """The warnings but those of an end of the script with an op that isn't done, since it is a failed check."""
+    failed = {it.span for it in findings if it.kind == "NoValue"}
+    return [it for it in findings if it.kind != "Misuse" or it.span not in failed]
+
+
 def taken(name, content, end, program):
     text, _ = text_of(content)
     checked = Checked(name, Lines(text))
@@ -146,8 +152,8 @@ def taken(name, content, end, program):
         if line is not None and Verdict(line).kind == "TooManyPoints":
             checked.add(points.too_many(nodes, end.steps, root, line))
     looks = (ignored.warnings(root, program.ignored), unused.warnings(application), points.warnings(application, end.steps),
-             reach.warnings(application), base_ends.warnings(application, end))
-    for it in itertools.chain(*looks):
+             reach.warnings(application), values.warnings(application), base_ends.warnings(application, end))
+    for it in without_ends(list(itertools.chain(*looks))):
         checked.add(it)
     checked.findings.sort(key=lambda it: (it.severity, it.span or (0, 0)))
     return checked

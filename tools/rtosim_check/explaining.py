@@ -167,8 +167,8 @@ def double_name(context):
     line = context.line_of(first.table.get("name").start)
     message = f'{context.label}: the name "{node.value}" is already that of the {CALLED[first.section]} of line {line}'
     return node.span, message, (
-        "all names of a file are different: those of queues, semaphores, mutexes, event groups, handlers, tasks and the daemon "
-        "together")
+        "all names of a file are different: those of queues, semaphores, mutexes, event groups, variables, handlers, tasks and the "
+        "daemon together")
 
 
 # -- what is too many

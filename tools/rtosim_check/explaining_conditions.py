@@ -1,7 +1,7 @@
 """Why the program refuses the condition of an op, as of `if` and `expect`."""
 import re
 
-from .formats import MEANT_ANSWERS, MEANT_FRONTS, MEANT_NONE, MEANT_WITH_EQUAL, Condition
+from .formats import MEANT_ANSWERS, MEANT_FRONTS, MEANT_NONE, MEANT_WITH_EQUAL, WORDS_OF_CONDITIONS, Condition
 from .nearness import did_you_mean, near, quoted
 from .problem import Problem
 
@@ -46,7 +46,7 @@ def problem_of(word, given):
             return 1, f'"{word}" takes one condition, and "{given[1]}" is too many{did_you_mean(quoted(f"{word} {front}"))}'
         return 0, no_answer(front, True)
     if len(given) == 1:
-        wanted = "a number, or none," if Condition.FRONTS[front] else "a number"
+        wanted = "a number, a variable, or none," if Condition.FRONTS[front] else "a number or a variable"
         return 0, f'{wanted} is missing behind "{front}"'
     if len(given) > 2 and Condition().fits_all(given[:2]):
         meant = quoted(" ".join([word, *given[:2]]))
@@ -69,7 +69,7 @@ def meant_condition(given):
         last = str(int(last) + more)
     else:
         front = MEANT_FRONTS.get(front) if front in MEANT_FRONTS else near(front, Condition.FRONTS)
-        last = "none" if last in MEANT_NONE else last
+        last = "none" if last in MEANT_NONE else MEANT_ANSWERS.get(last, last)
     words = None if front is None else [it for it in (front, last) if it]
     return " ".join(words) if words and words != given and Condition().fits_all(words) else None
 
@@ -77,11 +77,9 @@ def meant_condition(given):
 def no_answer(word, may_be_none):
     """What to say of a word that is no answer."""
     condition = Condition()
-    ends = f"{condition.least} to {condition.most}" + (condition.or_else if may_be_none else "")
-    if may_be_none and (near(word, ["none"]) or word in MEANT_NONE):
-        return f'expected a number, {ends}, found "{word}"; did you mean "none"?'
-    if word in MEANT_ANSWERS:
-        return f'expected a number, {ends}, found "{word}"; did you mean "{MEANT_ANSWERS[word]}"?'
+    ends = f"{condition.least} to {condition.most}" + (condition.or_else if may_be_none else ", or the name of a variable")
+    if word in WORDS_OF_CONDITIONS:
+        return f'expected a number, {ends}, found "{word}", which is a word of conditions and names no variable there'
     if re.fullmatch("[0-9]{11,}", word):
         return f"{word} has more than ten digits"
     if re.fullmatch("-?[0-9]+", word):

@@ -3,6 +3,7 @@ import re
 
 from .explaining_points import listed
 from .explaining_conditions import problem_of_condition
+from .explaining_values import listed_ops, meant_of_variable, no_number_but_name, no_variable, problem_of_assignment, problem_of_comparison
 from .formats import (CALLED, COMMANDS, DAEMON, EXAMPLE_OF_A_DAEMON, KIN, LOOPS, MASKS, MEANT_OPS, MEANT_TURNS, MEANT_WAITS, MEASURES,
                       NOT_SIMULATED_OPS, NUMBER, OPS, PLURALS, SECTIONS, Choice, Name, Turns, Wait, not_simulated, not_simulated_rule, op_of,
                       words_of)
@@ -34,8 +35,10 @@ def problem_of(text, section, application):
         example = '"send rx 7"' if section == "handler" else '"receive rx 5"'
         return Problem(0, 0, "the op is empty", f"an op is a word and its arguments, as {example}")
     return (
-        problem_of_characters(text, section)
-        or problem_of_word(words, section)
+        problem_of_assignment(text, section, application)
+        or problem_of_comparison(text, section, application)
+        or problem_of_characters(text, section)
+        or problem_of_word(words, section, application)
         or problem_of_condition(words, OPS[section])
         or problem_of_count(words, section, application)
         or problem_of_arguments(words, section, application)
@@ -70,11 +73,15 @@ def problem_of_characters(text, section):
 # -- the first word
 
 
-def problem_of_word(words, section):
+def problem_of_word(words, section, application):
     word, start, end = words[0]
     word, end = word.partition("(")[0], start + len(word.partition("(")[0])
     if word in OPS[section]:
         return None
+    of_variable = meant_of_variable(words, application)
+    if of_variable:
+        message = f'no op is called "{word}", and "{words[1][0]}" is a variable{did_you_mean(listed_ops(of_variable))}'
+        return Problem(start, end, message, OPS[section][of_variable[-1].split()[0]].rule)
     if section == "handler" and word in OPS["task"]:
         return Problem(start, end, op_of_tasks(word), all_ops("handler"))
     left_out_there = not_simulated(word, NOT_SIMULATED_OPS) if MEANT_OPS.get(word.lower()) is None else None
@@ -117,6 +124,10 @@ def problem_of_count(words, section, application):
     many = len(op.arguments)
     if given == many:
         return None
+    of_variable = meant_of_variable(words, application)
+    if of_variable:
+        message = f'"{words[1][0]}" is a variable, and "{op.word}" isn\'t about variables{did_you_mean(listed_ops(of_variable))}'
+        return Problem(words[0][1], words[-1][2], message, OPS[section][of_variable[-1].split()[0]].rule)
     if section == "handler" and op.word in OPS["task"] and given == len(OPS["task"][op.word].arguments):
         message = f'a handler never waits, so "{op.word}" has no wait there{did_you_mean(quoted(text_of(words[:-1])))}'
         return Problem(words[-1][1], words[-1][2], message, op.rule)
@@ -158,16 +169,17 @@ def problem_of_arguments(words, section, application):
     op = OPS[section][words[0][0]]
     for argument, (word, start, end) in zip(op.arguments, words[1:]):
         if not argument.fits(word):
-            return Problem(start, end, problem_of_argument(argument, word, application), op.rule)
+            text = [it[0] for it in words]
+            return Problem(start, end, problem_of_argument(argument, word, text, application), op.rule)
     return None
 
 
-def problem_of_argument(argument, word, application):
+def problem_of_argument(argument, word, text, application):
     if isinstance(argument, Name):
         return no_name(argument, word, application)
     if isinstance(argument, Choice):
         return f'"{word}" is neither {" nor ".join(argument.words)}{did_you_mean(quoted(near(word, argument.words)))}'
-    return no_number(argument, word)
+    return no_number_but_name(argument, word, text, application) or no_number(argument, word)
 
 
 def no_name(argument, word, application):
@@ -214,12 +226,15 @@ def unknown_name(context):
     node = context.node
     if not isinstance(node, Text) or context.place.section not in OPS:
         return None
-    op = op_of(context.place.section, node.value)[1]
-    if op is None or op.name_at() is None:
+    words, op = op_of(context.place.section, node.value)
+    found = op.name_at(words[1:]) if op else None
+    if found is None:
         return None
-    at, kinds = op.name_at()
+    at, kinds = found
     word, start, end = words_of(node.value)[at + 1]
-    message, rule = no_such(context, op, word, kinds)
+    is_free = word not in context.application.named
+    value = no_variable(op, words, word, context.application) if kinds == ("variable",) and is_free else None
+    message, rule = (value, op.rule) if value else no_such(context, op, word, kinds)
     return node.part(start, end), told(context, message), rule
 
 
@@ -253,7 +268,7 @@ def one(section):
 def instead(context, op, other, names):
     """Which op is meant, or which ops speak of what has the name, or which names the op may have; and the op that is meant."""
     known = OPS[context.place.section]
-    ops = [it.word for it in known.values() if it.name_at() and other.section in it.name_at()[1]]
+    ops = [it.word for it in known.values() if other.section in it.kinds]
     kin = next((it for group in KIN if op.word in group for it in group if it in ops), None)
     if kin:
         return did_you_mean(f'the op "{kin}"'), known[kin]

@@ -10,17 +10,22 @@ NUMBER = re.compile("[0-9]{1,10}")
 NAME = re.compile("[A-Za-z][A-Za-z0-9_]{0,15}")
 A_NAME = "a name is 1 to 16 ASCII letters, digits and `_`, and begins with a letter"
 OBJECTS = ("queue", "binary", "counting", "mutex")
-NAMED = (*OBJECTS, "group", "handler", "task")
+NAMED = (*OBJECTS, "group", "variable", "handler", "task")
+# The word for the last answer, and those of conditions, which name no variable there.
+ANSWER, WORDS_OF_CONDITIONS = "answer", ("none", "not", "below", "above")
+# The ops on the last answer, and with them all that are about variables.
+ARITHMETIC = ("add", "sub", "mul", "div", "mod", "and", "or", "xor")
+OF_VARIABLES = ("load", "store", *ARITHMETIC)
 # The section of the task that does handlers' commands, of which a file has one.
 DAEMON = "daemon"
 # How a message calls what a section names.
 CALLED = {
     "queue": "queue", "binary": "binary semaphore", "counting": "counting semaphore", "mutex": "mutex", "group": "event group",
-    "handler": "handler", "task": "task", "interrupt": "interrupt", DAEMON: "daemon",
+    "variable": "variable", "handler": "handler", "task": "task", "interrupt": "interrupt", DAEMON: "daemon",
 }
 PLURALS = {
     "queue": "queues", "binary": "binary semaphores", "counting": "counting semaphores", "mutex": "mutexes",
-    "group": "event groups", "handler": "handlers", "task": "tasks",
+    "group": "event groups", "variable": "variables", "handler": "handlers", "task": "tasks",
 }
 
 
@@ -82,6 +87,8 @@ SECTIONS = {it.name: it for it in (
             number_key("initial", 0, 65535, "the count at reset, at most max", 0)),
     Section("mutex", True, 32, TOGETHER, THE_NAME),
     Section("group", True, 16, "a file has at most 16 event groups", THE_NAME),
+    Section("variable", True, 32, "a file has at most 32 variables, which all tasks and handlers share", THE_NAME,
+            number_key("initial", 0, MOST_OF_A_NUMBER, "the variable's value at reset", 0)),
     Section("handler", True, 16, "a file has at most 16 handlers", THE_NAME,
             texts_key("ops", 16, "ops are what the handler does: an array of at most 16 texts", '["send rx 7"]')),
     Section("task", True, 32, "a file has 1 to 32 tasks, each under a line [[task]]", THE_NAME,
@@ -112,11 +119,14 @@ MEANT_SECTIONS = {
     "semaphore": "binary", "sem": "binary", "binary_semaphore": "binary", "counting_semaphore": "counting", "event_group": "group",
     "events": "group", "event": "group", "isr": "handler", "irq": "interrupt", "thread": "task", "points": "campaign",
     "injection": "campaign", "timer_task": DAEMON, "daemon_task": DAEMON, "timer_service": DAEMON, "tmr_svc": DAEMON,
-    "tickless_idle": "tickless", "configuse_tickless_idle": "tickless",
+    "tickless_idle": "tickless", "configuse_tickless_idle": "tickless", "var": "variable", "global": "variable", "globals": "variable",
+    "shared": "variable", "memory": "variable", "counter": "variable", "volatile": "variable", "static": "variable", "int": "variable",
+    "uint32_t": "variable",
 }
 MEANT_KEYS = {
     "prio": "priority", "size": "length", "capacity": "length", "depth": "length", "ops": "script", "code": "script",
-    "script": "ops", "body": "ops", "maximum": "max", "init": "initial", "count": "initial", "time": "tick", "at": "tick",
+    "script": "ops", "body": "ops", "maximum": "max", "init": "initial", "count": "initial", "value": "initial", "default": "initial", "at_reset": "initial",
+    "time": "tick", "at": "tick",
     "isr": "handler", "irq": "handler", "ticks": "tick", "tick": "ticks", "point": "points", "forever": "endless",
     "infinite": "endless", "never_ends": "endless",
     "configtimer_task_priority": "priority", "configtimer_queue_length": "length", "queue_length": "length",
@@ -165,24 +175,56 @@ class Turns(Number):
         return word == "forever" or super().fits(word)
 
 
+class Value(Number):
+    """A number, or the last answer."""
+
+    or_else = ", or answer"
+
+    def __init__(self, letter, what):
+        super().__init__(letter)
+        self.rule = f"{letter} is {what}, 0 to {self.most}, or answer, which is the last answer"
+
+    def fits(self, word):
+        return word == ANSWER or super().fits(word)
+
+
+class Operand(Number):
+    """A number, or the name of a variable."""
+
+    or_else = ", or the name of a variable"
+    kinds = ("variable",)
+
+    def __init__(self, least=0):
+        super().__init__("O", least)
+        self.rule = f"O is a number, {least} to {self.most}{self.or_else}"
+
+    def fits(self, word):
+        return is_name(word) or super().fits(word)
+
+
 class Condition(Number):
     """What the last answer must be, in one word or two."""
 
-    or_else = ", or none"
+    or_else = ", the name of a variable, or none"
     # The first words of two, each with whether none may follow.
     FRONTS = {"not": True, "below": False, "above": False}
+    kinds = ("variable",)
 
     def __init__(self):
         super().__init__("C")
-        self.rule = (f"C is what the last answer must be: n, none, not n, not none, below n or above n, where n is 0 to {self.most}, and "
-                     "none is neither below nor above a number")
+        self.rule = (f"C is what the last answer must be: n, none, not n, not none, below n or above n. n is a number, 0 to {self.most}, "
+                     "or a variable; none is neither below nor above it")
 
     def fits(self, word):
-        return word == "none" or super().fits(word)
+        return word == "none" or self.is_value(word)
+
+    def is_value(self, word):
+        """Whether it is a number, or may be the name of a variable."""
+        return super().fits(word) or is_name(word) and word not in WORDS_OF_CONDITIONS
 
     def fits_all(self, words):
         if len(words) == 2 and words[0] in self.FRONTS:
-            return super().fits(words[1]) or words[1] == "none" and self.FRONTS[words[0]]
+            return self.is_value(words[1]) or words[1] == "none" and self.FRONTS[words[0]]
         return len(words) == 1 and self.fits(words[0])
 
 
@@ -205,15 +247,20 @@ class Name:
         self.rule = f"{letter} is {what}"
 
     def fits(self, word):
-        return bool(NAME.fullmatch(word))
+        return is_name(word)
+
+
+def is_name(word):
+    return bool(NAME.fullmatch(word))
 
 
 Q = Name("q", "a queue", "queue")
 S = Name("s", "a semaphore", "binary", "counting")
 M = Name("m", "a mutex", "mutex")
 G = Name("g", "an event group", "group")
+X = Name("x", "a variable", "variable")
 T = Name("t", "a task", "task")
-V = Number("v", what="an item")
+V = Value("V", "an item")
 W = Wait()
 B = Number("b", 1, 16777215, "a mask of bits")
 
@@ -243,9 +290,22 @@ class Op:
         """Whether its one argument is a condition, of one word or two."""
         return any(isinstance(it, Condition) for it in self.arguments)
 
-    def name_at(self):
-        """The index of the argument that is a name, and its kinds; None where there is none."""
-        return next(((at, it.kinds) for at, it in enumerate(self.arguments) if isinstance(it, Name)), None)
+    @property
+    def kinds(self):
+        """The kinds of what it may name; a condition, which is about the last answer, has none here."""
+        return next((it.kinds for it in self.arguments if isinstance(it, (Name, Operand))), ())
+
+    def name_at(self, given):
+        """The index of the one of its words, which fit, that is a name, and the kinds of what it may name; None if none is."""
+        if self.has_condition:
+            last = len(given) - 1
+            return (last, Condition.kinds) if is_name(given[last]) and given[last] != "none" else None
+        found = ((at, it.kinds) for at, it in enumerate(self.arguments) if isinstance(it, (Name, Operand)) and is_name(given[at]))
+        return next(found, None)
+
+    def uses_answer(self, given):
+        """Whether these words, which are its arguments, use the last answer as a number."""
+        return self.word in ARITHMETIC or any(isinstance(it, Value) and word == ANSWER for it, word in zip(self.arguments, given))
 
 
 def table_of(*ops):
@@ -260,7 +320,7 @@ TASK_OPS = table_of(
     Op("time", does="answers the tick"),
     Op("stamp", does="notes the time for the next since"),
     Op("since", does="answers how many ticks have passed since the last stamp, or since reset"),
-    Op("mark", Number("n"), does="writes a line with n"),
+    Op("mark", Value("V", "a number"), does="writes a line with V"),
     Op("expect", Condition(), does="ends the run with check where C doesn't hold"),
     Op("if", Condition(), does="goes on with the next op where C holds, and else behind its else, or behind its end, which closes it"),
     Op("else", does="parts an if: what follows is done where its condition doesn't hold"),
@@ -289,6 +349,16 @@ TASK_OPS = table_of(
     Op("resume_all", does="ends one suspend_all"),
     Op("enter_critical", does="opens a critical section, in which no handler and no tick comes"),
     Op("exit_critical", does="closes one enter_critical"),
+    Op("load", X, does="answers the value of a variable"),
+    Op("store", X, Value("V", "its new value"), does="gives a variable a new value, and answers it"),
+    Op("add", Operand(), does="answers the last answer and O together, modulo 2^32"),
+    Op("sub", Operand(), does="answers the last answer less O, modulo 2^32"),
+    Op("mul", Operand(), does="answers the last answer times O, modulo 2^32"),
+    Op("div", Operand(1), does="answers the last answer divided by O, rounded down"),
+    Op("mod", Operand(1), does="answers what is left of the last answer divided by O"),
+    Op("and", Operand(), does="answers the bits that the last answer and O both have"),
+    Op("or", Operand(), does="answers the bits that the last answer or O has"),
+    Op("xor", Operand(), does="answers the bits that the last answer or O has, and not both"),
 )
 HANDLER_OPS = table_of(
     Op("send", Q, V, does="puts an item last into a queue, where it has room"),
@@ -303,6 +373,7 @@ HANDLER_OPS = table_of(
     Op("expect", Condition(), does="ends the handler, and behind the step the run with check, where C doesn't hold"),
     TASK_OPS["if"], TASK_OPS["else"],
     Op("end", does="closes an if"),
+    TASK_OPS["load"], TASK_OPS["store"], *(TASK_OPS[it] for it in ARITHMETIC),
 )
 # How deep loops are at most, and how deep blocks are, which are loops and ifs.
 DEEPEST_LOOP, DEEPEST = 4, 8
@@ -332,7 +403,20 @@ MEANT_OPS = {
     "assert": "expect", "configassert": "expect", "print": "mark", "log": "mark", "trace": "mark", "now": "time", "compute": "work",
     "run": "work", "elapsed": "since", "lap": "since", "timestamp": "stamp", "start_timer": "stamp", "deadline": "since",
     "set_bits": "set", "clear_bits": "clear", "get_bits": "bits", "wait_bits": "wait",
+    "assign": "store", "let": "store", "ldr": "load", "fetch": "load", "plus": "add", "sum": "add", "minus": "sub", "subtract": "sub",
+    "less": "sub", "times": "mul", "multiply": "mul", "divide": "div", "modulo": "mod", "rem": "mod", "remainder": "mod",
+    "bitand": "and", "bitor": "or", "bitxor": "xor", "eor": "xor",
 }
+# What others write for an op whose next word is a variable, and the ops for it; {x} is the variable, {v} a word behind it.
+MEANT_OF_VARIABLES = {
+    "read": ("load {x}",), "get": ("load {x}",), "receive": ("load {x}",), "peek": ("load {x}",), "write": ("store {x} {v}",),
+    "set": ("store {x} {v}",), "put": ("store {x} {v}",), "send": ("store {x} {v}",), "inc": ("load {x}", "add 1", "store {x} answer"),
+    "increment": ("load {x}", "add 1", "store {x} answer"), "incr": ("load {x}", "add 1", "store {x} answer"),
+    "dec": ("load {x}", "sub 1", "store {x} answer"), "decrement": ("load {x}", "sub 1", "store {x} answer"),
+    "decr": ("load {x}", "sub 1", "store {x} answer"), "clear": ("store {x} 0",), "reset": ("store {x} 0",), "zero": ("store {x} 0",),
+}
+# The operators of C that change a variable, and the ops for them.
+OPERATORS = {"+": "add", "-": "sub", "*": "mul", "/": "div", "%": "mod", "&": "and", "|": "or", "^": "xor"}
 # What isn't simulated, by the beginnings of the words for it, in small letters and without `_`; and of sections the same.
 NOT_SIMULATED_OPS = {
     "task notifications": ("notify", "xtasknotify", "vtasknotify", "ultasknotify", "tasknotify"),
@@ -353,7 +437,8 @@ IN_ITS_PLACE = {
     "software timers": "a [[handler]] at an [[interrupt]], or an endless task with delay_until, represents one",
 }
 # Ops that do the like to things of other kinds.
-KIN = (("receive", "take", "lock", "wait"), ("send", "give", "unlock", "set"), ("waiting", "bits"))
+KIN = (("receive", "take", "lock", "wait"), ("send", "give", "unlock", "set", "store"), ("waiting", "bits"),
+       ("load", "receive", "bits", "take", "lock", "peek", "waiting", "spaces"))
 # What else people write in a condition: an operator for the words of one, and for `<=` and `>=` the word whose number is one off.
 MEANT_FRONTS = {"==": "", "=": "", "is": "", "equals": "", "eq": "", "!=": "not", "<>": "not", "!": "not", "ne": "not", "isnt": "not",
                 "<": "below", "less": "below", "lt": "below", "under": "below", ">": "above", "greater": "above", "more": "above",

@@ -81,8 +81,9 @@ class Mending:
         """Of which kinds the name at a place is to be."""
         if place.section not in OPS:
             return ("handler",)
-        op = op_of(place.section, self.ops(place)[place.at])[1]
-        return op.name_at()[1] if op and op.name_at() else ()
+        words, op = op_of(place.section, self.ops(place)[place.at])
+        found = op.name_at(words[1:]) if op else None
+        return found[1] if found else ()
 
     def value_of(self, section, key):
         """A value that the key may have."""
@@ -139,19 +140,18 @@ class Mending:
 
     def double_name(self, place):
         self.entry(place)["name"] = self.fresh_name()
+        self.lost.add(place.section)
 
     def unknown_name(self, place):
         """All that names it is mended."""
         if place.section in OPS:
-            self.mend_ops_about(self.ops(place)[place.at].split()[1 + self.name_at(place)], self.kinds_at(place))
+            words, op = op_of(place.section, self.ops(place)[place.at])
+            self.mend_ops_about(words[1 + op.name_at(words[1:])[0]], self.kinds_at(place))
         elif place.section == "interrupt":
             self.mend_handler(self.entry(place)["handler"])
         else:
             known = {it.get("name") for it in self.entries("handler")}
             self.mend_handler(next(it for it in self.entry(place)["points"][place.at].split()[1::2] if it not in known))
-
-    def name_at(self, place):
-        return op_of(place.section, self.ops(place)[place.at])[1].name_at()[0]
 
     def mend_ops_about(self, name, kinds):
         if not any(self.entries(it) for it in kinds):
@@ -161,9 +161,9 @@ class Mending:
                 ops = entry.get(key)
                 for at, text in enumerate(ops if isinstance(ops, list) else []):
                     words, op = op_of(section, text) if isinstance(text, str) else ([], None)
-                    found = op.name_at() if op else None
+                    found = op.name_at(words[1:]) if op else None
                     if found and words[1 + found[0]] == name and found[1] == kinds:
-                        ops[at] = HARMLESS[section]
+                        ops[at] = OF_BLOCKS.get(op.word, HARMLESS[section])
 
     def mend_handler(self, name):
         good = self.handler()

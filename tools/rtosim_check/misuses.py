@@ -6,12 +6,13 @@ All are sure: each condition may hold or not, each `lock` may succeed, and each 
 from typing import Dict, FrozenSet, NamedTuple
 
 from .findings import WARNING, Finding
+from .formats import OF_VARIABLES
 
 HOLDS, RELEASES = "suspend_all", "resume_all"
 OPENS, CLOSES = "enter_critical", "exit_critical"
 # Ops that may be done in a critical section.
 LOOKS = {"repeat", "break", "if", "else", "end", "mark", "expect", "time", "stamp", "since", "waiting", "spaces", "bits", "clear",
-         OPENS, CLOSES}
+         OPENS, CLOSES, *OF_VARIABLES}
 # Ops that neither wait nor switch.
 STAYS = LOOKS | {"work", HOLDS, RELEASES}
 RULE = "a misuse ends the run, since FreeRTOS asserts it or its manual forbids it"
@@ -83,6 +84,13 @@ def rule_of(words, code):
 
 def misuses(script) -> Dict[int, int]:
     """The code of each op that is a misuse on each way to it."""
+    before = held_before(script)
+    codes = {at: code_of(script.ops[at][0], held) or code_of_end(script, at, held) for at, held in before.items() if at < len(script.ops)}
+    return {at: code for at, code in codes.items() if code}
+
+
+def held_before(script) -> Dict[int, Held]:
+    """What may be held before each op to which a way leads without a misuse."""
     before = {0: Held()} if script.ops else {}
     following = list(before)
     while following:
@@ -96,8 +104,7 @@ def misuses(script) -> Dict[int, int]:
             if before.get(it) != found:
                 before[it] = found
                 following += [it] if it < len(script.ops) else []
-    codes = {at: code_of(script.ops[at][0], held) or code_of_end(script, at, held) for at, held in before.items() if at < len(script.ops)}
-    return {at: code for at, code in codes.items() if code}
+    return before
 
 
 def code_of(words, held: Held):

@@ -20,6 +20,7 @@ PROBE = {
     "counting": '[[counting]]\nname = "c"\nmax = 1\n',
     "mutex": '[[mutex]]\nname = "m"\n',
     "group": '[[group]]\nname = "g"\n',
+    "variable": '[[variable]]\nname = "v"\n',
     "handler": '[[handler]]\nname = "h"\nops = []\n',
     "task": '[[task]]\nname = "a"\npriority = 0\nscript = []\n',
     "daemon": '[daemon]\nname = "d"\npriority = 0\nlength = 1\n',

@@ -20,9 +20,15 @@ PASSES = "a run passes when every task that isn't endless has come to the end of
 NAMELESS = ""
 
 
-def warnings(application):
+def scripts_of(application):
+    """The scripts of handlers and tasks, or None if an op isn't known."""
     scripts = [Script(it) for it in (*application.entries["handler"], *application.entries["task"])]
-    if all(it.is_known for it in scripts):
+    return scripts if all(it.is_known for it in scripts) else None
+
+
+def warnings(application):
+    scripts = scripts_of(application)
+    if scripts is not None:
         yield from of_tasks(application, scripts)
         yield from of_unreached(scripts)
         yield from of_handlers(application, [it for it in scripts if it.entry.section == "handler"])

@@ -4,7 +4,8 @@
 It is draft 7, which Taplo and Even Better TOML take. What a schema can't say, as which names there are, isn't in it."""
 import json
 
-from .formats import A_NAME, A_POINT, OPS, PAIRS, SECTIONS, STEP, TICKLESS, TOP_KEYS, Choice, Condition, Name, Turns, Wait
+from .formats import (A_NAME, A_POINT, ANSWER, OPS, PAIRS, SECTIONS, STEP, TICKLESS, TOP_KEYS, WORDS_OF_CONDITIONS, Choice, Condition, Name,
+                      Operand, Turns, Value, Wait)
 
 NAME = "[A-Za-z][A-Za-z0-9_]{0,15}"
 DIGITS = 10
@@ -39,12 +40,17 @@ def argument_pattern(argument):
     number = number_pattern(argument.least, argument.most)
     if isinstance(argument, Condition):
         return condition_pattern(number)
+    if isinstance(argument, Operand):
+        return f"({NAME}|{number})"
+    if isinstance(argument, Value):
+        return f"({ANSWER}|{number})"
     return f"(forever|{number})" if isinstance(argument, (Turns, Wait)) else number
 
 
 def condition_pattern(number):
-    fronts = [f"{front} +(none|{number})" if is_none else f"{front} +{number}" for front, is_none in Condition.FRONTS.items()]
-    return f"({'|'.join(['none', number, *fronts])})"
+    value = f"{number}|(?!({'|'.join(WORDS_OF_CONDITIONS)})( |$)){NAME}"
+    fronts = [f"{front} +(none|{value})" if is_none else f"{front} +({value})" for front, is_none in Condition.FRONTS.items()]
+    return f"({'|'.join(['none', value, *fronts])})"
 
 
 def text_of(*words):

@@ -7,7 +7,7 @@ from .nodes import Text
 
 def warnings(application):
     used = names_in_ops(application)
-    for section in (*OBJECTS, "group"):
+    for section in (*OBJECTS, "group", "variable"):
         for entry in application.entries[section]:
             if entry.name not in used:
                 yield Finding(WARNING, "Unused", entry.table.span, f'no op uses the {CALLED[section]} "{entry.name}"')
@@ -30,7 +30,7 @@ def names_in(section, text):
     words, op = op_of(section, text)
     if op is None:
         return words
-    place = op.name_at()
+    place = op.name_at(words[1:])
     return [words[place[0] + 1]] if place else []
 
 

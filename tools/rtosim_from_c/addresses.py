@@ -55,7 +55,7 @@ class Addresses(Core):
             return self.member(self.led_to(self.evaluate(node.name, path), node, path), node)
         if name == "ArrayRef":
             inner = self.led_to(self.evaluate(node.name, path), node, path)
-            index = self.evaluate(node.subscript, path)
+            index = self.operand(node.subscript, path)
             if isinstance(inner, Reference) and not (isinstance(index, Value) and index.constant() == 0):
                 raise self.refuse(node, "what is beside a local isn't known", "an array")
             return inner

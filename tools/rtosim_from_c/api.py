@@ -5,6 +5,7 @@ from . import trees
 from .answers import NUMBERS, NONE, Answers, answers, failing, condition_for, only
 from .calls import (CALLS, CREATORS, IN_SECTIONS, MASKS_OF_HANDLERS, NO_OP, SILENT, TASK_CREATORS, WITHOUT_OP, YIELDS_OF_HANDLERS, Answer, Argument, Call,
                     Result, Who)
+from .core import Compared
 from .expressions import Expressions
 from .families import Family
 from .integers import INT, UNSIGNED, Integer
@@ -293,11 +294,21 @@ class Api(Expressions):
             return
         try:
             with self.attempt(path):
-                wanted = self.truth(self.evaluate(node, path), node, path)
+                test = self.test(node, path)
         except LostUse:
             self.meet(path, lambda end: self.condition(node, path, self.later(end), self.later(lambda it: self.fail(node, it))))
             return
-        self.expect(wanted, node, path)
+        if isinstance(test, Answers):
+            self.expect(test, node, path)
+        else:
+            self.expect_variable(test, node, path)
+
+    def expect_variable(self, test: Compared, node: object, path: Path) -> None:
+        """Checks that the last answer is as a variable."""
+        if test.holds or " " not in test.condition:
+            self.op(f"expect {test.condition}" if test.holds else f"expect not {test.condition}", node, path)
+        else:
+            self.meet(path, lambda end: self.branch_on(test, path, end, lambda it: self.fail(node, it), node))
 
     def expect(self, wanted: Answers, node: object, path: Path) -> None:
         """Checks that the last answer is a wanted one."""

@@ -17,6 +17,8 @@ from .writing import application_text, in_order, map_text, note_text, refusals_t
 
 DESCRIPTION = "Translates a small driver in C, written around calls of FreeRTOS, to an application file. Tested and not proved."
 STATUS_REFUSED = 3
+# What the program may be asked to do with the application.
+COMMANDS = ("campaign", "run", "explore")
 DEEP = 20_000
 
 
@@ -28,16 +30,19 @@ def parsed(words: Optional[Sequence[str]]) -> argparse.Namespace:
     parser.add_argument("--explain", action="store_true", help="write what leaves no op, and why, in place of the application")
     parser.add_argument("--campaign", action="store_true", help="run the campaign, with the words of `rtosim campaign` that follow")
     parser.add_argument("--run", action="store_true", help="run the base run, with the words of `rtosim run` that follow")
+    parser.add_argument("--explore", action="store_true", help="explore all placements, with the words of `rtosim explore` that follow")
     parser.add_argument("--handler", action="append", default=[], metavar="NAME", help="this function is an interrupt handler too")
     parser.add_argument("--ignore", action="append", default=[], metavar="NAME[=NUMBER]", help="this function or variable has no effect; the function returns NUMBER")
     parser.add_argument("-I", dest="folders", action="append", default=[], metavar="FOLDER", help="where headers are")
     parser.add_argument("-D", dest="macros", action="append", default=[], metavar="NAME=VALUE", help="a macro")
     parser.add_argument("--program", default=PROGRAM, metavar="PATH", help="another program than bin/rtosim")
     found, found.others = parser.parse_known_args(words)
-    if found.others and not (found.campaign or found.run):
+    asked = [it for it in COMMANDS if getattr(found, it)]
+    if found.others and not asked:
         parser.error(f"unrecognized arguments: {' '.join(found.others)}")
-    if found.campaign and found.run:
-        parser.error("--campaign and --run don't go together")
+    if len(asked) > 1:
+        parser.error(f"{' and '.join(f'--{it}' for it in asked)} don't go together")
+    found.command = asked[0] if asked else None
     return found
 
 
@@ -52,7 +57,7 @@ def run_program(found: argparse.Namespace, text: str) -> int:
     with os.fdopen(handle, "wb") as file:
         file.write(text.encode("utf-8", "backslashreplace"))
         file.flush()
-        words = [found.program, "campaign" if found.campaign else "run", f"/proc/self/fd/{handle}", *found.others]
+        words = [found.program, found.command, f"/proc/self/fd/{handle}", *found.others]
         try:
             status = subprocess.run(words, pass_fds=[handle], check=False).returncode
         except OSError as why:
@@ -74,7 +79,7 @@ def write_all(found: argparse.Namespace, made: Application) -> int:
             for it in in_order(made.notes):
                 output.line(note_text(it, found.file))
         return 0
-    if found.campaign or found.run:
+    if found.command:
         sys.stderr.flush()
         return run_program(found, text)
     with output_file(found.output) if found.output else standard_output() as output:

@@ -1,5 +1,6 @@
 """What all parts of a translation share: the task or the handler that it is of, notes, and how the ways of a script part and meet."""
 import contextlib
+from dataclasses import dataclass
 from typing import Callable, Dict, Iterator, List, Optional, Set, Tuple, Union
 
 from . import trees
@@ -7,7 +8,7 @@ from .answers import Answers, answers
 from .constants import Type
 from .families import Family, Target
 from .frames import Continuation, Frame
-from .items import Item, Op, chain, chosen
+from .items import Item, Op, by_variable, chain, chosen
 from .paths import Path, State, merged
 from .refusals import Lost, LostUse, Note, Place, Refusal
 from .source import place_of
@@ -16,6 +17,18 @@ from .integers import BOOL
 from .values import Address, Handle, Known, Nothing, Reference, Stored, Text, Value, constant, converted, truth
 
 MOST_STATEMENTS = 20_000
+
+
+@dataclass(frozen=True)
+class Compared:
+    """A comparison of the last answer with a variable: the condition, and whether the comparison is true where that holds."""
+
+    condition: str
+    holds: bool
+
+
+# The answers for which a condition is true, or a comparison with a variable.
+Test = Union[Answers, Compared]
 
 
 class Core:
@@ -192,14 +205,30 @@ class Core:
             return self.condition(node.expr, path, no, yes)
         try:
             with self.attempt(path):
-                wanted = self.truth(self.evaluate(node, path), node, path)
+                test = self.test(node, path)
         except LostUse:
             if trees.kind(node) == "BinaryOp" and node.op == "&&":
                 return self.condition(node.left, path, self.later(lambda it: self.condition(node.right, it, yes, no)), no)
             if trees.kind(node) == "BinaryOp" and node.op == "||":
                 return self.condition(node.left, path, yes, self.later(lambda it: self.condition(node.right, it, yes, no)))
             return self.condition_of_call(node, path, yes, no)
-        return self.branch(path, wanted, yes, no, node)
+        return self.branch_on(test, path, yes, no, node)
+
+    def test(self, node: object, path: Path) -> Test:
+        """What a condition asks of the last answer."""
+        return self.truth(self.evaluate(node, path), node, path)
+
+    def branch_on(self, test: Test, path: Path, yes: Continuation, no: Continuation, node: object) -> None:
+        """As `branch`, where the last answer may also be compared with a variable."""
+        if isinstance(test, Answers):
+            return self.branch(path, test, yes, no, node)
+        if not test.holds:
+            yes, no = no, yes
+        first, second = path.fork(path.state.answers), path.fork(path.state.answers)
+        yes(first)
+        no(second)
+        path.items += by_variable(test.condition, first.items, second.items, self.place(node))
+        return path.end()
 
     def condition_of_call(self, node: object, path: Path, yes: Continuation, no: Continuation) -> None:
         """A condition with one call, of a function of the file: each of the ways through that goes on by itself."""

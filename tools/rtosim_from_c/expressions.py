@@ -120,7 +120,8 @@ class Expressions(Addresses):
 
     def keep_all(self, nodes: Sequence[object], path: Path) -> List[str]:
         """Evaluates several expressions, and returns the keys under which they are kept."""
-        keys = [f"operand {at}@{self.spot(it)}" for at, it in enumerate(nodes)]
+        # (a sum has the place of its first operand, but another size)
+        keys = [f"operand {at}@{self.spot(it)} {sum(1 for _ in trees.walk(it))}" for at, it in enumerate(nodes)]
         for key, it in zip(keys, nodes):
             self.put(key, self.operand(it, path), it, path)
         return keys

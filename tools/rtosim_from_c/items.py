@@ -109,6 +109,16 @@ def chosen(among: Answers, wanted: Answers, yes: Sequence[Item], no: Sequence[It
     return chain(parts_of(among, wanted, yes, no), place)
 
 
+def by_variable(condition: str, yes: Sequence[Item], no: Sequence[Item], place: Place) -> List[Item]:
+    """The items that do `yes` where the last answer is as this condition says, in which a variable is named, and `no` otherwise."""
+    if list(yes) == list(no):
+        return list(yes)
+    opposite = f"not {condition}" if " " not in condition else condition[4:] if condition.startswith("not ") else None
+    if opposite is not None and (not yes or leaves(no) and not leaves(yes)):
+        condition, yes, no = opposite, no, yes
+    return [If(condition, tuple(yes), (), place), *no] if leaves(yes) else [If(condition, tuple(yes), tuple(no), place)]
+
+
 def parts_of(among: Answers, wanted: Answers, yes: Sequence[Item], no: Sequence[Item]) -> List[Tuple[Answers, Sequence[Item]]]:
     """The answers in parts, each of which a condition picks among those that are left; single answers first, where that is all."""
     parts = segments(wanted, among)

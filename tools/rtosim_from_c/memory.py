@@ -1,18 +1,21 @@
 """Variables: globals, and locals of which the last answer doesn't keep enough. It is for a program that knows them (`families.py`).
 
 A read is `load`, a write `store`; arithmetic is done with the last answer and a number or a variable."""
-from typing import Dict, List, Optional, Tuple
+from typing import Dict, Iterable, List, Optional, Set, Tuple, Union
 
 from . import trees
 from .answers import GREATEST, NONE, NUMBERS, Answers, answers, only
+from .core import Compared, Test
 from .expressions import NOT_SET, Written
-from .families import Family
+from .families import Family, Target
 from .integers import BOOL, COMPARISONS, INT, UNSIGNED, Integer, common, promoted
 from .items import If, Op
 from .loops import Loops
 from .paths import Path
 from .refusals import Lost, LostUse
-from .values import ANSWER, LOST, NUMBER, Handle, Known, Stored, Value, binary, constant, converted, the_answer
+from .statements import MIRRORED
+from .unit import Handler, Task, Unit
+from .values import ANSWER, LOST, NUMBER, Handle, Known, Stored, Value, binary, constant, converted, lost, the_answer
 
 SIZE = 1 << 32
 SIGN = 1 << 31
@@ -27,22 +30,53 @@ GLOBAL = "global "
 class Memory(Loops):
     """What needs variables, where the program knows them. Without that everything here leaves it to the refusals."""
 
+    # Whether a local may be a variable; otherwise ways go on apart where another answer takes what it was.
+    uses_memory = False
+    # The comparison that is a condition, and what it asks for.
+    testing: Optional[object] = None
+    tested: Optional[Compared] = None
+
+    def __init__(self, unit: Unit, target: Target, owner: Union[Task, Handler]):
+        super().__init__(unit, target, owner)
+        # The variables that others may change.
+        self.shared: Set[str] = set()
+
     @property
     def has_variables(self) -> bool:
         return Family.VARIABLES in self.target
+
+    def test(self, node: object, path: Path) -> Test:
+        """What a condition asks of the last answer: a comparison with a variable is a condition of its own."""
+        before, self.testing = self.testing, node
+        try:
+            value = self.evaluate(node, path)
+        finally:
+            self.testing = before
+        found, self.tested = self.tested, None
+        return self.truth(value, node, path) if found is None else found
 
     def variable(self, key: str, type_: Integer, initial: int = 0) -> Stored:
         """The variable of a local, a global or a value between."""
         scope, shown = "" if key.startswith(GLOBAL) else self.owner.name, key.split("@")[0].replace(GLOBAL, "")
         name = self.unit.names.name(f"variable {scope}", key, shown if " " not in shown else "t")
-        self.unit.variables.setdefault(name, UNSIGNED.wrapped(initial))
+        if key.startswith(GLOBAL):
+            self.shared.add(name)
+        self.unit.variables.setdefault(name, UNSIGNED.wrapped(type_.wrapped(initial)))
         return Stored(name, type_)
 
     # -- reads and writes
 
     def load(self, stored: Stored, node: object, path: Path) -> Value:
+        if self.is_answer_now(stored, path):
+            return the_answer(stored.type, path.state.answers)
         self.op(f"load {stored.name}", node, path)
         return self.is_answered(numbers_in_memory(stored.type), stored.type, node, path)
+
+    def is_answer_now(self, stored: Stored, path: Path) -> bool:
+        """Whether the last op has stored or loaded this variable, and nobody else changes it: it is one of a local."""
+        last = path.items[-1] if path.items else None
+        words = last.text.split() if isinstance(last, Op) else []
+        return stored.name not in self.shared and words[:1] in (["store"], ["load"]) and words[1] == stored.name
 
     def is_answered(self, among: Answers, type_: Integer, node: object, path: Path) -> Value:
         """The last answer is one of these now, and a value of this type."""
@@ -57,29 +91,54 @@ class Memory(Loops):
             self.op(f"store {stored.name} {number}", node, path)
             self.is_answered(only(number), stored.type, node, path)
             return
-        self.to_answer(value, node, path)
-        self.op(f"store {stored.name} answer", node, path)
+        self.each_part(value, node, path, stored)
 
     def to_answer(self, value: Value, node: object, path: Path) -> None:
         """Makes the last answer the value, with 32 bits."""
-        value = self.known(value, node, path)
+        self.each_part(self.known(value, node, path), node, path, None)
+
+    def each_part(self, value: Value, node: object, path: Path, stored: Optional[Stored]) -> None:
+        """Makes the last answer a value that is known, for each answer by which it is another one; and perhaps gives it to a variable."""
         parts: Dict[Tuple[str, int], List[Tuple[int, int]]] = {}
         for it in value.pieces:
-            parts.setdefault((it.kind, it.number % SIZE), []).append((it.low, it.high))
-        if set(parts) == {(ANSWER, 0)}:
-            return
+            is_answer = it.kind == NUMBER and it.low == it.high == it.number
+            parts.setdefault((ANSWER, 0) if is_answer else (it.kind, it.number % SIZE), []).append((it.low, it.high))
 
         def set_part(fork: Path) -> None:
             kind, number = next(part for part, ranges in parts.items() if answers(*ranges) & fork.state.answers)
-            among = fork.state.answers
-            if kind == NUMBER and among != only(number):
-                spare = self.variable("spare", UNSIGNED)
-                self.op(f"store {spare.name} {number}", node, fork)
-                self.is_answered(only(number), UNSIGNED, node, fork)
-            elif kind == ANSWER and number:
+            if kind == NUMBER:
+                self.answer_number(number, node, fork, stored)
+                return
+            if number:
+                among = fork.state.answers
                 self.op(f"add {number}", node, fork)
                 self.is_answered(shifted(among, number), UNSIGNED, node, fork)
+            if stored is not None:
+                self.op(f"store {stored.name} answer", node, fork)
+        if len(parts) == 1:
+            return set_part(path)
+        if stored is not None and cut_alike(parts, stored.type):
+            return self.store_cut(next(iter(parts))[1], stored, node, path)
         self.meet(path, lambda end: self.split(path, [answers(*it) for it in parts.values()], lambda fork: (set_part(fork), end(fork)), node))
+        return None
+
+    def store_cut(self, number: int, stored: Stored, node: object, path: Path) -> None:
+        """Gives a variable the last answer and a number, without the bits that its type doesn't keep."""
+        greatest = (1 << stored.type.bits) - 1
+        if number & greatest:
+            self.op(f"add {number & greatest}", node, path)
+            self.is_answered(NUMBERS, UNSIGNED, node, path)
+        self.op(f"and {greatest}", node, path)
+        self.is_answered(answers((0, greatest)), UNSIGNED, node, path)
+        self.op(f"store {stored.name} answer", node, path)
+
+    def answer_number(self, number: int, node: object, path: Path, stored: Optional[Stored]) -> None:
+        """Makes the last answer a number, which a variable is given; a spare one, if none is."""
+        if stored is None and path.state.answers == only(number):
+            return
+        name = (stored or self.variable("spare", UNSIGNED)).name
+        self.op(f"store {name} {number}", node, path)
+        self.is_answered(only(number), UNSIGNED, node, path)
 
     def read_global(self, node: object, path: Path) -> Known:
         stored = self.stored_global(node)
@@ -98,6 +157,10 @@ class Memory(Loops):
         stored = self.stored_global(target)
         if stored is None:
             return super().write_global(target, value, node, path)
+        why = value.among(path.state.answers).lost() if isinstance(value, Value) else None
+        if why is not None and why.local is None and target.name not in self.unit.names_read():
+            self.note(target, f"`{target.name}` is read nowhere, and {why.why}: this write is left out")
+            return value
         self.store(stored, self.fitted(value, stored.type, node, path), node, path)
         return the_answer(stored.type, path.state.answers)
 
@@ -170,8 +233,10 @@ class Memory(Loops):
             found = binary(node.op, left, right, path.state.answers)
             if found.lost() is None:
                 return found
-            self.known(left, node, path)
-            self.known(right, node, path)
+        reasons = [it.among(path.state.answers).lost() for it in (left, right) if isinstance(it, Value)]
+        why = next((it for it in reasons if it is not None), None)
+        if why is not None:
+            return lost(INT if node.op in COMPARISONS else common(left.type, right.type), why)
         return self.compared(node, left, right, path) if node.op in COMPARISONS else self.computed(node, left, right, path)
 
     def loaded_if_alone(self, value: Known, other: Known, node: object, path: Path) -> Known:
@@ -239,15 +304,22 @@ class Memory(Loops):
         return the_answer(INT, path.state.answers)
 
     def compared(self, node: object, left: Known, right: Known, path: Path) -> Value:
-        """A comparison of two values that aren't constant: 1 or 0 as the last answer."""
-        is_signed = common(left.type, right.type).is_signed and node.op not in ("==", "!=")
+        """A comparison of two values that aren't constant: 1 or 0 as the last answer; of a condition what that asks for."""
+        operator = node.op
+        if isinstance(left, Stored) and isinstance(right, Value):
+            operator, left, right = MIRRORED[operator], right, left
+        may_be_negative = not (never_negative(left, path) and never_negative(right, path))
+        is_signed = common(left.type, right.type).is_signed and operator not in ("==", "!=") and may_be_negative
         if is_signed or not isinstance(right, Stored):
             right = self.biased("right", right, is_signed, node, path, left)
             left = self.left_of_two
         if is_signed:
             left = self.biased("left", left, True, node, path, None)
         self.bring(left, node, path)
-        condition, holds = CONDITIONS[node.op]
+        condition, holds = CONDITIONS[operator]
+        if node is self.testing:
+            self.tested = Compared(condition.format(right.name), holds)
+            return constant(1)
         spare = self.variable("spare", UNSIGNED)
         place = self.place(node)
         ways = tuple((Op(f"store {spare.name} {int(it)}", place),) for it in (holds, not holds))
@@ -325,7 +397,7 @@ class Memory(Loops):
 
     def learns(self, why: Lost) -> bool:
         """A value that the last answer doesn't keep is a variable the next time."""
-        if not self.has_variables or why.local is None:
+        if not self.has_variables or not self.uses_memory or why.local is None:
             return super().learns(why)
         is_new = why.local not in self.in_memory
         self.in_memory.add(why.local)
@@ -339,6 +411,20 @@ def results(operator: str, number: Optional[int]) -> Answers:
     if number and operator == "/":
         return answers((0, GREATEST // number))
     return answers((0, number)) if number is not None and operator == "&" else NUMBERS
+
+
+def cut_alike(parts: Iterable[Tuple[str, int]], type_: Integer) -> bool:
+    """Whether these parts of a value are the last answer and a number, of which an unsigned type keeps the same bits."""
+    is_small = not type_.is_signed and 1 < type_.bits < UNSIGNED.bits
+    return is_small and all(kind == ANSWER for kind, _ in parts) and len({number % (1 << type_.bits) for _, number in parts}) == 1
+
+
+def never_negative(value: Known, path: Path) -> bool:
+    """Whether it is surely none of the numbers that are below 0."""
+    if isinstance(value, Stored):
+        return not value.type.is_signed and value.type.bits < UNSIGNED.bits
+    numbers = [it.numbers() for it in value.among(path.state.answers).pieces]
+    return all(it is not None and bool(it) and it.least() >= 0 and it.greatest() <= INT.greatest for it in numbers)
 
 
 def steady(value: Known) -> Known:

@@ -19,6 +19,7 @@ from .values import lost
 
 MOST_OPS = {True: 16, False: 256}
 MOST_LOOPS, MOST_BLOCKS = 4, 8
+MOST_VARIABLES = 32
 MOST_RETRIES = 40
 OF_HANDLER = lost(INT, Lost("what a handler is given isn't known", instead="a constant in its place, by `#ifdef RTOSIM`"))
 
@@ -61,7 +62,19 @@ class Translation(Memory):
     uses_daemon = False
 
     def script(self) -> Script:
-        """The script; a local whose value another answer takes splits its ways, where that helps."""
+        """The script. A local whose value another answer takes splits its ways, where that helps; otherwise it is a variable."""
+        try:
+            return self.with_retries()
+        except Refusal as first:
+            if not self.has_variables:
+                raise
+            self.splits, self.parted, self.is_flat, self.uses_memory = set(), set(), False, True
+            try:
+                return self.with_retries()
+            except Refusal as second:
+                raise (second if isinstance(first, (LostUse, TooDeep)) else first) from None
+
+    def with_retries(self) -> Script:
         for _ in range(MOST_RETRIES):
             try:
                 return self.once_through()
@@ -133,6 +146,9 @@ def translated(unit: Unit, target: Target = PROGRAM) -> Application:
         found, refusals = translated_once(unit, target)
         if unit.with_large_items == known:
             break
+    if len(found.variables()) > MOST_VARIABLES:
+        refusals.append(Refusal(None, f"{len(found.variables())} variables, and {MOST_VARIABLES} are the most",
+                                "--ignore NAME for those on which nothing depends, and tests right after their calls"))
     if not unit.tasks:
         refusals.append(Refusal(None, "no task is created in this file", "xTaskCreate(..) in `main`, for each task"))
     if refusals:

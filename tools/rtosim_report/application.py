@@ -8,7 +8,11 @@ from .faults import Fault
 
 # Words of ops for which no line names them.
 SILENT_WORDS = {"work", "mark", "expect", "repeat", "end", "if", "else", "break", "stamp", "enter_critical", "exit_critical"}
-# Ops whose second word isn't the name of an object, a group or a task.
+# The ops on the last answer, whose second word is a number or the name of a variable.
+ARITHMETIC = {"add", "sub", "mul", "div", "mod", "and", "or", "xor"}
+# The word for the last answer, and the ops in which it may be in the place of a number.
+ANSWER, TAKES_ANSWER = "answer", {"send", "send_front", "overwrite", "mark", "store"}
+# Ops whose second word isn't the name of an object, a group, a variable or a task.
 NAMELESS = SILENT_WORDS | {"delay", "delay_until", "yield", "time", "since", "suspend_all", "resume_all"}
 # The ops that open and close a critical section.
 OPENS, CLOSES = "enter_critical", "exit_critical"
@@ -41,12 +45,17 @@ class Op(NamedTuple):
 
     @property
     def object(self) -> Optional[str]:
-        """The name of what the op is about."""
+        """The name of what the op is about, or the number by which it changes the last answer."""
         return self.words[1] if len(self.words) > 1 and self.word not in NAMELESS else None
 
     @property
     def is_silent(self):
         return self.word in SILENT_WORDS
+
+    @property
+    def uses_answer(self):
+        """Whether it needs the last answer to be a number; else it is a failed check."""
+        return self.word in ARITHMETIC or ANSWER in self.words[1 if self.word == "mark" else 2 :] and self.word in TAKES_ANSWER
 
 
 class Script(NamedTuple):
@@ -72,8 +81,8 @@ class Script(NamedTuple):
 
 class Application(NamedTuple):
     """The scripts by their names. The daemon is a task without one. `start` is the tick at reset; `interrupt_ticks` are the elapsed
-    ticks of the base interrupts, rising; `objects` are the names of queues, semaphores and mutexes in the order of their numbers. Of each
-    section and key that the program ignores there is a line."""
+    ticks of the base interrupts, rising; `objects` are the names of queues, semaphores and mutexes in the order of their numbers, and
+    `variables` the values at reset of the variables, in their order. Of each section and key that the program ignores there is a line."""
 
     tasks: Dict[str, Script]
     handlers: Dict[str, Script]
@@ -84,6 +93,7 @@ class Application(NamedTuple):
     objects: List[str] = []
     ignored: List[str] = []
     has_campaign: bool = False
+    variables: Dict[str, int] = {}
 
     def script(self, name) -> Optional[Script]:
         return self.tasks.get(name) or self.handlers.get(name)
@@ -131,7 +141,8 @@ def read_application(name):
                        script_of(daemon, "") if isinstance(daemon, dict) else None, document.get("tickless") is True,
                        number_of(document, "start"), sorted({number_of(it, "tick") for it in entries(document, "interrupt")}),
                        [str(it.get("name")) for section in OBJECTS for it in entries(document, section)], ignored,
-                       isinstance(document.get("campaign"), dict))
+                       isinstance(document.get("campaign"), dict),
+                       {str(it.get("name")): number_of(it, "initial") for it in entries(document, "variable")})
 
 
 def document_of(text) -> Tuple[dict, List[str]]:

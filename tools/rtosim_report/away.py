@@ -22,7 +22,7 @@ class AwayTimes:
         self.builder, self.lane, self.turns, self.notes, self.changes = builder, lane, turns, notes, changes
         self.steps = [it.step for it in notes]
         self.endings: List[Tuple[Lane, int]] = []
-        ops = OpTimes(script, turns, notes) if script is not None else None
+        ops = OpTimes(script, turns, notes, builder.history) if script is not None else None
         self.script, self.ops = script, ops if ops is not None and ops.is_known else None
         self.last_op = {it.end: it for it in self.ops.stretches} if self.ops else {}
 

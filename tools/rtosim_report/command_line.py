@@ -2,6 +2,7 @@
 
 A command takes in its own modules when it is done, so that each of them starts soon."""
 import argparse
+import os
 import sys
 
 from .classes import By
@@ -80,6 +81,16 @@ def do_show(job, output):
     run, base = job.wanted_run(job.words.row)
     has_colour = job.words.output is None and sys.stdout.isatty()
     show.write_row(output, run, base, job.words.context, has_colour, job.endings.lines_of(run, base), job.source_map)
+
+
+def do_explore(job, output):
+    """Explores the application, and shows the least placement of each end."""
+    from . import explored
+
+    words = [it for name in ("injections", "handlers") if (value := getattr(job.words, name)) is not None for it in (f"--{name}", str(value))]
+    if job.words.pictures is not None:
+        os.makedirs(job.words.pictures, exist_ok=True)
+    explored.write_ends(output, explored.Explanation(job, words), job.words.pictures)
 
 
 def do_json(job, output):
@@ -227,6 +238,19 @@ def add_show(commands):
     parser.set_defaults(do=do_show, asks_for_states=True)
 
 
+def add_explore(commands):
+    parser = commands.add_parser("explore", help="all placements of up to three interrupts: the least one of each end")
+    parser.add_argument("file", nargs="?", metavar="FILE", help="the application")
+    parser.add_argument("--application", metavar="FILE", help="the same")
+    parser.add_argument("--injections", type=int, metavar="K", help="so many injections at most, 0 to 3 (1)")
+    parser.add_argument("--handlers", metavar="NAMES", help="of these handlers, joined by commas; else of all")
+    parser.add_argument("--pictures", metavar="FOLDER", help="draw the run of the least placement of each end that fails into this folder")
+    parser.add_argument("--source", metavar="MAP", help="show lines of C, by the map that `rtosim-from-c --map` writes")
+    parser.add_argument("--output", "-o", metavar="FILE", help="write to this file, when all of it is there")
+    parser.set_defaults(do=do_explore, report=None, base=None, workers=None, accept=None, by=By.CAUSE, partial=False, whole=False, row=None,
+                        about_a_run=False, asks_for_states=True, allow_empty=True, folds=False)
+
+
 def add_formats(commands):
     parser = commands.add_parser("json", help="a JSON object a row, a line each")
     add_common(parser)
@@ -264,9 +288,10 @@ def parsed(words):
     add_compare(commands)
     add_join(commands)
     add_pairs(commands)
+    add_explore(commands)
     add_formats(commands)
     found = parser.parse_args(words)
-    if found.command == "pairs":
+    if found.command in ("pairs", "explore"):
         if (found.file is None) == (found.application is None):
             parser.error("FILE is named once")
         found.application = found.application or found.file

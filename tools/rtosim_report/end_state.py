@@ -1,4 +1,5 @@
-"""What `rtosim run .. --state` writes behind a run: where each task is after the last step, and who holds which mutex."""
+"""What `rtosim run .. --state` writes behind a run: where each task is after the last step, who holds which mutex, and the values of
+variables."""
 import enum
 import re
 from typing import Dict, List, NamedTuple, Optional
@@ -10,8 +11,11 @@ PLAIN = rb"(runs|ready|awake|suspended) (" + NUMBER + rb")"
 TIMED = rb"(waits|sleeps) (" + NUMBER + rb") (forever|" + NUMBER + rb")"
 STATE_LINE = re.compile(rb"state (" + NAME + rb") (?:(ended)|" + PLAIN + rb"|" + TIMED + rb")")
 HELD_LINE = re.compile(rb"held (" + NUMBER + rb") (" + NAME + rb")")
-FIRST_WORDS = (b"state ", b"held ")
-A_STATE_LINE = "`state NAME WORD` or `held OBJECT NAME`, as `run --state` writes them behind the run"
+VARIABLE_LINE = re.compile(rb"variable (" + NUMBER + rb") = (" + NUMBER + rb")")
+FIRST_WORDS = (b"state ", b"held ", b"variable ")
+# Of each kind of line its form; the kinds are in this order.
+FORMS = {b"state": STATE_LINE, b"held": HELD_LINE, b"variable": VARIABLE_LINE}
+A_STATE_LINE = "`state NAME WORD`, `held OBJECT NAME` or `variable X = V`, as `run --state` writes them behind the run"
 
 
 class Status(enum.Enum):
@@ -36,10 +40,12 @@ class TaskState(NamedTuple):
 
 
 class EndState(NamedTuple):
-    """The tasks in their order, the daemon last; the holders of mutexes by the numbers of these among all objects."""
+    """The tasks in their order, the daemon last; the holders of mutexes by the numbers of these among all objects; and the values of
+    variables by their numbers."""
 
     tasks: List[TaskState]
     holders: Dict[int, str]
+    values: Dict[int, int] = {}
 
 
 def first_of(body):
@@ -56,10 +62,12 @@ def parted(body, line_number):
     if start is None:
         return body, b""
     state = body[start:]
-    first, is_held = line_number + body.count(b"\n", 0, start), False
+    first, kinds, kind = line_number + body.count(b"\n", 0, start), list(FORMS), b"state"
     for at, line in enumerate(state.split(b"\n")[:-1]):
-        is_held = is_held or line.startswith(b"held ")
-        if (HELD_LINE if is_held and at else STATE_LINE).fullmatch(line) is None:
+        word = line.partition(b" ")[0]
+        if at and word in kinds[kinds.index(kind) :]:
+            kind = word
+        if FORMS[kind].fullmatch(line) is None:
             raise BadReport(first + at, A_STATE_LINE, line)
     return body[:start], state
 
@@ -68,14 +76,16 @@ def state_of(lines) -> Optional[EndState]:
     """The state that these lines say; None where there are none."""
     if not lines:
         return None
-    tasks, holders = [], {}
+    found = EndState([], {}, {})
     for line in lines.splitlines():
-        held = HELD_LINE.fullmatch(line)
+        held, value = HELD_LINE.fullmatch(line), VARIABLE_LINE.fullmatch(line)
         if held:
-            holders[int(held[1])] = held[2].decode()
+            found.holders[int(held[1])] = held[2].decode()
+        elif value:
+            found.values[int(value[1])] = int(value[2])
         else:
-            tasks.append(task_of(STATE_LINE.fullmatch(line)))
-    return EndState(tasks, holders)
+            found.tasks.append(task_of(STATE_LINE.fullmatch(line)))
+    return found
 
 
 def task_of(match):

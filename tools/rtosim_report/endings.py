@@ -1,16 +1,16 @@
 """What a run that fails says at its end, in words with the names and the texts of the application: of a check what was expected and what
-the answer is; of a misuse what is wrong with it; of a run that is stuck, or comes to a limit, where each task is, who holds what it waits for, and who wait for each other."""
+the answer is, or what an op lacks; of a misuse what is wrong with it; of a run that is stuck, or comes to a limit, where each task is, who holds what it waits for, and who wait for each other."""
 from typing import List, Optional
 
+from .checks import words_of_check
 from .end_state import EndState, Status, TaskState, state_of
 from .moments import Moments
-from .progress import Walker, holds
-from .report import Kind, event_of
+from .report import event_of
 
 NEVER_DONE = ("stuck", "ticks", "steps")
 # The daemon's first op, in which it waits for a command.
 OP_OF_RECEIVE = 0
-LOCKS, CHECKS = "lock", "expect"
+LOCKS = "lock"
 # What is wrong with the op of a misuse, by its code.
 MISUSES = {
     1: "which may wait or switch, while a suspend_all is in force", 2: "while no suspend_all is in force",
@@ -59,37 +59,25 @@ class Endings:
         return [f"{name}: {line.shown}" for name, line in found if line]
 
     def lines_of_check(self, run):
-        if self.application is None:
-            return []
-        verdict = run.head.verdict
-        op = self.application.op(verdict.task, verdict.numbers[0])
-        found = self.failed_answer(run) if op is not None and op.word == CHECKS else None
-        if found is None:
-            return []
-        answer = "none" if found[0] is None else found[0]
-        return [f'{verdict.text}: "{op.text}", the answer is {answer}']
+        found = words_of_check(self.application, run) if self.application is not None else None
+        return [] if found is None else [found]
 
     def lines_of_misuse(self, verdict):
         index, code = verdict.numbers
         op = self.application.op(verdict.task, index) if self.application else None
         return [f'{verdict.text}: "{op.text}", {MISUSES[code]}'] if op is not None and code in MISUSES else []
 
-    def failed_answer(self, run):
-        """The answer of which the check was not true, in a list of one; None where it isn't found."""
-        verdict = run.head.verdict
-        events = [event_of(it) for it in run.lines()]
-        if verdict.task in self.application.tasks:
-            answers = [it.answer for it in events if it.kind is Kind.CALL and it.name == verdict.task]
-            found = answers[-1:] or [None]
-            return None if holds(self.application.op(verdict.task, verdict.numbers[0]).words[1:], found[0]) else found
-        last = [it for it in events if it.kind is Kind.ISR and it.name == verdict.task and it.step == run.head.steps - 1]
-        return answer_in_handler(self.application.handlers[verdict.task], last, verdict.numbers[0])
-
     def lines_of_state(self, kind, state: EndState):
         left = [it for it in state.tasks if it.status is not Status.ENDED and not self.is_idle_daemon(it)]
         words = ", ".join(self.words_of_task(it, state) for it in left)
         deadlocks = [f"deadlock: {words_of_circle(it)}" for it in self.circles(state)]
-        return [f"{kind}: {words}"] * bool(words) + self.source_of_tasks(left) + deadlocks
+        return [f"{kind}: {words}"] * bool(words) + self.source_of_tasks(left) + deadlocks + self.lines_of_values(state)
+
+    def lines_of_values(self, state: EndState):
+        """The values of variables, by their names."""
+        names = list(self.application.variables)
+        known = [f"{names[at]} = {value}" for at, value in sorted(state.values.items()) if at < len(names)]
+        return [f"variables: {', '.join(known)}"] if known else []
 
     def source_of_tasks(self, tasks: List[TaskState]):
         """The line of C of each task."""
@@ -153,35 +141,3 @@ def words_of_circle(names):
     first, *others = [*names[1:], names[0]]
     waits = f"{names[0]} waits for {'itself' if first == names[0] else first}"
     return waits + "".join(f", which waits for {it}" for it in others)
-
-
-def answer_in_handler(script, events, index):
-    """The answer of which the check of this index was not true, in a list of one; the events are those of the handler in the last step.
-    It may have come several times there: each call of it begins with the op of its first line, as each begins with no answer."""
-    calls = [[]]
-    for it in events:
-        if it.op == events[0].op and calls[-1]:
-            calls.append([])
-        calls[-1].append(it)
-    for call in [*calls, []]:
-        found = first_failure({it.op: it.answer for it in call}, script)
-        if found is not None and found[0] == index:
-            return found[1:]
-    return None
-
-
-def first_failure(answers, script):
-    """The index of the first check that fails in a call of the handler, whose ops have these answers, and the last answer then; None where
-    all are true, or the ops aren't those of the answers."""
-    walker = Walker(script)
-    while not walker.has_ended:
-        op = walker.op
-        if op.word == CHECKS and not holds(op.words[1:], walker.answer):
-            return [walker.at, walker.answer]
-        if op.is_silent:
-            walker.go_past()
-        elif walker.at in answers:
-            walker.called(answers[walker.at])
-        else:
-            return None
-    return None

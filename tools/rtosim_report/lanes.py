@@ -9,6 +9,7 @@ from typing import Dict, List, Optional, Tuple
 from .op_times import Stretch
 from .report import Event, Head, Injection, Kind
 from .source_map import SourceLine, SourceMap
+from .variables import ValueStretch
 
 
 class Doing(enum.Enum):
@@ -120,6 +121,8 @@ class Timeline:
     injections: Tuple[Injection, ...] = ()
     endings: List[Tuple[Lane, int]] = field(default_factory=list)
     ops: Dict[Lane, List[Stretch]] = field(default_factory=dict)
+    # Of each variable of the application its values along the run.
+    variables: Dict[str, List[ValueStretch]] = field(default_factory=dict)
     is_presumed: bool = False
     # What the run says at its end, in words.
     ending: List[str] = field(default_factory=list)

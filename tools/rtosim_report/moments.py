@@ -32,20 +32,20 @@ class Moments:
             at = position
             names = list(dict.fromkeys(it.handler for it in injections))
             who = f"{' and '.join(names)} come{'s' * (len(names) == 1)}"
-            yield from self.words_of_moment(who, self.runner(lines[:position]), place)
+            yield from self.words_of_moment(who, self.runner(lines[:position]), place, lines[position:])
 
     def runner(self, lines) -> Optional[str]:
         """Who runs after these lines."""
         last = next((what for _, _, what in reversed(lines) if what.startswith(b"run ")), None)
         return self.application.first_runner() if last is None else last[4:].decode()
 
-    def words_of_moment(self, who: str, runner: Optional[str], place: Place) -> Iterator[str]:
+    def words_of_moment(self, who: str, runner: Optional[str], place: Place, rest) -> Iterator[str]:
         """After which call of the task that runs, and before which, as far as that is known. A call is over when it is complete."""
         if runner not in self.application.tasks:
             yield f"{who} while {'idle' if runner in (IDLE, None) else runner} runs"
             return
         last = self.source_map.line(runner, place.last.get(runner))
-        following = self.source_map.line(runner, next_call(place, runner))
+        following = self.source_map.line(runner, next_call(place, runner, rest))
         if last is not None:
             yield f"{who} after {last.shown}"
         if following is not None:
@@ -60,8 +60,16 @@ def take(place: Place, lines) -> None:
             place.take(parts.groups())
 
 
-def next_call(place: Place, name: str) -> Optional[int]:
-    """The index of the call that a task completes next; None where that isn't known."""
-    walker = place.walkers[name]
+def next_call(place: Place, name: str, rest) -> Optional[int]:
+    """The index of the call that a task completes next; None where that isn't known. Which branch it takes may depend on variables, which
+    the interrupts that come now may change, so there the rest of the lines is looked at."""
+    if place.values:
+        calls = (CALL.fullmatch(what) for _, _, what in rest)
+        found = next((int(it[3]) for it in calls if it and it[1] == b"call" and it[2].decode() == name), None)
+        if found is not None:
+            return found
+        place = place.copied()
+        take(place, rest)
+    walker = place.walker(name)
     walker = None if walker is None else walker.copied()
     return walker.at if walker is not None and walker.to_call() and not walker.has_ended else None

@@ -1,4 +1,5 @@
-"""Which op of its script a task is in at which steps: its turns on the processor, its calls and its script say it together."""
+"""Which op of its script a task is in at which steps: its turns on the processor, its calls, its script and the values of variables say it
+together."""
 from typing import List, NamedTuple, Optional
 
 from .progress import Walker
@@ -17,8 +18,8 @@ class Stretch(NamedTuple):
 class OpTimes:
     """The stretches of a task, or none where what is reported isn't what the script says."""
 
-    def __init__(self, script, turns, notes):
-        self.walker = Walker(script)
+    def __init__(self, script, turns, notes, history):
+        self.walker, self.history = Walker(script), history
         self.calls = [it.event for it in notes if it.event.kind is Kind.CALL]
         self.left: Optional[int] = None
         self.stretches: List[Stretch] = []
@@ -38,7 +39,7 @@ class OpTimes:
             self.stretches.append(Stretch(at, min(end, turn.end), index, is_complete))
             self.left = None if is_complete else end - turn.end
             if is_complete:
-                self.go_on(op)
+                self.go_on(op, end - 1)
             at = min(end, turn.end)
         return True
 
@@ -54,8 +55,10 @@ class OpTimes:
             return turn.end + 1
         return self.calls[0].step + 1 if self.calls[0].op == index else None
 
-    def go_on(self, op):
+    def go_on(self, op, step):
+        """The op is complete with this step."""
         if op.is_silent:
+            self.walker.values = self.history.before(step) if op.word == "if" else {}
             self.walker.go_past()
         else:
             self.walker.called(self.calls.pop(0).answer)

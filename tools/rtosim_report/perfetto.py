@@ -1,4 +1,4 @@
-"""A run as a Chrome trace, which ui.perfetto.dev and chrome://tracing open: a track for each lane.
+"""A run as a Chrome trace, which ui.perfetto.dev and chrome://tracing open: a track for each lane, and a counter for each variable.
 
 A tick is a millisecond there; the steps of one tick follow each other within it. In a run of more ticks than a trace has milliseconds
 a tick is a microsecond."""
@@ -56,11 +56,18 @@ def events_of(timeline, times, tracks):
         }
     for note in timeline.notes:
         yield instant(note, stamp(note.boundary), tracks[note.lane], timeline.line_of(note))
+    for name, stretches in timeline.variables.items():
+        yield from (value_of(name, it.value, stamp(it.start)) for it in stretches)
     for it in timeline.injections:
         yield {
             "ph": "i", "name": f"{it.handler} injected", "cat": "injection", "s": "g", "pid": PROCESS,
             "tid": 0, "ts": stamp(it.step), "args": {"step": it.step},
         }
+
+
+def value_of(name, value, stamp):
+    """A value of a variable, which has a track of its own as a counter."""
+    return {"ph": "C", "name": f"variable {name}", "pid": PROCESS, "tid": 0, "ts": stamp, "args": {"value": value}}
 
 
 def bar_name(bar):

@@ -1,9 +1,11 @@
 """How far a task is in its script, by the calls that a report shows of it.
 
 Between two calls a task does ops that have no line: they are gone through here as the task goes through them, since loops count
-and conditions look at the last answer, which is reported."""
+and conditions look at the last answer, which is reported, and at variables, which the reported stores change."""
 import copy
 from typing import List, Optional, Tuple
+
+from .variables import Values
 
 # So many ops without a line are gone through between two calls.
 PATIENCE = 20_000
@@ -29,14 +31,28 @@ class Blocks:
         return self.closing.get(start, len(ops))
 
 
-def holds(words, answer: Optional[int]):
-    """Whether a condition holds of an answer: `N`, `none`, `not C`, `below N` or `above N`."""
+def holds(words, answer: Optional[int], values: Values) -> Optional[bool]:
+    """Whether a condition holds of an answer: `N`, `none`, `not C`, `below N` or `above N`, where N may be a variable; None where that
+    depends on which of its values a variable has."""
     if words[0] == "not":
-        return not holds(words[1:], answer)
-    if words[0] in ("below", "above"):
-        bound = int(words[1])
-        return answer is not None and (answer < bound if words[0] == "below" else answer > bound)
-    return answer is None if words[0] == "none" else answer == int(words[0])
+        found = holds(words[1:], answer, values)
+        return None if found is None else not found
+    if words == ["none"]:
+        return answer is None
+    found = {is_met(words[:-1], answer, it) for it in numbers_of(words[-1], values)}
+    return found.pop() if len(found) == 1 else None
+
+
+def is_met(front, answer: Optional[int], number: int) -> bool:
+    """Whether an answer is this number, or with a front is below or above it."""
+    if not front or answer is None:
+        return answer == number
+    return answer < number if front == ["below"] else answer > number
+
+
+def numbers_of(word, values: Values):
+    """What a word of a condition may be: a number, or each of the values of a variable."""
+    return (int(word),) if word.isdigit() else values.get(word, ())
 
 
 class Walker:
@@ -47,6 +63,8 @@ class Walker:
         self.at = 0
         self.loops: List[Tuple[int, int]] = []
         self.answer: Optional[int] = None
+        # The values that variables may have had when the ops were done that are gone past.
+        self.values: Values = {}
 
     def copied(self):
         """One that goes on by itself."""
@@ -68,14 +86,15 @@ class Walker:
         self.at += 1
 
     def go_past(self):
-        """The op that is next, which has no line, is done."""
-        op, ops = self.op, self.script.ops
+        """The op that is next, which has no line, is done. Returns where it would be on the other way, where either may have been taken."""
+        op, ops, other = self.op, self.script.ops, None
         if op.word == "repeat":
             turns = 1 << 62 if op.words[1] == "forever" else int(op.words[1])
             self.loops.append((self.at, turns))
-        elif op.word == "if" and not holds(op.words[1:], self.answer):
-            parting = self.blocks.parting.get(self.at)
-            self.at = self.blocks.end_of(self.at, ops) if parting is None else parting
+        elif op.word == "if":
+            is_met = holds(op.words[1:], self.answer, self.values)
+            other = self.parted() if is_met is None else None
+            self.at = self.otherwise() if is_met is False else self.at
         elif op.word == "else":
             self.at = self.blocks.end_of(self.blocks.opening.get(self.at, self.at), ops)
         elif op.word == "break" and self.loops:
@@ -83,6 +102,18 @@ class Walker:
         elif op.word == "end" and self.loops and self.loops[-1][0] == self.blocks.opening.get(self.at):
             self.turn()
         self.at += 1
+        return other
+
+    def otherwise(self):
+        """The op behind which it goes on where the condition of the `if` that is next doesn't hold."""
+        parting = self.blocks.parting.get(self.at)
+        return self.blocks.end_of(self.at, self.script.ops) if parting is None else parting
+
+    def parted(self):
+        """One for which the condition of the `if` that is next doesn't hold."""
+        found = self.copied()
+        found.at = found.otherwise() + 1
+        return found
 
     def turn(self):
         """At the end of a loop's turn: back to its first op, or out of it."""
@@ -91,13 +122,24 @@ class Walker:
             self.loops.append((start, left - 1))
             self.at = start
 
-    def to_call(self):
-        """Goes on to the next op that has a line, or to the end; False where that takes too long to find out."""
+    def to_call(self, wanted: Optional[int] = None):
+        """Goes on to the next op that has a line, or to the end; False where that isn't known, or takes too long to find out. Where either
+        branch may have been taken, it is the one that leads to the op that is wanted."""
+        others = []
         for _ in range(PATIENCE):
             if self.has_ended or not self.op.is_silent:
-                return True
-            self.go_past()
+                if self.at == wanted or not others:
+                    return True
+                self.become(others.pop())
+                continue
+            other = self.go_past()
+            if other is not None and wanted is None:
+                return False
+            others += [other] if other is not None else []
         return False
+
+    def become(self, other):
+        self.at, self.loops, self.answer = other.at, other.loops, other.answer
 
 
 def walked(script, calls) -> Optional[Walker]:
@@ -105,7 +147,7 @@ def walked(script, calls) -> Optional[Walker]:
     script's, or it isn't found."""
     walker = Walker(script)
     for index, answer in calls:
-        if not walker.to_call() or walker.at != index:
+        if not walker.to_call(index) or walker.at != index:
             return None
         walker.called(answer)
     return walker if walker.to_call() else None

@@ -13,6 +13,7 @@ from .injections import arrivals_of, arrived, groups_of, position_of, stretches_
 from .lanes import Bar, Doing, Lane, LaneKind, Note, Timeline, WindowKind
 from .report import IDLE, Kind, event_of
 from .suspensions import changes_of
+from .variables import History
 from .windows import windows_of_calls, windows_of_sections, windows_of_waits
 
 
@@ -72,6 +73,7 @@ class Builder:
         self.arrivals = arrivals or {}
         self.lanes: Dict[str, Lane] = {}
         self.commands = commands_of(self)
+        self.history = History(application, events, self.boundary)
         self.name_lanes()
         self.clock = TickReader(head, events, injected, self.boundary, application).clock()
         self.turns: List[Bar] = []
@@ -158,8 +160,9 @@ class Builder:
         bars = [it for it in self.turns if it.end > it.start] + waits + list(self.pending(windows))
         used = {it.lane for it in bars} | {it.lane for it in self.notes}
         lanes = [it for it in self.lanes.values() if it in used or it.name != UNNAMED]
+        variables = {name: self.history.stretches(name, self.head.steps) for name in self.history.starts}
         return Timeline(self.head, lanes, bars, self.notes, windows, self.clock, self.injections(),
-                        endings, ops)
+                        endings, ops, variables)
 
     @property
     def passes_with_idle(self):

@@ -6,7 +6,7 @@ from dataclasses import dataclass
 from itertools import groupby
 from typing import List, Tuple
 
-from . import drawing
+from . import drawing, variables_picture
 from .injections import groups_of
 from .lanes import Doing, LaneKind, WindowKind
 
@@ -60,6 +60,8 @@ class Layout:
     # The first step of each band, and the one behind its last. They may have steps in common.
     spans: List[Tuple[int, int]]
     lane_tops: List[float]
+    # Where the rows of variables begin, in a band.
+    variables_top: float
     band_height: float
     axis: float
     # What the run says at its end, cut into lines; and the lines of C of its calls.
@@ -123,11 +125,13 @@ def layout_of(timeline):
         at += rows_of(lane) * LABEL_ROW + BAR + LANE_GAP
     widest = max(map(len, axis_numbers(timeline, timeline.steps)))
     margin = max(6, 5 + 3 * timeline.outlasts_printed_ticks + widest // 2)
-    left = 22 + drawing.width_of("x" * max([margin] + [len(it.name) for it in timeline.lanes]))
-    axis = AXIS + AXIS_ROW * timeline.outlasts_printed_ticks
+    names = [*(it.name for it in timeline.lanes), *timeline.variables]
+    left = 22 + drawing.width_of("x" * max(margin, *map(len, names)))
+    axis, variables_top = AXIS + AXIS_ROW * timeline.outlasts_printed_ticks, at
+    at += variables_picture.height_of(timeline)
     room = int((left + PLOT + RIGHT - 24) / drawing.CHARACTER)
     ending = [line for it in timeline.ending for line in textwrap.wrap(it, room, break_on_hyphens=False)]
-    return Layout(timeline, left, spans_of(timeline), tops, at + axis, axis, ending, source_of(timeline, room))
+    return Layout(timeline, left, spans_of(timeline), tops, variables_top, at + axis, axis, ending, source_of(timeline, room))
 
 
 def source_of(timeline, room):
@@ -166,13 +170,14 @@ def axis_numbers(timeline, last):
 
 def write(output, timeline):
     layout = layout_of(timeline)
-    styles = STYLES + SECTION_STYLES * has_sections(timeline)
+    styles = STYLES + SECTION_STYLES * has_sections(timeline) + variables_picture.STYLES * bool(timeline.variables)
     drawing.start(output, layout.width, layout.height, styles, timeline.title())
     fails = "" if timeline.head.verdict.passes else " fails"
     output.line(drawing.label(12, 24, timeline.title(), "title" + fails))
     for band in range(layout.bands):
         write_band(output, layout, band)
     write_lane_contents(output, layout)
+    variables_picture.write(output, layout)
     write_injections(output, layout)
     write_legend(output, layout)
     for at, text in enumerate(layout.ending):

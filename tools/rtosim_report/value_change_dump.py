@@ -1,7 +1,7 @@
 """A run as a value change dump, as GTKWave and PulseView read it.
 
 Of each task: whether it runs, whether it waits, its last answer and its last mark; of each handler: when it comes, its last
-answer and mark; and idle, the step, the printed tick, the windows and the injection."""
+answer and mark; of each variable its value; and idle, the step, the printed tick, the windows and the injection."""
 from collections import defaultdict
 
 from .report import Kind
@@ -9,6 +9,8 @@ from .subticks import SubTicks
 from .lanes import Doing, LaneKind, WindowKind
 
 WORD = 32
+# The scope of variables: it is longer than the name of a task or a handler may be.
+VARIABLES = "values_of_variables"
 FIRST, CODES = 33, 94
 
 
@@ -92,6 +94,8 @@ def write(output, timeline):
     add_windows(dump, timeline, times)
     for lane in timeline.lanes:
         add_lane(dump, timeline, times, lane)
+    for name, stretches in timeline.variables.items():
+        add_variable(dump, times, name, stretches)
     comment = f"{timeline.title()}; a tick is {times.in_a_tick} of these times"
     dump.write(output, comment, scale_of(times.in_a_tick), times.at(timeline.steps) + 1)
 
@@ -139,6 +143,12 @@ def add_lane(dump, timeline, times, lane):
         add_doing(dump, times, scope if scope != "(not named)" else "not_named", bars)
     if lane.kind is not LaneKind.IDLE and notes:
         add_answers(dump, times, lane, notes)
+
+
+def add_variable(dump, times, name, stretches):
+    signal = dump.signal(VARIABLES, name, WORD, stretches[0].value)
+    for it in stretches[1:]:
+        dump.set(times.at(it.start), signal, it.value)
 
 
 def add_doing(dump, times, scope, bars):

@@ -5,6 +5,7 @@ import re
 from typing import Dict, Optional
 
 from .progress import Walker
+from .variables import Values, stored_by
 
 CALLS = re.compile(rb"^[0-9]+ [0-9]+ (call|isr) ([A-Za-z][A-Za-z0-9_]*) ([0-9]+) ([a-z_]+) = (none|[0-9]+)$", re.MULTILINE)
 CALL = re.compile(rb"(call|isr) ([A-Za-z][A-Za-z0-9_]*) ([0-9]+) ([a-z_]+) = (none|[0-9]+)")
@@ -15,18 +16,22 @@ STRIDE = 4096
 
 
 class Place:
-    """How far each task is: its walker, which is None where the script is left, and its last call; and who is suspended by whom."""
+    """How far each task is: its walker, which is None where the script is left, and its last call; who is suspended by whom; and which
+    values variables have, and had since the last call of a task."""
 
     def __init__(self, application):
         self.application = application
         self.walkers: Dict[str, Optional[Walker]] = {name: Walker(it) for name, it in application.tasks.items()}
         self.last: Dict[str, int] = {}
         self.suspended: Dict[str, str] = {}
+        self.values: Dict[str, int] = dict(application.variables)
+        self.since: Dict[str, Values] = {}
 
     def copied(self):
         found = copy.copy(self)
         found.walkers = {name: None if it is None else it.copied() for name, it in self.walkers.items()}
         found.last, found.suspended = dict(self.last), dict(self.suspended)
+        found.values, found.since = dict(self.values), {name: dict(it) for name, it in self.since.items()}
         return found
 
     def take(self, parts):
@@ -37,11 +42,31 @@ class Place:
             self.take_suspension(name, index, word == b"suspend")
         if kind == b"call" and name in self.walkers:
             self.last[name] = index
-            walker = self.walkers[name]
-            if walker is None or not walker.to_call() or walker.at != index:
+            walker = self.walker(name)
+            if walker is None or not walker.to_call(index) or walker.at != index:
                 self.walkers[name] = None
             else:
                 walker.called(number)
+        if word == b"store" and self.values:
+            self.take_store(stored_by(self.application, name, index, "store"), number)
+        if kind == b"call":
+            self.since.pop(name, None)
+
+    def take_store(self, variable, value):
+        """A variable has a new value, which ops may find that tasks did since their last calls, or the old one."""
+        if variable is None:
+            return
+        for name in self.walkers:
+            since = self.since.setdefault(name, {})
+            since[variable] = tuple(dict.fromkeys((*since.get(variable, (self.values[variable],)), value)))
+        self.values[variable] = value
+
+    def walker(self, name) -> Optional[Walker]:
+        """The walker of a task, with the values that variables may have had since its last call."""
+        found = self.walkers[name]
+        if found is not None and self.values:
+            found.values = {**{it: (value,) for it, value in self.values.items()}, **self.since.get(name, {})}
+        return found
 
     def take_suspension(self, name, index, is_suspend):
         op = self.application.op(name, index)
@@ -59,9 +84,11 @@ class Place:
 
     def words_of_task(self, script):
         """Where this task is, or nothing where it has ended, or serves forever and waits for what it serves."""
-        name, walker = script.name, self.walkers[script.name]
+        name, walker = script.name, self.walker(script.name)
+        # one that is suspended before its last op is complete has ops left, though they may have no line
+        has_ops_left = name in self.suspended and not (walker is not None and walker.has_ended)
         is_known = walker is not None and walker.to_call()
-        if is_known and walker.has_ended:
+        if is_known and walker.has_ended and not has_ops_left:
             return ""
         if script.is_endless and (name in self.suspended or not is_known or walker.op.word != WAITS_FOR_A_TASK):
             return ""

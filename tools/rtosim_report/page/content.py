@@ -119,6 +119,7 @@ class Content:
             "notes": [[lanes[it.lane], it.step, int(it.is_injected), text(found.told(it))] for it in found.notes],
             "windows": [[lanes[it.lane], it.start, it.end, it.kind.name.lower()] for it in found.windows],
             "endings": [[lanes[lane], at] for lane, at in found.endings], "injections": [[it.step, it.handler] for it in found.injections],
+            "variables": [[name, [at for it in stretches for at in (it.start, it.end, it.value)]] for name, stretches in found.variables.items()],
             "clock": [clock.start, clock.boundaries, clock.ticks],
             "ops": [[lanes[lane], [at for it in ops for at in (it.start, it.end, it.op)]] for lane, ops in found.ops.items()],
         }

@@ -1,6 +1,6 @@
 // A run's lanes as a drawing, with the cursor over them.
 
-const BAR = 14, LABEL = 14, LANE_GAP = 12, PLOT_TOP = 22, WIDEST = 54, NARROWEST = 6, MOST_WIDE = 60000;
+const BAR = 14, LABEL = 14, LANE_GAP = 12, VARIABLE_ROW = 22, PLOT_TOP = 22, WIDEST = 54, NARROWEST = 6, MOST_WIDE = 60000;
 const DOING = { runs: "runs", waits: "waits", sleeps: "sleeps", suspended: "is suspended", ready: "is Ready", pending: "is pending" };
 // Of each kind of window how far below the bar it is, and what is so.
 const WINDOWS = { locked: [1, "the queue is locked"], held: [5, "the scheduler is held"], masked: [1, "interrupts are masked"] };
@@ -20,7 +20,7 @@ function tickAt([, boundaries, ticks], boundary) {
 class Lanes {
   constructor(run, width) {
     this.run = run;
-    this.left = 22 + CHARACTER * Math.max(8, ...run.names.map(([name]) => name.length));
+    this.left = 22 + CHARACTER * Math.max(8, ...[...run.names, ...run.variables].map(([name]) => name.length));
     const plot = Math.max(300, width - this.left - 60);
     this.stepWidth = Math.min(WIDEST, Math.max(plot / Math.max(1, run.steps), Math.min(NARROWEST, MOST_WIDE / Math.max(1, run.steps))));
     this.tops = [];
@@ -29,6 +29,8 @@ class Lanes {
       this.tops.push(top + (kind === "idle" ? 0 : 2 * LABEL));
       top += (kind === "idle" ? 0 : 2 * LABEL) + BAR + LANE_GAP;
     }
+    this.variablesTop = top;
+    top += VARIABLE_ROW * run.variables.length;
     this.bottom = top;
     this.width = this.left + run.steps * this.stepWidth + 36;
     // How far to the right what is reported goes.
@@ -56,7 +58,19 @@ class Lanes {
     this.run.endings.forEach(([lane, at]) => this.svg.append(shape(
       "rect", { class: "ended", x: this.across(at), y: this.tops[lane], width: 4, height: BAR }, null, `${this.run.names[lane][0]} has ended`)));
     this.run.names.forEach((_, lane) => this.drawNotes(this.run.notes.filter(it => it[0] === lane), lane));
+    this.run.variables.forEach(([name, values], row) => this.drawVariable(name, values, this.variablesTop + VARIABLE_ROW * row));
     this.drawInjections();
+  }
+
+  // A row for a variable: a box for each of its values, from one store to the next.
+  drawVariable(name, values, top) {
+    this.svg.append(shape("text", { x: 8, y: top + BAR - 3 }, name));
+    for (let at = 0; at < values.length; at += 3) {
+      const [start, end, value] = values.slice(at, at + 3), width = Math.max(0.75, (end - start) * this.stepWidth), text = String(value);
+      this.svg.append(shape("rect", { class: "value", x: this.across(start), y: top, width, height: BAR }, null, `${name} = ${text}: from step ${start} on`));
+      if ((text.length + 1) * CHARACTER > width) continue;
+      this.svg.append(shape("text", { x: this.across((start + end) / 2), y: top + BAR - 3, "text-anchor": "middle" }, text));
+    }
   }
 
   drawGround(name, lane) {

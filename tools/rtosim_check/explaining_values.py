@@ -1,0 +1,101 @@
+"""What is said of variables and of the last answer in ops that can't be: an assignment as in C, a variable or `answer` in the place of a
+number, and names that no variable has."""
+import re
+
+from .explaining_conditions import meant_condition
+from .formats import ANSWER, MEANT_ANSWERS, MEANT_NONE, MEANT_OF_VARIABLES, OPERATORS, OPS, Condition, Operand, Turns, Value, Wait, is_name
+from .nearness import did_you_mean, near, quoted
+from .problem import Problem
+
+ASSIGNMENT = re.compile(r" *([A-Za-z][A-Za-z0-9_]*) *(?:(\+\+|--)|([-+*/%&|^]?)=(?!=) *([A-Za-z0-9_]+)) *;? *")
+COMPARISON = re.compile(r" *(?:(if|expect) +)?([A-Za-z][A-Za-z0-9_]*) *(==|!=|<=|>=|<|>) *([A-Za-z0-9_]+) *")
+MEMORY = 'a variable is changed by "store", and the last answer by "add" and its like, as "load x", "add 1", "store x answer"'
+TAKES_ANSWER = '"answer" is a word for the number of send, send_front, overwrite, mark and store alone'
+TAKES_VARIABLE = "conditions, and add, sub, mul, div, mod, and, or, xor, take the name of a variable"
+
+
+def listed_ops(ops):
+    """As `"load x", "add 1"`."""
+    return ", ".join(quoted(it) for it in ops)
+
+
+def problem_of_assignment(text, section, application):
+    """An assignment, as `count += 1`; None of any other text."""
+    found = ASSIGNMENT.fullmatch(text)
+    if not found or found[1] in OPS[section]:
+        return None
+    ops = ops_of_assignment(*found.groups(), application)
+    meant = did_you_mean(listed_ops(ops)) if ops else ""
+    return Problem(found.start(1), len(text.rstrip(" ")), f'"{text.strip()}" is an assignment, and no op{meant}', MEMORY)
+
+
+def problem_of_comparison(text, section, application):
+    """A comparison of a variable, as `if count < 5`; None of any other text."""
+    found = COMPARISON.fullmatch(text)
+    if not found or found[2] not in application.names_of(("variable",)):
+        return None
+    condition = meant_condition([found[3], found[4]]) if found[3] != "==" else found[4]
+    word = found[1] or "expect"
+    is_fit = condition and Condition().fits_all(condition.split())
+    meant = did_you_mean(listed_ops((f"load {found[2]}", f"{word} {condition}"))) if is_fit else ""
+    message = f'"{text[found.start(2) : found.end(4)]}" is a comparison, and a condition is about the last answer{meant}'
+    return Problem(found.start(2), found.end(4), message, OPS[section][word].rule)
+
+
+def ops_of_assignment(name, step, operator, value, application):
+    """The ops that do the like, or None."""
+    if step:
+        operator, value = step[0], "1"
+    is_variable = value in application.names_of(("variable",))
+    if operator:
+        is_fit = is_variable or Operand().fits(value) and not is_name(value)
+        return ["load " + name, f"{OPERATORS[operator]} {value}", f"store {name} {ANSWER}"] if is_fit else None
+    if is_variable:
+        return [f"load {value}", f"store {name} {ANSWER}"]
+    return [f"store {name} {value}"] if Value("V", "").fits(value) else None
+
+
+def meant_of_variable(words, application):
+    """The ops that are meant by another word before the name of a variable, or None."""
+    if len(words) < 2 or words[1][0] not in application.names_of(("variable",)):
+        return None
+    ops = MEANT_OF_VARIABLES.get(words[0][0].lower())
+    value = words[2][0] if len(words) > 2 and Value("V", "").fits(words[2][0]) else ANSWER
+    return [it.format(x=words[1][0], v=value) for it in ops] if ops else None
+
+
+def no_number_but_name(argument, word, text, application):
+    """What to say of `answer`, or of the name of a variable, in the place of a number; None of any other word."""
+    is_variable = word in application.names_of(("variable",))
+    if isinstance(argument, Value) and is_variable:
+        ops = (f"load {word}", " ".join(ANSWER if it == word and at > 1 or it == word and text[0] == "mark" else it for at, it in enumerate(text)))
+        return f'"{word}" is a variable, and a number is expected{did_you_mean(listed_ops(ops))}'
+    if word == ANSWER and not isinstance(argument, (Wait, Turns, Condition, Operand)):
+        return f'expected a number, {argument.least} to {argument.most}, found "answer"; {TAKES_ANSWER}'
+    if is_variable or word == ANSWER:
+        only = TAKES_VARIABLE if is_variable else TAKES_ANSWER
+        ends = f"{argument.least} to {argument.most}{argument.or_else}"
+        return f'expected a number, {ends}, found "{word}"; {only}'
+    return None
+
+
+def no_variable(op, words, word, application):
+    """What to say of a name in a condition, or in the place of a number, that nothing has."""
+    names = application.names_of(("variable",))
+    if op.has_condition:
+        meant = meant_by_condition(word, words)
+        if meant:
+            return f'no variable is called "{word}"{did_you_mean(quoted(" ".join([*words[:-1], meant])))}'
+    elif word == ANSWER:
+        name = names[0] if names else "x"
+        both = listed_ops((f"store {name} answer", f"{op.word} {name}"))
+        return f'{op.word} is about the last answer already, and "answer" is no variable; for the last answer twice, {both}'
+    return None
+
+
+def meant_by_condition(word, words):
+    """Of an answer by another name what it is."""
+    if word in MEANT_ANSWERS:
+        return MEANT_ANSWERS[word]
+    is_none = word in MEANT_NONE or near(word, ["none"])
+    return "none" if is_none and words[-2] not in ("below", "above") else None
