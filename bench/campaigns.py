@@ -11,7 +11,8 @@ The campaigns: `dense`, 5,000 rows of tasks that call a queue and a mutex in nea
 of 5,000; `computing`, the same with more `work` between the calls, and 2,000 rows of 2,000 steps; `commands`, 3,000 rows of tasks
 that wait for bits, which a handler has the daemon set and clear; `asleep`, 3,000 rows of tasks that sleep and wait for minutes and
 hours in a tickless application, which a handler wakes at any time; `masked`, 5,000 rows of a driver that looks in a critical section in
-each turn, so that the handlers of many rows are pending first; `million`, 1,000,000 single points of a short application, each
+each turn, so that the handlers of many rows are pending first; `counter`, 5,000 rows of a task that counts in each turn and stores the
+count in another variable too, which a handler writes before; `million`, 1,000,000 single points of a short application, each
 of which ends after some ten steps."""
 import ctypes
 import os
@@ -90,6 +91,19 @@ def masked(steps):
     )
 
 
+def counter(steps):
+    """A task that counts, stores the count once more and compares the two, and a handler before each step that changes the copy. The task
+    writes over it in its next turn."""
+    return (
+        f"[limits]\nsteps = {steps}\n"
+        '[[variable]]\nname = "count"\n[[variable]]\nname = "copy"\n'
+        '[[handler]]\nname = "h"\nops = ["load copy", "add 9", "store copy answer"]\n'
+        + task("counter", 1, turns("load count", "add 1", "store count answer", "store copy answer", "load copy", "if count", "time", "else",
+                                   "since", "end"))
+        + '[campaign]\npoints = ["all h"]\n'
+    )
+
+
 def million_points():
     """A million points over an application that ends after some ten steps."""
     dice = random.Random(5)
@@ -134,7 +148,8 @@ def main():
     ctypes.CDLL(None).prctl(PR_SET_CHILD_SUBREAPER, 1, 0, 0, 0)
     programs = sys.argv[1:3] or [PROGRAM]
     texts = {"dense": producer_and_consumer(5000, 2), "computing": producer_and_consumer(2000, 200),
-             "commands": sensor_and_daemon(3000), "asleep": asleep(3000), "masked": masked(5000), "million": million_points()}
+             "commands": sensor_and_daemon(3000), "asleep": asleep(3000), "masked": masked(5000), "counter": counter(5000),
+             "million": million_points()}
     with tempfile.TemporaryDirectory() as folder:
         for name, text in texts.items():
             path = os.path.join(folder, f"{name}.toml")

@@ -8,9 +8,10 @@ of it that of OTHER is. The program is crates/rtosim/out/rtosim, or PROGRAM; the
 
 The cases: `timeouts`, a driver receives with a timeout of one tick while a task works, and the handler sends; `full_queue`, two tasks
 play ping-pong, and the handler fills a queue that nobody reads; `woken`, the handler wakes a task above them that works for three ticks;
-`marked`, the handler only marks; `counted`, it counts a semaphore up for good; `inheritance`, three tasks share a mutex at fixed times, and
-the handler wakes one that waits for it and gives up; `delays`, the same with delays; `stamped`, each row keeps the tick of its injection
-for good, so no row comes to the kernel of another."""
+`marked`, the handler only marks; `counted`, it counts a semaphore up for good; `overwritten`, it changes a variable over which a task
+writes in each turn; `added`, it counts on in the variable in which a task counts, so rows meet each other and never the base run;
+`inheritance`, three tasks share a mutex at fixed times, and the handler wakes one that waits for it and gives up; `delays`, the same with
+delays; `stamped`, each row keeps the tick of its injection for good, so no row comes to the kernel of another."""
 import argparse
 import ctypes
 import os
@@ -56,6 +57,10 @@ CASES = {
     "woken": ping_pong('[[binary]]\nname = "s"\n', "give s", task("woken", 2, turns("take s forever", "work 3"))),
     "marked": ping_pong("", "mark 1"),
     "counted": ping_pong('[[counting]]\nname = "s"\nmax = 65535\n', "give s"),
+    "overwritten": '[[variable]]\nname = "count"\n[[variable]]\nname = "copy"\n' + handler("load copy", "add 9", "store copy answer")
+    + task("counter", 1, turns("load count", "add 1", "store count answer", "store copy answer", "work 1")),
+    "added": '[[variable]]\nname = "count"\n' + handler("load count", "add 1", "store count answer")
+    + task("counter", 1, turns("load count", "add 1", "store count answer", "work 1")),
     "inheritance": shared_mutex("delay_until"),
     "delays": shared_mutex("delay"),
     "stamped": ping_pong('[[binary]]\nname = "s"\n', "give s", task("stamped", 2, ["take s forever", "stamp", *turns("take s forever", "since")])),
