@@ -1,6 +1,6 @@
 """Random applications, with campaigns of all steps of two handlers: half of them with a daemon, half of them tickless, half of them with
-branches and endless tasks, half of them with handlers that look at answers and tasks that measure time, and half of them with critical
-sections."""
+branches and endless tasks, half of them with handlers that look at answers and tasks that measure time, half of them with critical
+sections, and half of them with variables."""
 import json
 import random
 
@@ -8,16 +8,23 @@ import random
 DEEPEST_LOOP, DEEPEST = 4, 8
 # How many ops a handler has at most.
 MOST_OPS = 16
+# The variables, of which nothing stores the last one.
+VARIABLES, NEVER_STORED = ("x", "y"), "z"
+NUMBERS = (0, 0, 1, 1, 2, 3, 4294967295)
+ARITHMETIC = ("add", "sub", "mul", "div", "mod", "and", "or", "xor")
 
 
 class Scripts:
-    """Random scripts with blocks in one another, whose plain ops are given one at a time. Most conditions are of answers that come."""
+    """Random scripts with blocks in one another, whose plain ops are given one at a time. Most conditions are of answers that come, or of
+    these variables."""
 
-    def __init__(self, dice, plain_op):
-        self.dice, self.plain_op = dice, plain_op
+    def __init__(self, dice, plain_op, variables=()):
+        self.dice, self.plain_op, self.variables = dice, plain_op, variables
 
     def condition(self):
-        number = self.dice.choice((0, 0, 1, 1, 2, 3, 4294967295))
+        number = self.dice.choice(NUMBERS)
+        if self.variables and self.dice.random() < 0.3:
+            number = self.dice.choice(self.variables)
         return self.dice.choice(("none", "not none", f"{number}", f"not {number}", f"below {number}", f"above {number}"))
 
     def script(self, is_endless):
@@ -92,7 +99,8 @@ class Applications:
     and handlers that set and clear bits by it. Of four seeds the last two are tickless: they sleep and wait for up to nearly a turn of the
     tick, begin at any tick, and have base interrupts amid their sleeps. Of eight seeds the last four have branches, and tasks that are
     endless. Of sixteen seeds the last eight have handlers that look at answers, and tasks that measure time. Of thirty-two seeds the last
-    sixteen have critical sections, some of which are closed too often, too seldom, or after an op that they bar."""
+    sixteen have critical sections, some of which are closed too often, too seldom, or after an op that they bar. Of sixty-four seeds the
+    last thirty-two have variables, which tasks and handlers load, compute with and store, some of them where nothing was answered."""
 
     def __init__(self, seed):
         self.dice, self.has_daemon = random.Random(seed), seed % 2 == 0
@@ -104,12 +112,28 @@ class Applications:
         self.looks, self.look_dice = seed % 16 > 7, random.Random(f"looks {seed}")
         # And one with critical sections.
         self.masks, self.mask_dice = seed % 32 > 15, random.Random(f"masks {seed}")
+        # And one with variables.
+        self.variables = (*VARIABLES, NEVER_STORED) if seed % 64 > 31 else ()
+        self.value_dice = random.Random(f"values {seed}")
 
     def ticks(self, few):
         """So few ticks, and in a tickless application perhaps many."""
         return self.long_dice.choice((few, 3, 40, 700, 4000, 86400000, 4294967294)) if self.is_tickless else few
 
     def task_op(self):
+        if self.variables and self.value_dice.random() < 0.4:
+            return self.value_dice.choice((self.value_op(), self.value_op(), "send q answer 0", "overwrite r answer"))
+        return self.plain_task_op()
+
+    def value_op(self):
+        """An op about a variable or the last answer, of a task or a handler."""
+        dice, name = self.value_dice, self.value_dice.choice(VARIABLES)
+        number, other = dice.choice(NUMBERS), dice.choice(self.variables)
+        arithmetic = f"{dice.choice(ARITHMETIC)} {dice.choice((number or 1, number or 1, other))}"
+        stores = f"store {name} {dice.choice((number, 'answer', 'answer'))}"
+        return dice.choice((f"load {other}", f"load {other}", stores, stores, arithmetic, arithmetic, "mark answer"))
+
+    def plain_task_op(self):
         return self.mask_op() if self.masks and self.mask_dice.random() < 0.4 else self.unmasked_op()
 
     def mask_op(self):
@@ -143,18 +167,25 @@ class Applications:
     def task(self, name):
         priority = self.dice.randrange(2)
         endless = self.block_dice.choice(("", "", "endless = false\n", "endless = true\n", "endless = true\n")) if self.has_branches else ""
-        blocks = Scripts(self.block_dice, self.task_op)
-        script = blocks.script("true" in endless) if self.has_branches else self.script()
+        blocks = Scripts(self.block_dice, self.task_op, self.variables)
+        script = self.loaded(blocks.script("true" in endless) if self.has_branches else self.script())
         return f'[[task]]\nname = "{name}"\npriority = {priority}\n{endless}script = {json.dumps(script)}'
 
     def handler_op(self):
+        if self.variables and self.value_dice.random() < 0.4:
+            return self.value_dice.choice((self.value_op(), self.value_op(), "send q answer"))
         ops = ("send q 1", "send_front q 1", "give s", "give c", "receive q", "overwrite r 1", "resume a", "mark 1", "peek q")
         return self.command() if self.has_daemon and self.dice.random() < 0.4 else self.dice.choice(ops)
 
     def handler(self):
         if self.looks:
-            return Handlers(self.look_dice, self.handler_op).handler()
-        return [self.handler_op() for _ in range(self.dice.randrange(6))]
+            return self.loaded(Handlers(self.look_dice, self.handler_op, self.variables).handler())
+        return self.loaded([self.handler_op() for _ in range(self.dice.randrange(6))])
+
+    def loaded(self, ops):
+        """These ops, mostly with a load before them, so that there is a number from the first one on."""
+        is_loaded = self.variables and len(ops) < MOST_OPS and self.value_dice.random() < 0.8
+        return [f"load {self.value_dice.choice(VARIABLES)}", *ops] if is_loaded else ops
 
     def command(self):
         return f"{self.dice.choice(('set', 'set', 'clear'))} g {self.dice.randrange(1, 8)}"
@@ -174,11 +205,17 @@ class Applications:
         ticks = self.long_dice.sample(range(1, 4001), self.long_dice.randrange(4)) if self.is_tickless else []
         return [f'[[interrupt]]\ntick = {it}\nhandler = "{self.long_dice.choice("hk")}"' for it in ticks]
 
+    def section_of_variables(self):
+        initial = {it: self.value_dice.choice(("", ", initial = 7", ", initial = 4294967295")) for it in VARIABLES}
+        tables = ", ".join(f'{{ name = "{it}"{initial.get(it, "")} }}' for it in self.variables)
+        return f"variable = [{tables}]" if self.variables else ""
+
     def text(self):
         handlers = [self.handler() for _ in "hk"]
         parts = [self.beginning(), 'queue = [{ name = "q", length = 2 }, { name = "r", length = 1 }]']
         parts.append('binary = [{ name = "s" }]\nmutex = [{ name = "m" }]')
         parts.append(f'counting = [{{ name = "c", max = 2, initial = {self.dice.randrange(2)} }}]\ngroup = [{{ name = "g" }}]')
+        parts += [self.section_of_variables()]
         parts += [f'[[handler]]\nname = "{name}"\nops = {json.dumps(ops)}' for name, ops in zip("hk", handlers)]
         parts += [self.task(it) for it in "ab"]
         parts += [self.daemon()] if self.has_daemon else []

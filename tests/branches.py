@@ -23,10 +23,14 @@ def conditions_at_the_ends_of_their_range():
     for it in (*taken, "none", "not none", "0000000007", "  not   0000000007  "):
         tells(task(f"if {it}", "end", "mark 3"), *ends_of(it))
         equal(run_text(task("time", f"expect {it}"))[0], 0 if holds(it.split(), 0) else 1)
-    for it in (f"{LARGEST + 1}", "00000000007", "-1", "not", "below", "not not 7", "below none", "not below 7", "7 7", "not 7 7", "nOne",
-               "", "="):
+    for it in (f"{LARGEST + 1}", "00000000007", "-1", "not", "below", "not not 7", "below none", "not below 7", "7 7", "not 7 7", "",
+               "="):
         for word in ("if", "expect"):
             faults(task(f"{word} {it}", "end"), "4 BadOp: task 0 script 0")
+    # a word that may be the name of a variable, and is none
+    for it in ("nOne", "a", "not answer", "below nobody", "above Above"):
+        for word in ("if", "expect"):
+            faults(task(f"{word} {it}", "end"), "5 UnknownName: task 0 script 0")
 
 
 def ends_of(condition):

@@ -8,7 +8,8 @@ from running import HANDLER, TASK, TASK_RUNS, campaign_text, is_refused, points,
 LARGEST = 4294967295
 QUEUE = '[[queue]]\nname = "q"\nlength = 1\n'
 GROUP = '[[group]]\nname = "g"\n'
-EACH_KIND = QUEUE + '[[binary]]\nname = "s"\n[[mutex]]\nname = "m"\n' + GROUP
+VARIABLE = '[[variable]]\nname = "x"\n'
+EACH_KIND = QUEUE + '[[binary]]\nname = "s"\n[[mutex]]\nname = "m"\n' + GROUP + VARIABLE
 
 
 def task(*script, name="a", priority=1):
@@ -210,7 +211,7 @@ def edges_of_a_name():
 def names_differ_also_between_sections():
     for section, place, lines in (
         ("binary", "binary 0", ""), ("counting", "counting 0", "max = 1\n"), ("mutex", "mutex 0", ""), ("group", "group 0", ""),
-        ("handler", "handler 0", "ops = []\n"), ("task", "task 0", "priority = 1\nscript = []\n"),
+        ("variable", "variable 0", ""), ("handler", "handler 0", "ops = []\n"), ("task", "task 0", "priority = 1\nscript = []\n"),
     ):
         text = QUEUE.replace('"q"', '"a"') + f'[[{section}]]\nname = "a"\n{lines}'
         faults(text, f"6 DoubleName: {place} name")
@@ -283,6 +284,22 @@ def edges_of_event_groups():
 
 
 @case
+def edges_of_variables():
+    is_taken(entries("variable", 32) + TASK)
+    faults(entries("variable", 33) + TASK, "9 TooMany: variable")
+    # they are counted by themselves
+    is_taken(entries("variable", 32, "initial = 4294967295\n") + entries("group", 16) + entries("mutex", 32) + TASK)
+    refuses_numbers('[[variable]]\nname = "x"\ninitial = N\n' + TASK, "variable 0 initial", -1, LARGEST + 1, 2**63 - 1, -(2**63))
+    least, most = '[[variable]]\nname = "x"\ninitial = 0\n', f'[[variable]]\nname = "y"\ninitial = {LARGEST}\n'
+    tells(least + most + task("load x", "sub 1", "expect y", "load y", "add y", f"store x {LARGEST}", "store x 0000000007"),
+          "pass in 7 steps, 0 ticks", "0 0 call a 0 load = 0", f"1 0 call a 1 sub = {LARGEST}", f"3 0 call a 3 load = {LARGEST}",
+          f"4 0 call a 4 add = {LARGEST - 1}", f"5 0 call a 5 store = {LARGEST}", "6 0 call a 6 store = 7", "6 0 run -")
+    for name in ("none", "not", "below", "above", "answer", "forever", "load"):
+        tells(f'[[variable]]\nname = "{name}"\n' + task(f"load {name}", f"add {name}", f"store {name} answer"), "pass in 3 steps, 0 ticks",
+              "0 0 call a 0 load = 0", "1 0 call a 1 add = 0", "2 0 call a 2 store = 0", "2 0 run -")
+
+
+@case
 def edges_of_handlers():
     is_taken(entries("handler", 16, "ops = []\n") + TASK)
     faults(entries("handler", 17, "ops = []\n") + TASK, "9 TooMany: handler")
@@ -308,7 +325,7 @@ def edges_of_the_daemon():
     faults(TASK + others + entries("task", 1, "priority = 0\nscript = []\n", "u") + daemon, "9 TooMany: daemon")
     # it is found wherever it is in the file, and its name is one of all names
     tells(daemon + GROUP + TASK + HANDLER.replace("[]", '["set g 1"]'), "pass in 1 steps, 0 ticks", *lines)
-    for name in ("q", "s", "m", "g", "h", "a"):
+    for name in ("q", "s", "m", "g", "x", "h", "a"):
         faults(EACH_KIND + TASK + HANDLER + daemon.replace('"d"', f'"{name}"'), "6 DoubleName: daemon name")
     tells(TASK + daemon.replace('"d"', '"a2345678901234_6"'), "pass in 1 steps, 0 ticks", lines[0], "0 0 run a2345678901234_6")
     faults(TASK + daemon.replace('"d"', '"a23456789012345_7"'), "3 OutOfRange: daemon name")
@@ -414,11 +431,11 @@ def what_a_task_may_not_do_while_the_scheduler_is_suspended():
     for op in misused:
         tells(both + task("suspend_all", op), "misuse a 1 1 in 2 steps, 0 ticks", "0 0 call a 0 suspend_all = 0")
     allowed = ["work 1", "repeat 1", "end", "mark 3", "time", "waiting q", "spaces q", "bits g", "clear g 1", "expect 0",
-               "suspend_all", "resume_all"]
-    tells(both + task("suspend_all", *allowed, "resume_all"), "pass in 14 steps, 1 ticks", "0 0 call a 0 suspend_all = 0",
+               "load x", "add 3", "store x answer", "suspend_all", "resume_all"]
+    tells(both + task("suspend_all", *allowed, "resume_all"), "pass in 17 steps, 1 ticks", "0 0 call a 0 suspend_all = 0",
           "4 0 mark a 3", "5 0 call a 5 time = 0", "6 0 call a 6 waiting = 0", "7 0 call a 7 spaces = 1", "8 0 call a 8 bits = 0",
-          "9 0 call a 9 clear = 0", "11 0 call a 11 suspend_all = 0", "12 0 call a 12 resume_all = 0",
-          "13 1 call a 13 resume_all = 0", "13 1 run -")
+          "9 0 call a 9 clear = 0", "11 0 call a 11 load = 0", "12 0 call a 12 add = 3", "13 0 call a 13 store = 3",
+          "14 0 call a 14 suspend_all = 0", "15 0 call a 15 resume_all = 0", "16 1 call a 16 resume_all = 0", "16 1 run -")
 
 
 @case
@@ -444,10 +461,10 @@ def what_a_task_may_not_do_in_a_critical_section():
     tells(both + task("enter_critical", "resume_all"), "misuse a 1 2 in 2 steps, 0 ticks")
     tells(both + task("suspend_all", "enter_critical", "yield"), "misuse a 2 1 in 3 steps, 0 ticks", "0 0 call a 0 suspend_all = 0")
     allowed = ["repeat 1", "end", "mark 3", "time", "waiting q", "spaces q", "bits g", "clear g 1", "expect 0", "if 0", "else", "end",
-               "stamp", "since", "enter_critical", "exit_critical"]
-    tells(both + task("enter_critical", *allowed, "exit_critical"), "pass in 17 steps, 0 ticks", "3 0 mark a 3", "4 0 call a 4 time = 0",
+               "stamp", "since", "enter_critical", "exit_critical", "load x", "sub 3", "store x 2"]
+    tells(both + task("enter_critical", *allowed, "exit_critical"), "pass in 20 steps, 0 ticks", "3 0 mark a 3", "4 0 call a 4 time = 0",
           "5 0 call a 5 waiting = 0", "6 0 call a 6 spaces = 1", "7 0 call a 7 bits = 0", "8 0 call a 8 clear = 0",
-          "13 0 call a 14 since = 0", "16 0 run -")
+          "13 0 call a 14 since = 0", "16 0 call a 17 load = 0", "17 0 call a 18 sub = 4294967293", "18 0 call a 19 store = 2", "19 0 run -")
 
 
 @case

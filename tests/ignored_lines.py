@@ -24,6 +24,9 @@ SAID = {
     f"{TASK}prio = 2\n": ['line 5: task "a": "prio" is ignored: it is no key of [[task]]; did you mean "priority"?'],
     f"{TASK}length = 2\n": ['line 5: "length" is ignored, since it is below [[task]]; it belongs under [[queue]] or [daemon]'],
     f"[limits]\nsteps = 5\nstart = 3\n{TASK}": ['line 3: "start" is ignored, since it is below [limits]; it belongs above the first table'],
+    f"{TASK}[[variable]]\nname = \"x\"\ninitial = 5\n": [],
+    f"{TASK}[[variable]]\nname = \"x\"\nvalue = 5\n": [
+        'line 7: variable "x": "value" is ignored: it is no key of [[variable]]; did you mean "initial"?'],
     f"{TASK}[[timer]]\nname = \"t\"\n": ["line 5: [[timer]] is ignored: software timers aren't simulated"],
     # keys and sections spelled as TOML allows
     f'{TASK}"prio" = 2\n': ['line 5: task "a": "prio" is ignored: it is no key of [[task]]; did you mean "priority"?'],

@@ -1,7 +1,13 @@
 """Runs the script of one task alone, as the program does: for tests that compare it with the C that it was made of."""
-from typing import Dict, List, Optional, Sequence
+import operator
+from typing import Callable, Dict, List, Optional, Sequence
 
 MOST_CALLS = 300
+SIZE = 1 << 32
+ARITHMETIC: Dict[str, Callable[[int, int], int]] = {
+    "add": operator.add, "sub": operator.sub, "mul": operator.mul, "div": operator.floordiv, "mod": operator.mod, "and": operator.and_,
+    "or": operator.or_, "xor": operator.xor,
+}
 
 
 class Over(Exception):
@@ -9,9 +15,10 @@ class Over(Exception):
 
 
 class Machine:
-    """A task's script and the objects of its file."""
+    """A task's script, and the objects and the variables of its file."""
 
-    def __init__(self, objects: Sequence[object], ops: Sequence[str]):
+    def __init__(self, objects: Sequence[object], ops: Sequence[str], variables: Optional[Dict[str, int]] = None):
+        self.variables = dict(variables or {})
         self.kinds = {it.name: it.kind for it in objects}
         self.most = {it.name: it.numbers.get("length", it.numbers.get("max", 1)) for it in objects}
         self.items: Dict[str, List[int]] = {it.name: [] for it in objects}
@@ -37,6 +44,8 @@ class Machine:
     def step(self) -> None:
         word, *words = self.ops[self.at]
         self.at += 1
+        if word in ARITHMETIC:
+            return self.compute(word, words[0])
         getattr(self, f"do_{word}")(*words)
 
     def write(self, line: str) -> None:
@@ -60,9 +69,20 @@ class Machine:
         if words[0] == "not":
             return not self.holds(words[1:])
         if words[0] in ("below", "above"):
-            number = int(words[1])
+            number = self.number(words[1])
             return self.answer is not None and (self.answer < number if words[0] == "below" else self.answer > number)
-        return self.answer == (None if words[0] == "none" else int(words[0]))
+        return self.answer == (None if words[0] == "none" else self.number(words[0]))
+
+    def number(self, word: str) -> int:
+        return int(word) if word.isdigit() else self.variables[word]
+
+    def value(self, word: str) -> int:
+        """A number, or the last answer, which must be one."""
+        if word != "answer":
+            return int(word)
+        if self.answer is None:
+            raise Over("no value")
+        return self.answer
 
     # -- blocks
 
@@ -111,7 +131,20 @@ class Machine:
         self.now += int(ticks)
 
     def do_mark(self, number: str) -> None:
-        self.write(f"mark {number}")
+        self.write(f"mark {self.value(number)}")
+
+    # -- variables, which leave no line here, as the C has none
+
+    def do_load(self, name: str) -> None:
+        self.answer = self.variables[name]
+
+    def do_store(self, name: str, value: str) -> None:
+        self.answer = self.variables[name] = self.value(value)
+
+    def compute(self, word: str, other: str) -> None:
+        if word in ("div", "mod") and self.number(other) == 0:
+            raise Over("no value")
+        self.answer = ARITHMETIC[word](self.value("answer"), self.number(other)) % SIZE
 
     def do_expect(self, *words: str) -> None:
         if not self.holds(words):
@@ -148,10 +181,10 @@ class Machine:
         self.answered("resume_all", 0)
 
     def put(self, word: str, queue: str, item: str, wait: str, at: Optional[int]) -> None:
-        items = self.items[queue]
+        items, number = self.items[queue], self.value(item)
         is_possible = self.waits(len(items) < self.most[queue], wait)
         if is_possible:
-            items.insert(len(items) if at is None else at, int(item))
+            items.insert(len(items) if at is None else at, number)
         self.answered(word, int(is_possible))
 
     def do_send(self, queue: str, item: str, wait: str) -> None:
@@ -161,7 +194,7 @@ class Machine:
         self.put("send_front", queue, item, wait, 0)
 
     def do_overwrite(self, queue: str, item: str) -> None:
-        self.items[queue] = [int(item)]
+        self.items[queue] = [self.value(item)]
         self.answered("overwrite", 1)
 
     def do_receive(self, queue: str, wait: str) -> None:

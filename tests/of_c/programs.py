@@ -48,6 +48,12 @@ class Programs:
         self.dice = random.Random(seed)
         self.helpers: List[str] = []
         self.depth = 0
+        # The globals and static locals of the task that is made.
+        self.shared: List[str] = []
+
+    def names(self) -> List[str]:
+        """What a statement may name: locals, and more often than not what outlasts them."""
+        return [*INTEGERS, *self.shared, *self.shared]
 
     def one_of(self, *choices: str) -> str:
         return self.dice.choice(choices)
@@ -64,8 +70,22 @@ class Programs:
         return f"{HEAD}{helpers}{''.join(functions)}\nint main(void)\n{{{CREATES}{''.join(creates)}    vTaskStartScheduler();\n}}\n"
 
     def task(self, name: str) -> str:
+        globals_, statics = self.lasting(name.replace("task_", "of_"))
         body = "".join(self.statement(1, "") for _ in range(self.dice.randrange(2, 7)))
-        return f"\nstatic void {name}(void *parameters)\n{{\n{self.locals()}{body}}}\n"
+        return f"\n{globals_}static void {name}(void *parameters)\n{{\n{statics}{self.locals()}{body}}}\n"
+
+    def lasting(self, end: str) -> List[str]:
+        """The declarations of globals and of static locals, of half of the tasks."""
+        self.shared = []
+        declared = ["", ""]
+        for type_, at in (("uint8_t", 0), ("unsigned", 0), ("int", 0), ("int16_t", 1), ("bool", 1)):
+            if self.has_lasting(end) and self.dice.random() < 0.5:
+                self.shared.append(f"{'gs'[at]}{len(self.shared)}_{end}")
+                declared[at] += f"{'    ' * at}static {self.one_of('', 'volatile ')}{type_} {self.shared[-1]} = {self.one_of('0', '1', '3', '250')};\n"
+        return declared
+
+    def has_lasting(self, end: str) -> bool:
+        return int(end.partition("_")[2]) % 2 == 1
 
     def locals(self) -> str:
         a, b, n, v = (self.one_of("0", "1", "2", "3", "5") for _ in range(4))
@@ -125,7 +145,7 @@ class Programs:
     def integer(self, depth: int = 2) -> str:
         """An expression without calls."""
         if depth == 0 or self.dice.random() < 0.4:
-            return self.one_of(*INTEGERS, self.number(), self.number())
+            return self.one_of(*self.names(), self.number(), self.number())
         left, right = self.integer(depth - 1), self.integer(depth - 1)
         return self.one_of(
             f"({left} + {right})", f"({left} - {right})", f"({left} * {self.number()})", f"({left} / {self.one_of('2', '3', '7')})",
@@ -149,7 +169,7 @@ class Programs:
         if depth and choice < 0.28:
             return f"!({self.condition(depth - 1)})"
         if choice < 0.5:
-            return f"{self.one_of(*INTEGERS)} {self.one_of(*COMPARISONS)} {self.number()}"
+            return f"{self.one_of(*self.names())} {self.one_of(*COMPARISONS)} {self.number()}"
         if choice < 0.58:
             return self.integer()
         return f"({self.asking()})" if self.dice.random() < 0.6 else f"({self.asking()}) {self.one_of(*COMPARISONS)} {self.number()}"
@@ -163,9 +183,9 @@ class Programs:
         """One statement; `jumps` has the letters of those that are allowed: b of `break`, c of `continue`."""
         indent = "    " * level
         simple: List[Callable[[], str]] = [
-            lambda: f"{self.one_of(*INTEGERS)} = {self.asking()};", lambda: f"{self.one_of(*INTEGERS)} = {self.integer()};",
-            lambda: f"{self.asking()};", lambda: f"{self.one_of('a', 'b', 'n', 'v')}{self.one_of('++', '--', ' += 2', ' |= 5', ' *= 3')};",
-            lambda: f"rtosim_mark({self.number()});", lambda: f"rtosim_mark((uint8_t){self.one_of('a', 'n', 'v')});", self.passing, self.apart, self.timing,
+            lambda: f"{self.one_of(*self.names())} = {self.asking()};", lambda: f"{self.one_of(*self.names())} = {self.integer()};",
+            lambda: f"{self.asking()};", lambda: f"{self.one_of('a', 'b', 'n', 'v', *self.shared)}{self.one_of('++', '--', ' += 2', ' |= 5', ' *= 3')};",
+            lambda: f"rtosim_mark({self.number()});", lambda: f"rtosim_mark((uint8_t){self.one_of('a', 'n', 'v', *self.shared)});", self.passing, self.apart, self.timing,
             lambda: f"configASSERT({self.condition(1)});", lambda: f"ok = {self.condition()};",
             lambda: f"if ({self.condition()}) {self.one_of(*self.jumps(jumps))};",
         ]
@@ -211,7 +231,7 @@ class Programs:
         return text + (f" else {{\n{self.block(level + 1, jumps)}{indent}}}\n" if self.dice.random() < 0.5 else "\n")
 
     def switch(self, level: int, jumps: str, indent: str) -> str:
-        text = f"{indent}switch ({self.one_of(self.asking(), self.one_of(*INTEGERS), self.integer(1))}) {{\n"
+        text = f"{indent}switch ({self.one_of(self.asking(), self.one_of(*self.names()), self.integer(1))}) {{\n"
         labels = self.dice.sample(["0", "1", "2", "3", "GO", "7", "250"], self.dice.randrange(1, 4)) + ["default"] * self.dice.randrange(2)
         self.dice.shuffle(labels)
         for it in labels:

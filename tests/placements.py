@@ -1,0 +1,105 @@
+"""Cases of tests/program: what `explore` finds, beside the sum of whole runs. Each placement is run by itself, as a row of a campaign."""
+import re
+
+from applications import Applications
+from cases import case, equal
+from running import campaign_text, run, run_text, stored, write
+
+HEAD = re.compile(r"(?:base|row [0-9]+ at [^:]*): (.*) in ([0-9]+) steps, ([0-9]+) ticks")
+CAMPAIGN = re.compile(r"\[campaign\]\npoints = .*\n")
+
+
+def heads_of(text):
+    """The verdict, the steps and the ticks of each head line."""
+    found = [HEAD.fullmatch(it) for it in text.decode().splitlines()]
+    return [(it[1], int(it[2]), int(it[3])) for it in found if it]
+
+
+def words_of(placement, handlers):
+    return " ".join(f"{step} {handlers[handler]}" for step, handler in placement)
+
+
+def longer(ends, handlers):
+    """The placements of one injection more than these: a handler before a step from the last injection's on, which the run gets to."""
+    return [
+        (*placement, (step, handler))
+        for placement, (_, steps, _) in ends.items()
+        for step in range(placement[-1][0] if placement else 0, steps)
+        for handler in range(len(handlers))
+    ]
+
+
+def ends_by_runs(text, handlers, most):
+    """How the run of each placement ends. Of an application without points."""
+    ends = {(): heads_of(run_text(text)[1])[0]}
+    last = dict(ends)
+    for _ in range(most):
+        placements = longer(last, handlers)
+        if not placements:
+            break
+        points = ", ".join(f'"{words_of(it, handlers)}"' for it in placements)
+        rows = heads_of(campaign_text(f"{text}[campaign]\npoints = [{points}]\n", "--heads")[1])
+        equal(len(rows), len(placements))
+        last = dict(zip(placements, rows))
+        ends.update(last)
+    return ends
+
+
+def line_of(placements, ends, handlers):
+    """What is written of an end that these have."""
+    least = min(placements, key=lambda it: (len(it), it))
+    verdict, steps, ticks = ends[least]
+    number = f"{len(placements)} placement{'s' * (len(placements) != 1)}"
+    return (len(least), least), f"{verdict}: {number}, least is {words_of(least, handlers) or 'none'} in {steps} steps, {ticks} ticks\n"
+
+
+def report_of(ends, handlers):
+    """The report of `explore` for placements that end so, and its status."""
+    by_verdict = {}
+    for placement, (verdict, _, _) in ends.items():
+        by_verdict.setdefault(verdict, []).append(placement)
+    lines = sorted(line_of(it, ends, handlers) for it in by_verdict.values())
+    return int(set(by_verdict) != {"pass"}), "".join(it for _, it in lines) + f"total {len(ends)}\n"
+
+
+def is_found(text, handlers, most, *words):
+    """The program finds what the runs one by one come to."""
+    status, report = report_of(ends_by_runs(text, handlers, most), handlers)
+    write("application.toml", text)
+    equal(run("explore", "application.toml", "--injections", str(most), *words), (status, report.encode(), b""))
+
+
+def without_points(text, steps):
+    return CAMPAIGN.sub("", text).replace("steps = 300", f"steps = {steps}")
+
+
+@case
+def one_injection_of_random_applications_beside_campaigns():
+    for seed in range(64):
+        is_found(without_points(Applications(seed).text(), 120), "hk", 1)
+
+
+@case
+def two_injections_of_random_applications_beside_pairs():
+    for seed in range(64):
+        is_found(without_points(Applications(seed).text(), 24), "hk", 2)
+
+
+@case
+def three_injections_of_random_applications_beside_triples():
+    for seed in range(64):
+        is_found(without_points(Applications(seed).text(), 10), "hk", 3)
+
+
+@case
+def one_handler_of_two_of_random_applications():
+    for seed in range(16):
+        is_found(without_points(Applications(seed).text(), 20), "k", 3, "--handlers", "k")
+
+
+@case
+def long_runs_beside_campaigns():
+    # (several blocks of steps, of each length)
+    text = stored("tests/runs/placements/two_handlers_for_ten_thousand_steps.toml").decode()
+    is_found(text.replace("steps = 10000", "steps = 3000"), ["uart", "late"], 1)
+    is_found(text.replace("steps = 10000", "steps = 150"), ["uart", "late"], 2)
