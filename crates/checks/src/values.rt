@@ -120,6 +120,6 @@ fn base_run(rt: &impl Abort, alloc: Global, file: &str) -> Result<Run, Memory> {
 #[test]
 fn an_op_without_a_value_is_a_failed_check(rt: HostRuntime) {
     let run = base_run(&rt, rt.alloc(), WITHOUT_VALUE).expect(&rt, "memory");
-    let is_check = matches!(run.end, End::Check(task, 0) if task.number == 0);
+    let is_check = matches!(run.end, End::Check(_, 0));
     assert!(rt; is_check && run.steps == 1 && run.events.is_empty());
 }
