@@ -1,171 +1,37 @@
--- From one layer to the next, node by node.
-use Rattle.std.proofs.Common.{◌≡◌, ◌<◌, ◌≤◌, ◌+◌, ◌-◌, ◌*◌, ◌^◌, ℕ, zero, suc, List, [], ◌∷◌, ◌++◌, length, take, get_or, Option}
-use Rattle.std.proofs.Common.{Some, None, refl, ap, sym, ◌∙◌, subst, arith, append-nil, length-append}
+-- A layer is passed, node by node.
+use Rattle.std.proofs.Common.{◌≡◌, ◌<◌, ◌≤◌, ◌+◌, ◌-◌, ◌*◌, ◌^◌, ℕ, zero, suc, List, [], ◌∷◌, ◌++◌, length, take, get_or, refl, ap}
+use Rattle.std.proofs.Common.{sym}
+use Rattle.std.proofs.Common.{◌∙◌, subst, arith, append-nil, length-append}
 use Rattle.std.specs.List.{AllByRecursion, AllZip, flat_map}
-use Rattle.std.proofs.lemmas.List.{append_assoc, length-map}
-use Rattle.std.proofs.Math.Nat.{mul-le-mul_left}
-use Rattle.model.specs.declared.event.End.{End}
+use Rattle.std.proofs.lemmas.List.{append_assoc}
 use Rattle.std.proofs.lemmas.List.Concat.{flat_map-append}
-use Rattle.std.proofs.lemmas.List.Recursion.{is_sum_by}
 use Rattle.model.specs.declared.plan.Injection.{Injection}
 use Rattle.model.specs.Application.{Application, Limits}
-use Rattle.model.specs.Run.{end_of, state_after}
-use Rattle.model.specs.Placements.{Found, IsFound, Placed, before_this, begun, choices, ended, extensions, placed_at, unless_ended}
-use Rattle.model.proofs.Among.{all_after, all_among, all_before, all_if, all_weaker}
-use Rattle.model.proofs.Placements.{IsBegun, all_begun}
+use Rattle.model.specs.Placements.{Placed}
+use Rattle.model.proofs.Among.{all_after, all_among, all_before}
 use Rattle.machine.specs.Can.{IsUnderWay}
+use Rattle.explorer.specs.declared.frontier.Frontier.{Frontier}
 use Rattle.explorer.specs.declared.layer.Node.{Node}
-use Rattle.explorer.specs.Layers.{AreOf, Carries, HasWay, count_of, goes_on_with, nows_of}
+use Rattle.explorer.specs.Frontiers.{Holds, Plans, everything, number_in, placed_from, rests_of}
+use Rattle.explorer.specs.Layers.{AreOf, HasWay, nows_of}
 use Rattle.explorer.specs.Reordered.{IsReordered}
-use Rattle.explorer.specs.Reordered.IsReordered.{Nothing, Then}
-use Rattle.explorer.specs.Tallies.{IsLayer, IsReady, IsTally, PassesBy, placed_of}
-use Rattle.explorer.proofs.Bounds.{all_plans, choices_number, length_total, power, power_more, power_most, power_some, total}
-use Rattle.explorer.proofs.Bounds.{total-append, total_most, total_reordered, total_same, product_most}
-use Rattle.explorer.proofs.Carrying.{carries_reordered, carries_same}
+use Rattle.explorer.proofs.Bounds.{all_plans, choices_number, power, power_more, power_most, product_most, total, total-append}
+use Rattle.explorer.proofs.Carrying.{together}
 use Rattle.explorer.proofs.Choosing.{flat_more}
-use Rattle.explorer.proofs.Reorderings.{all_reordered, before_all, behind_all, flat_reordered, length_reordered}
-use Rattle.explorer.proofs.Tallying.{count_most}
+use Rattle.explorer.proofs.Holding.{holds_reordered, holds_same, number_most, under_limit, with_live, with_spent, without_live}
+use Rattle.explorer.proofs.Holding.{without_spent}
+use Rattle.explorer.proofs.Reorderings.{all_reordered, length_reordered}
+use Rattle.explorer.proofs.Rests.{all_some}
 
-abbrev Plans : Type 0
-Plans = List (List Injection)
+-- ---- parts of what is carried
 
-abbrev together : List Plans → Plans
-together groups = flat_map (λ group. group) groups
+together_more : (groups : List Plans) (i : ℕ) → i < length groups → together (take (i + 1) groups) ≡ together (take i groups)
+    ++ get_or groups i []
+together_more groups i l = flat_more (λ group. group) groups i [] l
 
--- ---- a part of the nodes is passed
-
-module _ (app : Application) (limits : Limits) (handlers : List ℕ) (levels : ℕ) where
-  -- the first nodes are done with
-  pub record PassedTo (nodes next : List Node) (old found : List Found) (i : ℕ) : Type 0 where
-    pub passed : (n : ℕ) (groups : List Plans) (all : List Placed) → AllZip (AreOf app limits n) nodes groups → IsTally all old
-        → Carries app limits (n + 1) next (goes_on_with app limits handlers (levels - 1) n (together (take i groups)))
-        × IsTally (all ++ placed_of app limits n (together (take i groups))) found
-
-  pub passed_none : (nodes next : List Node) (found : List Found) → next ≡ [] → PassedTo nodes next found found 0
-  passed_none nodes next found none = record {
-    passed = λ n groups all each tally. (
-      subst (λ (ns : List Node). Carries app limits (n + 1) ns []) (sym none) (record { groups = []; each = tt; all = Nothing }),
-      subst (λ (ps : List Placed). IsTally ps found) (sym (append-nil all)) tally,
-    );
-  }
-
-  zip_get : (n : ℕ) (nodes : List Node) (groups : List Plans) (i : ℕ) (node : Node)
-      → AllZip (AreOf app limits n) nodes groups → i < length nodes → node ≡ get_or nodes i node
-      → AreOf app limits n node (get_or groups i []) × (i < length groups)
-  zip_get n [] [] i node each l is = absurd (omega (arith, l))
-  zip_get n [] (g ∷ groups) i node each l is = absurd each
-  zip_get n (m ∷ nodes) [] i node each l is = absurd each
-  zip_get n (m ∷ nodes) (g ∷ groups) zero node each l is =
-      (subst (λ (x : Node). AreOf app limits n x g) (sym is) each.0, omega arith)
-  zip_get n (m ∷ nodes) (g ∷ groups) (suc i) node each l is =
-      let rest = zip_get n nodes groups i node each.1 (omega (arith, l)) is in
-      let within = rest.1 in
-      (rest.0, omega (arith, within))
-
-  together_more : (groups : List Plans) (i : ℕ) → i < length groups → together (take (i + 1) groups) ≡ together (take i groups)
-      ++ get_or groups i []
-  together_more groups i l = flat_more (λ group. group) groups i [] l
-
-  pub passed_more : (nodes next new : List Node) (old found new_found : List Found) (i : ℕ) (node : Node)
-      → i < length nodes → node ≡ get_or nodes i node → PassedTo nodes next old found i
-      → PassesBy app limits handlers levels node next new found new_found → PassedTo nodes new old new_found (i + 1)
-  passed_more nodes next new old found new_found i node l is before passes = record {
-    passed = λ n groups all each tally.
-        let so_far = before.passed n groups all each tally in
-        let of = zip_get n nodes groups i node each l is in
-        let done = together (take i groups) in
-        let more = get_or groups i [] in
-        let both = passes n (goes_on_with app limits handlers (levels - 1) n done) more
-        (all ++ placed_of app limits n done) of.0 so_far.0 so_far.1 in
-        let on = together_more groups i of.1 in
-        let goes : goes_on_with app limits handlers (levels - 1) n (together (take (i + 1) groups))
-        ≡ goes_on_with app limits handlers (levels - 1) n done ++ goes_on_with app limits handlers (levels - 1) n more =
-        ap (λ (ps : Plans). goes_on_with app limits handlers (levels - 1) n ps) on
-        ∙ flat_map-append (λ plan. unless_ended (end_of app limits (state_after app limits plan n))
-        (extensions handlers (levels - 1) n plan)) done more in
-        let placed : all ++ placed_of app limits n (together (take (i + 1) groups))
-        ≡ (all ++ placed_of app limits n done) ++ placed_of app limits n more =
-        ap (λ (ps : Plans). all ++ placed_of app limits n ps) on
-        ∙ ap (λ (ps : List Placed). all ++ ps)
-        (flat_map-append (λ plan. placed_at plan n (state_after app limits plan n)
-        (end_of app limits (state_after app limits plan n))) done more)
-        ∙ sym (append_assoc all (placed_of app limits n done) (placed_of app limits n more)) in (
-          carries_same app limits (n + 1) new
-              (goes_on_with app limits handlers (levels - 1) n done ++ goes_on_with app limits handlers (levels - 1) n more)
-              (goes_on_with app limits handlers (levels - 1) n (together (take (i + 1) groups))) goes both.0,
-          subst (λ (ps : List Placed). IsTally ps new_found) (sym placed) both.1,
-        );
-  }
-
-  -- all are
-  take_groups : (n : ℕ) (nodes : List Node) (groups : List Plans) (i : ℕ)
-      → AllZip (AreOf app limits n) nodes groups → length nodes ≤ i → take i groups ≡ groups
-  take_groups n [] [] zero each l = refl
-  take_groups n [] [] (suc i) each l = refl
-  take_groups n [] (g ∷ groups) i each l = absurd each
-  take_groups n (m ∷ nodes) [] i each l = absurd each
-  take_groups n (m ∷ nodes) (g ∷ groups) zero each l = absurd (omega (arith, l))
-  take_groups n (m ∷ nodes) (g ∷ groups) (suc i) each l =
-      ap (λ (gs : List Plans). g ∷ gs) (take_groups n nodes groups i each.1 (omega (arith, l)))
-
-  pub passed_all : (nodes next : List Node) (old found : List Found) (i : ℕ) → length nodes ≤ i → PassedTo nodes next old found i
-      → (n : ℕ) (all : List Placed) → IsLayer app limits handlers levels n nodes old all
-      → (more : List Placed) × IsLayer app limits handlers levels (n + 1) next found more
-  passed_all nodes next old found i l passed n all layer =
-      let plans = begun app limits handlers (levels - 1) n in
-      let groups = layer.carries.groups in
-      let both = passed.passed n groups all layer.carries.each layer.tally in
-      let whole : together (take i groups) ≡ together groups = ap together (take_groups n nodes groups i layer.carries.each l) in
-      let same : IsReordered plans (together (take i groups)) =
-      subst (IsReordered plans) (sym whole) layer.carries.all in
-      let next_plans : IsReordered (begun app limits handlers (levels - 1) (suc n))
-      (goes_on_with app limits handlers (levels - 1) n (together (take i groups))) =
-      flat_reordered (λ plan. unless_ended (end_of app limits (state_after app limits plan n))
-      (extensions handlers (levels - 1) n plan))
-      plans (together (take i groups)) same in
-      let next_placed : IsReordered (placed_of app limits n plans) (placed_of app limits n (together (take i groups))) =
-      flat_reordered (λ plan. placed_at plan n (state_after app limits plan n) (end_of app limits (state_after app limits plan n)))
-      plans (together (take i groups)) same in
-      let number : suc n ≡ n + 1 = omega arith in (
-        all ++ placed_of app limits n (together (take i groups)),
-        record {
-          carries =
-              subst (λ (m : ℕ). Carries app limits (n + 1) next (begun app limits handlers (levels - 1) m)) number
-              (carries_reordered app limits (n + 1) next
-              (goes_on_with app limits handlers (levels - 1) n (together (take i groups)))
-              (begun app limits handlers (levels - 1) (suc n)) next_plans both.0);
-          tally = both.1;
-          same =
-              subst (λ (m : ℕ). IsReordered (ended app limits handlers (levels - 1) m)
-              (all ++ placed_of app limits n (together (take i groups)))) number
-              (Then (before_all (placed_of app limits n plans) (ended app limits handlers (levels - 1) n) all layer.same)
-              (behind_all all (placed_of app limits n plans) (placed_of app limits n (together (take i groups))) next_placed));
-        },
-      )
-
-  -- ---- a node that is next
-
-  module _ (n : ℕ) (node : Node) (group : Plans) (of : AreOf app limits n node group) where
-    pub its_way : HasWay app limits node.kernel.value
-    its_way = (node.least, all_among (λ plan. IsUnderWay app plan limits node.kernel.value) group node.least of.way of.among)
-
--- ---- counts
-
-pub count_all : (app : Application) (limits : Limits) (n : ℕ) (nodes : List Node) (groups : List Plans)
-    → AllZip (AreOf app limits n) nodes groups → total (λ (node : Node). node.count) nodes ≡ length (together groups)
-count_all app limits n [] [] each = refl
-count_all app limits n [] (g ∷ groups) each = absurd each
-count_all app limits n (m ∷ nodes) [] each = absurd each
-count_all app limits n (m ∷ nodes) (g ∷ groups) each =
-    let rest = count_all app limits n nodes groups each.1 in
-    let one = each.0.number in
-    omega (arith, rest, one, length-append g (together groups))
-
-pub count_carried : (app : Application) (limits : Limits) (n : ℕ) (nodes : List Node) (plans : Plans)
-    → Carries app limits n nodes plans → count_of nodes ≡ length plans
-count_carried app limits n nodes plans c =
-    sym (is_sum_by (total (λ (node : Node). node.count)) (λ (node : Node). node.count) refl (λ x xs. refl) nodes)
-    ∙ count_all app limits n nodes c.groups c.each ∙ sym (length_reordered plans (together c.groups) c.all)
+together_none : (groups : List Plans) → together (take 0 groups) ≡ []
+together_none [] = refl
+together_none (g ∷ groups) = refl
 
 -- a part of some groups, and the next
 parts_most : (f : List Injection → ℕ) (groups : List Plans) (i : ℕ) → i < length groups
@@ -182,174 +48,257 @@ group_all P [] i l h = absurd (omega (arith, l))
 group_all P (g ∷ groups) zero l h = all_before P g (together groups) h
 group_all P (g ∷ groups) (suc i) l h = group_all P groups i (omega (arith, l)) (all_after P g (together groups) h)
 
--- ---- room for the next node's plans
+length_flat : {X Y : Type 0} (g : X → List Y) (xs : List X) → length (flat_map g xs) ≡ total (λ x. length (g x)) xs
+length_flat g [] = refl
+length_flat g (x ∷ xs) = let rest = length_flat g xs in omega (arith, rest, length-append (g x) (flat_map g xs))
 
-abbrev ways : (handlers : List ℕ) → (left most : ℕ) → List Injection → ℕ
-ways handlers left most plan = power (1 + length handlers * left) (most - length plan)
+module _ (app : Application) (limits : Limits) (n : ℕ) where
+  zip_get : (nodes : List Node) (groups : List Plans) (i : ℕ) (node : Node)
+      → AllZip (AreOf app limits n) nodes groups → i < length nodes → node ≡ get_or nodes i node
+      → AreOf app limits n node (get_or groups i []) × (i < length groups)
+  zip_get [] [] i node each l is = absurd (omega (arith, l))
+  zip_get [] (g ∷ groups) i node each l is = absurd each
+  zip_get (m ∷ nodes) [] i node each l is = absurd each
+  zip_get (m ∷ nodes) (g ∷ groups) zero node each l is =
+      (subst (λ (x : Node). AreOf app limits n x g) (sym is) each.0, omega arith)
+  zip_get (m ∷ nodes) (g ∷ groups) (suc i) node each l is =
+      let rest = zip_get nodes groups i node each.1 (omega (arith, l)) is in
+      let within = rest.1 in
+      (rest.0, omega (arith, within))
 
-abbrev choices_of : (handlers : List ℕ) → (most : ℕ) → List Injection → ℕ
-choices_of handlers most plan = length (choices handlers (most - length plan))
+  take_groups : (nodes : List Node) (groups : List Plans) (i : ℕ)
+      → AllZip (AreOf app limits n) nodes groups → length nodes ≤ i → take i groups ≡ groups
+  take_groups [] [] zero each l = refl
+  take_groups [] [] (suc i) each l = refl
+  take_groups [] (g ∷ groups) i each l = absurd each
+  take_groups (m ∷ nodes) [] i each l = absurd each
+  take_groups (m ∷ nodes) (g ∷ groups) zero each l = absurd (omega (arith, l))
+  take_groups (m ∷ nodes) (g ∷ groups) (suc i) each l =
+      ap (λ (gs : List Plans). g ∷ gs) (take_groups nodes groups i each.1 (omega (arith, l)))
 
-module _ (app : Application) (limits : Limits) (handlers : List ℕ) (levels n : ℕ) where
-  goes_most : (plans : Plans) → length (goes_on_with app limits handlers (levels - 1) n plans) ≤ total
-      (choices_of handlers (levels - 1)) plans
-  goes_most [] = omega arith
-  goes_most (plan ∷ plans) =
-      let rest = goes_most plans in
-      let one = one_goes (end_of app limits (state_after app limits plan n)) in
-      omega (
-        arith,
-        rest,
-        one,
-        length-append (unless_ended (end_of app limits (state_after app limits plan n)) (extensions handlers (levels - 1) n plan))
-            (goes_on_with app limits handlers (levels - 1) n plans),
-      ) where
-        one_goes : (o : Option End) → length (unless_ended o (extensions handlers (levels - 1) n plan)) ≤ choices_of handlers
-            (levels - 1) plan
-        one_goes None = omega (arith, length-map (choices handlers (levels - 1 - length plan)) (λ now. plan ++ before_this n now))
-        one_goes (Some e) = omega arith
+-- ---- a part of the nodes is passed
 
-  placed_most : (plans : Plans) → length (placed_of app limits n plans) ≤ length plans
-  placed_most [] = omega arith
-  placed_most (plan ∷ plans) =
-      let rest = placed_most plans in
-      let one = one_placed (end_of app limits (state_after app limits plan n)) in
-      omega (
-        arith,
-        rest,
-        one,
-        length-append (placed_at plan n (state_after app limits plan n) (end_of app limits (state_after app limits plan n)))
-            (placed_of app limits n plans),
-      ) where
-        one_placed : (o : Option End) → length (placed_at plan n (state_after app limits plan n) o) ≤ 1
-        one_placed None = omega arith
-        one_placed (Some e) = omega arith
+module _ (app : Application) (limits : Limits) (handlers : List ℕ) (levels m n until : ℕ) (P : List Injection → Type 0) where
+  abbrev rests : Plans → List Placed
+  rests plans = rests_of app limits handlers levels m plans
 
-module _ (app : Application) (limits : Limits) (handlers : List ℕ) (levels : ℕ) (nodes : List Node) (old : List Found)
-    (ready : IsReady app limits handlers levels nodes old) (few_levels : levels ≤ 4)
-    (i : ℕ) (node : Node) (within : i < length nodes) (is : node ≡ get_or nodes i node)
-    (next : List Node) (found : List Found) (passed : PassedTo app limits handlers levels nodes next old found i) where
-  abbrev groups : List Plans
-  groups = ready.layer.carries.groups
+  abbrev Has : Frontier → List Placed → Type 0
+  Has f total = Holds app limits handlers levels n until f total
 
-  abbrev group : Plans
-  group = get_or groups i []
+  -- the first nodes are done with
+  pub record PassedTo (nodes : List Node) (start new : Frontier) (i : ℕ) : Type 0 where
+    pub passed : (groups : List Plans) (base : List Placed) → AllZip (AreOf app limits m) nodes groups
+        → AllByRecursion P (together groups) → Has start base → Has new (base ++ rests (together (take i groups)))
 
-  abbrev done : Plans
-  done = together (take i groups)
+  pub passed_none : (nodes : List Node) (start : Frontier) → PassedTo nodes start start 0
+  passed_none nodes start = record {
+    passed = λ groups base each are h.
+        holds_same app limits handlers levels n until start base (base ++ rests (together (take 0 groups)))
+        (ap (λ (plans : Plans). base ++ rests plans) (together_none groups) ∙ append-nil base) h;
+  }
 
-  abbrev left : ℕ
-  left = limits.steps + 1 - ready.n
+  pub passed_more : (nodes : List Node) (start next new : Frontier) (i : ℕ) (node : Node)
+      → i < length nodes → node ≡ get_or nodes i node → PassedTo nodes start next i
+      → ((more : Plans) (base : List Placed) → AllByRecursion P more → AreOf app limits m node more → Has next base
+      → Has new (base ++ rests more))
+      → PassedTo nodes start new (i + 1)
+  passed_more nodes start next new i node l is before passes = record {
+    passed = λ groups base each are h.
+        let of = zip_get app limits m nodes groups i node each l is in
+        let done = together (take i groups) in
+        let more = get_or groups i [] in
+        holds_same app limits handlers levels n until new ((base ++ rests done) ++ rests more)
+        (base ++ rests (together (take (i + 1) groups)))
+        (ap (λ (plans : Plans). base ++ rests plans) (together_more groups i of.1)
+        ∙ ap (λ (ps : List Placed). base ++ ps) (flat_map-append _ done more)
+        ∙ sym (append_assoc base (rests done) (rests more)))
+        (passes more (base ++ rests done) (group_all P groups i of.1 are) of.0 (before.passed groups base each are h));
+  }
 
-  its : AreOf app limits ready.n node group × (i < length groups)
-  its = zip_get app limits handlers levels ready.n nodes groups i node ready.layer.carries.each within is
+  -- all are
+  pub passed_all : (nodes : List Node) (start new : Frontier) (i : ℕ) → length nodes ≤ i → PassedTo nodes start new i
+      → (groups : List Plans) (base all : List Placed) → AllZip (AreOf app limits m) nodes groups
+      → AllByRecursion P (together groups) → Has start base → IsReordered all (base ++ rests (together groups)) → Has new all
+  passed_all nodes start new i l passed groups base all each are h same =
+      let whole : base ++ rests (together groups) ≡ base ++ rests (together (take i groups)) =
+      ap (λ (gs : List Plans). base ++ rests (together gs)) (sym (take_groups app limits m nodes groups i each l)) in
+      holds_reordered app limits handlers levels n until new (base ++ rests (together groups)) all same
+      (holds_same app limits handlers levels n until new (base ++ rests (together (take i groups)))
+      (base ++ rests (together groups)) whole (passed.passed groups base each are h))
 
-  so_far : Carries app limits (ready.n + 1) next (goes_on_with app limits handlers (levels - 1) ready.n done)
-      × IsTally (ready.all ++ placed_of app limits ready.n done) found
-  so_far = passed.passed ready.n groups ready.all ready.layer.carries.each ready.layer.tally
+  -- ---- a node that is next
 
-  pub has_way : HasWay app limits node.kernel.value
-  has_way = its_way app limits handlers levels ready.n node group its.0
+  module _ (nodes : List Node) (start next : Frontier) (i : ℕ) (node : Node) (l : i < length nodes)
+      (is : node ≡ get_or nodes i node) (groups : List Plans) (each : AllZip (AreOf app limits m) nodes groups)
+      (are : AllByRecursion P (together groups)) where
+    abbrev group : Plans
+    group = get_or groups i []
 
-  pub has_left : length node.least < levels
-  has_left =
-      let all = all_reordered (IsBegun app limits handlers (levels - 1) ready.n) (begun app limits handlers (levels - 1) ready.n)
-      (together groups) ready.layer.carries.all (all_begun app limits handlers (levels - 1) ready.n) in
-      let one = all_among (IsBegun app limits handlers (levels - 1) ready.n) group node.least
-      (group_all (IsBegun app limits handlers (levels - 1) ready.n) groups i its.1 all) its.0.among in
-      let few = one.few in
-      let some = ready.some in
-      omega (arith, few, some)
+    its : AreOf app limits m node group × (i < length groups)
+    its = zip_get app limits m nodes groups i node each l is
 
-  -- all of them are few
-  all_few : total (ways handlers left (levels - 1)) (begun app limits handlers (levels - 1) ready.n)
-      + length (ended app limits handlers (levels - 1) ready.n) ≤ power 17000018 3
-  all_few =
-      let early = ready.early in
-      let short = ready.short in
-      let few = ready.few in
-      let steps : left + ready.n ≤ 1000001 = omega (arith, early, short) in
-      let product : length handlers * (left + ready.n) ≤ 17 * 1000001 = product_most (length handlers) 17
-      (left + ready.n) 1000001 few steps in
-      let base : power (1 + length handlers * (left + ready.n)) (levels - 1) ≤ power 17000018 (levels - 1) =
-      power_most (1 + length handlers * (left + ready.n)) 17000018 (levels - 1) (omega (arith, product)) in
-      let top : power 17000018 (levels - 1) ≤ power 17000018 3 = power_more 17000018 (levels - 1) 3 (omega arith)
-      (omega (arith, few_levels)) in
-      let all = all_plans app limits handlers (levels - 1) ready.n left in
-      omega (arith, base, top, all)
+    pub its_way : HasWay app limits node.kernel.value node.least
+    its_way = record {
+      way = all_among (λ plan. IsUnderWay app plan limits node.kernel.value) group node.least its.0.way its.0.among;
+      below =
+          subst (λ (k : ℕ). AllByRecursion (λ (j : Injection). j.step < k) node.least) (sym its.0.here)
+          (all_among (λ plan. AllByRecursion (λ (j : Injection). j.step < m) plan) group node.least its.0.below its.0.among);
+    }
 
-  ways_some : total (λ plan. 1) (begun app limits handlers (levels - 1) ready.n)
-      ≤ total (ways handlers left (levels - 1)) (begun app limits handlers (levels - 1) ready.n)
-  ways_some = total_most (λ plan. 1) (ways handlers left (levels - 1)) (begun app limits handlers (levels - 1) ready.n)
-      (all_if (λ plan. 1 ≤ ways handlers left (levels - 1) plan) (begun app limits handlers (levels - 1) ready.n)
-      (λ plan is. power_some (1 + length handlers * left) (levels - 1 - length plan) (omega arith)))
+    pub its_step : node.kernel.value.steps ≡ m
+    its_step = its.0.here
 
-  choices_few : total (choices_of handlers (levels - 1)) (begun app limits handlers (levels - 1) ready.n)
-      ≤ total (ways handlers left (levels - 1)) (begun app limits handlers (levels - 1) ready.n)
-  choices_few =
-      let early = ready.early in
-      let some : 1 ≤ left = omega (arith, early) in
-      let product : length handlers * 1 ≤ length handlers * left = mul-le-mul_left (length handlers) some in
-      total_most (choices_of handlers (levels - 1)) (ways handlers left (levels - 1))
-      (begun app limits handlers (levels - 1) ready.n)
-      (all_if (λ plan. choices_of handlers (levels - 1) plan ≤ ways handlers left (levels - 1) plan)
-      (begun app limits handlers (levels - 1) ready.n)
-      (λ plan is.
-      let one = choices_number handlers (levels - 1 - length plan) in
-      let more = power_most (1 + length handlers) (1 + length handlers * left) (levels - 1 - length plan)
-      (omega (arith, product)) in
-      omega (arith, one, more)))
+    pub its_least : P node.least
+    its_least = all_among P group node.least (group_all P groups i its.1 are) its.0.among
 
-  pub has_room : count_of next + length (nows_of handlers levels node.least) * node.count < 2 ^ 128
-  has_room =
-      let f = choices_of handlers (levels - 1) in
-      let count : count_of next ≡ length (goes_on_with app limits handlers (levels - 1) ready.n done) =
-      count_carried app limits (ready.n + 1) next (goes_on_with app limits handlers (levels - 1) ready.n done) so_far.0 in
-      let goes = goes_most app limits handlers levels ready.n done in
-      let same : total f group ≡ length group * length (nows_of handlers levels node.least) =
-      total_same f (length (nows_of handlers levels node.least)) group
-      (all_weaker (λ plan. length plan ≡ length node.least) (λ plan. f plan ≡ length (nows_of handlers levels node.least))
-      (λ plan e. ap (λ (m : ℕ). length (choices handlers (levels - 1 - m))) e) group its.0.long) in
-      let number : length (nows_of handlers levels node.least) * node.count ≡ length group * length
-      (nows_of handlers levels node.least) =
-      ap (λ (m : ℕ). length (nows_of handlers levels node.least) * m) its.0.number ∙ omega arith in
-      let parts = parts_most f groups i its.1 in
-      let whole = total_reordered f (begun app limits handlers (levels - 1) ready.n) (together groups) ready.layer.carries.all in
-      let few = choices_few in
-      let all = all_few in
-      omega (arith, count, goes, same, number, parts, whole, few, all)
+    pub its_room : (base all : List Placed) → PassedTo nodes start next i → Has start base
+        → IsReordered all (base ++ rests (together groups)) → number_in next + node.count ≤ length all
+    its_room base all before h same =
+        let done = together (take i groups) in
+        let f = λ (plan : List Injection). length (placed_from app limits handlers (levels - 1) (limits.steps + 1 - m) m plan) in
+        let most = number_most app limits handlers levels n until next (base ++ rests done) (before.passed groups base each are h)
+        in
+        let some = all_some app limits handlers levels m group (under_limit app limits m node group its.0) in
+        let number = its.0.number in
+        let parts = parts_most f groups i its.1 in
+        let whole = length_reordered all (base ++ rests (together groups)) same in
+        omega (
+          arith,
+          most,
+          some,
+          number,
+          parts,
+          whole,
+          length-append base (rests done),
+          length-append base (rests (together groups)),
+          length_flat (placed_from app limits handlers (levels - 1) (limits.steps + 1 - m) m) done,
+          length_flat (placed_from app limits handlers (levels - 1) (limits.steps + 1 - m) m) group,
+          length_flat (placed_from app limits handlers (levels - 1) (limits.steps + 1 - m) m) (together groups),
+        )
 
-  pub has_found : AllByRecursion (λ (f : Found). f.number + node.count < 2 ^ 128) found
-  has_found =
-      let whole = length_reordered (begun app limits handlers (levels - 1) ready.n) (together groups) ready.layer.carries.all in
-      let ended_same = length_reordered (ended app limits handlers (levels - 1) ready.n) ready.all ready.layer.same in
-      let some = ways_some in
-      let ones = length_total (begun app limits handlers (levels - 1) ready.n) in
-      let all = all_few in
-      let parts = parts_most (λ plan. 1) groups i its.1 in
-      let long_done = length_total done in
-      let long_group = length_total group in
-      let long_all = length_total (together groups) in
-      let number = its.0.number in
-      let placed = placed_most app limits handlers levels ready.n done in
-      let sum : length (ready.all ++ placed_of app limits ready.n done) + node.count < 2 ^ 128 =
-      omega (
-        arith,
-        whole,
-        ended_same,
-        some,
-        ones,
-        all,
-        parts,
-        long_done,
-        long_group,
-        long_all,
-        number,
-        placed,
-        length-append ready.all (placed_of app limits ready.n done),
-      ) in
-      all_weaker (IsFound (ready.all ++ placed_of app limits ready.n done)) (λ (f : Found). f.number + node.count < 2 ^ 128)
-      (λ f h.
-      let most = count_most f.least.end (ready.all ++ placed_of app limits ready.n done) f.number h.number in
-      omega (arith, most, sum))
-      found so_far.1.each
+-- ---- how many fit
+
+pub few_in_all : (app : Application) (limits : Limits) (handlers : List ℕ) (levels : ℕ) → length handlers ≤ 17 → levels ≤ 4
+    → limits.steps ≤ 1000000 → length (everything app limits handlers levels) ≤ power 17000018 3
+few_in_all app limits handlers levels few few_levels short =
+    let n = limits.steps + 1 in
+    let product : length handlers * (0 + n) ≤ 17 * 1000001 = product_most (length handlers) 17 (0 + n) 1000001 few
+    (omega (arith, short)) in
+    let base : power (1 + length handlers * (0 + n)) (levels - 1) ≤ power 17000018 (levels - 1) =
+    power_most (1 + length handlers * (0 + n)) 17000018 (levels - 1) (omega (arith, product)) in
+    let top : power 17000018 (levels - 1) ≤ power 17000018 3 = power_more 17000018 (levels - 1) 3 (omega arith)
+    (omega (arith, few_levels)) in
+    let all = all_plans app limits handlers (levels - 1) n 0 in
+    omega (arith, base, top, all)
+
+pub room_for_all : (handlers : List ℕ) (levels : ℕ) (least : List Injection) (number count : ℕ) → length handlers ≤ 17 → levels ≤ 4
+    → number + count ≤ power 17000018 3 → number + length (nows_of handlers levels least) * count < 2 ^ 128
+room_for_all handlers levels least number count few few_levels room =
+    let left = levels - 1 - length least in
+    let ways = choices_number handlers left in
+    let base : power (1 + length handlers) left ≤ power 18 left = power_most (1 + length handlers) 18 left (omega (arith, few)) in
+    let top : power 18 left ≤ power 18 3 = power_more 18 left 3 (omega arith) (omega (arith, few_levels)) in
+    let each : length (nows_of handlers levels least) ≤ 5832 = omega (arith, ways, base, top) in
+    let one : count ≤ power 17000018 3 = omega (arith, room) in
+    let product = product_most (length (nows_of handlers levels least)) 5832 count (power 17000018 3) each one in
+    omega (arith, room, product)
+
+-- ---- all live nodes
+
+module _ (app : Application) (limits : Limits) (handlers : List ℕ) (levels n until : ℕ) (old start : Frontier) (nodes : List Node)
+    (all : List Placed) (h : Holds app limits handlers levels n until old all) (taken : nodes ≡ old.live.nodes.items)
+    (none : start.live.nodes.items ≡ []) (spent : start.spent.nodes.items ≡ old.spent.nodes.items)
+    (found : start.findings.items ≡ old.findings.items) where
+  abbrev IsShort : List Injection → Type 0
+  IsShort plan = length plan ≤ levels - 1
+
+  abbrev LivePassed : Frontier → ℕ → Type 0
+  LivePassed next i = PassedTo app limits handlers levels n (n + 1) until IsShort nodes start next i
+
+  live_each : AllZip (AreOf app limits n) nodes h.live.groups
+  live_each = subst (λ (ms : List Node). AllZip (AreOf app limits n) ms h.live.groups) (sym taken) h.live.each
+
+  live_short : AllByRecursion IsShort (together h.live.groups)
+  live_short = all_reordered IsShort h.plans (together h.live.groups) h.live.all h.few
+
+  abbrev live_base : List Placed
+  live_base = h.all ++ rests_of app limits handlers levels until h.full
+
+  live_starts : Holds app limits handlers levels (n + 1) until start live_base
+  live_starts = without_live app limits handlers levels n until old start all h found (n + 1) none spent
+
+  live_same : IsReordered all (live_base ++ rests_of app limits handlers levels n (together h.live.groups))
+  live_same = with_live app limits handlers levels n until old start all h found
+
+  pub live_all : (next : Frontier) (i : ℕ) → length nodes ≤ i → LivePassed next i
+      → Holds app limits handlers levels (n + 1) until next all
+  live_all next i l passed =
+      passed_all app limits handlers levels n (n + 1) until IsShort nodes start next i l passed h.live.groups live_base all
+      live_each
+      live_short live_starts live_same
+
+  module _ (next : Frontier) (i : ℕ) (node : Node) (l : i < length nodes) (is : node ≡ get_or nodes i node) where
+    pub live_way : HasWay app limits node.kernel.value node.least
+    live_way =
+        its_way app limits handlers levels n (n + 1) until IsShort nodes start next i node l is h.live.groups live_each live_short
+
+    pub live_step : node.kernel.value.steps ≡ n
+    live_step =
+        its_step app limits handlers levels n (n + 1) until IsShort nodes start next i node l is h.live.groups live_each live_short
+
+    pub live_left : length node.least ≤ levels - 1
+    live_left =
+        its_least app limits handlers levels n (n + 1) until IsShort nodes start next i node l is h.live.groups live_each live_short
+
+    pub live_room : LivePassed next i → number_in next + node.count ≤ length all
+    live_room passed =
+        its_room app limits handlers levels n (n + 1) until IsShort nodes start next i node l is h.live.groups live_each live_short
+        live_base all passed live_starts live_same
+
+-- ---- all spent nodes
+
+module _ (app : Application) (limits : Limits) (handlers : List ℕ) (levels n end until : ℕ) (old start : Frontier)
+    (nodes : List Node)
+    (all : List Placed) (h : Holds app limits handlers levels n end old all) (taken : nodes ≡ old.spent.nodes.items)
+    (none : start.spent.nodes.items ≡ []) (live : start.live.nodes.items ≡ old.live.nodes.items)
+    (found : start.findings.items ≡ old.findings.items) where
+  abbrev IsFull : List Injection → Type 0
+  IsFull plan = levels - 1 ≤ length plan
+
+  abbrev SpentPassed : Frontier → ℕ → Type 0
+  SpentPassed next i = PassedTo app limits handlers levels end n until IsFull nodes start next i
+
+  spent_each : AllZip (AreOf app limits end) nodes h.spent.groups
+  spent_each = subst (λ (ms : List Node). AllZip (AreOf app limits end) ms h.spent.groups) (sym taken) h.spent.each
+
+  spent_full : AllByRecursion IsFull (together h.spent.groups)
+  spent_full = all_reordered IsFull h.full (together h.spent.groups) h.spent.all h.none_left
+
+  abbrev spent_base : List Placed
+  spent_base = h.all ++ rests_of app limits handlers levels n h.plans
+
+  spent_starts : Holds app limits handlers levels n until start spent_base
+  spent_starts = without_spent app limits handlers levels n end old start all h found until none live
+
+  spent_same : IsReordered all (spent_base ++ rests_of app limits handlers levels end (together h.spent.groups))
+  spent_same = with_spent app limits handlers levels n end old start all h found
+
+  pub spent_all : (next : Frontier) (i : ℕ) → length nodes ≤ i → SpentPassed next i
+      → Holds app limits handlers levels n until next all
+  spent_all next i l passed =
+      passed_all app limits handlers levels end n until IsFull nodes start next i l passed h.spent.groups spent_base all spent_each
+      spent_full spent_starts spent_same
+
+  module _ (next : Frontier) (i : ℕ) (node : Node) (l : i < length nodes) (is : node ≡ get_or nodes i node) where
+    pub spent_way : HasWay app limits node.kernel.value node.least
+    spent_way =
+        its_way app limits handlers levels end n until IsFull nodes start next i node l is h.spent.groups spent_each spent_full
+
+    pub spent_step : node.kernel.value.steps ≡ end
+    spent_step =
+        its_step app limits handlers levels end n until IsFull nodes start next i node l is h.spent.groups spent_each spent_full
+
+    pub spent_room : SpentPassed next i → number_in next + node.count ≤ length all
+    spent_room passed =
+        its_room app limits handlers levels end n until IsFull nodes start next i node l is h.spent.groups spent_each spent_full
+        spent_base all passed spent_starts spent_same

@@ -27,7 +27,7 @@ use Rattle.explorer.proofs.Reorderings.{before_all, behind_all, if_same, turned_
 abbrev Plans : Type 0
 Plans = List (List Injection)
 
-abbrev together : List Plans → Plans
+abbrev pub together : List Plans → Plans
 together groups = flat_map (λ group. group) groups
 
 pub carries_reordered : (app : Application) (limits : Limits) (n : ℕ) (nodes : List Node) (plans others : Plans)

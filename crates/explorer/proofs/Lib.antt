@@ -5,8 +5,11 @@ pub mod Choosing
 pub mod Results
 pub mod Stepping
 pub mod Tallying
-pub mod Passing
 pub mod Bounds
+pub mod Rests
+pub mod Holding
+pub mod GoingFar
+pub mod Passing
 pub mod Advancing
 pub mod Sorted
 pub mod FirstAndLast

@@ -1,5 +1,5 @@
 -- The plans of a node, passed on to the next layer.
-use Rattle.std.proofs.Common.{◌≡◌, ◌<◌, ◌≤◌, ◌+◌, ◌-◌, ◌*◌, ℕ, zero, suc, false, List, [], ◌∷◌, ◌++◌, length, map, take, get_or}
+use Rattle.std.proofs.Common.{◌≡◌, ◌<◌, ◌≤◌, ◌+◌, ◌-◌, ◌*◌, ℕ, zero, suc, false, List, [], ◌∷◌, ◌++◌, length, take, get_or}
 use Rattle.std.proofs.Common.{Option, Some, None, refl, ap, sym, ◌∙◌, subst, arith, append-nil, length-append}
 use Rattle.std.specs.Prelude.{Contains}
 use Rattle.std.specs.List.{AllByRecursion, flat_map}
@@ -11,40 +11,85 @@ use Rattle.model.specs.declared.plan.Injection.{Injection}
 use Rattle.model.specs.Application.{Application, Limits}
 use Rattle.model.specs.State.{State}
 use Rattle.model.specs.Run.{end_of, state_after}
-use Rattle.model.specs.Placements.{Found, Placed, before_this, choices, extensions, is_less, placed_at, sequences, unless_ended}
-use Rattle.model.proofs.Among.{all_weaker}
+use Rattle.model.specs.Placements.{Placed, choices, is_less, sequences}
+use Rattle.model.proofs.Among.{all_of_both, all_weaker}
 use Rattle.model.proofs.Placements.{sequences_are}
 use Rattle.machine.specs.declared.machine.Machine.{Machine}
 use Rattle.machine.specs.StandsFor.{Stands}
 use Rattle.machine.specs.Can.{IsUnderWay}
+use Rattle.explorer.specs.declared.frontier.Frontier.{Frontier}
 use Rattle.explorer.specs.declared.layer.Node.{Node}
 use Rattle.explorer.specs.Choosing.{AreLevels}
-use Rattle.explorer.specs.Layers.{GainsBy, GoesOn, HasWay, followed, goes_on_with, nows_of}
-use Rattle.explorer.specs.Reordered.IsReordered.{Then}
-use Rattle.explorer.specs.Tallies.{IsTally, PassesBy, TalliesMore, ending_in, placed_of}
-use Rattle.explorer.proofs.Carrying.{carries_reordered, carries_same}
+use Rattle.explorer.specs.Frontiers.{Holds, Passes, Plans, Settles, Takes, TakesBy, rests_of}
+use Rattle.explorer.specs.Layers.{AreAt, AreOf, GoesOn, HasWay, followed, nows_of}
+use Rattle.explorer.specs.Tallies.{TalliesMore, ending_in}
 use Rattle.explorer.proofs.Choosing.{flat_more, read_level}
-use Rattle.explorer.proofs.Reorderings.{behind_all, by_columns, if_same}
+use Rattle.explorer.proofs.Holding.{holds_reordered, holds_same, kept_found, kept_live, kept_spent, under_limit}
+use Rattle.explorer.proofs.Reorderings.{behind_all}
+use Rattle.explorer.proofs.Rests.{IsOver, all_going, all_over}
 
 -- ---- choice by choice
 
-module _ (app : Application) (limits : Limits) (node : Node) where
-  pub gains_none : (nodes : List Node) → GainsBy app limits node [] nodes nodes
-  gains_none nodes n plans more carries of =
-      carries_same app limits (n + 1) nodes plans (plans ++ []) (append-nil plans) carries
+module _ (app : Application) (limits : Limits) (levels until : ℕ) (node : Node) where
+  pub takes_none : (f : Frontier) → TakesBy app limits levels until node [] f f
+  takes_none f handlers n more total of h =
+      holds_same app limits handlers levels (n + 1) until f total (total ++ []) (append-nil total) h
 
-  pub gains_then : (first then : List (List ℕ)) (a b c : List Node) → GainsBy app limits node first a b
-      → GainsBy app limits node then b c → GainsBy app limits node (first ++ then) a c
-  gains_then first then a b c g h n plans more carries of =
-      carries_same app limits (n + 1) c ((plans ++ flat_map (followed n more) first) ++ flat_map (followed n more) then)
-      (plans ++ flat_map (followed n more) (first ++ then))
-      (ap (λ ps. plans ++ ps) (flat_map-append (followed n more) first then)
-      ∙ sym (append_assoc plans (flat_map (followed n more) first) (flat_map (followed n more) then)))
-      (h n (plans ++ flat_map (followed n more) first) more (g n plans more carries of) of)
+  pub takes_then : (first then : List (List ℕ)) (a b c : Frontier) → TakesBy app limits levels until node first a b
+      → TakesBy app limits levels until node then b c → TakesBy app limits levels until node (first ++ then) a c
+  takes_then first then a b c g k handlers n more total of h =
+      let rests = rests_of app limits handlers levels (n + 1) in
+      let of_first = flat_map (followed n more) first in
+      let of_then = flat_map (followed n more) then in
+      holds_same app limits handlers levels (n + 1) until c ((total ++ rests of_first) ++ rests of_then)
+      (total ++ rests (flat_map (followed n more) (first ++ then)))
+      (ap (λ (plans : Plans). total ++ rests plans) (flat_map-append (followed n more) first then)
+      ∙ ap (λ (ps : List Placed). total ++ ps) (flat_map-append _ of_first of_then)
+      ∙ sym (append_assoc total (rests of_first) (rests of_then)))
+      (k handlers n more (total ++ rests of_first) of (g handlers n more total of h))
 
-  pub gains_as : (nows others : List (List ℕ)) (a b : List Node) → nows ≡ others → GainsBy app limits node nows a b
-      → GainsBy app limits node others a b
-  gains_as nows others a b e g = subst (λ (ns : List (List ℕ)). GainsBy app limits node ns a b) e g
+  pub takes_as : (nows others : List (List ℕ)) (a b : Frontier) → nows ≡ others → TakesBy app limits levels until node nows a b
+      → TakesBy app limits levels until node others a b
+  takes_as nows others a b e g = subst (λ (ns : List (List ℕ)). TakesBy app limits levels until node ns a b) e g
+
+  -- what comes of a kernel after one of them
+  pub takes_next : (next : Machine) (least : List Injection) (now : List ℕ) (old new : Frontier)
+      → Takes app limits levels until next node.count least old new
+      → ((n : ℕ) (more : Plans) → AreOf app limits n node more → AreAt app limits (n + 1) next node.count least
+      (followed n more now))
+      → TakesBy app limits levels until node (now ∷ []) old new
+  takes_next next least now old new takes stepped handlers n more total of h =
+      let plans = followed n more now in
+      let at = stepped n more of in
+      let on : AreAt app limits (n + 1) next node.count least plans → Holds app limits handlers levels (n + 1) until old total
+      → Holds app limits handlers levels (n + 1) until new (total ++ rests_of app limits handlers levels (n + 1) plans) =
+      subst (λ (m : ℕ). AreAt app limits m next node.count least plans → Holds app limits handlers levels m until old total
+      → Holds app limits handlers levels m until new (total ++ rests_of app limits handlers levels m plans)) at.here
+      (takes handlers plans total) in
+      holds_same app limits handlers levels (n + 1) until new (total ++ rests_of app limits handlers levels (n + 1) plans)
+      (total ++ rests_of app limits handlers levels (n + 1) (plans ++ []))
+      (ap (λ (ps : Plans). total ++ rests_of app limits handlers levels (n + 1) ps) (append-nil plans)) (on at h)
+
+-- those with injections left, and those without
+
+module _ (app : Application) (limits : Limits) (levels until : ℕ) (k : Machine) (count : ℕ) (least : List Injection)
+    (old new : Frontier) where
+  pub takes_live : length least + 1 < levels
+      → Settles app limits k.steps k count least old.live.nodes.items new.live.nodes.items old.findings.items new.findings.items
+      → new.spent.nodes.items ≡ old.spent.nodes.items → Takes app limits levels until k count least old new
+  takes_live few settles spent handlers more total at h =
+      kept_live app limits handlers levels k.steps until old new more total h (settles h.plans more h.all at h.live h.tally) spent
+      (all_weaker (λ plan. length plan ≡ length least) (λ plan. length plan ≤ levels - 1) (λ plan e. omega (arith, e, few)) more
+      at.long)
+
+  pub takes_spent : levels ≤ length least + 1
+      → Settles app limits until k count least old.spent.nodes.items new.spent.nodes.items old.findings.items new.findings.items
+      → new.live.nodes.items ≡ old.live.nodes.items → Takes app limits levels until k count least old new
+  takes_spent full settles live handlers more total at h =
+      kept_spent app limits handlers levels k.steps until k.steps old new more total h (settles h.full more h.all at h.spent
+      h.tally) live
+      (all_weaker (λ plan. length plan ≡ length least) (λ plan. levels - 1 ≤ length plan) (λ plan e. omega (arith, e, full)) more
+      at.long)
 
 -- ---- how many fit
 
@@ -82,114 +127,69 @@ flat_few (x ∷ levels) (suc i) d l =
     let rest = flat_few levels i d (omega (arith, l)) in
     omega (arith, length-append x (flat levels), length-append x (flat (take i levels)), rest)
 
--- ---- all plans of a node
-
-module _ (app : Application) (limits : Limits) (handlers : List ℕ) (levels : ℕ) (k : Machine) (n : ℕ) (here : k.steps ≡ n)
-    (o : Option End) (ends : (s : State) → Stands k s → o ≡ end_of app limits s) where
-  end_is : (plan : List Injection) → IsUnderWay app plan limits k → end_of app limits (state_after app limits plan n) ≡ o
-  end_is plan way =
-      sym (subst (λ (m : ℕ). o ≡ end_of app limits (state_after app limits plan m)) here
-      (ends (state_after app limits plan k.steps) way.stands))
-
-  -- all go on
-  all_go_on : o ≡ None → (long : ℕ) (plans : List (List Injection)) → AllByRecursion (λ plan. IsUnderWay app plan limits k) plans
-      → AllByRecursion (λ plan. length plan ≡ long) plans
-      → goes_on_with app limits handlers (levels - 1) n plans
-      ≡ flat_map (λ plan. map (λ now. plan ++ before_this n now) (choices handlers (levels - 1 - long))) plans
-  all_go_on none long [] way as_long = refl
-  all_go_on none long (plan ∷ plans) way as_long =
-      let goes : end_of app limits (state_after app limits plan n) ≡ None = end_is plan way.0 ∙ none in
-      ap (λ (p : Option End). unless_ended p (extensions handlers (levels - 1) n plan) ++ goes_on_with app limits handlers
-      (levels - 1) n plans) goes
-      ∙ ap (λ (l : ℕ). map (λ now. plan ++ before_this n now) (choices handlers (levels - 1 - l))
-      ++ goes_on_with app limits handlers (levels - 1) n plans) as_long.0
-      ∙ ap (λ ps. map (λ now. plan ++ before_this n now) (choices handlers (levels - 1 - long)) ++ ps)
-      (all_go_on none long plans way.1 as_long.1)
-
-  none_placed : o ≡ None → (plans : List (List Injection)) → AllByRecursion (λ plan. IsUnderWay app plan limits k) plans
-      → placed_of app limits n plans ≡ []
-  none_placed none [] way = refl
-  none_placed none (plan ∷ plans) way =
-      let goes : end_of app limits (state_after app limits plan n) ≡ None = end_is plan way.0 ∙ none in
-      ap (λ (p : Option End). placed_at plan n (state_after app limits plan n) p ++ placed_of app limits n plans) goes
-      ∙ none_placed none plans way.1
-
-  -- all have ended
-  none_goes_on : (end : End) → o ≡ Some end → (plans : List (List Injection))
-      → AllByRecursion (λ plan. IsUnderWay app plan limits k) plans → goes_on_with app limits handlers (levels - 1) n plans ≡ []
-  none_goes_on end some [] way = refl
-  none_goes_on end some (plan ∷ plans) way =
-      let over : end_of app limits (state_after app limits plan n) ≡ Some end = end_is plan way.0 ∙ some in
-      ap (λ (p : Option End). unless_ended p (extensions handlers (levels - 1) n plan) ++ goes_on_with app limits handlers
-      (levels - 1) n plans) over
-      ∙ none_goes_on end some plans way.1
-
-  all_placed : (end : End) → o ≡ Some end → (p : Placed) → p.end ≡ end → p.steps ≡ n
-      → ((s : State) → Stands k s → p.ticks ≡ s.elapsed) → (plans : List (List Injection))
-      → AllByRecursion (λ plan. IsUnderWay app plan limits k) plans → placed_of app limits n plans ≡ ending_in p plans
-  all_placed end some p is_end is_steps ticks [] way = refl
-  all_placed end some p is_end is_steps ticks (plan ∷ plans) way =
-      let over : end_of app limits (state_after app limits plan n) ≡ Some end = end_is plan way.0 ∙ some in
-      let elapsed : (state_after app limits plan n).elapsed ≡ p.ticks =
-      sym (subst (λ (m : ℕ). p.ticks ≡ (state_after app limits plan m).elapsed) here
-      (ticks (state_after app limits plan k.steps) way.0.stands)) in
-      ap (λ (q : Option End). placed_at plan n (state_after app limits plan n) q ++ placed_of app limits n plans) over
-      ∙ ap (λ (m : ℕ). record { injections = plan; steps = n; ticks = m; end = end } ∷ placed_of app limits n plans) elapsed
-      ∙ ap (λ (m : ℕ). record { injections = plan; steps = m; ticks = p.ticks; end = end } ∷ placed_of app limits n plans)
-      (sym is_steps)
-      ∙ ap (λ (e : End). record { injections = plan; steps = p.steps; ticks = p.ticks; end = e } ∷ placed_of app limits n plans)
-      (sym is_end)
-      ∙ ap (λ (ps : List Placed). record p { injections = plan } ∷ ps)
-      (all_placed end some p is_end is_steps ticks plans way.1)
-
 -- The kernel's run goes on where it isn't at its end.
-pub goes_if : (app : Application) (limits : Limits) (k : Machine) → HasWay app limits k → (o : Option End)
+pub goes_if : (app : Application) (limits : Limits) (k : Machine) (least : List Injection) → HasWay app limits k least →
+    (o : Option End)
     → ((s : State) → Stands k s → o ≡ end_of app limits s) → o ≡ None → GoesOn app limits k
-goes_if app limits k way o ends none = record {
-  plan = way.0;
-  way = way.1;
+goes_if app limits k least way o ends none = record {
+  plan = least;
+  way = way.way;
   going = λ other under. sym (ends (state_after app limits other k.steps) under.stands) ∙ none;
 }
 
 -- ---- a node that is passed
 
-module _ (app : Application) (limits : Limits) (handlers : List ℕ) (levels : ℕ) (node : Node)
+module _ (app : Application) (limits : Limits) (handlers : List ℕ) (levels until : ℕ) (node : Node)
     (o : Option End) (ends : (s : State) → Stands node.kernel.value s → o ≡ end_of app limits s) where
-  pub passes_going : o ≡ None → (old new : List Node) (found : List Found)
-      → GainsBy app limits node (nows_of handlers levels node.least) old new
-      → PassesBy app limits handlers levels node old new found found
-  passes_going none old new found gains n plans more all of carries tally =
-      let nows = nows_of handlers levels node.least in
-      let rows = flat_map (λ (plan : List Injection). map (λ (now : List ℕ). plan ++ before_this n now) nows) more in (
-        carries_reordered app limits (n + 1) new (plans ++ flat_map (followed n more) nows)
-            (plans ++ goes_on_with app limits handlers (levels - 1) n more)
-            (behind_all plans (goes_on_with app limits handlers (levels - 1) n more) (flat_map (followed n more) nows)
-            (Then (if_same (goes_on_with app limits handlers (levels - 1) n more) rows
-            (all_go_on app limits handlers levels node.kernel.value n of.here o ends none (length node.least) more of.way of.long))
-            (by_columns (λ (plan : List Injection) (now : List ℕ). plan ++ before_this n now) more nows)))
-            (gains n plans more carries of),
-        subst (λ (ps : List Placed). IsTally (all ++ ps) found)
-            (sym (none_placed app limits handlers levels node.kernel.value n of.here o ends none more of.way))
-            (subst (λ (ps : List Placed). IsTally ps found) (sym (append-nil all)) tally),
-      )
+  all_end : (n : ℕ) (more : Plans) → AreOf app limits n node more
+      → AllByRecursion (λ plan. end_of app limits (state_after app limits plan n) ≡ o) more
+  all_end n more of =
+      all_weaker (λ plan. IsUnderWay app plan limits node.kernel.value) (λ plan. end_of app limits (state_after app limits plan n) ≡
+      o)
+      (λ plan way.
+      sym (subst (λ (m : ℕ). o ≡ end_of app limits (state_after app limits plan m)) of.here
+      (ends (state_after app limits plan node.kernel.value.steps) way.stands))) more of.way
 
-  pub passes_ended : (end : End) → o ≡ Some end → (nodes : List Node) (old new : List Found) (p : Placed) (count : ℕ)
+  pub passes_going : o ≡ None → (old new : Frontier)
+      → TakesBy app limits levels until node (nows_of handlers levels node.least) old new
+      → Passes app limits handlers levels until node old new
+  passes_going none old new takes n more total of h =
+      let onward = flat_map (followed n more) (nows_of handlers levels node.least) in
+      holds_reordered app limits handlers levels (n + 1) until new (total ++ rests_of app limits handlers levels (n + 1) onward)
+      (total ++ rests_of app limits handlers levels n more)
+      (behind_all total (rests_of app limits handlers levels n more) (rests_of app limits handlers levels (n + 1) onward)
+      (all_going app limits handlers levels n (length node.least) more
+      (all_weaker (λ plan. end_of app limits (state_after app limits plan n) ≡ o)
+      (λ plan. end_of app limits (state_after app limits plan n) ≡ None) (λ plan e. e ∙ none) more (all_end n more of)) of.long))
+      (takes handlers n more total of h)
+
+  pub passes_ended : (end : End) → o ≡ Some end → (old new : Frontier) (p : Placed) (count : ℕ)
       → count ≡ node.count → p.injections ≡ node.least → p.end ≡ end → p.steps ≡ node.kernel.value.steps
-      → ((s : State) → Stands node.kernel.value s → p.ticks ≡ s.elapsed) → TalliesMore old new count p
-      → PassesBy app limits handlers levels node nodes nodes old new
-  passes_ended end some nodes old new p count is_count is_least is_end is_steps ticks tallies n plans more all of carries tally = (
-    carries_same app limits (n + 1) nodes plans (plans ++ goes_on_with app limits handlers (levels - 1) n more)
-        (ap (λ ps. plans ++ ps)
-        (none_goes_on app limits handlers levels node.kernel.value n of.here o ends end some more of.way)
-        ∙ append-nil plans) carries,
-    subst (λ (ps : List Placed). IsTally (all ++ ps) new)
-        (sym (all_placed app limits handlers levels node.kernel.value n of.here o ends end some p is_end
-        (is_steps ∙ of.here) ticks more of.way))
-        (tallies all more tally (is_count ∙ of.number)
-        (subst (Contains more) (sym is_least) of.among)
-        (subst (λ (l : List Injection). AllByRecursion (λ plan. is_less plan l ≡ false) more)
-        (sym is_least) of.none_less)),
-  )
+      → ((s : State) → Stands node.kernel.value s → p.ticks ≡ s.elapsed)
+      → TalliesMore old.findings.items new.findings.items count p
+      → new.live.nodes.items ≡ old.live.nodes.items → new.spent.nodes.items ≡ old.spent.nodes.items
+      → Passes app limits handlers levels until node old new
+  passes_ended end some old new p count is_count is_least is_end is_steps ticks tallies live spent n more total of h =
+      let over : AllByRecursion (IsOver app limits n p) more =
+      all_weaker (λ plan. (n ≤ limits.steps) × (IsUnderWay app plan limits node.kernel.value)) (IsOver app limits n p)
+      (λ plan both. record {
+        under = both.0;
+        end =
+            sym (subst (λ (m : ℕ). o ≡ end_of app limits (state_after app limits plan m)) of.here
+            (ends (state_after app limits plan node.kernel.value.steps) both.1.stands))
+            ∙ some ∙ ap (λ (d : End). Some d) (sym is_end);
+        elapsed =
+            sym (subst (λ (m : ℕ). p.ticks ≡ (state_after app limits plan m).elapsed) of.here
+            (ticks (state_after app limits plan node.kernel.value.steps) both.1.stands));
+      }) more
+      (all_of_both (λ plan. n ≤ limits.steps) (λ plan. IsUnderWay app plan limits node.kernel.value) more
+      (under_limit app limits n node more of) of.way) in
+      kept_found app limits handlers levels (n + 1) until n old new more (ending_in p more) total h
+      (tallies h.all more h.tally (is_count ∙ of.number)
+      (subst (Contains more) (sym is_least) of.among)
+      (subst (λ (l : List Injection). AllByRecursion (λ plan. is_less plan l ≡ false) more)
+      (sym is_least) of.none_less))
+      live spent (all_over app limits handlers levels n p (is_steps ∙ of.here) more over)
 
 -- ---- lists by their places
 

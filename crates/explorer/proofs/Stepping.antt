@@ -16,7 +16,7 @@ use Rattle.machine.specs.StandsFor.{Stands}
 use Rattle.machine.specs.Can.{IsUnderWay}
 use Rattle.kernel.specs.Can.{CanStep}
 use Rattle.kernel.proofs.Running.{can_step, goes_on, steps_more}
-use Rattle.explorer.specs.Layers.{AreAt, GoesOn, followed}
+use Rattle.explorer.specs.Layers.{AreAt, GoesOn, HasWay, followed}
 use Rattle.explorer.proofs.Ordering.{less-append}
 
 module _ (app : Application) (formed : IsWellFormed app) (limits : Limits) (are : AreLimits limits.ticks limits.steps)
@@ -61,6 +61,24 @@ module _ (app : Application) (formed : IsWellFormed app) (limits : Limits) (are 
       way_on plan below way =
           let with = way_with plan way in
           goes_on app formed (more plan) limits are k with (goes.going (more plan) with) next (steps_by plan below)
+
+      below_here : (least : List Injection) → HasWay app limits k least → AllByRecursion (λ (i : Injection). i.step < n) least
+      below_here least h = subst (λ (m : ℕ). AllByRecursion (λ (i : Injection). i.step < m) least) here h.below
+
+      pub next_steps : (least : List Injection) → HasWay app limits k least → next.steps ≡ n + 1
+      next_steps least h =
+          let way = way_with least h.way in
+          let steps = steps_more app formed (more least) limits are k way (goes.going (more least) way) next
+          (steps_by least (below_here least h)) in
+          omega (arith, steps, here)
+
+      pub way_next : (least : List Injection) → HasWay app limits k least → HasWay app limits next (more least)
+      way_next least h = record {
+        way = way_on least (below_here least h) h.way;
+        below =
+            subst (λ (m : ℕ). AllByRecursion (λ (i : Injection). i.step < m) (more least)) (sym (next_steps least h))
+            (below_more least (below_here least h));
+      }
 
       pub stepped : (count : ℕ) (least : List Injection) (plans : List (List Injection)) → AreAt app limits n k count least plans
           → AreAt app limits (n + 1) next count (least ++ before_this n now) (followed n plans now)

@@ -1,7 +1,8 @@
 -- How many placements are found in all: as many as there are.
-use Rattle.std.proofs.Common.{◌≡◌, ◌≢◌, ◌+◌, ℕ, true, false, List, [], ◌∷◌, length, map, refl, sym, ◌∙◌, subst, arith, inl, inr}
+use Rattle.std.proofs.Common.{◌≡◌, ◌≢◌, ◌<◌, ◌+◌, ℕ, true, false, List, [], ◌∷◌, ◌++◌, length, map, get_or, set, refl, ap, sym, ◌∙◌}
+use Rattle.std.proofs.Common.{subst, arith, inl, inr}
 use Rattle.std.proofs.lemmas.Bool.{false≢true}
-use Rattle.std.proofs.lemmas.List.Sums.{sum_by-cons}
+use Rattle.std.proofs.lemmas.List.Sums.{sum_by-append, sum_by-cons, sum_by-set}
 use Rattle.std.specs.Prelude.{Contains}
 use Rattle.std.specs.List.{AllByRecursion}
 use Rattle.model.specs.declared.event.End.{End}
@@ -49,6 +50,27 @@ module _ (e : End) where
     others_count _ _ Nobody m k = k
     others_count _ _ (Counts {p} {ps} {n} is h) m k = others_count ps n h m (skipped p ps m is k)
     others_count _ _ (Passes {p} {ps} {n} isnt h) m k = kept p ps (others e h) m (others_count ps n h) k
+
+-- ---- more of them
+
+-- of an end that something has
+pub count_at : (old new : List Found) (number : ℕ) (one added : Found) (count : ℕ) → number < length old
+    → get_or old number one ≡ one → new ≡ set old number added → added.number ≡ one.number + count
+    → placements_in new ≡ placements_in old + count
+count_at old new number one added count within is new_is more =
+    let sum = sum_by-set (λ (f : Found). f.number) old number added one within in
+    let here : (get_or old number one).number ≡ one.number = ap (λ (f : Found). f.number) is in
+    let all : placements_in new ≡ placements_in (set old number added) = ap (λ (fs : List Found). placements_in fs) new_is in
+    omega (arith, sum, here, all, more)
+
+-- of an end that nothing had
+pub count_new : (old new : List Found) (f : Found) → new ≡ old ++ f ∷ [] → placements_in new ≡ placements_in old + f.number
+count_new old new f new_is =
+    let all : placements_in new ≡ placements_in (old ++ f ∷ []) = ap (λ (fs : List Found). placements_in fs) new_is in
+    let sum : placements_in (old ++ f ∷ []) ≡ placements_in old + placements_in (f ∷ []) =
+    sum_by-append (λ (g : Found). g.number) old (f ∷ []) in
+    let one : placements_in (f ∷ []) ≡ f.number = omega arith in
+    omega (arith, all, sum, one)
 
 -- ---- all of them
 

@@ -1,10 +1,10 @@
 -- Which plans come to which kernels before a step.
-use Rattle.std.specs.Prelude.{◌≡◌, ◌<◌, ◌+◌, ◌-◌, ℕ, false, List, ◌++◌, None, Contains, length, map, sum_by}
+use Rattle.std.specs.Prelude.{◌≡◌, ◌<◌, ◌-◌, ℕ, false, List, ◌++◌, None, Contains, length, map, sum_by}
 use Rattle.std.specs.List.{AllByRecursion, AllZip, flat_map}
 use Rattle.model.specs.declared.plan.Injection.{Injection}
 use Rattle.model.specs.Application.{Application, Limits}
 use Rattle.model.specs.Run.{end_of, state_after}
-use Rattle.model.specs.Placements.{before_this, choices, extensions, is_less, unless_ended}
+use Rattle.model.specs.Placements.{before_this, choices, is_less}
 use Rattle.machine.specs.declared.machine.Machine.{Machine}
 use Rattle.machine.specs.Can.{IsUnderWay}
 use Rattle.explorer.specs.declared.layer.Node.{Node}
@@ -52,20 +52,11 @@ pub record GoesOn (app : Application) (limits : Limits) (k : Machine) : Type 0 w
 abbrev pub followed : ℕ → List (List Injection) → List ℕ → List (List Injection)
 followed n plans now = map (λ plan. plan ++ before_this n now) plans
 
--- The new nodes have those of the old ones, and the plans of this node followed by each of these choices.
-abbrev pub GainsBy : Application → Limits → (node : Node) → (nows : List (List ℕ)) → (old new : List Node) → Type 0
-GainsBy app limits node nows old new = (n : ℕ) (plans more : List (List Injection)) → Carries app limits (n + 1) old plans
-    → AreOf app limits n node more → Carries app limits (n + 1) new (plans ++ flat_map (followed n more) nows)
-
--- Some run is under way at this kernel.
-abbrev pub HasWay : Application → Limits → Machine → Type 0
-HasWay app limits k = (plan : List Injection) × IsUnderWay app plan limits k
+-- The run with these injections is under way at this kernel, and all of them come before.
+pub record HasWay (app : Application) (limits : Limits) (k : Machine) (injections : List Injection) : Type 0 where
+  pub way : IsUnderWay app injections limits k
+  pub below : AllByRecursion (λ (i : Injection). i.step < k.steps) injections
 
 -- the choices that these injections have left, of fewer than so many
 abbrev pub nows_of : (handlers : List ℕ) → (levels : ℕ) → List Injection → List (List ℕ)
 nows_of handlers levels plan = choices handlers (levels - 1 - length plan)
-
--- what the plans go on with
-abbrev pub goes_on_with : Application → Limits → (handlers : List ℕ) → (most n : ℕ) → List (List Injection) → List (List Injection)
-goes_on_with app limits handlers most n plans = flat_map
-    (λ plan. unless_ended (end_of app limits (state_after app limits plan n)) (extensions handlers most n plan)) plans

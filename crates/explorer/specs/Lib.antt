@@ -6,3 +6,4 @@ pub mod Totals
 pub mod Nodes
 pub mod Finding
 pub mod Sorting
+pub mod Frontiers

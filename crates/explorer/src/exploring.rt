@@ -2,18 +2,47 @@
 ghost use Rattle.std.specs.Prelude.{◌≡◌, ◌<◌, ◌≤◌, ◌-◌, ◌^◌, IfOk, length};
 ghost use Rattle.model.specs.Placements.{AreDistinct, IsExplored};
 ghost use Rattle.explorer.specs.Choosing.{AreLevels};
+ghost use Rattle.explorer.specs.Frontiers.{IsAtBlockEnd, IsThrough};
 ghost use Rattle.explorer.specs.Tallies.{AreTallied};
 ghost use Rattle.explorer.specs.Totals.{placements_in};
 
-use crate::advance::{Stepper, advance};
+use crate::advance::{advance, advance_spent};
 use crate::choices::Choices;
 use crate::findings::Found;
+use crate::frontier::Frontier;
 use crate::layer::Layer;
 use crate::order::in_order;
 use crate::placement::Placement;
-use kernel::{Kernel, StepLog};
+use crate::settling::Stepper;
+use kernel::Kernel;
 use model::{App, HandlerId, Limits, Memory};
 use std::alloc::Global;
+
+// If a block of steps ends before this step, another one begins, with so many handlers. The step up to which it goes is returned.
+fn begin_block(
+    alloc: Global,
+    app: &App,
+    limits: &Limits,
+    step: u32,
+    until: u32,
+    handlers: usize,
+    stepper: &mut Stepper,
+    frontier: &mut Frontier,
+    layer: &mut Layer,
+) -> Result<u32, Memory>
+    requires ready { IsAtBlockEnd app.now limits.now until frontier.old }
+    requires early { step ≤ 1000000 }
+    requires ahead { step ≤ until }
+    ensures ahead { IfOk result (λ next. step < next) }
+    ensures through { IfOk result (λ next. IsThrough app.now limits.now until next frontier.old frontier.new) }
+{
+    if step < until {
+        return Ok(until);
+    }
+    let next = step + frontier.block(handlers);
+    advance_spent(alloc, app, limits, until, next, stepper, frontier, layer)?;
+    Ok(next)
+}
 
 // What is found of each end among all placements, in any order.
 fn all_found(
@@ -31,32 +60,39 @@ fn all_found(
 {
     app.well_formed();
     limits.well_formed();
-    let mut stepper = Stepper {
-        kernel: Kernel::boot(app),
-        log: StepLog::new(),
-    };
-    let mut findings = Vec::new(alloc);
-    let mut layer = Layer::new(alloc, 1);
-    layer.add(alloc, app, &stepper.kernel, 1, Placement::none())?;
-    'layers: for _ in 0..limits.steps + 1 {
-        if layer.is_empty() {
-            return Ok(findings);
+    let mut stepper = Stepper::new(alloc, app);
+    let mut frontier = Frontier::new(alloc);
+    let mut layer = Layer::new(alloc);
+    let mut until = 0;
+    let first = Kernel::boot(app);
+    frontier.live.add(alloc, app, &first, 1, Placement::none())?;
+    'steps: for step in 0..limits.steps + 1 {
+        if frontier.is_over() {
+            return Ok(frontier.findings);
         }
-        let mut next = layer.after(alloc);
+        until = begin_block(
+            alloc,
+            app,
+            limits,
+            step,
+            until,
+            choices.handlers.len(),
+            &mut stepper,
+            &mut frontier,
+            &mut layer,
+        )?;
         advance(
             alloc,
             app,
             limits,
             choices,
-            &layer,
+            until,
             &mut stepper,
-            &mut findings,
-            &mut next,
+            &mut frontier,
+            &mut layer,
         )?;
-        next.take_memory(layer);
-        layer = next;
     }
-    Ok(findings)
+    Ok(frontier.findings)
 }
 
 /// What is found among all placements of at most so many injections (three at most) of these handlers, in the run of an application under

@@ -73,7 +73,8 @@ fn add_at(found: &mut Vec<Found>, number: usize, more: Found)
 /// So many placements more have this end, of which this is the least.
 pub(crate) fn count_end(found: &mut Vec<Found>, more: Found) -> Result<(), Memory>
     requires { AllByRecursion (λ f. f.number + more.number < 2 ^ 128) found.old.items }
-    ensures { OnOk result (TalliesMore found.old.items found.new.items more.number more.least) }
+    ensures tallies { OnOk result (TalliesMore found.old.items found.new.items more.number more.least) }
+    ensures count { OnOk result (placements_in found.new.items ≡ placements_in found.old.items + more.number) }
 {
     match find_end(found.as_slice(), more.end) {
         Some(number) => add_at(found, number, more),

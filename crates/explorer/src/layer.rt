@@ -7,7 +7,6 @@ use crate::placement::Placement;
 use kernel::{Kernel, Snapshot};
 use model::{App, Memory};
 use std::alloc::Global;
-use std::mem::swap;
 
 // The number that a place has where no node is.
 const NO_NODE: u32 = u32::MAX;
@@ -33,38 +32,40 @@ pub(crate) struct Layer {
     spare: Vec<Box<Snapshot>>,
 }
 
+// A table for about so many kernels, in the memory that it has, if that suffices. If there is no memory for it, none will be found.
+fn clear_table(alloc: Global, heads: &mut Vec<u32>, about: usize) {
+    let places = about.saturating_mul(2).saturating_add(8);
+    if heads.len() < places {
+        *heads = vec![in alloc; NO_NODE; places].unwrap_or(Vec::new(alloc));
+    } else {
+        heads.as_mut_slice().fill(NO_NODE);
+    }
+}
+
 impl Layer {
-    /// One without kernels, with a table for about so many. Where there is no memory for the table none will be found.
-    pub(crate) fn new(alloc: Global, about: usize) -> Layer
+    /// One without kernels.
+    pub(crate) fn new(alloc: Global) -> Layer
         ensures { result.nodes.items ≡ [] }
     {
-        let places = about.saturating_mul(2).saturating_add(8);
+        let mut heads = Vec::new(alloc);
+        clear_table(alloc, &mut heads, 1);
         Layer {
             nodes: Vec::new(alloc),
-            heads: vec![in alloc; NO_NODE; places].unwrap_or(Vec::new(alloc)),
+            heads,
             spare: Vec::new(alloc),
         }
     }
 
-    /// One without kernels that comes after this one, and takes the memory that this one has spare.
-    pub(crate) fn after(&mut self, alloc: Global) -> Layer
-        ensures empty { result.nodes.items ≡ [] }
-        ensures kept { self.new.nodes ≡ self.old.nodes }
+    /// Drops its kernels, and keeps their memory for about so many others.
+    pub(crate) fn clear(&mut self, alloc: Global, about: usize)
+        ensures { self.new.nodes.items ≡ [] }
     {
-        let mut next = Layer::new(alloc, self.nodes.len());
-        swap(&mut next.spare, &mut self.spare);
-        next
-    }
-
-    /// Takes the memory of the kernels of another one, which is of no more use.
-    pub(crate) fn take_memory(&mut self, mut other: Layer)
-        ensures { self.new.nodes ≡ self.old.nodes }
-    {
-        while let Some(node) = other.nodes.pop() {
+        while let Some(node) = self.nodes.pop() {
             if self.spare.push(node.kernel).is_err() {
-                return;
+                self.nodes.clear();
             }
         }
+        clear_table(alloc, &mut self.heads, about);
     }
 
     /// Whether there are none.

@@ -5,9 +5,11 @@ mod advance;
 mod choices;
 mod exploring;
 mod findings;
+mod frontier;
 mod layer;
 mod order;
 mod placement;
+mod settling;
 
 pub use exploring::explore;
 pub use findings::{Found, placements_in};

@@ -1,20 +1,29 @@
-use Rattle.std.proofs.Common.{◌≡◌, ◌∙◌, ap, length, refl, subst}
+use Rattle.std.proofs.Common.{◌≡◌, ◌^◌, ◌∙◌, ap, arith, refl, subst}
 use Rattle.model.specs.State.{State}
 use Rattle.model.specs.Run.{end_of}
 use Rattle.machine.specs.declared.machine.Machine.{Machine}
 use Rattle.machine.specs.StandsFor.{Stands}
+use Rattle.explorer.proofs.Holding.{numbers_few}
 use Rattle.explorer.proofs.Passing.{goes_if, passes_ended, passes_going}
 use Rattle.explorer.proofs.Results.{on_ok}
 use Rattle.explorer.proofs.advance.pass.Goals as goal
 
-pub go_on_from-requires-clause-goes : goal.go_on_from-requires-clause-goes
-go_on_from-requires-clause-goes c =
+pub count_end-requires : goal.count_end-requires
+count_end-requires c =
+    let room = c.requires.found in
+    numbers_few c.args.frontier.now.findings.items c.args.node.now.count (2 ^ 128) (omega (arith, room))
+
+pub go_on-requires-clause-here : goal.go_on-requires-clause-here
+go_on-requires-clause-here c = c.restore.ensures ∙ c.deref.ensures
+
+pub go_on-requires-clause-goes : goal.go_on-requires-clause-goes
+go_on-requires-clause-goes c =
     let k = c.args.node.now.kernel.value in
     let restored : c.restore.new.self ≡ k = c.restore.ensures ∙ c.deref.ensures in
     let ends : (s : State) → Stands k s → c.ended.result ≡ end_of c.args.app.now c.args.limits.now s =
     subst (λ (j : Machine). (s : State) → Stands j s → c.ended.result
     ≡ end_of c.args.app.now c.args.limits.now s) restored c.ended.ensures in
-    goes_if c.args.app.now c.args.limits.now k c.requires.way c.ended.result ends c.in-None.is
+    goes_if c.args.app.now c.args.limits.now k c.args.node.now.least c.requires.way c.ended.result ends c.in-None.is
 
 pub returns-in-None : goal.returns-in-None
 returns-in-None c =
@@ -23,12 +32,11 @@ returns-in-None c =
     let ends : (s : State) → Stands k s → c.ended.result ≡ end_of c.args.app.now c.args.limits.now s =
     subst (λ (j : Machine). (s : State) → Stands j s → c.ended.result
     ≡ end_of c.args.app.now c.args.limits.now s) restored c.ended.ensures in
-    on_ok c.go_on_from.result
-    (λ gains.
-    passes_going c.args.app.now c.args.limits.now c.args.choices.now.handlers.items (length c.args.choices.now.levels.items)
-    c.args.node.now c.ended.result ends c.in-None.is c.args.next.now.nodes.items c.go_on_from.new.next.nodes.items
-    c.args.findings.now.items gains)
-    c.go_on_from.ensures
+    on_ok c.go_on.result
+    (λ takes.
+    passes_going c.args.app.now c.args.limits.now c.args.choices.now.handlers.items _ c.args.until
+    c.args.node.now c.ended.result ends c.in-None.is c.args.frontier.now c.go_on.new.frontier takes)
+    c.go_on.ensures
 
 pub returns-in-Some : goal.returns-in-Some
 returns-in-Some c =
@@ -41,10 +49,9 @@ returns-in-Some c =
     subst (λ (j : Machine). (s : State) → Stands j s → c.ticks.result ≡ s.elapsed) restored c.ticks.ensures in
     on_ok c.count_end.result
     (λ tallies.
-    passes_ended c.args.app.now c.args.limits.now c.args.choices.now.handlers.items (length c.args.choices.now.levels.items)
-    c.args.node.now c.ended.result ends c.in-Some.end c.in-Some.is c.args.next.now.nodes.items c.args.findings.now.items
-    c.count_end.new.found.items
+    passes_ended c.args.app.now c.args.limits.now c.args.choices.now.handlers.items _ c.args.until
+    c.args.node.now c.ended.result ends c.in-Some.end c.in-Some.is c.args.frontier.now _
     (record { injections = c.copy.result; steps = c.steps.result; ticks = c.ticks.result; end = c.in-Some.end })
     c.args.node.now.count refl c.copy.ensures refl
-    (c.steps.ensures ∙ ap (λ (j : Machine). j.steps) c.deref-in-Some.ensures) ticks tallies)
-    c.count_end.ensures
+    (c.steps.ensures ∙ ap (λ (j : Machine). j.steps) c.deref-in-Some.ensures) ticks tallies refl refl)
+    c.count_end.ensures.tallies

@@ -1,7 +1,7 @@
-use Rattle.std.proofs.Common.{◌≡◌, ◌∙◌, ◌≤◌, ◌+◌, ◌*◌, ◌^◌, ℕ, List, [], ◌∷◌, ◌++◌, ap, arith, length, subst, sym, take}
+use Rattle.std.proofs.Common.{◌≡◌, ◌∙◌, ◌≤◌, ◌+◌, ◌*◌, ◌^◌, ℕ, List, [], ◌∷◌, ◌++◌, ap, arith, length, refl, subst, sym, take}
 use Rattle.std.proofs.lemmas.List.{take_more}
-use Rattle.explorer.specs.Layers.{count_of}
-use Rattle.explorer.proofs.Passing.{all_get, gains_as, gains_none, gains_then, room_of, take_whole}
+use Rattle.explorer.specs.Frontiers.{number_in}
+use Rattle.explorer.proofs.Passing.{all_get, room_of, take_whole, takes_as, takes_none, takes_then}
 use Rattle.explorer.proofs.advance.step_by_each.Goals as goal
 
 pub step_by-requires-clause-few : goal.step_by-requires-clause-few
@@ -14,7 +14,7 @@ step_by-requires-clause-few c =
 pub step_by-requires-clause-room : goal.step_by-requires-clause-room
 step_by-requires-clause-room c =
     let count = c.args.node.now.count in
-    let base = count_of c.args.next.now.nodes.items in
+    let base = number_in c.args.frontier.now in
     let i = c.loop-now.now-index in
     let on = c.loop-now-test.true in
     let sum = room_of i 1 (length c.args.level.now) count base (2 ^ 128) (omega (arith, on)) c.requires.room in
@@ -23,7 +23,8 @@ step_by-requires-clause-room c =
 
 pub loop-now-init : goal.loop-now-init
 loop-now-init c = record {
-  gains = gains_none c.args.app.now c.args.limits.now c.args.node.now c.args.next.now.nodes.items;
+  base = refl;
+  takes = takes_none c.args.app.now c.args.limits.now c.args.levels c.args.until c.args.node.now c.args.frontier.now;
   count = omega arith;
 }
 
@@ -32,34 +33,36 @@ loop-now-preserved c =
     let level = c.args.level.now in
     let i = c.loop-now.now-index in
     let now = c.as_slice.result.now in
-    let old = c.args.next.now.nodes.items in
-    let mid = c.loop-now.next.nodes.items in
-    let new = c.step_by.new.next.nodes.items in
+    let old = c.args.frontier.now in
+    let mid = c.loop-now.frontier in
+    let new = c.step_by.new.frontier in
     let one_more : take i level ++ now ∷ [] ≡ take (i + 1) level =
     ap (λ (n : List ℕ). take i level ++ n ∷ []) (c.as_slice.ensures ∙ c.now-item.is)
     ∙ sym (take_more level i c.now-item.result c.loop-now-test.true) in
     let so_far = c.loop-now.invariant.count in
     let more = c.in_ok-step_by.ensures.count in
     record {
-      gains =
-          gains_as c.args.app.now c.args.limits.now c.args.node.now (take i level ++ now ∷ []) (take (i + 1) level) old new one_more
-          (gains_then c.args.app.now c.args.limits.now c.args.node.now (take i level) (now ∷ []) old mid new
-          c.loop-now.invariant.gains c.in_ok-step_by.ensures.gains);
+      base = c.step_by.ensures.base ∙ c.loop-now.invariant.base;
+      takes =
+          takes_as c.args.app.now c.args.limits.now c.args.levels c.args.until c.args.node.now (take i level ++ now ∷ [])
+          (take (i + 1) level) old new one_more
+          (takes_then c.args.app.now c.args.limits.now c.args.levels c.args.until c.args.node.now (take i level) (now ∷ []) old mid
+          new
+          c.loop-now.invariant.takes c.in_ok-step_by.ensures.takes);
       count = omega (arith, so_far, more);
     }
 
-pub returns : goal.returns
-returns c =
-    let level = c.args.level.now in
-    let i = c.loop-now.now-index in
+pub returns-clause-takes : goal.returns-clause-takes
+returns-clause-takes c =
+    takes_as c.args.app.now c.args.limits.now c.args.levels c.args.until c.args.node.now (take c.loop-now.now-index
+    c.args.level.now)
+    c.args.level.now c.args.frontier.now c.loop-now.frontier
+    (take_whole c.args.level.now c.loop-now.now-index c.loop-now-test.false) c.loop-now.invariant.takes
+
+pub returns-clause-count : goal.returns-clause-count
+returns-clause-count c =
     let over = c.loop-now-test.false in
     let within = c.loop-now.auto.now-index-end in
-    let all : i ≡ length level = omega (arith, over, within) in
-    record {
-      gains =
-          gains_as c.args.app.now c.args.limits.now c.args.node.now (take i level) level c.args.next.now.nodes.items
-          c.loop-now.next.nodes.items (take_whole level i over) c.loop-now.invariant.gains;
-      count =
-          subst (λ (n : ℕ). count_of c.loop-now.next.nodes.items ≡ count_of c.args.next.now.nodes.items + n * c.args.node.now.count)
-          all c.loop-now.invariant.count;
-    }
+    let all : c.loop-now.now-index ≡ length c.args.level.now = omega (arith, over, within) in
+    subst (λ (n : ℕ). number_in c.loop-now.frontier ≡ number_in c.args.frontier.now + n * c.args.node.now.count)
+    all c.loop-now.invariant.count

@@ -1,71 +1,92 @@
-use Rattle.std.proofs.Common.{◌≡◌, ◌+◌, Global, List, Vec, [], ap, arith, length, subst, sym}
+use Rattle.std.proofs.Common.{◌≡◌, List, [], ap, arith, length, subst}
 use Rattle.model.specs.declared.plan.Injection.{Injection}
 use Rattle.model.specs.Application.{Limits}
-use Rattle.explorer.specs.declared.layer.Node.{Node}
+use Rattle.explorer.specs.Frontiers.{everything}
 use Rattle.explorer.specs.Layers.{Gains}
-use Rattle.explorer.specs.Tallies.{IsLayer}
-use Rattle.explorer.proofs.FirstAndLast.{first_layer, tallied_at_last, tallied_if_empty}
+use Rattle.explorer.proofs.Advancing.{few_in_all}
+use Rattle.explorer.proofs.FirstAndLast.{first_holds, tallied_at_last, tallied_if_over}
 use Rattle.explorer.proofs.exploring.all_found.Goals as goal
+
+pub begin_block-requires : goal.begin_block-requires
+begin_block-requires c =
+    let handlers = c.args.choices.now.handlers.items in
+    let levels = length c.args.choices.now.levels.items in
+    let seen : c.limits.inside.steps ≡ c.args.limits.now.steps = ap (λ (l : Limits). l.steps) c.limits.view_is in
+    let test = c.steps-test.true in
+    let are = c.well_formed-3.ensures in
+    let most = are.3 in
+    let few = few_in_all c.args.app.now c.args.limits.now handlers levels c.requires.few_handlers c.requires.few
+    (omega (arith, most)) in
+    record {
+      ready = record {
+        handlers = handlers;
+        levels = levels;
+        n = c.steps.step;
+        total = everything c.args.app.now c.args.limits.now handlers levels;
+        holds = c.steps.invariant.holds;
+        few = omega (arith, few);
+      };
+      early = omega (arith, seen, test, most);
+      ahead = c.steps.invariant.ahead;
+    }
 
 pub advance-requires-clause-ready : goal.advance-requires-clause-ready
 advance-requires-clause-ready c =
-    let seen : c.limits.inside.steps ≡ c.args.limits.now.steps = ap (λ (l : Limits). l.steps) c.limits.view_is in
-    let test = c.layers-test.true in
+    let handlers = c.args.choices.now.handlers.items in
+    let levels = length c.args.choices.now.levels.items in
     let are = c.well_formed-3.ensures in
     let most = are.3 in
     record {
-      n = c.layers.counter;
-      all = c.layers.invariant.0;
-      layer =
-          subst (λ (ns : Vec Node Global). IsLayer c.args.app.now c.args.limits.now c.args.choices.now.handlers.items
-          (length c.args.choices.now.levels.items) c.layers.counter ns.items c.layers.findings.items c.layers.invariant.0)
-          (sym c.after-next.ensures.kept) c.layers.invariant.1;
+      n = c.steps.step;
+      holds =
+          c.in_ok-until.ensures.through handlers levels c.steps.step
+          (everything c.args.app.now c.args.limits.now handlers levels) c.steps.invariant.holds;
       some = c.requires.some;
-      early = omega (arith, seen, test);
+      ahead = c.in_ok-until.ensures.ahead;
       few = c.requires.few_handlers;
       short = omega (arith, most);
     }
 
-pub layers-init : goal.layers-init
-layers-init c = (
-  [],
-  first_layer c.args.app.now c.args.limits.now c.args.choices.now.handlers.items (length c.args.choices.now.levels.items)
-      c.boot.result c.new-layer.result.nodes.items c.add.new.self.nodes.items c.new-findings.result.items
-      c.boot.ensures.steps (c.boot.ensures.way [] c.args.limits.now) c.new-layer.ensures c.new-findings.ensures.items
-      (subst (λ (least : List Injection). Gains c.new-layer.result.nodes.items c.add.new.self.nodes.items c.boot.result 1 least)
-      c.none.ensures c.in_ok-add.ensures.gains),
-)
+pub steps-init : goal.steps-init
+steps-init c = record {
+  holds =
+      first_holds c.args.app.now c.args.limits.now c.args.choices.now.handlers.items (length c.args.choices.now.levels.items)
+      c.boot-first.result c.new-frontier.result _ c.boot-first.ensures.steps (c.boot-first.ensures.way [] c.args.limits.now)
+      c.new-frontier.ensures.live
+      (subst (λ (least : List Injection). Gains c.new-frontier.result.live.nodes.items c.add.new.self.nodes.items
+      c.boot-first.result 1 least)
+      c.none.ensures c.in_ok-add.ensures.gains)
+      c.new-frontier.ensures.spent c.new-frontier.ensures.found;
+  ahead = omega arith;
+}
 
-pub layers-preserved : goal.layers-preserved
-layers-preserved c =
-    let before =
-    subst (λ (ns : Vec Node Global). IsLayer c.args.app.now c.args.limits.now c.args.choices.now.handlers.items
-    (length c.args.choices.now.levels.items) c.layers.counter ns.items c.layers.findings.items c.layers.invariant.0)
-    (sym c.after-next.ensures.kept) c.layers.invariant.1 in
-    let after = c.in_ok-advance.ensures c.layers.counter c.layers.invariant.0 before in (
-      after.0,
-      subst (λ (ns : Vec Node Global). IsLayer c.args.app.now c.args.limits.now c.args.choices.now.handlers.items
-          (length c.args.choices.now.levels.items) (c.layers.counter + 1) ns.items c.advance.new.findings.items after.0)
-          (sym c.take_memory.ensures) after.1,
-    )
+pub steps-preserved : goal.steps-preserved
+steps-preserved c =
+    let handlers = c.args.choices.now.handlers.items in
+    let levels = length c.args.choices.now.levels.items in
+    let ahead = c.in_ok-until.ensures.ahead in
+    record {
+      holds =
+          c.in_ok-advance.ensures c.steps.step
+          (c.in_ok-until.ensures.through handlers levels c.steps.step
+          (everything c.args.app.now c.args.limits.now handlers levels) c.steps.invariant.holds);
+      ahead = omega (arith, ahead);
+    }
 
-pub returns-then-is_empty : goal.returns-then-is_empty
-returns-then-is_empty c =
-    let seen : c.limits.inside.steps ≡ c.args.limits.now.steps = ap (λ (l : Limits). l.steps) c.limits.view_is in
-    let test = c.layers-test.true in
+pub returns-then-is_over : goal.returns-then-is_over
+returns-then-is_over c =
     let are = c.well_formed-3.ensures in
     let most = are.3 in
-    tallied_if_empty c.args.app.now c.args.limits.now c.args.choices.now.handlers.items (length c.args.choices.now.levels.items)
-    c.layers.counter c.layers.layer.nodes.items c.layers.findings.items c.layers.invariant.0 c.requires.few_handlers c.requires.few
-    (omega (arith, seen, test, most)) c.requires.once (c.is_empty.ensures c.if-is_empty.true) c.layers.invariant.1
+    tallied_if_over c.args.app.now c.args.limits.now c.args.choices.now.handlers.items (length c.args.choices.now.levels.items)
+    c.steps.step c.steps.until c.steps.frontier c.requires.few_handlers c.requires.few (omega (arith, most)) c.requires.once
+    (c.is_over.ensures.live c.if-is_over.true) (c.is_over.ensures.spent c.if-is_over.true) c.steps.invariant.holds
 
 pub returns : goal.returns
 returns c =
     let seen : c.limits.inside.steps ≡ c.args.limits.now.steps = ap (λ (l : Limits). l.steps) c.limits.view_is in
-    let test = c.layers-test.false in
-    let end = c.layers.auto.counter-end in
+    let test = c.steps-test.false in
     let are = c.well_formed-3.ensures in
     let most = are.3 in
     tallied_at_last c.args.app.now c.args.limits.now c.args.choices.now.handlers.items (length c.args.choices.now.levels.items)
-    c.layers.counter c.layers.layer.nodes.items c.layers.findings.items c.layers.invariant.0 c.requires.few_handlers c.requires.few
-    (omega (arith, seen, test, end, most)) c.requires.once (omega (arith, seen, test)) c.layers.invariant.1
+    c.steps.step c.steps.until c.steps.frontier c.requires.few_handlers c.requires.few (omega (arith, most)) c.requires.once
+    (omega (arith, seen, test)) c.steps.invariant.ahead c.steps.invariant.holds

@@ -1,9 +1,10 @@
-use Rattle.std.proofs.Common.{List, length}
-use Rattle.model.specs.Placements.{Placed}
-use Rattle.explorer.specs.Tallies.{IsLayer}
+use Rattle.std.proofs.Common.{◌≤◌, length}
+use Rattle.explorer.specs.Frontiers.{Holds, everything}
 use Rattle.explorer.proofs.exploring.all_found.Given as goal
 
-abbrev pub invariant-layers : goal.invariant-layers
-invariant-layers l =
-    (all : List Placed) × IsLayer l.app l.limits l.choices.handlers.items (length l.choices.levels.items) l.counter
-    l.layer.nodes.items l.findings.items all
+abbrev pub invariant-steps : goal.invariant-steps
+invariant-steps l = record {
+  holds : Holds l.app l.limits l.choices.handlers.items (length l.choices.levels.items) l.step l.until l.frontier
+      (everything l.app l.limits l.choices.handlers.items (length l.choices.levels.items));
+  ahead : l.step ≤ l.until;
+}
