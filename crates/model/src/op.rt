@@ -104,7 +104,7 @@ impl Access<Value> {
     }
 
     /// The call with a number for its value, by these variables and this last answer.
-    #[inline]
+    #[inline(always)]
     pub fn with_number(self, variables: &[u32], answer: Option<u32>) -> Access<u32>
         ensures { result ≡ with_number variables.now answer self }
     {

@@ -133,7 +133,7 @@ pub fn do_now<L: Log>(
 }
 
 /// The same of a call whose item is a value. The check fails where that is missing.
-#[inline(always)]
+#[inline(never)]
 pub fn do_by_value<L: Log>(
     machine: &mut Machine,
     app: &App,

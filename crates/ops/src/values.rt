@@ -74,7 +74,7 @@ fn answer_of(machine: &Machine, task: TaskId, op: ValueOp) -> Option<u32>
 
 /// An op that loads a variable, stores one, or calculates: it answers, or the check fails where it has no value to work with. It answers
 /// whether the task is still amid its script, while no variable changed.
-#[inline(always)]
+#[inline(never)]
 pub fn calculate<L: Log>(
     machine: &mut Machine,
     app: &App,
