@@ -371,11 +371,11 @@ def long_script():
 
 def many_states():
     """An application of 16 handlers, each of which leaves an item of its own, and how the runs of all placements end. Of up to two
-    injections before two steps there are 1 + 16 * 2 + 16 * 16 * 3."""
+    injections before ten steps there are 1 + 16 * 10 + 16 * 16 * 55."""
     queues = "".join(f'[[queue]]\nname = "q{it}"\nlength = 2\n' for it in range(16))
     handlers = "".join(HANDLER.replace('"h"', f'"h{it}"').replace("[]", f'["send q{it} 1"]') for it in range(16))
-    report = "pass: 801 placements, least is none in 2 steps, 1 ticks\ntotal 801\n"
-    return queues + handlers + TASK.replace('"mark 7"', '"work 1", "mark 7"'), report.encode()
+    report = "pass: 14241 placements, least is none in 10 steps, 9 ticks\ntotal 14241\n"
+    return queues + handlers + TASK.replace('"mark 7"', 9 * '"work 1", ' + '"mark 7"'), report.encode()
 
 
 def each_with_falling_memory(step):
