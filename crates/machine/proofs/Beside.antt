@@ -1,6 +1,7 @@
--- What is kept beside the parts is another: the interrupt sources, and the variables. No part sees it.
-use Rattle.std.proofs.Common.{ℕ, List, Some, None, Option, refl, subst}
+-- What is kept beside the parts is another: the interrupt sources, the variables, steps and events. No part sees it.
+use Rattle.std.proofs.Common.{◌≡◌, ℕ, List, Some, None, Option, refl, subst}
 use Rattle.model.specs.declared.call.WaitList.{WaitList}
+use Rattle.model.specs.declared.event.End.{End}
 use Rattle.model.specs.declared.event.Event.{Event}
 use Rattle.model.specs.declared.value.ValueOp.{ValueOp}
 use Rattle.model.specs.State.{State, Source}
@@ -19,11 +20,14 @@ use Rattle.machine.specs.StandsFor.Stands.{Placed, Placing}
 use Rattle.machine.proofs.Parts.{clock-same, same_parts, sched-same}
 use Rattle.machine.proofs.Either.{variables_are}
 
-before_with : (k : Machine) (s : State) (task : ℕ) (list : WaitList) → StandsBefore task list k s
+-- Nothing beside the parts is as it was, and a task is still to be placed.
+pub before_with : (k : Machine) (s : State) (task : ℕ) (list : WaitList) → StandsBefore task list k s
+    → (log : List Event) (steps n : ℕ) (stopped end : Option End) → n ≡ steps → end ≡ stopped
     → (v : Sources) (xs : List Source) → AreSources v xs → (values : List ℕ)
-    → StandsBefore task list (record k { variables = values; sources = v }) (record s { variables = values; sources = xs })
-before_with k s task list b v xs are values =
-    let new : State = record s { variables = values; sources = xs } in
+    → StandsBefore task list (record k { variables = values; sources = v; steps = n; stopped = end })
+    (record s { variables = values; sources = xs; log = log; steps = steps; stopped = stopped })
+before_with k s task list b log steps n stopped end same_steps same_end v xs are values =
+    let new : State = record s { variables = values; sources = xs; log = log; steps = steps; stopped = stopped } in
     let table : IsTable new =
     record {
       tickets = b.sched.table.tickets;
@@ -64,8 +68,8 @@ before_with k s task list b v xs are values =
       variables = refl;
       sources = are;
       sections = b.sections;
-      steps = b.steps;
-      stopped = b.stopped;
+      steps = same_steps;
+      stopped = same_end;
       current = b.current;
       held = b.held;
       phase = b.phase;
@@ -108,7 +112,8 @@ with_sources k s (Placed h) v xs are =
 with_sources k s (Placing task list b) v xs are =
     Placing task list
     (subst (λ (ys : List ℕ). StandsBefore task list (record k { sources = v }) (record s { variables = ys; sources = xs }))
-    b.variables (before_with k s task list b v xs are k.variables))
+    b.variables
+    (before_with k s task list b s.log s.steps k.steps s.stopped k.stopped b.steps b.stopped v xs are k.variables))
 
 -- ---- the variables
 
@@ -120,7 +125,8 @@ with_variables : (k : Machine) (s : State) → Stands k s → (values : List ℕ
     → Stands (record k { variables = values }) (record s { variables = values })
 with_variables k s (Placed h) values = Placed (placed_storing k s h values)
 with_variables k s (Placing task list b) values =
-    Placing task list (before_with k s task list b k.sources s.sources b.sources values)
+    Placing task list
+    (before_with k s task list b s.log s.steps k.steps s.stopped k.stopped b.steps b.stopped k.sources s.sources b.sources values)
 
 -- An op on values stores its answer.
 pub stored_at : (k : Machine) (log : List Event) (s : State) (op : ValueOp) (a : Option ℕ) → At k log s

@@ -1,5 +1,5 @@
 -- Steps and events are another's: what that makes of the states that the kernel represents.
-use Rattle.std.proofs.Common.{◌≡◌, ℕ, List, [], ◌∷◌, ◌++◌, Option, Some, refl, ap, ◌∙◌}
+use Rattle.std.proofs.Common.{◌≡◌, ℕ, List, [], ◌∷◌, ◌++◌, Option, Some, refl, ap, subst, ◌∙◌}
 use Rattle.std.specs.Option.{option_or}
 use Rattle.model.specs.declared.event.End.{End}
 use Rattle.model.specs.declared.event.Event.{Event}
@@ -8,73 +8,22 @@ use Rattle.model.specs.Ops.{fail}
 use Rattle.model.specs.Switching.{write}
 use Rattle.model.specs.declared.call.WaitList.{WaitList}
 use Rattle.model.specs.Step.{step}
-use Rattle.model.specs.Invariant.{IsTable}
-use Rattle.groups.proofs.Standing as on_groups
-use Rattle.groups.proofs.Kept as bits_kept
 use Rattle.machine.specs.declared.machine.Machine.{Machine}
-use Rattle.machine.specs.StandsFor.{StandsBefore, Stands, AtAny, DoesAny, decider}
+use Rattle.machine.specs.StandsFor.{StandsBefore, Stands, AtAny, DoesAny}
 use Rattle.machine.specs.Logged.{Logged}
 use Rattle.machine.specs.Can.{StandsForSome}
 use Rattle.machine.specs.StandsFor.Stands.{Placed, Placing}
-use Rattle.objects.specs.Objects.{SameWaits}
-use Rattle.objects.proofs.Kept.{stands_same}
-use Rattle.objects.proofs.Awake.{at_locked_same}
-use Rattle.machine.proofs.Parts.{same_parts, stands-unseen}
+use Rattle.machine.proofs.Parts.{stands-unseen}
+use Rattle.machine.proofs.Beside.{before_with}
 use Rattle.machine.proofs.Either.{steps_are, now_is}
 
 begun_before : (k : Machine) (s : State) (task : ℕ) (list : WaitList) → StandsBefore task list k s
     → (log : List Event) (steps n : ℕ) (stopped end : Option End) → n ≡ steps → end ≡ stopped
     → StandsBefore task list (record k { steps = n; stopped = end }) (record s { log = log; steps = steps; stopped = stopped })
 begun_before k s task list b log steps n stopped end e same_end =
-    let new : State = record s { log = log; steps = steps; stopped = stopped } in
-    let table : IsTable new =
-    record {
-      tickets = b.sched.table.tickets;
-      few = b.sched.table.few;
-      current = b.sched.table.current;
-      holders = b.sched.table.holders;
-    } in
-    let same : SameWaits s new = same_parts s new refl refl refl in
-    record {
-      sched =
-          record {
-            ready = b.sched.ready;
-            still = b.sched.still;
-            current = b.sched.current;
-            priorities = b.sched.priorities;
-            base_priorities = b.sched.base_priorities;
-            depth = b.sched.depth;
-            suspensions = b.sched.suspensions;
-            suspended = b.sched.suspended;
-            table = table;
-          };
-      clock =
-          record {
-            now = b.clock.now;
-            age = b.clock.age;
-            held = b.clock.held;
-            sorted = b.clock.sorted;
-            once = b.clock.once;
-            delayed = b.clock.delayed;
-            awake = b.clock.awake;
-            table = table;
-          };
-      objects = stands_same s new same k.objects (Some (decider task list s)) b.objects table;
-      groups = on_groups.stands_same k.groups s new b.groups (bits_kept.same_parts s new refl refl) table;
-      awake = at_locked_same (Some (decider task list s)) s new same b.awake;
-      progress = b.progress;
-      full = b.full;
-      variables = b.variables;
-      sources = b.sources;
-      sections = b.sections;
-      steps = e;
-      stopped = same_end;
-      current = b.current;
-      held = b.held;
-      phase = b.phase;
-      wait_list = b.wait_list;
-      placed = b.placed;
-    }
+    subst (λ (values : List ℕ). StandsBefore task list (record k { steps = n; stopped = end })
+    (record s { variables = values; log = log; steps = steps; stopped = stopped }))
+    b.variables (before_with k s task list b log steps n stopped end e same_end k.sources s.sources b.sources k.variables)
 
 -- steps and events are another's
 pub renewed : (k : Machine) (s : State) → Stands k s → (log : List Event) (steps : ℕ) (n : ℕ)
