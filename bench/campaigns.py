@@ -12,8 +12,8 @@ of 5,000; `computing`, the same with more `work` between the calls, and 2,000 ro
 that wait for bits, which a handler has the daemon set and clear; `asleep`, 3,000 rows of tasks that sleep and wait for minutes and
 hours in a tickless application, which a handler wakes at any time; `masked`, 5,000 rows of a driver that looks in a critical section in
 each turn, so that the handlers of many rows are pending first; `counter`, 5,000 rows of a task that counts in each turn and stores the
-count in another variable too, which a handler writes before; `million`, 1,000,000 single points of a short application, each
-of which ends after some ten steps."""
+count in another variable too, which a handler writes before; `notified`, 5,000 rows of a task that takes its notifications, which a
+task and a handler send; `million`, 1,000,000 single points of a short application, each of which ends after some ten steps."""
 import ctypes
 import os
 import random
@@ -104,6 +104,17 @@ def counter(steps):
     )
 
 
+def notified(steps):
+    """A task that takes its notifications, a task that notifies it at each tick, and a handler before each step that does too."""
+    return (
+        f"[limits]\nsteps = {steps}\n"
+        '[[handler]]\nname = "h"\nops = ["notify driver increment"]\n'
+        + task("driver", 2, turns("notify_take clear forever", "notify_wait 0 4294967295 2"))
+        + task("ticker", 1, turns("work 1", "notify driver increment"))
+        + '[campaign]\npoints = ["all h"]\n'
+    )
+
+
 def million_points():
     """A million points over an application that ends after some ten steps."""
     dice = random.Random(5)
@@ -149,7 +160,7 @@ def main():
     programs = sys.argv[1:3] or [PROGRAM]
     texts = {"dense": producer_and_consumer(5000, 2), "computing": producer_and_consumer(2000, 200),
              "commands": sensor_and_daemon(3000), "asleep": asleep(3000), "masked": masked(5000), "counter": counter(5000),
-             "million": million_points()}
+             "notified": notified(5000), "million": million_points()}
     with tempfile.TemporaryDirectory() as folder:
         for name, text in texts.items():
             path = os.path.join(folder, f"{name}.toml")

@@ -1,6 +1,6 @@
 """Random applications, with campaigns of all steps of two handlers: half of them with a daemon, half of them tickless, half of them with
 branches and endless tasks, half of them with handlers that look at answers and tasks that measure time, half of them with critical
-sections, and half of them with variables."""
+sections, half of them with variables, and half of them with notifications."""
 import json
 import random
 
@@ -12,6 +12,9 @@ MOST_OPS = 16
 VARIABLES, NEVER_STORED = ("x", "y"), "z"
 NUMBERS = (0, 0, 1, 1, 2, 3, 4294967295)
 ARITHMETIC = ("add", "sub", "mul", "div", "mod", "and", "or", "xor")
+# The words of a notify after its task, of which the first ones are likely; and masks of bits to clear.
+ACTIONS = ("increment", "increment", "keep 2", "keep 2", "overwrite 3", "bits 4", "bits 1", "none")
+MASKS = (0, 0, 1, 4294967295)
 
 
 class Scripts:
@@ -100,7 +103,8 @@ class Applications:
     tick, begin at any tick, and have base interrupts amid their sleeps. Of eight seeds the last four have branches, and tasks that are
     endless. Of sixteen seeds the last eight have handlers that look at answers, and tasks that measure time. Of thirty-two seeds the last
     sixteen have critical sections, some of which are closed too often, too seldom, or after an op that they bar. Of sixty-four seeds the
-    last thirty-two have variables, which tasks and handlers load, compute with and store, some of them where nothing was answered."""
+    last thirty-two have variables, which tasks and handlers load, compute with and store, some of them where nothing was answered. Of a
+    hundred and twenty-eight seeds the last sixty-four have notifications, which tasks and handlers send, and tasks take and wait for."""
 
     def __init__(self, seed):
         self.dice, self.has_daemon = random.Random(seed), seed % 2 == 0
@@ -115,6 +119,8 @@ class Applications:
         # And one with variables.
         self.variables = (*VARIABLES, NEVER_STORED) if seed % 64 > 31 else ()
         self.value_dice = random.Random(f"values {seed}")
+        # And one with notifications.
+        self.notifies, self.note_dice = seed % 128 > 63, random.Random(f"notifications {seed}")
 
     def ticks(self, few):
         """So few ticks, and in a tickless application perhaps many."""
@@ -123,7 +129,21 @@ class Applications:
     def task_op(self):
         if self.variables and self.value_dice.random() < 0.4:
             return self.value_dice.choice((self.value_op(), self.value_op(), "send q answer 0", "overwrite r answer"))
-        return self.plain_task_op()
+        return self.own_op() if self.notifies and self.note_dice.random() < 0.4 else self.plain_task_op()
+
+    def notify_op(self):
+        """An op of a task or a handler that notifies a task."""
+        action = self.note_dice.choice(ACTIONS)
+        if self.variables and self.note_dice.random() < 0.2:
+            action = action.replace(action.split()[-1], "answer") if " " in action else action
+        return f"notify {self.note_dice.choice('ab')} {action}"
+
+    def own_op(self):
+        """An op on notifications of a task, which mostly is about its own."""
+        dice, wait = self.note_dice, self.note_dice.choice(("forever", "forever", 0, 2))
+        return dice.choice((
+            self.notify_op(), self.notify_op(), f"notify_take {dice.choice(('clear', 'decrement'))} {wait}",
+            f"notify_wait {dice.choice(MASKS)} {dice.choice(MASKS)} {wait}", "notify_clear", f"notify_value_clear {dice.choice(MASKS)}"))
 
     def value_op(self):
         """An op about a variable or the last answer, of a task or a handler."""
@@ -174,6 +194,8 @@ class Applications:
     def handler_op(self):
         if self.variables and self.value_dice.random() < 0.4:
             return self.value_dice.choice((self.value_op(), self.value_op(), "send q answer"))
+        if self.notifies and self.note_dice.random() < 0.4:
+            return self.notify_op()
         ops = ("send q 1", "send_front q 1", "give s", "give c", "receive q", "overwrite r 1", "resume a", "mark 1", "peek q")
         return self.command() if self.has_daemon and self.dice.random() < 0.4 else self.dice.choice(ops)
 

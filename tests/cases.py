@@ -1,29 +1,39 @@
 """Named cases, each in a folder of its own: a line for each, and then 'N passed, M failed'."""
+from __future__ import annotations
+
 import os
 import signal
 import tempfile
+from typing import Any, Callable, List
 
-CASES, LONG = [], []
+# A case takes what is made of its folder, if anything.
+Case = Callable[..., Any]
+CASES: List[Case] = []
+LONG: List[Case] = []
 
 
-def case(function):
+class Skipped(Exception):
+    """A case can't be run here, and why."""
+
+
+def case(function: Case) -> Case:
     CASES.append(function)
     return function
 
 
-def case_named(name, function):
+def case_named(name: str, function: Any) -> Case:
     """A case that is printed under this name, and not under that of its function."""
     function.told_as = name
     return case(function)
 
 
-def long_case(function):
+def long_case(function: Case) -> Case:
     """A case that takes minutes, for a run of these alone."""
     LONG.append(function)
     return function
 
 
-def equal(found, wanted):
+def equal(found: Any, wanted: Any) -> None:
     if found == wanted:
         return
     if isinstance(found, tuple) and isinstance(wanted, tuple) and len(found) == len(wanted):
@@ -39,11 +49,20 @@ def equal(found, wanted):
     raise AssertionError(f"{found!r}, and not {wanted!r}")
 
 
-def holds(text, part):
+def holds(text: Any, part: Any) -> None:
     assert part in text, f"{part!r} is not in {text!r}"
 
 
-def run_cases(start, is_long=False):
+def in_room(function: Case, room: str) -> None:
+    """Calls the case in its folder."""
+    os.chdir(room)
+    try:
+        function()
+    finally:
+        os.chdir("/")
+
+
+def run_cases(start: Callable[[Case, str], Any] = in_room, is_long: bool = False) -> int:
     """Starts each case by a call with its function and a new folder, and returns the status for all."""
     # a shell that starts the tests in the background has these ignored, and so would be what they start
     signal.signal(signal.SIGINT, signal.default_int_handler)
@@ -56,6 +75,8 @@ def run_cases(start, is_long=False):
                 start(function, os.path.realpath(room))
                 passed += 1
                 print(f"ok: {name}", flush=True)
+            except Skipped as why:
+                print(f"   (1 case is skipped: {why})", flush=True)
             except Exception as why:
                 failed += 1
                 print(f"FAILED: {name}: {type(why).__name__}: {why}", flush=True)

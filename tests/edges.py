@@ -300,6 +300,24 @@ def edges_of_variables():
 
 
 @case
+def edges_of_notifications():
+    top = f"{LARGEST}"
+    tells(task(f"notify a bits {top}", f"notify_wait 0 {top} 0", f"notify a overwrite {top}", "notify_take decrement 0", "notify a keep 0",
+               f"notify_value_clear {top}", "notify a bits 0"), "pass in 7 steps, 0 ticks", "0 0 call a 0 notify = 1",
+          f"1 0 call a 1 notify_wait = {top}", "2 0 call a 2 notify = 1", f"3 0 call a 3 notify_take = {top}", "4 0 call a 4 notify = 1",
+          "5 0 call a 5 notify_value_clear = 0", "6 0 call a 6 notify = 1", "6 0 run -")
+    for op in ("notify a bits N", "notify a overwrite N", "notify a keep N", "notify_wait N 0 0", "notify_wait 0 N 0", "notify_value_clear N"):
+        refuses_numbers(task(op), "task 0 script 0", -1, LARGEST + 1, "00000000001", "0x1", code="4 BadOp")
+        if op.startswith("notify a"):
+            refuses_numbers(HANDLER.replace("[]", f'["{op}"]') + TASK, "handler 0 ops 0", -1, LARGEST + 1, code="4 BadOp")
+    # the longest wait that ends, and one that doesn't
+    for call in ("notify_take clear", "notify_wait 0 0"):
+        refuses_numbers(task(f"{call} N"), "task 0 script 0", -1, LARGEST, "never", code="4 BadOp")
+        for wait, head in ((f"{LARGEST - 1}", "ticks in 997 steps, 995 ticks"), ("forever", "stuck in 2 steps, 0 ticks")):
+            tells("[limits]\nticks = 995\n" + task(f"{call} {wait}", "mark 1"), head, "1 0 run -")
+
+
+@case
 def edges_of_handlers():
     is_taken(entries("handler", 16, "ops = []\n") + TASK)
     faults(entries("handler", 17, "ops = []\n") + TASK, "9 TooMany: handler")
@@ -426,16 +444,17 @@ def many_keys_and_sections_that_are_ignored():
 def what_a_task_may_not_do_while_the_scheduler_is_suspended():
     misused = ["delay 1", "delay 0", "delay_until 1", "yield", "send q 1 0", "send_front q 1 0", "overwrite q 1", "receive q 0",
                "peek q 0", "take s 0", "give s", "lock m 0", "unlock m", "set g 1", "wait g 1 any keep 0", "suspend b", "suspend a",
-               "resume b", "resume a"]
+               "resume b", "resume a", "notify b none", "notify a keep 1", "notify_take clear 0", "notify_wait 0 0 0"]
     both = EACH_KIND + task(name="b", priority=0)
     for op in misused:
         tells(both + task("suspend_all", op), "misuse a 1 1 in 2 steps, 0 ticks", "0 0 call a 0 suspend_all = 0")
     allowed = ["work 1", "repeat 1", "end", "mark 3", "time", "waiting q", "spaces q", "bits g", "clear g 1", "expect 0",
-               "load x", "add 3", "store x answer", "suspend_all", "resume_all"]
-    tells(both + task("suspend_all", *allowed, "resume_all"), "pass in 17 steps, 1 ticks", "0 0 call a 0 suspend_all = 0",
+               "load x", "add 3", "store x answer", "notify_clear", "notify_value_clear 1", "suspend_all", "resume_all"]
+    tells(both + task("suspend_all", *allowed, "resume_all"), "pass in 19 steps, 1 ticks", "0 0 call a 0 suspend_all = 0",
           "4 0 mark a 3", "5 0 call a 5 time = 0", "6 0 call a 6 waiting = 0", "7 0 call a 7 spaces = 1", "8 0 call a 8 bits = 0",
           "9 0 call a 9 clear = 0", "11 0 call a 11 load = 0", "12 0 call a 12 add = 3", "13 0 call a 13 store = 3",
-          "14 0 call a 14 suspend_all = 0", "15 0 call a 15 resume_all = 0", "16 1 call a 16 resume_all = 0", "16 1 run -")
+          "14 0 call a 14 notify_clear = 0", "15 0 call a 15 notify_value_clear = 0", "16 0 call a 16 suspend_all = 0",
+          "17 0 call a 17 resume_all = 0", "18 1 call a 18 resume_all = 0", "18 1 run -")
 
 
 @case
@@ -450,7 +469,7 @@ def the_other_misuses():
 def what_a_task_may_not_do_in_a_critical_section():
     misused = ["work 1", "delay 1", "delay 0", "delay_until 1", "yield", "send q 1 0", "send_front q 1 0", "overwrite q 1", "receive q 0",
                "peek q 0", "take s 0", "give s", "lock m 0", "set g 1", "wait g 1 any keep 0", "suspend b", "suspend a", "resume b",
-               "resume a", "suspend_all"]
+               "resume a", "suspend_all", "notify b none", "notify a keep 1", "notify_take clear 0", "notify_wait 0 0 0"]
     both = EACH_KIND + task(name="b", priority=0)
     for op in misused:
         tells(both + task("enter_critical", op), "misuse a 1 5 in 2 steps, 0 ticks")
@@ -461,10 +480,11 @@ def what_a_task_may_not_do_in_a_critical_section():
     tells(both + task("enter_critical", "resume_all"), "misuse a 1 2 in 2 steps, 0 ticks")
     tells(both + task("suspend_all", "enter_critical", "yield"), "misuse a 2 1 in 3 steps, 0 ticks", "0 0 call a 0 suspend_all = 0")
     allowed = ["repeat 1", "end", "mark 3", "time", "waiting q", "spaces q", "bits g", "clear g 1", "expect 0", "if 0", "else", "end",
-               "stamp", "since", "enter_critical", "exit_critical", "load x", "sub 3", "store x 2"]
-    tells(both + task("enter_critical", *allowed, "exit_critical"), "pass in 20 steps, 0 ticks", "3 0 mark a 3", "4 0 call a 4 time = 0",
+               "stamp", "since", "enter_critical", "exit_critical", "load x", "sub 3", "store x 2", "notify_clear", "notify_value_clear 1"]
+    tells(both + task("enter_critical", *allowed, "exit_critical"), "pass in 22 steps, 0 ticks", "3 0 mark a 3", "4 0 call a 4 time = 0",
           "5 0 call a 5 waiting = 0", "6 0 call a 6 spaces = 1", "7 0 call a 7 bits = 0", "8 0 call a 8 clear = 0",
-          "13 0 call a 14 since = 0", "16 0 call a 17 load = 0", "17 0 call a 18 sub = 4294967293", "18 0 call a 19 store = 2", "19 0 run -")
+          "13 0 call a 14 since = 0", "16 0 call a 17 load = 0", "17 0 call a 18 sub = 4294967293", "18 0 call a 19 store = 2",
+          "19 0 call a 20 notify_clear = 0", "20 0 call a 21 notify_value_clear = 0", "21 0 run -")
 
 
 @case

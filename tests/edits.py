@@ -9,6 +9,8 @@ from dataclasses import dataclass
 FUNCTION = re.compile(r"^( *)(?:pub(?:\([^)]*\))? )?(?:const )?(?:unsafe )?(?:extern \S+ )?fn (\w+)")
 # An impl's head: its parameters, the trait if it is of one, and the type.
 IMPL = re.compile(r"^(?:unsafe )?impl\b(<(?:->|[^<>]|<[^<>]*>)*>)? (?:(.+?) for )?(.+?)(?: where\b.*)?(?: \{\}?)?$")
+# A type that is given others, as in `NotifyAction<u32>`: rt calls its own functions by `NotifyAction+u32`.
+OF_TYPES = re.compile(r"^(\w+)<([\w, ]+)>$")
 PARAMETER = re.compile(r"[<,] ?(?:const )?(\w+)")
 PART_OF_A_TYPE = re.compile(r"'\w+|\w+(?!\w|::)|[&\[\](),;]")
 TRAIT = re.compile(r"^(?:pub(?:\([^)]*\))? )?trait (\w+)")
@@ -112,6 +114,8 @@ def owner_of(line):
     """The word by which rt calls the owner of the functions below this line, if they have one: the type, or the type and its trait."""
     if found := IMPL.match(line):
         parameters = PARAMETER.findall(found[1] or "")
+        if not found[2] and (of := OF_TYPES.match(found[3])):
+            return "+".join([of[1], *(it for it in re.findall(r"\w+", of[2]) if it not in parameters)])
         return spelled(found[3], parameters) + spelled(found[2] or "", parameters)
     found = TRAIT.match(line)
     return found[1] if found else None

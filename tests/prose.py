@@ -27,11 +27,15 @@ PATTERNS = {name: re.compile(rf"(?i)\b(?:{form})\b") for name, form in (
 )}
 # How often a page that was rewritten in plain English has a pattern; one that isn't named here it never has.
 REACHED = {
+    "README.md": {"where": 1},
+    "CHANGELOG.md": {"where": 1},
     "docs/ADDING_AN_OP.md": {"where": 2},
     "docs/ARCHITECTURE.md": {"where": 4, "answers": 3},
     "docs/CI.md": {"where": 1},
     "docs/DECISIONS.md": {"where": 10, "behind": 2},
+    "docs/EXPLORING.md": {"where": 1},
     "docs/FORMATS.md": {"where": 3, "answers": 1},
+    "docs/FROM_C.md": {"where": 2},
     "docs/GLOSSARY.md": {"where": 8},
     "docs/KERNEL.md": {"where": 10},
     "docs/PACKAGE.md": {"where": 2},
@@ -234,7 +238,7 @@ def the_definitions_to_begin_with_are_short():
     first = ("Switching", "Time", "Objects", "Calls", "Step", "Run")
     holds(readme, ", ".join(first))
     lines = sum(believed.lines_of(f"crates/model/specs/{it}.antt") for it in first)
-    assert lines < 340, lines
+    assert lines < 350, lines
 
 
 if __name__ == "__main__":

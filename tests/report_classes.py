@@ -5,7 +5,7 @@ import xml.etree.ElementTree as tree
 
 from cases import case, equal, holds
 from reports import LOST, RACE, ROOT, Dice, good, good_and_quick, is_refused, read, report_of, source_of
-from rtosim_report import base_run, classes
+from rtosim_report import base_run, classes, table
 from rtosim_report.source import Source
 
 FAILED = re.compile(r"isr \S+ \d+ ((send|send_front|give|resume|set|clear) = 0|(receive|peek) = none)\n")
@@ -98,6 +98,23 @@ def the_base_run_is_found_or_presumed():
     head = "row 9 at 9 device: check client 3 in 12 steps, 4 ticks\n"
     other = text.replace(f"{head}4 0 run", f"{head}4 1 run")
     is_refused(other, "a row that begins as the base run does, up to step 9")
+
+
+@case
+def a_class_that_fails_as_the_base_run_does_says_so():
+    row = (3, "h", True, "check a 2 in 9 steps, 4 ticks", ["3 1 isr h 0 send = 1\n"])
+    for end, is_named in (
+        ("check a 2 in 7 steps, 1 ticks", True), ("check a 3 in 9 steps, 4 ticks", False), ("stuck in 9 steps, 4 ticks", False),
+        ("pass in 4 steps, 1 ticks", False),
+    ):
+        with open("base", "w") as it:
+            it.write(f"base: {end}\n" + "3 1 run -\n")
+        for words in (["classes"], ["classes", "--failing"]):
+            equal((end, table.BASE_FAILS in good_and_quick(*words, "--base", "base", text=report_of([row]))), (end, is_named))
+    stuck = (3, "h", True, "stuck in 9 steps, 4 ticks", ["3 1 isr h 0 send = 1\n"])
+    with open("base", "w") as it:
+        it.write("base: stuck in 9 steps, 4 ticks\n3 1 run -\n")
+    assert table.BASE_FAILS not in good_and_quick("classes", "--base", "base", text=report_of([stuck]))
 
 
 @case

@@ -202,6 +202,24 @@ def what_is_too_large_is_classed_by_its_heads_and_said_beforehand():
 
 
 @case
+def json_of_what_the_program_makes_is_written_as_it_comes():
+    """It may be of any size, so nothing of it goes to the folder for temporary files, and a reader that leaves ends it."""
+    script = ("import sys; from rtosim_report import command_line, made, output\n"
+              "made.WORTH_A_WORD, output.IN_MEMORY = 900, 1\n"
+              "sys.exit(command_line.main(['json', '--application', *sys.argv[1:]]))")
+    stand_in(os.getcwd(), "opposite_locks")
+    env = {**os.environ, "PYTHONPATH": f"{os.getcwd()}/tools", "PYTHONDONTWRITEBYTECODE": "1", "TMPDIR": "/none"}
+    words = [sys.executable, "-c", script, f"{LOCKS}.toml"]
+    ran = subprocess.run(words, env=env, capture_output=True, timeout=PATIENCE)
+    equal((ran.returncode, ran.stderr), (0, b"rtosim-report: 22 rows: some 1 MB, read in some 1 second\n"))
+    equal(ran.stdout.decode(), good_and_quick("json", f"{LOCKS}.report"))
+    reader, writer = os.pipe()
+    os.close(reader)
+    equal(subprocess.run(words, env=env, stdout=writer, stderr=subprocess.DEVNULL, timeout=PATIENCE).returncode, 141)
+    os.close(writer)
+
+
+@case
 def rows_are_read_in_pieces():
     survey = made.Survey()
     for it in source_of(read(f"{LOCKS}.report").decode()).reader():

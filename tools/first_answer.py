@@ -3,9 +3,12 @@
 The answer is that of a preview (tools/previewing.py). What the words name is read once, and both programs are given these bytes: a pipe can
 be read only once, and a file may be edited during the proof. Of the proved program's answer nothing is printed and nothing is kept: it is
 compared as it comes, up to the first byte that differs."""
+from __future__ import annotations
+
 import os
 import subprocess
 import tempfile
+from typing import IO, Any, Callable, Dict, Iterable, List, Optional, Tuple
 
 import ending
 import previewing
@@ -25,12 +28,12 @@ NO_MEMORY, CANNOT_WRITE, DIFFERS = 4, 5, 70
 BYTES = 1 << 16
 
 
-def limited(words):
+def limited(words: Iterable[str]) -> List[str]:
     """The words that start the program with a limit on its memory."""
     return ["/bin/sh", "-c", LIMITED, f"{ROOT}/tools/memory.sh", PROGRAM, *words]
 
 
-def first_difference(stream, wanted):
+def first_difference(stream: IO[bytes], wanted: bytes) -> Optional[int]:
     """Where what the stream gives first differs from the bytes that are wanted; None where it doesn't."""
     at = 0
     while part := stream.read(BYTES):
@@ -44,12 +47,13 @@ def first_difference(stream, wanted):
 class FirstAnswer:
     """The answer to a call of the program with these words. `room` is a folder of its own, `sources` returns the digest of the sources."""
 
-    def __init__(self, words, room, sources):
+    def __init__(self, words: Iterable[str], room: str, sources: Callable[[], str]) -> None:
         self.room, self.sources = room, sources
         self.before, self.files = sources(), previewing.Files(words, room)
-        self.answer, self.has_written = None, True
+        # Of nothing, until it is given.
+        self.answer, self.has_written = previewing.Answer(b"", b"", None), True
 
-    def give(self):
+    def give(self) -> None:
         """Prints the answer of a preview, if it has one."""
         say(BEFORE)
         self.answer = self.of_a_preview()
@@ -57,7 +61,7 @@ class FirstAnswer:
         pass_on(2, self.files.as_called(self.answer.err))
         say(UNPROVED if self.was_given() else NO_ANSWER)
 
-    def of_a_preview(self):
+    def of_a_preview(self) -> previewing.Answer:
         """Its answer. That it has no memory is none: the proved program may have enough."""
         try:
             answer = previewing.answer(self.files)
@@ -65,14 +69,14 @@ class FirstAnswer:
             return previewing.Answer(b"", f"rtosim: no preview can be made: {error}\n".encode(errors="surrogateescape"), None)
         return previewing.Answer(b"", answer.err, None) if answer.status == NO_MEMORY else answer
 
-    def was_given(self):
+    def was_given(self) -> bool:
         return self.answer.status is not None
 
-    def say_that_it_stays_unproved(self):
+    def say_that_it_stays_unproved(self) -> None:
         if self.was_given():
             say(STAYS_UNPROVED)
 
-    def confirm(self):
+    def confirm(self) -> int:
         """Runs the proved program. Returns its status; or another one, where its answer isn't the one that was given."""
         folder = f"{self.room}/run"
         os.mkdir(folder)
@@ -86,9 +90,9 @@ class FirstAnswer:
             say(f"the proved program gives another answer, which differs {difference}{also}: {STAYS_UNPROVED}; {NOW_PROVED}")
             return DIFFERS
         say(f"proved: the same {len(self.answer.out)} bytes")
-        return self.answer.status if self.has_written else CANNOT_WRITE
+        return CANNOT_WRITE if self.answer.status is None or not self.has_written else self.answer.status
 
-    def difference(self, how):
+    def difference(self, how: Dict[str, Any]) -> Optional[str]:
         """In what the proved program's answer differs from the one that was given; None where it doesn't."""
         with tempfile.TemporaryFile() as said:
             how = {**how, "stdout": subprocess.PIPE, "stderr": said}
@@ -102,8 +106,9 @@ class FirstAnswer:
                 return "on standard error"
             return None if status == self.answer.status else f"in its status, {status} and not {self.answer.status}"
 
-    def compare(self, program):
+    def compare(self, program: ending.Popen) -> Tuple[Optional[int], int]:
         """Where its output differs first, and its status."""
+        assert program.stdout
         at = first_difference(program.stdout, self.answer.out)
         if at is not None:
             ending.end(program)

@@ -1,6 +1,9 @@
 """What the `--help` texts of a command and of its subcommands say, as clap and argparse write them."""
+from __future__ import annotations
+
 import re
 from dataclasses import dataclass, field
+from typing import Callable, Dict, List, Optional, Tuple
 
 # Names of values that are files.
 FILES = ("FILE", "FILE.c", "FOLDER", "MAP", "PATH", "REPORT", "OLD", "NEW")
@@ -11,12 +14,12 @@ OPTION = re.compile(r"(?:-(?P<short>\w)|--(?P<long>[\w-]+))(?:[ =](?P<value><[^>
 class Entry:
     """An argument, or an option: its names, `-o` and `--output`, if it is one; the value that it takes, as it is shown; what it is."""
 
-    names: list
-    value: str
+    names: List[str]
+    value: Optional[str]
     text: str
 
     @property
-    def words(self):
+    def words(self) -> List[str]:
         """The words that the value is one of, as far as the text shows them."""
         shown = self.value or ""
         listed = re.fullmatch(r"\{(.*)\}", shown)
@@ -24,11 +27,11 @@ class Entry:
         return [it for it in words if it.islower()]
 
     @property
-    def is_file(self):
+    def is_file(self) -> bool:
         return self.value in FILES
 
     @property
-    def called(self):
+    def called(self) -> Optional[str]:
         """The value, as a manual names it."""
         return "|".join(self.words) if self.value and self.value.startswith("{") else self.value
 
@@ -37,27 +40,27 @@ class Entry:
 class Command:
     """A command, with the words by which it is called: `rtosim`, or `rtosim run`."""
 
-    words: list
+    words: List[str]
     about: str = ""
     usage: str = ""
-    arguments: list = field(default_factory=list)
-    options: list = field(default_factory=list)
-    notes: dict = field(default_factory=dict)
-    commands: list = field(default_factory=list)
+    arguments: List[Entry] = field(default_factory=list)
+    options: List[Entry] = field(default_factory=list)
+    notes: Dict[str, List[str]] = field(default_factory=dict)
+    commands: List[Command] = field(default_factory=list)
 
     @property
-    def name(self):
+    def name(self) -> str:
         return self.words[-1]
 
 
-def paragraphs(text):
+def paragraphs(text: str) -> List[List[str]]:
     """The parts of a text between blank lines."""
     return [it.strip("\n").split("\n") for it in re.split(r"\n{2,}", text.strip("\n"))]
 
 
-def entries(lines):
+def entries(lines: List[str]) -> List[List[str]]:
     """Each entry of a list with its text, which may begin in the next line, further to the right."""
-    found = []
+    found: List[List[str]] = []
     for line in lines:
         depth = len(line) - len(line.lstrip())
         if found and depth >= 20:
@@ -68,7 +71,7 @@ def entries(lines):
     return found
 
 
-def option(head, text):
+def option(head: str, text: str) -> Entry:
     """The option that is listed so."""
     names, value = [], None
     for it in OPTION.finditer(head):
@@ -78,7 +81,7 @@ def option(head, text):
     return Entry(sorted(names, key=len), value.strip("<>") if value else None, text)
 
 
-def read_section(command, title, lines):
+def read_section(command: Command, title: str, lines: List[str]) -> List[Tuple[str, str]]:
     """Takes in a list of the help text. Returns the names of the subcommands in it."""
     if title in ("Options", "options", "optional arguments"):
         command.options += [option(*it) for it in entries(lines)]
@@ -95,7 +98,7 @@ def read_section(command, title, lines):
     return []
 
 
-def read(words, help_of, about=""):
+def read(words: List[str], help_of: Callable[[List[str]], str], about: str = "") -> Command:
     """The command that is called by these words, with its subcommands. The function gives the help text of such words."""
     command, below = Command(words, about), []
     for first, *rest in paragraphs(help_of(words)):

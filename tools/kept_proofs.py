@@ -1,21 +1,24 @@
 """What an interrupted build from nothing has proved, so that the next one goes on there. Beside a library lies what rattle said of it, with
 the sum of all that its proof reads and of what it is made of. The record is written last, so a library without one is proved anew."""
+from __future__ import annotations
+
 import contextlib
 import hashlib
 import os
 import shutil
+from typing import Any, Dict, List, Optional
 
 RECORD = "out/proved"
 
 
-def sum_of(crate):
+def sum_of(crate: Any) -> str:
     """The sum of the sources of the crate and of those below, of the toolchain, of the handles, and of the sizes of the library's files."""
     sizes = [(os.path.relpath(at, crate.rlib), it, os.path.getsize(f"{at}/{it}"))
              for at, _, names in os.walk(crate.rlib) for it in names]
     return hashlib.sha256(repr((crate.stamp(), crate.allowed, sorted(sizes))).encode()).hexdigest()
 
 
-def keep(crate, said):
+def keep(crate: Any, said: str) -> None:
     """Records what was said of the crate, which is proved and built. Where that can't be written, the next build proves it anew."""
     record = f"{crate.folder}/{RECORD}"
     with contextlib.suppress(OSError):
@@ -25,7 +28,7 @@ def keep(crate, said):
         os.replace(f"{record}.new", record)
 
 
-def said_of(crate):
+def said_of(crate: Any) -> Optional[str]:
     """What was said of the crate when it was proved; None where it isn't, or where anything is another since."""
     try:
         with open(f"{crate.folder}/{RECORD}", encoding="utf-8", errors="surrogateescape") as file:
@@ -35,7 +38,7 @@ def said_of(crate):
     return said if os.path.isdir(crate.rlib) and before == sum_of(crate) else None
 
 
-def proved_before(crates):
+def proved_before(crates: List[Any]) -> Dict[Any, str]:
     """What was said of each crate that needs no proof, lowest first: such a crate stands on such crates alone. Of the others nothing that was
     built is left."""
     found = {}

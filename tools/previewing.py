@@ -3,11 +3,14 @@
 That is done in a copy of the sources, in a folder for temporary files, so that nothing of the checkout is written, neither the program
 nor what is kept of proofs. `rt try` runs the program in a folder of its own: a word that names a file is given to it as a copy of that
 file."""
+from __future__ import annotations
+
 import os
 import re
 import stat
 import subprocess
 import tempfile
+from typing import Dict, Iterable, List, Optional, Tuple
 
 import ending
 import proving
@@ -24,12 +27,12 @@ MOST_READ = 1 << 28
 TAKEN = ("..", "program", "stdin", "stdout", "stderr")
 
 
-def say(text):
+def say(text: str) -> None:
     """Writes to standard error. Where nobody takes it, the work goes on."""
     pass_on(2, f"rtosim: {text}\n".encode(errors="surrogateescape"))
 
 
-def pass_on(stream, text):
+def pass_on(stream: int, text: bytes) -> bool:
     """Writes all of the text, and returns whether it could."""
     at = 0
     try:
@@ -43,11 +46,13 @@ def pass_on(stream, text):
 class Files:
     """The files that the words name, as copies in a folder."""
 
-    def __init__(self, words, room):
-        self.room, self.copies, self.renamed, self.read = room, {}, {}, 0
+    def __init__(self, words: Iterable[str], room: str) -> None:
+        self.room, self.read = room, 0
+        self.copies: Dict[str, str] = {}
+        self.renamed: Dict[bytes, bytes] = {}
         self.words = [self.word_for(it) for it in words]
 
-    def word_for(self, word):
+    def word_for(self, word: str) -> str:
         """The word by which the program finds the file that this word names; the word itself where it names none."""
         place = self.place_of(word)
         if place is None:
@@ -59,7 +64,7 @@ class Files:
         self.copies[name] = place
         return called
 
-    def place_of(self, word):
+    def place_of(self, word: str) -> Optional[str]:
         """Where a copy is of the file that the word names, if it names one that can be read: a file, a pipe, or what is typed."""
         try:
             kind = os.stat(word).st_mode
@@ -75,17 +80,17 @@ class Files:
             copy.write(text)
         return place
 
-    def as_called(self, text):
+    def as_called(self, text: bytes) -> bytes:
         """The text with the words in the place of the names that the program was given."""
         for called, word in self.renamed.items():
             text = text.replace(called, word)
         return text
 
-    def flags(self):
+    def flags(self) -> List[str]:
         """The words by which `rt try` gives them to the program."""
         return [word for name, place in self.copies.items() for word in ("--data", f"{name}={place}")]
 
-    def lay_out(self, folder):
+    def lay_out(self, folder: str) -> None:
         """Puts them into a folder as the program finds them."""
         for name, place in self.copies.items():
             os.makedirs(os.path.dirname(f"{folder}/{name}"), exist_ok=True)
@@ -95,11 +100,11 @@ class Files:
 class Answer:
     """What the program wrote to its two streams, and its status; or, without a status, what rt said in its place."""
 
-    def __init__(self, out, err, status):
+    def __init__(self, out: bytes, err: bytes, status: Optional[int]) -> None:
         self.out, self.err, self.status = out, err, status
 
 
-def copied_sources(room):
+def copied_sources(room: str) -> str:
     """Makes a copy of the crates that the program builds on, a repository of its own, and returns its root."""
     copy = f"{room}/copy"
     names = [*proving.below("rtosim", proving.crates(ROOT)), "rtosim"]
@@ -108,20 +113,20 @@ def copied_sources(room):
     return copy
 
 
-def placed(line, copy):
+def placed(line: bytes, copy: str) -> bytes:
     """The line of rt with a place in the checkout for one in the copy, or in the folder of the program's own crate."""
     line = line.replace(os.fsencode(copy), os.fsencode(ROOT))
     return re.sub(rb"^(?:\./)?(?=src/\S+\.rt:\d)", os.fsencode(f"{ROOT}/crates/rtosim/"), line)
 
 
-def tried(copy, files):
+def tried(copy: str, files: Files) -> Tuple[bytes, bytes]:
     """What the program writes, and what rt says of it, below what the program writes to its standard error."""
     words = ["rt", "try", "--seconds", str(SECONDS), *files.flags(), "--", *files.words]
     streams = {"stdin": subprocess.DEVNULL, "stdout": subprocess.PIPE, "stderr": subprocess.PIPE}
     return ending.run(words, lambda rt: rt.communicate(), cwd=f"{copy}/crates/rtosim", **streams)
 
 
-def answer(files):
+def answer(files: Files) -> Answer:
     """Compiles the program and runs it, and returns its answer."""
     with tempfile.TemporaryDirectory(prefix="rtosim-preview-") as room:
         copy = copied_sources(room)

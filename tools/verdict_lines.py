@@ -4,11 +4,14 @@ them.
 
 A line holds as long as these sources are the same, whoever built what: `rt ci` says nothing of a crate that an earlier run of it proved,
 nor does `rt check` of one that is as it was built."""
+from __future__ import annotations
+
 import contextlib
 import hashlib
 import os
 import re
 import subprocess
+from typing import Dict, Iterable, Iterator, List, Optional, Tuple
 
 import proving
 
@@ -20,20 +23,21 @@ OVER_KEPT = " incremental=trusted"
 HEADER = re.compile(r"== (\w+)(: its tests)?$")
 
 
-def names(root=proving.ROOT):
+def names(root: str = proving.ROOT) -> List[str]:
     """The crates that the program builds on, and its own, lowest first."""
     return [*proving.below("rtosim", proving.crates(root)), "rtosim"]
 
 
-def files_below(folder):
+def files_below(folder: str) -> Iterator[str]:
     for at, folders, files in os.walk(folder):
         folders.sort()
         yield from (f"{at}/{it}" for it in sorted(files))
 
 
-def sums(root=proving.ROOT):
+def sums(root: str = proving.ROOT) -> Dict[str, str]:
     """Of each of the crates the sum of all sources that a proof of it reads: its own, and those of the crates below it."""
-    stand_on, found = proving.crates(root), {}
+    stand_on = proving.crates(root)
+    found: Dict[str, str] = {}
     for name in names(root):
         total = hashlib.sha256()
         for part in READ_BY_PROOFS:
@@ -47,7 +51,7 @@ def sums(root=proving.ROOT):
     return found
 
 
-def lines_in(said):
+def lines_in(said: Iterable[str]) -> Dict[str, str]:
     """The last line of each crate that is proved, out of what rt, or tools/from_nothing, says of several."""
     found, header, name = {}, None, None
     for line in said:
@@ -63,13 +67,13 @@ def lines_in(said):
     return found
 
 
-def toolchain():
+def toolchain() -> str:
     """The toolchain's own line."""
     ran = subprocess.run(["rt", "version"], stdin=subprocess.DEVNULL, capture_output=True, text=True, errors="replace")
     return " ".join(ran.stdout.split())
 
 
-def record(root=proving.ROOT):
+def record(root: str = proving.ROOT) -> Tuple[Optional[str], Dict[str, Tuple[str, str]]]:
     """The toolchain's line, and of each crate its sum and its line, as they are kept."""
     try:
         with open(f"{root}/{RECORD}", encoding="utf-8") as file:
@@ -79,7 +83,7 @@ def record(root=proving.ROOT):
         return None, {}
 
 
-def with_said(said, root):
+def with_said(said: Iterable[str], root: str) -> str:
     """The text of the record with the lines that are said. One of a proof over kept proofs takes no other's place."""
     now, (before, lines), its_sums = toolchain(), record(root), sums(root)
     lines = {name: it for name, it in lines.items() if now == before and its_sums.get(name) == it[0]}
@@ -89,7 +93,7 @@ def with_said(said, root):
     return "".join(f"{it}\n" for it in (now, *(f"{name} {' '.join(lines[name])}" for name in its_sums if name in lines)))
 
 
-def keep(said, root=proving.ROOT):
+def keep(said: Iterable[str], root: str = proving.ROOT) -> None:
     """Keeps the lines that are said of the sources as they are, where that can be written."""
     with contextlib.suppress(OSError):
         text = with_said(said, root)
@@ -98,7 +102,7 @@ def keep(said, root=proving.ROOT):
         os.replace(f"{root}/{RECORD}.new", f"{root}/{RECORD}")
 
 
-def kept(root=proving.ROOT):
+def kept(root: str = proving.ROOT) -> Tuple[Optional[str], Dict[str, str]]:
     """The toolchain's line, and the line of each crate whose sources are those that it is about."""
     by, lines = record(root)
     its_sums = sums(root)

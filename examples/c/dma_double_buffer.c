@@ -1,105 +1,108 @@
-/* A DMA channel fills two halves of a buffer in turn, and an interrupt says which half is full: a bit of an event group for each.
+/* A DMA controller fills two buffers in turn, with an interrupt for each. The driver works on a full buffer and gives it back.
 
        bin/rtosim-from-c --campaign examples/c/dma_double_buffer.c --only failing
        bin/rtosim-from-c --campaign examples/c/dma_double_buffer.c -D CURED
 
-   The driver works on the half that is full. If the other one is full as well by then, both bits are set, the wait clears both, and
-   `else if` forgets the second half. That happens if another interrupt wakes the logger while the driver works on a block: it runs above
-   the driver for two more halves. The cure asks for both bits. */
+   Each interrupt notifies the driver which buffer is full. The number of the buffer is the value of the notification, and
+   eSetValueWithOverwrite replaces one that the driver hasn't taken yet. That happens if another interrupt wakes the logger, which runs
+   above the driver until both buffers are full: the first one is never given back. In the cure each buffer is a bit that eSetBits sets,
+   and the driver works on all buffers whose bits it finds. */
 #include "FreeRTOS.h"
-#include "event_groups.h"
-#include "queue.h"
 #include "task.h"
 
-#define FIRST_HALF (1u << 0)
-#define SECOND_HALF (1u << 1)
+#define FIRST 1u
+#define SECOND 2u
 
-static EventGroupHandle_t full;
-static QueueHandle_t blocks;
+typedef struct {
+    volatile uint32_t CONTROL, OWNER;
+} DMA_TypeDef;
 
-/* rtosim: interrupt 3 DMA1_Half */
-/* rtosim: interrupt 7 DMA1_Full */
-/* rtosim: interrupt 11 DMA1_Half */
-/* rtosim: interrupt 15 DMA1_Full */
+#define DMA1 ((DMA_TypeDef *)0x40020000u)
+
+static TaskHandle_t driver_handle, logger_handle;
+static uint32_t taken;
+
+static void notify_driver(uint32_t buffer)
+{
+    BaseType_t woken = pdFALSE;
+
+#ifdef CURED
+    xTaskNotifyFromISR(driver_handle, buffer, eSetBits, &woken);
+#else
+    xTaskNotifyFromISR(driver_handle, buffer, eSetValueWithOverwrite, &woken);
+#endif
+    portYIELD_FROM_ISR(woken);
+}
+
+/* rtosim: interrupt 3 DMA1_First */
+/* rtosim: interrupt 7 DMA1_Second */
+/* rtosim: interrupt 11 DMA1_First */
+/* rtosim: interrupt 15 DMA1_Second */
 /* rtosim: points all EXTI4 */
-void DMA1_Half_IRQHandler(void)
+void DMA1_First_IRQHandler(void)
 {
-    BaseType_t woken = pdFALSE;
-
-    configASSERT(xEventGroupSetBitsFromISR(full, FIRST_HALF, &woken) == pdPASS);
-    portYIELD_FROM_ISR(woken);
+    notify_driver(FIRST);
 }
 
-void DMA1_Full_IRQHandler(void)
+void DMA1_Second_IRQHandler(void)
 {
-    BaseType_t woken = pdFALSE;
-
-    configASSERT(xEventGroupSetBitsFromISR(full, SECOND_HALF, &woken) == pdPASS);
-    portYIELD_FROM_ISR(woken);
+    notify_driver(SECOND);
 }
 
-static TaskHandle_t logger_handle;
-
-/* wakes a task above the driver, which writes a log to a slow memory */
 void EXTI4_IRQHandler(void)
 {
-    portYIELD_FROM_ISR(xTaskResumeFromISR(logger_handle));
+    BaseType_t woken = pdFALSE;
+
+    vTaskNotifyGiveFromISR(logger_handle, &woken);
+    portYIELD_FROM_ISR(woken);
 }
 
 static void logger(void *parameters)
 {
     (void)parameters;
     for (;;) {
-        vTaskSuspend(NULL);
-        rtosim_work(8);
+        ulTaskNotifyTake(pdTRUE, portMAX_DELAY);
+        rtosim_work(5);
     }
 }
 
-static void take_block(uint32_t half)
+static void work_on(uint32_t buffer)
 {
     rtosim_work(2);
-    xQueueSend(blocks, &half, 0);
+    DMA1->OWNER |= buffer;
+    taken++;
 }
 
 static void driver(void *parameters)
 {
+    uint32_t full;
+
     (void)parameters;
     for (;;) {
-        EventBits_t bits = xEventGroupWaitBits(full, FIRST_HALF | SECOND_HALF, pdTRUE, pdFALSE, portMAX_DELAY);
-
-#ifdef CURED
-        if (bits == FIRST_HALF) {
-            take_block(1);
-        } else if (bits == SECOND_HALF) {
-            take_block(2);
-        } else {
-            take_block(1);
-            take_block(2);
+        if (xTaskNotifyWait(0, UINT32_MAX, &full, pdMS_TO_TICKS(50)) == pdTRUE) {
+            if (full & FIRST) {
+                work_on(FIRST);
+            }
+            if (full & SECOND) {
+                work_on(SECOND);
+            }
         }
-#else
-        if (bits & FIRST_HALF) {
-            take_block(1);
-        } else if (bits & SECOND_HALF) {
-            take_block(2);
-        }
-#endif
     }
 }
 
+/* below the others: when it has run, each full buffer must have been given back */
 static void check(void *parameters)
 {
     (void)parameters;
     rtosim_work(16);
-    configASSERT(uxQueueMessagesWaiting(blocks) == 4);
+    configASSERT(taken == 4);
     vTaskDelete(NULL);
 }
 
 int main(void)
 {
-    full = xEventGroupCreate();
-    blocks = xQueueCreate(8, sizeof(uint32_t));
     xTaskCreate(logger, "logger", configMINIMAL_STACK_SIZE, NULL, 3, &logger_handle);
-    xTaskCreate(driver, "driver", configMINIMAL_STACK_SIZE, NULL, 2, NULL);
+    xTaskCreate(driver, "driver", configMINIMAL_STACK_SIZE, NULL, 2, &driver_handle);
     xTaskCreate(check, "check", configMINIMAL_STACK_SIZE, NULL, 1, NULL);
     vTaskStartScheduler();
     return 0;

@@ -26,6 +26,8 @@ class Machine:
         self.ops = [it.split() for it in ops]
         self.now = self.at = self.stamp = self.steps = self.sections = 0
         self.answer: Optional[int] = None
+        # the task's notification
+        self.notified, self.is_pending = 0, False
         self.loops: List[List[int]] = []
         self.trace: List[str] = []
 
@@ -247,3 +249,42 @@ class Machine:
         if is_met and then == "clear":
             self.counts[group] &= ~int(mask)
         self.answered("wait", found)
+
+    # -- notifications: the task notifies itself
+
+    def do_notify(self, task: str, action: str, value: str = "0") -> None:
+        is_kept = action == "keep" and self.is_pending
+        number = self.value(value)
+        if action == "bits":
+            self.notified |= number
+        elif action == "increment":
+            self.notified = (self.notified + 1) % SIZE
+        elif action in ("overwrite", "keep") and not is_kept:
+            self.notified = number
+        self.is_pending = True
+        self.answered("notify", int(not is_kept))
+
+    def do_notify_take(self, which: str, wait: str) -> None:
+        self.waits(self.notified != 0, wait)
+        found = self.notified
+        self.notified = 0 if which == "clear" else max(0, found - 1)
+        self.is_pending = False
+        self.answered("notify_take", found)
+
+    def do_notify_wait(self, before: str, after: str, wait: str) -> None:
+        if not self.is_pending:
+            self.notified &= ~int(before)
+        is_there = self.waits(self.is_pending, wait)
+        found = self.notified
+        self.notified &= ~int(after) if is_there else -1
+        self.is_pending = False
+        self.answered("notify_wait", found if is_there else None)
+
+    def do_notify_clear(self) -> None:
+        was_pending, self.is_pending = self.is_pending, False
+        self.answered("notify_clear", int(was_pending))
+
+    def do_notify_value_clear(self, bits: str) -> None:
+        before = self.notified
+        self.notified &= ~int(bits)
+        self.answered("notify_value_clear", before)

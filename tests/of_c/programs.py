@@ -9,13 +9,14 @@ HEAD = """#include "FreeRTOS.h"
 #include "event_groups.h"
 #include <string.h>
 
-static QueueHandle_t jobs, box;
+static QueueHandle_t jobs, box, pairs;
 static SemaphoreHandle_t flag, count, bus;
 static EventGroupHandle_t events;
 static const int limit = 3;
 enum command { STOP, GO = 4, WAIT };
 struct context { int total; uint8_t last; };
 static struct context context;
+struct pair { int x; uint8_t y; };
 static uint8_t buffer[8];
 
 /* rtosim: ignore board_* */
@@ -31,12 +32,13 @@ static int sum(const uint8_t *data, int size)
 CREATES = """
     jobs = xQueueCreate(3, sizeof(int));
     box = xQueueCreate(1, sizeof(uint8_t));
+    pairs = xQueueCreate(2, sizeof(struct pair));
     flag = xSemaphoreCreateBinary();
     count = xSemaphoreCreateCounting(3, 1);
     bus = xSemaphoreCreateMutex();
     events = xEventGroupCreate();
 """
-INTEGERS = ("a", "b", "n", "v", "ok")
+INTEGERS = ("a", "b", "n", "v", "ok", "flags", "pair.x", "pair.y")
 WAITS = ("0", "0", "0", "2", "pdMS_TO_TICKS(3)")
 COMPARISONS = ("==", "!=", "<", "<=", ">", ">=")
 
@@ -89,7 +91,7 @@ class Programs:
 
     def locals(self) -> str:
         a, b, n, v = (self.one_of("0", "1", "2", "3", "5") for _ in range(4))
-        integers = f"    int a = {a}, b = {b}, item = 0;\n    unsigned n = {n};\n    uint8_t v = {v};\n    bool ok = false;\n"
+        integers = f"    int a = {a}, b = {b}, item = 0;\n    unsigned n = {n};\n    uint8_t v = {v};\n    bool ok = false;\n    uint32_t flags = {n};\n    struct pair pair = {self.one_of('{ 0 }', '{ .y = 7 }', '{ a, b }')};\n"
         first = self.one_of("0", "xTaskGetTickCount()", "1")
         return f"{integers}    TickType_t t = 0, u = {first};\n"
 
@@ -101,12 +103,21 @@ class Programs:
         return self.one_of(
             f"xQueueReceive(jobs, &item, {wait})", f"xQueueReceive(box, &v, {wait})", f"xQueuePeek(jobs, &item, {wait})",
             f"xSemaphoreTake(flag, {wait})", f"xSemaphoreTake(count, {wait})", f"xSemaphoreTake(bus, {wait})", "xSemaphoreGive(flag)",
-            "xSemaphoreGive(count)", self.sending(wait), self.sending(wait),
+            "xSemaphoreGive(count)", self.sending(wait), self.sending(wait), self.notifying(wait),
+        )
+
+    def notifying(self, wait: str) -> str:
+        """A call that notifies the task itself, or asks whether it was notified."""
+        own, bits = "xTaskGetCurrentTaskHandle()", self.one_of("0", "1", "6", "UINT32_MAX")
+        action = self.one_of("eNoAction", "eSetBits", "eIncrement", "eSetValueWithOverwrite", "eSetValueWithoutOverwrite")
+        return self.one_of(
+            f"xTaskNotify({own}, {self.one_of(*INTEGERS, self.number())}, {action})", f"xTaskNotifyGive({own})", "xTaskNotifyStateClear(NULL)",
+            f"xTaskNotifyWait({bits}, {self.one_of('0', '3', 'UINT32_MAX')}, {self.one_of('&flags', '&flags', 'NULL')}, {wait})",
         )
 
     def sending(self, wait: str) -> str:
         return self.one_of(
-            f"xQueueSend(jobs, &a, {wait})", f"xQueueSendToFront(jobs, &b, {wait})", f"xQueueSend(box, &v, {wait})",
+            f"xQueueSend(jobs, &a, {wait})", f"xQueueSend(pairs, &pair, {wait})", f"xQueueReceive(pairs, &pair, {wait})", f"xQueueSendToFront(jobs, &b, {wait})", f"xQueueSend(box, &v, {wait})",
             f"xQueueSendToBack(jobs, &n, {wait})", "xQueueOverwrite(box, &a)",
         )
 
@@ -116,6 +127,7 @@ class Programs:
             "uxQueueMessagesWaiting(jobs)", "uxQueueSpacesAvailable(jobs)", "xEventGroupGetBits(events)", "xEventGroupSetBits(events, 2)",
             "xEventGroupClearBits(events, 1)", "xEventGroupSetBits(events, 1)", "xEventGroupWaitBits(events, 3, pdTRUE, pdFALSE, 1)",
             "xEventGroupWaitBits(events, 3, pdFALSE, pdTRUE, 0)",
+            f"ulTaskNotifyTake({self.one_of('pdTRUE', 'pdFALSE')}, {self.one_of(*WAITS)})", "ulTaskNotifyValueClear(NULL, 1)",
         )
 
     def helper(self) -> str:
@@ -205,6 +217,8 @@ class Programs:
             f"{{ int *to = &{local}; *to = {self.number()}; }}", "{ uint8_t *to = &v; to[0] = 7; }", "memset(buffer, 0, sizeof(buffer));",
             f"{local} = sizeof(buffer);", f"{local} = buffer[1];", "board_fill(&item, sizeof(item));", "ok = buffer != NULL && &context;",
             "taskENTER_CRITICAL(); n += 2; taskEXIT_CRITICAL();", f"{{ taskENTER_CRITICAL(); {local} = {self.counted_in_section()}; taskEXIT_CRITICAL(); }}",
+            f"{{ struct pair *to = &pair; to->{self.one_of('x', 'y')} {self.one_of('=', '+=', '^=')} {local}; }}", "memset(&pair, 0, sizeof(pair));",
+            "{ struct pair other = pair; other.x++; pair = other; }", "board_fill(&pair.y, 1);",
             f"{{ int copy[2] = {{ {local}, 1 }}; board_fill(copy, 4); }}",
         )
 

@@ -19,6 +19,9 @@ struct task { TaskFunction_t function; const char *name; void *parameters; };
 static struct object objects[16];
 static struct task tasks[MOST_TASKS];
 static unsigned object_count, task_count, calls, now, sections;
+/* the notification of the task that runs */
+static uint32_t notified;
+static int is_pending;
 static jump_buffer leaves;
 
 static void stop(const char *why)
@@ -55,18 +58,19 @@ static int waits(int is_possible, TickType_t wait)
     return 0;
 }
 
+/* of a structure the first member, which has 32 bits */
 static uint32_t read_item(const struct object *it, const void *item)
 {
     const uint8_t *bytes = item;
     uint32_t found = 0;
-    for (unsigned at = 0; at < it->size; at++) found |= (uint32_t)bytes[at] << 8 * at;
+    for (unsigned at = 0; at < it->size && at < sizeof(found); at++) found |= (uint32_t)bytes[at] << 8 * at;
     return found;
 }
 
 static void write_item(const struct object *it, uint32_t number, void *item)
 {
     uint8_t *bytes = item;
-    for (unsigned at = 0; at < it->size; at++) bytes[at] = (uint8_t)(number >> 8 * at);
+    for (unsigned at = 0; at < it->size && at < sizeof(number); at++) bytes[at] = (uint8_t)(number >> 8 * at);
 }
 
 QueueHandle_t xQueueCreate(UBaseType_t length, UBaseType_t size) { return (QueueHandle_t)made(QUEUE, size, length, 0); }
@@ -181,6 +185,63 @@ EventBits_t xEventGroupWaitBits(EventGroupHandle_t group, EventBits_t bits, Base
     return counted("wait", found);
 }
 
+TaskHandle_t xTaskGetCurrentTaskHandle(void) { return (TaskHandle_t)tasks; }
+
+BaseType_t xTaskNotify(TaskHandle_t task, uint32_t value, eNotifyAction action)
+{
+    int is_kept = action == eSetValueWithoutOverwrite && is_pending;
+    (void)task;
+    if (action == eSetBits) notified |= value;
+    if (action == eIncrement) notified++;
+    if (action == eSetValueWithOverwrite || (action == eSetValueWithoutOverwrite && !is_kept)) notified = value;
+    is_pending = 1;
+    traced("notify", (uint32_t)!is_kept);
+    return !is_kept;
+}
+
+BaseType_t xTaskNotifyGive(TaskHandle_t task) { return xTaskNotify(task, 0, eIncrement); }
+
+uint32_t ulTaskNotifyTake(BaseType_t clears, TickType_t wait)
+{
+    waits(notified != 0, wait);
+    uint32_t found = notified;
+    if (found != 0) notified = clears ? 0 : found - 1;
+    is_pending = 0;
+    return counted("notify_take", found);
+}
+
+BaseType_t xTaskNotifyWait(uint32_t clears_before, uint32_t clears_after, uint32_t *value, TickType_t wait)
+{
+    if (!is_pending) notified &= ~clears_before;
+    int is_there = waits(is_pending, wait);
+    if (value) *value = notified;
+    is_pending = 0;
+    if (!is_there) {
+        traced_none("notify_wait");
+        return pdFALSE;
+    }
+    traced("notify_wait", notified);
+    notified &= ~clears_after;
+    return pdTRUE;
+}
+
+BaseType_t xTaskNotifyStateClear(TaskHandle_t task)
+{
+    int was_pending = is_pending;
+    (void)task;
+    is_pending = 0;
+    traced("notify_clear", (uint32_t)was_pending);
+    return was_pending;
+}
+
+uint32_t ulTaskNotifyValueClear(TaskHandle_t task, uint32_t bits)
+{
+    uint32_t before = notified;
+    (void)task;
+    notified &= ~bits;
+    return counted("notify_value_clear", before);
+}
+
 void vTaskDelay(TickType_t ticks)
 {
     traced("delay", 0);
@@ -225,7 +286,8 @@ void vTaskStartScheduler(void)
 {
     for (unsigned at = 0; at < task_count; at++) {
         for (unsigned it = 0; it < object_count; it++) objects[it].count = objects[it].initial;
-        now = calls = sections = 0;
+        now = calls = sections = notified = 0;
+        is_pending = 0;
         printf("== %s\n", tasks[at].name);
         if (_setjmp(leaves) == 0) {
             tasks[at].function(tasks[at].parameters);

@@ -1,12 +1,13 @@
 """Why the program refuses an op of a task or a handler."""
 import re
 
+from .explaining_arguments import problem_of_argument
 from .explaining_points import listed
 from .explaining_conditions import problem_of_condition
-from .explaining_values import listed_ops, meant_of_variable, no_number_but_name, no_variable, problem_of_assignment, problem_of_comparison
-from .formats import (CALLED, COMMANDS, DAEMON, EXAMPLE_OF_A_DAEMON, KIN, LOOPS, MASKS, MEANT_OPS, MEANT_TURNS, MEANT_WAITS, MEASURES,
-                      NOT_SIMULATED_OPS, NUMBER, OPS, PLURALS, SECTIONS, Choice, Name, Turns, Wait, not_simulated, not_simulated_rule, op_of,
-                      words_of)
+from .explaining_notifications import meant_masks, op_of_function, problem_of_action
+from .explaining_values import listed_ops, meant_of_variable, no_variable, problem_of_assignment, problem_of_comparison
+from .formats import (CALLED, COMMANDS, DAEMON, EXAMPLE_OF_A_DAEMON, KIN, LOOPS, MASKS, MEANT_OPS, MEASURES, NOT_SIMULATED_OPS, OPS, OWN,
+                      PLURALS, SECTIONS, Name, Wait, not_simulated, not_simulated_rule, op_of, words_of)
 from .nearness import did_you_mean, near, quoted
 from .nodes import Integer, Text
 from .problem import Problem, told
@@ -16,7 +17,7 @@ CALLED_SEPARATORS = {"\t": "a tab", ",": "a comma", ";": "a semicolon", "\n": "a
 CALL = re.compile(r" *([A-Za-z_][A-Za-z0-9_]*) *\((.*)\) *;?\s*")
 ONLY_SPACES = "the words of an op have spaces between them, and nothing else"
 # Ops of tasks that wait by themselves.
-WAITING = ("take", "lock", "wait", "delay", "delay_until")
+WAITING = ("take", "lock", "wait", "delay", "delay_until", "notify_take", "notify_wait")
 
 
 def bad_op(context):
@@ -40,6 +41,7 @@ def problem_of(text, section, application):
         or problem_of_characters(text, section)
         or problem_of_word(words, section, application)
         or problem_of_condition(words, OPS[section])
+        or problem_of_action(words, OPS[section], application)
         or problem_of_count(words, section, application)
         or problem_of_arguments(words, section, application)
         or Problem(0, 0, "the program takes no such op", OPS[section][words[0][0]].rule)
@@ -59,7 +61,7 @@ def problem_of_characters(text, section):
     if call and not not_simulated(call[1], NOT_SIMULATED_OPS):
         meant = near(without_isr(call[1]), OPS[section], MEANT_OPS)
         arguments = [it for it in re.split(r"[\s,]+", call[2]) if it and it[0] != "&" and it != "NULL"]
-        end = did_you_mean(quoted(meant and " ".join([meant, *arguments])))
+        end = did_you_mean(quoted(op_of_function(call[1], arguments) or meant and " ".join([meant, *arguments])))
         return Problem(call.start(2) - 1, call.start(2), f"an op has no brackets{end}", ONLY_SPACES)
     found = SEPARATORS.search(text)
     if call or not found:
@@ -92,7 +94,8 @@ def problem_of_word(words, section, application):
     if of_tasks:
         return Problem(start, end, f'no op is called "{word}"; {op_of_tasks(of_tasks)}', all_ops("handler"))
     rule = OPS[section][meant].rule if meant else all_ops(section)
-    return Problem(start, end, f'no op is called "{word}"{did_you_mean(quoted(meant))}', rule)
+    text = op_of_function(word, [it[0] for it in words[1:]])
+    return Problem(start, end, f'no op is called "{word}"{did_you_mean(quoted(text or meant))}', rule)
 
 
 def without_isr(word):
@@ -113,6 +116,8 @@ def op_of_tasks(word):
         return f'"{word}" is an op of tasks: no time passes in a handler'
     if word in MASKS:
         return f'"{word}" is an op of tasks: nothing comes between the ops of a handler, so it has no critical sections'
+    if word in OWN:
+        return f'"{word}" is an op of tasks: it is about the notification of the task that does it, and a handler has none'
     return f'"{word}" is an op of tasks, and a handler has no such op'
 
 
@@ -144,6 +149,9 @@ def too_few(op, words, application):
     left = left_out(op.arguments, given)
     if isinstance(left[0], Wait) and len(left) == 1:
         return f'how long it waits is missing; did you mean "{text} 0", to try once, or "{text} forever"?'
+    masks = meant_masks(op.word, given)
+    if masks:
+        return f'"{op.word}" takes two masks before the wait, and they are missing; did you mean "{masks}"?'
     names = application.names_of(left[0].kinds) if isinstance(left[0], Name) else []
     meant = quoted(f"{text} {names[0]}") if len(names) == 1 and len(op.arguments) == 1 else None
     letters, missing = " ".join(it.letter for it in op.arguments), " and ".join(it.letter for it in left)
@@ -172,51 +180,6 @@ def problem_of_arguments(words, section, application):
             text = [it[0] for it in words]
             return Problem(start, end, problem_of_argument(argument, word, text, application), op.rule)
     return None
-
-
-def problem_of_argument(argument, word, text, application):
-    if isinstance(argument, Name):
-        return no_name(argument, word, application)
-    if isinstance(argument, Choice):
-        return f'"{word}" is neither {" nor ".join(argument.words)}{did_you_mean(quoted(near(word, argument.words)))}'
-    return no_number_but_name(argument, word, text, application) or no_number(argument, word)
-
-
-def no_name(argument, word, application):
-    if NUMBER.fullmatch(word):
-        return f"expected {argument.what}, found the number {word}"
-    meant = near(word, application.names_of(argument.kinds))
-    if meant:
-        return f'"{word}" is no name{did_you_mean(quoted(meant))}'
-    if len(word) > 16 and re.fullmatch("[A-Za-z0-9_]+", word):
-        return f'"{word}" is no name: it has {len(word)} characters, and a name has at most 16'
-    return f'"{word}" is no name, which has letters, digits and `_` and begins with a letter'
-
-
-def no_number(argument, word):
-    ends = f"{argument.least} to {argument.most}" + argument.or_else
-    if isinstance(argument, Wait) and (near(word, ["forever"]) or word.lower() in MEANT_WAITS):
-        return f'{word} is no wait; did you mean "forever"?'
-    if isinstance(argument, Turns) and (near(word, ["forever"]) or word.lower() in MEANT_TURNS):
-        return f'expected a number, {ends}, found "{word}"; did you mean "forever"?'
-    if re.fullmatch("[0-9]{11,}", word):
-        return f"{word} has more than ten digits"
-    if re.fullmatch("-?[0-9]+", word):
-        return f"{word} is out of range: {ends}"
-    digits = decimal_digits(word)
-    if digits and argument.fits(digits):
-        return f"{word} is no decimal number{did_you_mean(digits)}"
-    alone = ": a wait alone may be forever" if word == "forever" else ""
-    return f'expected a number, {ends}, found "{word}"{alone}'
-
-
-def decimal_digits(word):
-    """The decimal digits that may be meant by a number in another form, or None."""
-    if re.fullmatch("0[xX][0-9A-Fa-f]+|0[bB][01]+", word):
-        return str(int(word, 0))
-    macro = re.fullmatch(r"(?i)pdMS_TO_TICKS\(?([0-9]+)\)?", word)
-    other = re.fullmatch(r"\+?([0-9][0-9_']*)(?:\.0*)?(?:[uUlL]+|ms|ticks?|s)?", word)
-    return macro[1] if macro else re.sub("[_']", "", other[1]) if other else None
 
 
 # -- names

@@ -10,7 +10,7 @@ from .problem import Problem
 ASSIGNMENT = re.compile(r" *([A-Za-z][A-Za-z0-9_]*) *(?:(\+\+|--)|([-+*/%&|^]?)=(?!=) *([A-Za-z0-9_]+)) *;? *")
 COMPARISON = re.compile(r" *(?:(if|expect) +)?([A-Za-z][A-Za-z0-9_]*) *(==|!=|<=|>=|<|>) *([A-Za-z0-9_]+) *")
 MEMORY = 'a variable is changed by "store", and the last answer by "add" and its like, as "load x", "add 1", "store x answer"'
-TAKES_ANSWER = '"answer" is a word for the number of send, send_front, overwrite, mark and store alone'
+TAKES_ANSWER = '"answer" is a word for the number of send, send_front, overwrite, mark, store and notify alone'
 TAKES_VARIABLE = "conditions, and add, sub, mul, div, mod, and, or, xor, take the name of a variable"
 
 

@@ -228,6 +228,27 @@ class Condition(Number):
         return len(words) == 1 and self.fits(words[0])
 
 
+class Action(Number):
+    """What becomes of a notification value, in one word or two."""
+
+    # The words that stand alone, and those that a value follows.
+    ALONE, FRONTS = ("none", "increment"), ("bits", "overwrite", "keep")
+
+    def __init__(self):
+        super().__init__("A")
+        self.value = Value("V", "a number")
+        self.rule = (f"A is {', '.join(self.ALONE)}, {', '.join(f'{it} V' for it in self.FRONTS[:-1])} or {self.FRONTS[-1]} V, "
+                     f"which is what becomes of its notification value; {self.value.rule}")
+
+    def fits(self, word):
+        return word in self.ALONE
+
+    def fits_all(self, words):
+        if len(words) == 2 and words[0] in self.FRONTS:
+            return self.value.fits(words[1])
+        return len(words) == 1 and self.fits(words[0])
+
+
 class Choice:
     """One of some words."""
 
@@ -281,9 +302,19 @@ class Op:
 
     def fits(self, given):
         """Whether these words are its arguments."""
-        if self.has_condition:
-            return self.arguments[0].fits_all(given)
-        return len(given) == len(self.arguments) and all(map(lambda it, word: it.fits(word), self.arguments, given))
+        before = len(self.arguments) - 1
+        if self.has_condition or self.has_action:
+            return len(given) > before and self.fits_first(given[:before]) and self.arguments[-1].fits_all(given[before:])
+        return len(given) == len(self.arguments) and self.fits_first(given)
+
+    def fits_first(self, given):
+        """Whether these words are its first arguments."""
+        return all(it.fits(word) for it, word in zip(self.arguments, given))
+
+    @property
+    def has_action(self):
+        """Whether its last argument is an action of a notify, of one word or two."""
+        return any(isinstance(it, Action) for it in self.arguments)
 
     @property
     def has_condition(self):
@@ -305,6 +336,8 @@ class Op:
 
     def uses_answer(self, given):
         """Whether these words, which are its arguments, use the last answer as a number."""
+        if self.has_action:
+            return given[-1] == ANSWER and len(given) > len(self.arguments)
         return self.word in ARITHMETIC or any(isinstance(it, Value) and word == ANSWER for it, word in zip(self.arguments, given))
 
 
@@ -343,6 +376,15 @@ TASK_OPS = table_of(
     Op("bits", G, does="answers the bits of an event group"),
     Op("wait", G, B, Choice("c", "which of its bits must be set", "any", "all"),
        Choice("k", "what becomes of them then", "keep", "clear"), W, does="waits for bits of an event group"),
+    Op("notify", T, Action(), does="notifies a task, perhaps itself, and returns 1, or 0 if keep finds a notification pending"),
+    Op("notify_take", Choice("k", "what becomes of the value then", "clear", "decrement"), W,
+       does="waits until the task's own notification value isn't 0, and returns it"),
+    Op("notify_wait", Number("E", what="a mask of bits to clear first, if no notification is pending"),
+       Number("X", what="a mask of bits to clear at the end, if one is pending"), W,
+       does="waits until a notification of the task itself is pending, and returns its notification value"),
+    Op("notify_clear", does="clears the pending state of the task's own notification, and returns 1, or 0 if none was pending"),
+    Op("notify_value_clear", Number("b", what="a mask of bits to clear"),
+       does="clears bits of the task's own notification value, and returns the value before"),
     Op("suspend", T, does="suspends a task"),
     Op("resume", T, does="resumes a suspended task"),
     Op("suspend_all", does="holds the scheduler"),
@@ -366,7 +408,9 @@ HANDLER_OPS = table_of(
     TASK_OPS["overwrite"],
     Op("receive", Q, does="takes the first item of a queue, if there is one"),
     Op("peek", Q, does="answers the first item of a queue, if there is one"),
-    TASK_OPS["give"], TASK_OPS["resume"],
+    TASK_OPS["give"],
+    Op("notify", T, Action(), does="notifies a task, and returns 1, or 0 if keep finds a notification pending"),
+    TASK_OPS["resume"],
     Op("set", G, B, does="has the daemon set bits of an event group, where its queue has room for the command"),
     Op("clear", G, B, does="has the daemon clear bits of an event group, where its queue has room for the command"),
     TASK_OPS["bits"], TASK_OPS["mark"],
@@ -382,6 +426,9 @@ OPS = {"task": TASK_OPS, "handler": HANDLER_OPS}
 COMMANDS = ("set", "clear")
 # Ops of loops, ops that measure, and ops of critical sections, which a handler has none of.
 LOOPS, MEASURES, MASKS = ("repeat", "break"), ("stamp", "since"), ("enter_critical", "exit_critical")
+# Ops about the task's own notification, and those of them that wait for one.
+AWAITS = ("notify_take", "notify_wait")
+OWN = (*AWAITS, "notify_clear", "notify_value_clear")
 
 # What FreeRTOS and others call the ops.
 MEANT_OPS = {
@@ -406,6 +453,10 @@ MEANT_OPS = {
     "assign": "store", "let": "store", "ldr": "load", "fetch": "load", "plus": "add", "sum": "add", "minus": "sub", "subtract": "sub",
     "less": "sub", "times": "mul", "multiply": "mul", "divide": "div", "modulo": "mod", "rem": "mod", "remainder": "mod",
     "bitand": "and", "bitor": "or", "bitxor": "xor", "eor": "xor",
+    "xtasknotify": "notify", "xtasknotifygive": "notify", "vtasknotifygive": "notify", "ultasknotifytake": "notify_take",
+    "xtasknotifywait": "notify_wait", "xtasknotifystateclear": "notify_clear", "ultasknotifyvalueclear": "notify_value_clear",
+    "notify_give": "notify", "notification": "notify", "wait_notify": "notify_wait", "take_notify": "notify_take",
+    "notify_state_clear": "notify_clear", "notify_clear_value": "notify_value_clear",
 }
 # What others write for an op whose next word is a variable, and the ops for it; {x} is the variable, {v} a word behind it.
 MEANT_OF_VARIABLES = {
@@ -419,7 +470,10 @@ MEANT_OF_VARIABLES = {
 OPERATORS = {"+": "add", "-": "sub", "*": "mul", "/": "div", "%": "mod", "&": "and", "|": "or", "^": "xor"}
 # What isn't simulated, by the beginnings of the words for it, in small letters and without `_`; and of sections the same.
 NOT_SIMULATED_OPS = {
-    "task notifications": ("notify", "xtasknotify", "vtasknotify", "ultasknotify", "tasknotify"),
+    "notifications of another index than 0": (
+        "xtasknotifyindexed", "xtasknotifygiveindexed", "vtasknotifygiveindexed", "ultasknotifytakeindexed", "xtasknotifywaitindexed",
+        "xtasknotifystateclearindexed", "ultasknotifyvalueclearindexed"),
+    "notifications that return the value before": ("xtasknotifyandquery",),
     "software timers": ("xtimer", "pvtimer", "timer", "starttimer", "stoptimer", "resettimer"),
     "stream and message buffers": ("xstreambuffer", "streambuffer", "xmessagebuffer", "messagebuffer"),
     "queue sets": ("xqueueaddtoset", "xqueueselectfromset", "xqueueremovefromset", "queueset"),
@@ -428,16 +482,19 @@ NOT_SIMULATED_OPS = {
     "tasks that are created or deleted at run time": ("xtaskcreate", "vtaskdelete", "createtask", "deletetask"),
 }
 NOT_SIMULATED_SECTIONS = {
-    "software timers": ("timer",), "task notifications": ("notif",),
+    "software timers": ("timer",),
     "stream and message buffers": ("stream", "messagebuffer", "message_buffer"), "queue sets": ("queueset", "queue_set"),
     "recursive mutexes": ("recursive",), "more than one core": ("core",),
 }
+# Of what is simulated and has no section, by the beginning of the word, what it is a part of.
+WITHOUT_SECTION = {"notif": "each task has a notification of its own, which needs no section: the ops notify, notify_take and notify_wait use it"}
 IN_ITS_PLACE = {
-    "task notifications": "a binary or a counting semaphore of the task's own represents one",
+    "notifications of another index than 0": "each task has one notification, which notify and notify_wait are about",
+    "notifications that return the value before": "the notified task has the value as the answer of its notify_wait",
     "software timers": "a [[handler]] at an [[interrupt]], or an endless task with delay_until, represents one",
 }
 # Ops that do the like to things of other kinds.
-KIN = (("receive", "take", "lock", "wait"), ("send", "give", "unlock", "set", "store"), ("waiting", "bits"),
+KIN = (("receive", "take", "lock", "wait"), ("send", "give", "unlock", "set", "store", "notify"), ("waiting", "bits"),
        ("load", "receive", "bits", "take", "lock", "peek", "waiting", "spaces"))
 # What else people write in a condition: an operator for the words of one, and for `<=` and `>=` the word whose number is one off.
 MEANT_FRONTS = {"==": "", "=": "", "is": "", "equals": "", "eq": "", "!=": "not", "<>": "not", "!": "not", "ne": "not", "isnt": "not",
@@ -448,6 +505,14 @@ MEANT_ANSWERS = {"pdPASS": "1", "pdTRUE": "1", "true": "1", "pdFAIL": "0", "pdFA
 MEANT_NONE = ("nothing", "null", "NULL", "fail", "failed", "errQUEUE_EMPTY", "empty", "false")
 MEANT_WAITS = ("portmax_delay", "infinite", "infinity", "inf", "ever", "always", "max", "-1", "endless", "0xffffffff", "4294967295",
                "wait_forever", "oswaitforever", "none", "never")
+# What else people write for a notify's action, and for one of some words.
+MEANT_ACTIONS = {
+    "enoaction": "none", "esetbits": "bits", "eincrement": "increment", "esetvaluewithoverwrite": "overwrite", "nothing": "none",
+    "esetvaluewithoutoverwrite": "keep", "inc": "increment", "incr": "increment", "add": "increment", "give": "increment", "set": "bits",
+    "set_bits": "bits", "setbits": "bits", "or": "bits", "mask": "bits", "value": "overwrite", "store": "overwrite", "write": "overwrite",
+    "no_overwrite": "keep",
+}
+MEANT_CHOICES = {"pdtrue": "clear", "pdfalse": "decrement", "true": "clear", "false": "decrement", "dec": "decrement"}
 MEANT_TURNS = ("always", "infinite", "infinity", "inf", "ever", "true", "endless", "while", "loop", "0", "-1")
 
 

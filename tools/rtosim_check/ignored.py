@@ -1,7 +1,7 @@
 """Warnings of what the program ignores: sections and keys that the format hasn't, and those in another place than theirs."""
 from .application import Entry
 from .findings import WARNING, Finding
-from .formats import (MEANT_KEYS, MEANT_SECTIONS, NOT_SIMULATED_SECTIONS, SECTIONS, TOP_KEYS, not_simulated,
+from .formats import (MEANT_KEYS, MEANT_SECTIONS, NOT_SIMULATED_SECTIONS, SECTIONS, TOP_KEYS, WITHOUT_SECTION, not_simulated,
                       not_simulated_rule)
 from .nearness import did_you_mean, near
 from .nodes import Array, Table
@@ -45,7 +45,8 @@ def of_section(member):
     meant = near(name, [*SECTIONS, *TOP_KEYS], MEANT_SECTIONS)
     end = did_you_mean(SECTIONS[meant].header if meant in SECTIONS else meant)
     kind = "section" if shown[0] == "[" or isinstance(member.value, (Table, Array)) else "key"
-    rule = None if meant else f"the sections are {', '.join(SECTIONS)}; above them are {' and '.join(TOP_KEYS)}"
+    needless = next((it for start, it in WITHOUT_SECTION.items() if name.lower().replace("task", "").lstrip("_").startswith(start)), None)
+    rule = needless or (None if meant else f"the sections are {', '.join(SECTIONS)}; above them are {' and '.join(TOP_KEYS)}")
     return warning("UnknownSection", member, f"{shown} is ignored: there is no such {kind}{end}", rule)
 
 

@@ -12,7 +12,7 @@ HOLDS, RELEASES = "suspend_all", "resume_all"
 OPENS, CLOSES = "enter_critical", "exit_critical"
 # Ops that may be done in a critical section.
 LOOKS = {"repeat", "break", "if", "else", "end", "mark", "expect", "time", "stamp", "since", "waiting", "spaces", "bits", "clear",
-         OPENS, CLOSES, *OF_VARIABLES}
+         "notify_clear", "notify_value_clear", OPENS, CLOSES, *OF_VARIABLES}
 # Ops that neither wait nor switch.
 STAYS = LOOKS | {"work", HOLDS, RELEASES}
 RULE = "a misuse ends the run, since FreeRTOS asserts it or its manual forbids it"

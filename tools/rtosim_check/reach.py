@@ -6,13 +6,14 @@ not, and each handler is taken to come at any time. Where an op isn't known, not
 from . import misuses
 from .application import integer_of
 from .findings import WARNING, Finding
-from .formats import COMMANDS, ENDLESS, SECTIONS, op_of
+from .formats import AWAITS, COMMANDS, ENDLESS, SECTIONS, op_of
 from .nodes import Boolean
 from .paths import Paths
 
 NOBODY = "no op that is ever reached"
 WRITES = ("send", "send_front", "overwrite")
 FILLS = ("send", "send_front", "give", *COMMANDS)
+NOTIFIES, KEEPS = "notify", "keep"
 SLEEPS = ("delay", "delay_until")
 LIMIT = SECTIONS["limits"].keys["ticks"]
 PASSES = "a run passes when every task that isn't endless has come to the end of its script, and there is one"
@@ -71,10 +72,10 @@ class Script:
 
 
 class Brought:
-    """What ops that may be reached bring: items, counts, bits, resumes."""
+    """What ops that may be reached bring: items, counts, bits, resumes, notifications."""
 
     def __init__(self, application):
-        self.queues, self.semaphores, self.resumed, self.bits = set(), set(), set(), {}
+        self.queues, self.semaphores, self.resumed, self.notified, self.bits = set(), set(), set(), set(), {}
         limit = integer_of(application.root.get("limits"), LIMIT.name)
         self.limit = LIMIT.most if limit is None else limit
         for it in application.entries["counting"]:
@@ -89,6 +90,8 @@ class Brought:
             self.semaphores.add(words[1])
         elif word == "resume":
             self.resumed.add(words[1])
+        elif word == NOTIFIES:
+            self.notified.add(words[1])
         elif word == "set":
             self.bits[words[1]] = self.bits.get(words[1], 0) | int(words[2])
 
@@ -107,6 +110,10 @@ class Brought:
             return None if name in self.queues else f'{NOBODY} sends to "{name}"'
         if word == "take":
             return None if name in self.semaphores else f'{NOBODY} gives "{name}"'
+        if word in AWAITS:
+            # so does one for a notification that a suspension has cut off
+            name = script.entry.name
+            return None if name in self.notified | self.resumed else f'{NOBODY} notifies "{name}"'
         if word == "wait":
             # a wait for bits that a suspension has cut off ends at the resume, whatever the bits are
             return None if script.entry.name in self.resumed else self.lacks_bits(words)
@@ -195,7 +202,7 @@ def of_unreached(scripts):
 def of_handlers(application, handlers):
     """The calls of handlers that find no room, since the handler itself has filled it just before."""
     room = {it.name: integer_of(it.table, "length") for it in application.entries["queue"]}
-    room.update({it.name: 1 for it in application.entries["binary"]})
+    room.update({it.name: 1 for section in ("binary", "task") for it in application.entries[section]})
     room.update({it.name: integer_of(it.table, "max") for it in application.entries["counting"]})
     if application.daemon is not None:
         room[NAMELESS] = integer_of(application.daemon.table, "length")
@@ -205,18 +212,23 @@ def of_handlers(application, handlers):
         for at, (words, node) in enumerate(script.ops):
             put = before[at]
             name = NAMELESS if words[0] in COMMANDS else words[1] if len(words) > 1 else None
-            if words[0] in FILLS and put.get(name, 0) >= room.get(name, 1 << 32):
+            if needs_room(words) and put.get(name, 0) >= room.get(name, 1 << 32):
                 yield always_fails(script, at, node, room[name])
             after = filled(put, words[0], name, room.get(name, 1 << 32))
             for following in script.paths.after(at):
                 before[following] = least(before[following], after) if following in before else after
 
 
+def needs_room(words):
+    """Whether an op of a handler fails where there is no room. Of a task's notifications one alone is pending, which `keep` keeps."""
+    return words[0] in FILLS or words[0] == NOTIFIES and words[2] == KEEPS
+
+
 def filled(put, word, name, room):
-    """How much there is in what behind an op."""
+    """How much there is in what after an op."""
     if word in FILLS:
         return {**put, name: min(put.get(name, 0) + 1, room)}
-    if word == "overwrite":
+    if word in ("overwrite", NOTIFIES):
         return {**put, name: 1}
     return {**put, name: max(put.get(name, 0) - 1, 0)} if word == "receive" else put
 
@@ -227,9 +239,13 @@ def least(one, other):
 
 def always_fails(script, at, node, room):
     words = node.value.split()
-    count = "its greatest count is" if words[0] == "give" else "its length is"
-    why = f'{count} {room}, and the handler has filled "{words[1]}" before'
+    why, rule = f"the handler has filled \"{words[1]}\" before", "no task runs between the ops of a handler, so nobody makes room"
     if words[0] in COMMANDS:
         why = f"the length of the daemon's queue is {room}, and the handler has filled it before"
+    elif words[0] == NOTIFIES:
+        why = f'the handler has notified "{words[1]}" before, so a notification is pending'
+        rule = "no task runs between the ops of a handler, so nobody takes the notification"
+    else:
+        why = f"{'its greatest count is' if words[0] == 'give' else 'its length is'} {room}, and {why}"
     message = f'{script.entry.label}, ops {at}, "{node.value}": this call always fails: {why}'
-    return Finding(WARNING, "AlwaysFails", node.span, message, "no task runs between the ops of a handler, so nobody makes room")
+    return Finding(WARNING, "AlwaysFails", node.span, message, rule)

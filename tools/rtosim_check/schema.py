@@ -4,8 +4,8 @@
 It is draft 7, which Taplo and Even Better TOML take. What a schema can't say, as which names there are, isn't in it."""
 import json
 
-from .formats import (A_NAME, A_POINT, ANSWER, OPS, PAIRS, SECTIONS, STEP, TICKLESS, TOP_KEYS, WORDS_OF_CONDITIONS, Choice, Condition, Name,
-                      Operand, Turns, Value, Wait)
+from .formats import (A_NAME, A_POINT, ANSWER, OPS, PAIRS, SECTIONS, STEP, TICKLESS, TOP_KEYS, WORDS_OF_CONDITIONS, Action, Choice, Condition,
+                      Name, Operand, Turns, Value, Wait)
 
 NAME = "[A-Za-z][A-Za-z0-9_]{0,15}"
 DIGITS = 10
@@ -37,6 +37,8 @@ def argument_pattern(argument):
         return NAME
     if isinstance(argument, Choice):
         return f"({'|'.join(argument.words)})"
+    if isinstance(argument, Action):
+        return f"({'|'.join(argument.ALONE)}|({'|'.join(argument.FRONTS)}) +{argument_pattern(argument.value)})"
     number = number_pattern(argument.least, argument.most)
     if isinstance(argument, Condition):
         return condition_pattern(number)

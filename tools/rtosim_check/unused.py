@@ -1,7 +1,8 @@
-"""Warnings of what nothing uses: objects, event groups, handlers; of handlers without a point; of interrupts that never come."""
+"""Warnings of what nothing uses: objects, event groups, handlers; of handlers without a point; of interrupts that never come; of notifications
+that nobody takes."""
 from .application import integer_of, pairs_of
 from .findings import WARNING, Finding
-from .formats import CALLED, COMMANDS, OBJECTS, OPS, SECTIONS, op_of
+from .formats import AWAITS, CALLED, COMMANDS, OBJECTS, OPS, OWN, SECTIONS, op_of
 from .nodes import Text
 
 
@@ -14,6 +15,7 @@ def warnings(application):
     yield from of_daemon(application)
     yield from of_handlers(application)
     yield from of_interrupts(application)
+    yield from of_notifications(application)
 
 
 def names_in_ops(application):
@@ -73,3 +75,27 @@ def of_interrupts(application):
         if limit is not None and tick is not None and tick > limit:
             message = f"interrupt {it.index} never comes: a run ends at tick {limit}, and it is due at tick {tick}"
             yield Finding(WARNING, "NeverComes", it.table.get("tick").span, message, SECTIONS["limits"].keys["ticks"].rule)
+
+
+def of_notifications(application):
+    """The first op that notifies each task none of whose ops is about its notification. An op that isn't known may be one."""
+    texts = [(it, key, at, node) for section, key in (("handler", "ops"), ("task", "script")) for it in application.entries[section]
+             for at, node in it.texts()]
+    takers = {it.name for it, _, _, node in texts if it.section == "task" and may_take(node.value)}
+    for it, key, at, node in texts:
+        words, op = op_of(it.section, node.value)
+        if op and op.has_action and words[1] not in takers and is_task(application, words[1]):
+            takers.add(words[1])
+            message = f'{it.label}, {key} {at}, "{node.value}": no op of the task "{words[1]}" takes or waits for a notification'
+            rule = f"{' and '.join(AWAITS)} are about the notification of the task that does them"
+            yield Finding(WARNING, "NeverTaken", node.span, message, rule)
+
+
+def may_take(text):
+    words, op = op_of("task", text)
+    return op is None or words[0] in OWN
+
+
+def is_task(application, name):
+    found = application.named.get(name)
+    return found is not None and found.section == "task"

@@ -14,7 +14,7 @@ NONE, NUMBER = "none", "a number"
 EITHER: FrozenSet[str] = frozenset((NONE, NUMBER))
 # Ops that have no answer, and those whose answer may be none.
 LEAVES = {"work", "mark", "expect", "if", "else", "repeat", "break", "end", "stamp", "enter_critical", "exit_critical"}
-MAY_FIND_NOTHING = ("receive", "peek")
+MAY_FIND_NOTHING = ("receive", "peek", "notify_wait")
 DIVIDES = ("div", "mod")
 INITIAL = SECTIONS["variable"].keys["initial"]
 FAILS = "a failed check whenever it is done"
@@ -39,7 +39,7 @@ def of_failed_checks(application, script, uses):
     """The ops of a script that use a number that isn't there."""
     held = misuses.held_before(script) if script.entry.section == "task" else {}
     for at, before in sorted(answers_before(script).items()):
-        words, node = script.ops[at]
+        words, _ = script.ops[at]
         if not OPS[script.entry.section][words[0]].uses_answer(words[1:]) or may_be_misuse(words, held.get(at)):
             continue
         if before == {NONE}:

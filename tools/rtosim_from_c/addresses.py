@@ -38,7 +38,7 @@ class Addresses(Core):
                 return Reference(key)
             if not self.is_left_out(name):
                 raise self.refuse(node, "an address has no op", "a local of its own, whose address a call may take")
-        return Address(name) if name is not None else self.whole(inner, path)
+        return self.opaque(name) or Address(name) if name is not None else self.whole(inner, path)
 
     def is_left_out(self, name: str) -> bool:
         """Whether a global is no integer that the script could have."""
@@ -61,8 +61,8 @@ class Addresses(Core):
             return inner
         if name == "UnaryOp" and node.op == "*":
             return self.led_to(self.evaluate(node.expr, path), node, path)
-        found = self.opaque(node.name) if name == "ID" else None
-        return found or Address(SOMEWHERE)
+        found = self.opaque(node.name) if name == "ID" else self.evaluate(node, path) if name == "FuncCall" else None
+        return found if isinstance(found, Address) else Address(SOMEWHERE)
 
     def member(self, inner: Union[Address, Reference], node: object) -> Address:
         if isinstance(inner, Reference):
@@ -110,13 +110,17 @@ class Addresses(Core):
     def let_arguments_go(self, call: object, path: Path) -> None:
         """The locals whose addresses a call takes that is left out."""
         for argument in trees.arguments(call):
-            for it in trees.walk(argument):
-                key = self.frame.local(it.name) if trees.kind(it) == "ID" else None
-                self.let_go(path.state.locals.get(key) if key is not None else None)
-                inner = it.expr if trees.kind(it) == "UnaryOp" and it.op == "&" else None
-                key = self.frame.local(inner.name) if trees.kind(inner) == "ID" else None
-                if key is not None and self.types.get(key) not in OPAQUE:
-                    self.let_go(Reference(key))
+            self.let_addresses_go(argument, path)
+
+    def let_addresses_go(self, node: object, path: Path) -> None:
+        """The locals whose addresses are in an expression that isn't followed."""
+        for it in trees.walk(node):
+            key = self.frame.local(it.name) if trees.kind(it) == "ID" else None
+            self.let_go(path.state.locals.get(key) if key is not None else None)
+            inner = it.expr if trees.kind(it) == "UnaryOp" and it.op == "&" else None
+            key = self.frame.local(inner.name) if trees.kind(inner) == "ID" else None
+            if key is not None and self.types.get(key) not in OPAQUE:
+                self.let_go(Reference(key))
 
     def pointer_arithmetic(self, node: object, left: Known, right: Known, path: Path) -> Known:
         """Of an address: with NULL it is compared, and what is beside it is as little known as itself."""

@@ -5,18 +5,22 @@ from . import trees
 from .answers import NUMBERS, NONE, Answers, answers, failing, condition_for, only
 from .calls import (CALLS, CREATORS, IN_SECTIONS, MASKS_OF_HANDLERS, NO_OP, SILENT, TASK_CREATORS, WITHOUT_OP, YIELDS_OF_HANDLERS, Answer, Argument, Call,
                     Result, Who)
+from .constants import numeral
 from .core import Compared
 from .expressions import Expressions
 from .families import Family
 from .integers import INT, UNSIGNED, Integer
 from .paths import Path
 from .refusals import Lost, LostUse, Place, Refusal
-from .values import Address, Handle, Known, Nothing, Piece, Reference, Stamp, Value, constant, converted, is_received, lost, the_answer
+from .values import (LOST, NUMBER, Address, Handle, Known, Nothing, Piece, Reference, Stamp, Value, constant, converted, is_received, lost,
+                     the_answer)
 
 FOREVER = 4294967295
 KINDS = {
     Argument.QUEUE: ("queue",), Argument.SEMAPHORE: ("binary", "counting", "mutex"), Argument.GROUP: ("group",), Argument.TASK: ("task",),
+    Argument.TASK_OR_CALLER: ("task",),
 }
+# The actions of eNotifyAction, in its order; those that take a value have a place for it.
 ACTIONS = ("none", "bits {}", "increment", "overwrite {}", "keep {}")
 BY_HANDLER = Lost("whether a handler has woken a task isn't known here", instead="portYIELD_FROM_ISR with it, or nothing")
 LEAST_MASK, GREATEST_MASK = 1, (1 << 24) - 1
@@ -29,6 +33,10 @@ class Api(Expressions):
         name = trees.called(node)
         if name is None:
             raise self.refuse(node, "a call by a pointer to a function has no op", "a call of the function by its name")
+        if self.unit.fails(name):
+            self.evaluate_calls(node, path)
+            self.fail(node, path)
+            return Nothing()
         if name in self.unit.directives.ignored or name in WITHOUT_OP and name not in self.unit.functions:
             return self.left_out(name, node, path)
         if name in CALLS:
@@ -72,13 +80,10 @@ class Api(Expressions):
 
     def given(self, name: str, text: str, node: object) -> Value:
         """What a function that is left out returns: a number, or the name of a constant."""
-        found = self.unit.constants.numbers.get(text)
-        if found is not None:
-            return found
-        try:
-            return constant(int(text, 0))
-        except ValueError:
-            raise self.refuse(node, f"`{text}`, which {name} is to return, is no number", f"--ignore {name}=NUMBER") from None
+        found = self.unit.constants.numbers.get(text) or numeral(text)
+        if found is None:
+            raise self.refuse(node, f"`{text}`, which {name} is to return, is no number", f"--ignore {name}=NUMBER")
+        return found
 
     def evaluate_calls(self, node: object, path: Path) -> None:
         """Calls among the arguments of a call that has no op."""
@@ -95,17 +100,14 @@ class Api(Expressions):
     def call(self, call: Call, node: object, path: Path) -> Known:
         if call.who is Who.HANDLER and not self.is_handler or call.who is Who.TASK and self.is_handler:
             whose = "a handler" if call.who is Who.HANDLER else "a task"
-            instead = f"{call.function}FromISR" if f"{call.function}FromISR" in CALLS else "the call of the other one of the two"
-            if call.family is Family.CRITICAL:
-                instead = "nothing: no handler comes during another one"
-            raise self.refuse(node, f"{call.function} is for {whose}", instead)
+            raise self.refuse(node, f"{call.function} is for {whose}", of_the_other(call))
         self.need(call.family, node, f"{call.function} ({call.op.split()[0]})", call.instead)
         words = trees.arguments(node)
         if len(words) != len(call.arguments):
             raise self.refuse(node, f"{call.function} has {len(call.arguments)} arguments, and here {len(words)}")
         values = dict(zip(call.arguments, self.evaluate_all(words, path)))
         nodes = dict(zip(call.arguments, words))
-        texts = {it.name.lower(): self.text(it, values, nodes[it], path) for it in call.arguments}
+        texts = {it.word: self.text(it, values, nodes[it], path) for it in call.arguments}
         op = call.op
         if call.of_mutex and self.handle(values[Argument.SEMAPHORE], Argument.SEMAPHORE, node).kind == "mutex":
             op = call.of_mutex
@@ -137,7 +139,7 @@ class Api(Expressions):
         if argument is Argument.ITEM:
             return self.item(value, self.handle(values[Argument.QUEUE], Argument.QUEUE, node), node, path)
         if argument is Argument.MARK:
-            return self.mark_number(value, node, path)
+            return self.number_or_answer(value, argument, node, path)
         if argument in (Argument.NUMBER, Argument.TICKS, Argument.MASK, Argument.BITS, Argument.BITS_AFTER):
             return str(self.fixed(value, argument, node, path))
         if argument is Argument.WAIT:
@@ -147,27 +149,39 @@ class Api(Expressions):
             words = {Argument.ALL: ("any", "all"), Argument.CLEARS: ("keep", "clear"), Argument.TAKES: ("decrement", "clear")}
             return words[argument][bool(self.fixed(value, argument, node, path))]
         if argument is Argument.ACTION:
-            action = self.fixed(value, argument, node, path)
-            return ACTIONS[action % len(ACTIONS)].format(self.fixed(values[Argument.BITS], argument, node, path))
+            return self.action(self.fixed(value, argument, node, path), values[Argument.VALUE], node, path)
+        if argument is Argument.CALLER and self.handle(value, Argument.TASK_OR_CALLER, node).name != self.owner.name:
+            raise self.refuse(node, "no op clears what another task is notified of", "NULL, in the task itself")
         return ""
 
-    def mark_number(self, value: Known, node: object, path: Path) -> str:
-        return str(self.fixed(value, Argument.MARK, node, path))
+    def action(self, action: int, value: Known, node: object, path: Path) -> str:
+        """What a notify does to the value. Only some actions take the number that C is given."""
+        if action >= len(ACTIONS):
+            raise self.refuse(node, f"{action} is no action of eNotifyAction")
+        text = ACTIONS[action]
+        return text.format(self.number_or_answer(value, Argument.VALUE, node, path)) if "{}" in text else text
+
+    def number_or_answer(self, value: Known, argument: Argument, node: object, path: Path) -> str:
+        """A number for an op that may also take the last answer."""
+        return str(self.fixed(value, argument, node, path))
 
     def fixed(self, value: Known, argument: Argument, node: object, path: Path) -> int:
         """A number that is the same whatever was answered."""
         found = self.number(value, node, path)
         if found is None:
-            raise LostUse(self.place(node), Lost(f"this is to be {argument.value}, and depends on an answer", instead="a constant"))
+            raise LostUse(self.place(node), Lost(f"this must be {argument.value}, and it depends on an answer", instead="a constant"))
         if argument is Argument.MASK and not LEAST_MASK <= found <= GREATEST_MASK:
             raise self.refuse(node, f"bits of a group are 1 to {GREATEST_MASK}, and here {found}")
         return UNSIGNED.wrapped(found)
 
     def handle(self, value: Known, argument: Argument, node: object) -> Handle:
-        if argument is Argument.TASK and isinstance(value, Value) and value.constant() == 0 and not self.is_handler:
+        is_null = isinstance(value, Value) and value.constant() == 0
+        if is_null and argument is Argument.TASK_OR_CALLER and not self.is_handler:
             return Handle("task", self.owner.name)
+        if is_null and argument is Argument.TASK:
+            raise self.refuse(node, "NULL is no task here", "the handle of a task; xTaskGetCurrentTaskHandle() for the caller's own")
         if not isinstance(value, Handle) or value.kind not in KINDS[argument]:
-            raise self.refuse(node, f"this is to be {argument.value}", "the handle that it was created with")
+            raise self.refuse(node, f"this must be {argument.value}", "the handle that it was created with")
         return value
 
     def item(self, value: Known, queue: Handle, node: object, path: Path) -> str:
@@ -201,7 +215,7 @@ class Api(Expressions):
                                          self.place(node))
         storage = values.get(Argument.STORAGE, values.get(Argument.VALUE_STORAGE))
         if isinstance(storage, Reference):
-            self.keep_received(storage.local, node, path)
+            self.keep_received(storage.local, self.without_item(call, storage.local, texts, node, path), node, path)
         elif storage is not None and not isinstance(storage, Value):
             raise self.refuse(node, "what is received is put into a local", "the address of a local")
         woken = values.get(Argument.WOKEN)
@@ -231,20 +245,36 @@ class Api(Expressions):
             return answers((0, max(1, self.unit.object(queue.name).numbers["length"])))
         if call.answer is Answer.SET_BITS:
             return self.unit.bits_of_groups()
-        fixed = {Answer.ONE: only(1), Answer.ZERO: only(0), Answer.NUMBER: NUMBERS, Answer.NUMBER_OR_NONE: NUMBERS | only(NONE)}
-        return fixed[call.answer]
+        if call.answer is Answer.VALUE_OR_NONE:
+            return NUMBERS if never_fails and not self.may_be_suspended() else NUMBERS | only(NONE)
+        fixed = {Answer.ONE: only(1), Answer.ZERO: only(0), Answer.NUMBER: NUMBERS, Answer.NOTIFIED: only(1)}
+        return only(0, 1) if texts.get("action", "").startswith("keep") else fixed[call.answer]
 
-    def keep_received(self, local: str, node: object, path: Path) -> None:
-        """What was received is in the local, unless nothing was: then it keeps what it had."""
-        type_ = self.types[local]
+    def may_be_suspended(self) -> bool:
+        """Whether others may suspend this task."""
+        return self.unit.may_be_suspended(self.owner.name, {})
+
+    def without_item(self, call: Call, local: str, texts: Dict[str, str], node: object, path: Path) -> Piece:
+        """What the local is if the call receives nothing. Of a queue it keeps what it had; a wait for a notification gives it the
+        value as it is then, which no answer says."""
+        type_, name = self.types[local], local.split("@")[0]
         if not isinstance(type_, Integer):
             raise self.refuse(node, f"{type_} as an item has no op", "integers")
-        before = path.state.locals[local]
-        kept = [Piece(NONE, NONE, it.kind, it.number, it.lost) for it in before.pieces[:1]] if isinstance(before, Value) else []
-        if not kept or before.constant() is None:
-            kept = [Piece(NONE, NONE, "lost", 0, Lost(f"`{local.split('@')[0]}` isn't known where nothing was received", local))]
-        now = the_answer(type_, path.state.answers)
-        path.state = path.state.with_local(local, Value(type_, (*kept, *now.pieces)))
+        if call.answer is Answer.VALUE_OR_NONE:
+            if type_.bits != UNSIGNED.bits:
+                raise self.refuse(node, f"{call.function} writes 32 bits, and `{name}` has {type_.bits}", "a local of type uint32_t")
+            why = Lost(f"`{name}` isn't known if {call.function} returns pdFALSE",
+                       instead=f"a test of what {call.function} returns, and `{name}` only if that is pdTRUE")
+            return Piece(NONE, NONE, NUMBER if texts["bits"] == str(UNSIGNED.greatest) else LOST, 0, why)
+        before, why = path.state.locals[local], Lost(f"`{name}` isn't known where nothing was received", local)
+        number = before.constant() if isinstance(before, Value) else None
+        return Piece(NONE, NONE, LOST if number is None else NUMBER, number or 0, why)
+
+    def keep_received(self, local: str, missing: Piece, node: object, path: Path) -> None:
+        """What was received is in the local; `missing` is what it is if nothing was."""
+        type_ = self.types[local]
+        now = the_answer(type_, path.state.answers) if isinstance(type_, Integer) else Value(INT, ())
+        path.state = path.state.with_local(local, Value(now.type, (missing, *now.pieces)))
 
     # -- time
 
@@ -258,10 +288,10 @@ class Api(Expressions):
             return Stamp(0)
         if call is None or trees.called(call) != "xTaskGetTickCount" or self.is_handler:
             return None
-        if trees.find(body, lambda it: is_delay_of(it, name)) is not None:
+        if any(is_delay_of(it, name) for it in self.unit.below(body)):
             self.note(call, f"`{name}`: the first period of a task counts from reset", True)
             return lost(UNSIGNED, Lost("the wake time of a task isn't known", instead="xTaskGetTickCount() for the time of now"))
-        if trees.find(body, lambda it: is_measure_of(it, name)) is None:
+        if not any(is_measure_of(it, name) for it in self.unit.below(body)):
             return None
         self.op("stamp", call, path)
         number = self.stamps.setdefault(self.place(call), len(self.stamps) + 1)
@@ -273,8 +303,8 @@ class Api(Expressions):
         found = self.unit.constants.value(value)
         if found is None or found.constant() != 0 or name is None or path.state.stamp or self.unit.directives.start or self.is_handler:
             return False
-        measures = [it for it in trees.walk(body) if is_measure_of(it, name)]
-        given = [it for it in trees.walk(body) if trees.kind(it) == "Assignment" and getattr(it.lvalue, "name", None) == name
+        measures = [it for it in self.unit.below(body) if is_measure_of(it, name)]
+        given = [it for it in self.unit.below(body) if trees.kind(it) == "Assignment" and getattr(it.lvalue, "name", None) == name
                  and trees.called(trees.plain(it.rvalue)) == "xTaskGetTickCount"]
         return bool(measures) and self.unit.mentions(body, name) == len(measures) + len(given)
 
@@ -329,6 +359,17 @@ class Api(Expressions):
             raise self.refuse(node, "this check can't be said by the last answer", "the check right after the call that it is about")
         self.op(f"expect {text}", node, path)
         path.end()
+
+
+def of_the_other(call: Call) -> str:
+    """What to write for a task's call in a handler, or for a handler's in a task."""
+    if call.family is Family.CRITICAL:
+        return "nothing: no handler comes during another one"
+    if call.who is Who.HANDLER:
+        name = call.function.replace("FromISR", "")
+        return next((it for it in (name, f"x{name[1:]}") if it in CALLS), "a handler that calls it")
+    name = f"{call.function}FromISR"
+    return next((it for it in (name, f"v{name[1:]}") if it in CALLS), "the same in a task that the handler wakes")
 
 
 def not_here(name: str, place: Place) -> Refusal:

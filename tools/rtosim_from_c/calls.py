@@ -12,7 +12,8 @@ class Argument(enum.Enum):
     QUEUE = "a queue"
     SEMAPHORE = "a semaphore or a mutex"
     GROUP = "an event group"
-    TASK = "a task, or NULL for the caller"
+    TASK = "a task"
+    TASK_OR_CALLER = "a task, or NULL for the caller"
     ITEM = "the address of an item"
     NUMBER = "a number"
     MARK = "the number of a mark"
@@ -23,6 +24,7 @@ class Argument(enum.Enum):
     ALL = "pdTRUE if the wait is for all bits"
     TAKES = "pdTRUE if the take clears the value"
     ACTION = "an action of eNotifyAction"
+    VALUE = "a number from 0 to 4294967295"
     BITS = "bits, a number from 0 to 4294967295"
     BITS_AFTER = "bits that are cleared after the wait"
     STORAGE = "the address of a local, for what is received"
@@ -30,6 +32,11 @@ class Argument(enum.Enum):
     WAKE_TIME = "the address of the local that has the wake time"
     WOKEN = "the address of a local, or NULL"
     CALLER = "NULL, for the caller"
+
+    @property
+    def word(self) -> str:
+        """Its name in an op."""
+        return "task" if self is Argument.TASK_OR_CALLER else self.name.lower()
 
 
 class Who(enum.Enum):
@@ -52,7 +59,8 @@ class Answer(enum.Enum):
     SET_BITS = "bits of the group"
     NUMBER = "a number"
     MARK = "the number of a mark"
-    NUMBER_OR_NONE = "a number, or none"
+    NOTIFIED = "1, or 0 if a value that is kept was pending"
+    VALUE_OR_NONE = "the value of a notification, or none"
 
 
 class Result(enum.Enum):
@@ -66,7 +74,7 @@ class Result(enum.Enum):
 
 @dataclass(frozen=True)
 class Call:
-    """A function of FreeRTOS and its op. In `op` the words in braces are the arguments, by their names in small letters."""
+    """A function of FreeRTOS and its op. In `op` the words in braces are the arguments."""
 
     function: str
     op: str
@@ -94,7 +102,7 @@ def sends(function: str, op: str, *arguments: Argument, who: Who = Who.TASK) -> 
     return Call(function, op, arguments, Answer.SUCCESS, Result.ANSWER, who)
 
 
-def notifies(function: str, op: str, *arguments: Argument, who: Who = Who.TASK, answer: Answer = Answer.ONE,
+def notifies(function: str, op: str, *arguments: Argument, who: Who = Who.TASK, answer: Answer = Answer.NOTIFIED,
              result: Result = Result.ANSWER) -> Call:
     return Call(function, op, arguments, answer, result, who, Family.NOTIFICATIONS, instead=A_SEMAPHORE)
 
@@ -144,7 +152,7 @@ OF_TASKS = (
     Call("xTaskDelayUntil", "delay_until {ticks}", (A.WAKE_TIME, A.TICKS), Answer.SUCCESS, Result.ANSWER),
     Call("taskYIELD", "yield", (), Answer.ZERO, Result.VOID),
     Call("xTaskGetTickCount", "time", (), Answer.NUMBER, Result.ANSWER),
-    Call("vTaskSuspend", "suspend {task}", (A.TASK,), Answer.SUCCESS, Result.VOID),
+    Call("vTaskSuspend", "suspend {task}", (A.TASK_OR_CALLER,), Answer.SUCCESS, Result.VOID),
     Call("vTaskResume", "resume {task}", (A.TASK,), Answer.SUCCESS, Result.VOID),
     Call("xTaskResumeFromISR", "resume {task}", (A.TASK,), Answer.SUCCESS, Result.OTHER, Who.HANDLER),
     Call("vTaskSuspendAll", "suspend_all", (), Answer.ZERO, Result.VOID),
@@ -160,15 +168,14 @@ OF_CRITICAL_SECTIONS = (
 
 OF_NOTIFICATIONS = (
     notifies("xTaskNotifyGive", "notify {task} increment", A.TASK),
-    notifies("xTaskNotify", "notify {task} {action}", A.TASK, A.BITS, A.ACTION, answer=Answer.SUCCESS),
+    notifies("xTaskNotify", "notify {task} {action}", A.TASK, A.VALUE, A.ACTION),
     notifies("ulTaskNotifyTake", "notify_take {takes} {wait}", A.TAKES, A.WAIT, answer=Answer.NUMBER),
     notifies("xTaskNotifyWait", "notify_wait {bits} {bits_after} {wait}", A.BITS, A.BITS_AFTER, A.VALUE_STORAGE, A.WAIT,
-             answer=Answer.NUMBER_OR_NONE, result=Result.RECEIVED),
+             answer=Answer.VALUE_OR_NONE, result=Result.RECEIVED),
     notifies("xTaskNotifyStateClear", "notify_clear", A.CALLER, answer=Answer.SUCCESS),
     notifies("ulTaskNotifyValueClear", "notify_value_clear {bits}", A.CALLER, A.BITS, answer=Answer.NUMBER),
     notifies("vTaskNotifyGiveFromISR", "notify {task} increment", A.TASK, A.WOKEN, who=Who.HANDLER, result=Result.VOID),
-    notifies("xTaskNotifyFromISR", "notify {task} {action}", A.TASK, A.BITS, A.ACTION, A.WOKEN, who=Who.HANDLER,
-             answer=Answer.SUCCESS),
+    notifies("xTaskNotifyFromISR", "notify {task} {action}", A.TASK, A.VALUE, A.ACTION, A.WOKEN, who=Who.HANDLER),
 )
 
 ALL_CALLS = (*OF_QUEUES, *OF_SEMAPHORES, *OF_GROUPS, *OF_TASKS, *OF_CRITICAL_SECTIONS, *OF_NOTIFICATIONS)
@@ -190,6 +197,8 @@ SILENT = ("printf", "puts", "putchar")
 OF_MEMORY = ("memset", "memcpy", "memmove", "memcmp", "strlen", "strcmp", "strncmp", "strcpy", "strncpy", "strcat", "strchr", "strstr",
              "snprintf", "sprintf")
 WITHOUT_OP = (*SILENT, *OF_MEMORY)
+# What ends a program: a check that fails.
+ABORT = "abort"
 # What a handler says to the scheduler at its end: here each handler ends so.
 YIELDS_OF_HANDLERS = ("portYIELD_FROM_ISR", "portEND_SWITCHING_ISR")
 # What masks interrupts in a handler: no handler of a script interrupts another one.
@@ -214,6 +223,10 @@ NO_OP: Dict[str, Tuple[str, str]] = {
         "xSemaphoreCreateRecursiveMutex", "xSemaphoreTakeRecursive", "xSemaphoreGiveRecursive")},
     **{it: ("masking all interrupts has no op", "taskENTER_CRITICAL() and taskEXIT_CRITICAL()") for it in (
         "taskDISABLE_INTERRUPTS", "taskENABLE_INTERRUPTS", "portDISABLE_INTERRUPTS", "portENABLE_INTERRUPTS")},
+    **{f"{it}Indexed{end}": ("a task of a script has one notification, that of index 0", f"{it}{end}, if the index is 0; otherwise a semaphore")
+       for it, end in (("xTaskNotify", ""), ("xTaskNotifyGive", ""), ("ulTaskNotifyTake", ""), ("xTaskNotifyWait", ""), ("xTaskNotifyStateClear", ""),
+                       ("ulTaskNotifyValueClear", ""), ("xTaskNotify", "FromISR"), ("vTaskNotifyGive", "FromISR"))},
+    **{f"xTaskNotifyAndQuery{it}": ("no op brings the value that a notification had", f"xTaskNotify{it}") for it in ("", "FromISR")},
     "vTaskPrioritySet": ("a task's priority is fixed in a script", "the priority in its xTaskCreate"),
     "xTaskAbortDelay": ("no op ends another task's delay", "a semaphore that is taken with a timeout"),
     "xQueueReset": ("no op empties a queue", "xQueueReceive with a wait of 0 in a loop"),
@@ -226,4 +239,4 @@ NO_OP: Dict[str, Tuple[str, str]] = {
 
 # All functions that the translator knows.
 KNOWN = frozenset((*CALLS, *CREATORS, *TASK_CREATORS, *YIELDS_OF_HANDLERS, *MASKS_OF_HANDLERS, *NO_OP, *WITHOUT_OP, "configASSERT",
-                   "vTaskDelete", "vTaskStartScheduler", "xTaskGetCurrentTaskHandle"))
+                   ABORT, "vTaskDelete", "vTaskStartScheduler", "xTaskGetCurrentTaskHandle"))

@@ -6,7 +6,7 @@ import sys
 from typing import List, Optional, Sequence
 
 from rtosim_report.escaping import plain
-from rtosim_report.faults import STATUS_OUTPUT, Fault
+from rtosim_report.faults import STATUS_READER_LEFT, Fault
 from rtosim_report.output import ReaderLeft, output_file, standard_output
 from rtosim_report.source import PROGRAM
 
@@ -31,8 +31,9 @@ def parsed(words: Optional[Sequence[str]]) -> argparse.Namespace:
     parser.add_argument("--campaign", action="store_true", help="run the campaign, with the words of `rtosim campaign` that follow")
     parser.add_argument("--run", action="store_true", help="run the base run, with the words of `rtosim run` that follow")
     parser.add_argument("--explore", action="store_true", help="explore all placements, with the words of `rtosim explore` that follow")
-    parser.add_argument("--handler", action="append", default=[], metavar="NAME", help="this function is an interrupt handler too")
+    parser.add_argument("--handler", action="append", default=[], metavar="NAME[(NUMBER)]", help="this function is an interrupt handler too; its first argument is NUMBER")
     parser.add_argument("--ignore", action="append", default=[], metavar="NAME[=NUMBER]", help="this function or variable has no effect; the function returns NUMBER")
+    parser.add_argument("--fails", action="append", default=[], metavar="NAME", help="a call of this function is a check that fails")
     parser.add_argument("-I", dest="folders", action="append", default=[], metavar="FOLDER", help="where headers are")
     parser.add_argument("-D", dest="macros", action="append", default=[], metavar="NAME=VALUE", help="a macro")
     parser.add_argument("--program", default=PROGRAM, metavar="PATH", help="another program than bin/rtosim")
@@ -47,7 +48,7 @@ def parsed(words: Optional[Sequence[str]]) -> argparse.Namespace:
 
 
 def translate(found: argparse.Namespace, lines: Lines) -> Application:
-    unit = read_unit(found.file, lines, found.folders, found.macros, found.handler, found.ignore)
+    unit = read_unit(found.file, lines, found.folders, found.macros, found.handler, found.ignore, found.fails)
     return translated(unit)
 
 
@@ -103,7 +104,7 @@ def main(words: Optional[Sequence[str]] = None) -> int:
     except Refusal as refusal:
         return said([refusal], found.file, lines)
     except ReaderLeft:
-        return STATUS_OUTPUT
+        return STATUS_READER_LEFT
     except Fault as fault:
         print(f"rtosim-from-c: {plain(str(fault))}", file=sys.stderr)
         return fault.status

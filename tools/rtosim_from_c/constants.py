@@ -23,6 +23,7 @@ class Constants:
     def __init__(self) -> None:
         self.typedefs: Dict[str, object] = {}
         self.numbers: Dict[str, Value] = {}
+        self.structures: Dict[str, object] = {}
 
     def type_of(self, node: object) -> Type:
         """The type of a declaration, a parameter or a cast: integers, `handle ..`, or what else it is."""
@@ -46,6 +47,22 @@ class Constants:
         if set(names) & {"float", "double"}:
             return "a float"
         return named(names) or f"of type {' '.join(names)}"
+
+    def take_structure(self, node: object) -> None:
+        """A structure that has a name of its own, with its members."""
+        if node.name and node.decls:
+            self.structures[node.name] = node
+
+    def members(self, node: object) -> Dict[str, object]:
+        """The declarations of the members of a structure by their names; none for any other type."""
+        while trees.kind(node) in ("Decl", "Typename", "TypeDecl", "Typedef"):
+            node = node.type
+        if trees.kind(node) == "IdentifierType" and node.names[0] in self.typedefs:
+            return self.members(self.typedefs[node.names[0]])
+        if trees.kind(node) != "Struct":
+            return {}
+        whole = node if node.decls else self.structures.get(node.name)
+        return {it.name: it for it in (whole.decls if whole is not None else [])}
 
     def value(self, node: object) -> Optional[Value]:
         """The value of a constant expression; None if it is none, or none of integers."""
@@ -125,6 +142,14 @@ def binary_of(operator: str, left: Value, right: Value) -> Value:
         first, second = bool(left.constant()), bool(right.constant())
         return constant(int(first and second if operator == "&&" else first or second))
     return binary(operator, left, right, ALL)
+
+
+def numeral(text: str) -> Optional[Value]:
+    """A number as C writes it."""
+    try:
+        return constant(int(text, 0))
+    except ValueError:
+        return None
 
 
 def literal(node: object) -> Optional[Value]:

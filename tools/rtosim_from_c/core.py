@@ -157,7 +157,7 @@ class Core:
     def number(self, value: Known, node: object, path: Path) -> Optional[int]:
         """The number that the value is on this path, whatever the last answer; None if it depends on that."""
         if isinstance(value, Stored):
-            raise LostUse(self.place(node), Lost("this is to be a constant, and is a variable"))
+            raise LostUse(self.place(node), Lost("this must be a constant, and it is a variable", instead="a constant"))
         return self.known(self.integer(value, node), node, path).constant()
 
     def branch(self, path: Path, wanted: Answers, yes: Continuation, no: Continuation, node: object) -> None:

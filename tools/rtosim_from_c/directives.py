@@ -6,8 +6,8 @@ from typing import Callable, Dict, Iterable, List, Optional, Set, Tuple, Union
 from .refusals import Place, Refusal
 
 FORMS = (
-    "points TEXT, TEXT ..", "interrupt TICK HANDLER", "handler FUNCTION ..", "ignore NAME NAME=NUMBER ..", "limits ticks N", "limits steps N", "start N",
-    "tickless",
+    "points TEXT, TEXT ..", "interrupt TICK HANDLER", "handler FUNCTION ..", "ignore NAME NAME=NUMBER ..", "fails NAME ..", "item MEMBER ..", "limits ticks N",
+    "limits steps N", "start N", "tickless",
 )
 INSTEAD = "one of: " + "; ".join(f"/* rtosim: {it} */" for it in FORMS)
 
@@ -45,6 +45,8 @@ class Directives:
     interrupts: List[Tuple[int, str, Place]] = field(default_factory=list)
     handlers: Set[str] = field(default_factory=set)
     ignored: Ignored = field(default_factory=Ignored)
+    failing: Ignored = field(default_factory=Ignored)
+    items: Set[str] = field(default_factory=set)
     limits: Dict[str, int] = field(default_factory=dict)
     start: Optional[int] = None
     is_tickless: bool = False
@@ -102,5 +104,6 @@ def take_tickless(found: Directives, rest: str, _: Place) -> bool:
 TAKERS: Dict[str, Callable[[Directives, str, Place], bool]] = {
     "points": take_points, "interrupt": take_interrupt, "limits": take_limits, "start": take_start, "tickless": take_tickless,
     "handler": take_names(lambda it: it.handlers), "handlers": take_names(lambda it: it.handlers),
-    "ignore": take_names(lambda it: it.ignored),
+    "ignore": take_names(lambda it: it.ignored), "fails": take_names(lambda it: it.failing),
+    "item": take_names(lambda it: it.items),
 }

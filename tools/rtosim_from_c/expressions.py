@@ -121,7 +121,7 @@ class Expressions(Addresses):
     def keep_all(self, nodes: Sequence[object], path: Path) -> List[str]:
         """Evaluates several expressions, and returns the keys under which they are kept."""
         # (a sum has the place of its first operand, but another size)
-        keys = [f"operand {at}@{self.spot(it)} {sum(1 for _ in trees.walk(it))}" for at, it in enumerate(nodes)]
+        keys = [f"operand {at}@{self.spot(it)} {len(self.unit.below(it))}" for at, it in enumerate(nodes)]
         for key, it in zip(keys, nodes):
             self.put(key, self.operand(it, path), it, path)
         return keys
@@ -324,9 +324,7 @@ class Expressions(Addresses):
         keys = self.keep_all(trees.arguments(node), path)
 
         def leave(fork: Path, value: Known) -> None:
-            type_ = self.unit.constants.type_of(definition.decl.type.type)
-            if isinstance(type_, Integer) and isinstance(value, Value):
-                value = self.fitted(value, type_, node, fork)
+            value = self.returned(value, definition, node, fork)
             with self.using(outer):
                 on_return(fork, value)
         inner = Frame(name, Jumps(leave), ({},), (*outer.calls, self.place(node).line), outer)
@@ -334,6 +332,11 @@ class Expressions(Addresses):
             self.bind(definition, keys, node, path)
             body = definition.body.block_items or []
             self.statements(body, path, lambda fork: leave(fork, Nothing()))
+
+    def returned(self, value: Known, definition: object, node: object, path: Path) -> Known:
+        """What a function returns, as its type keeps it."""
+        type_ = self.unit.constants.type_of(definition.decl.type.type)
+        return self.fitted(value, type_, node, path) if isinstance(type_, Integer) and isinstance(value, Value) else value
 
     def bind(self, definition: object, keys: List[str], node: object, path: Path) -> None:
         """Gives the parameters the values that are kept under these keys."""

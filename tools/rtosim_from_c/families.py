@@ -14,4 +14,4 @@ class Family(enum.Enum):
 
 Target = FrozenSet[Family]
 
-PROGRAM: Target = frozenset({Family.CALLS, Family.VARIABLES, Family.CRITICAL})
+PROGRAM: Target = frozenset(Family)

@@ -1,7 +1,9 @@
-"""Which globals a name means where objects and tasks are created: `bus->lock` is `first.lock` in a function that is called with `&first`."""
+"""Which globals a name means where objects and tasks are created: `bus->lock` is `first.lock` in a function that is called with `&first`,
+or in a task that is given it."""
 from typing import Dict, FrozenSet, List, Tuple
 
 from . import trees
+from .calls import TASK_CREATORS
 
 
 class Given:
@@ -9,12 +11,16 @@ class Given:
 
     def __init__(self, functions: Dict[str, object], names_of_globals: FrozenSet[str]):
         self.functions, self.globals = functions, names_of_globals
-        self.calls: Dict[str, List[Tuple[str, object]]] = {}
+        self.calls: Dict[str, List[Tuple[str, List[object]]]] = {}
+        self.tasks: Dict[str, List[Tuple[str, List[object]]]] = {}
         for name, it in functions.items():
             for node in trees.walk(it.body):
-                called = trees.called(node)
+                called, words = trees.called(node), trees.arguments(node) if trees.called(node) else []
                 if called in functions:
-                    self.calls.setdefault(called, []).append((name, node))
+                    self.calls.setdefault(called, []).append((name, words))
+                elif called in TASK_CREATORS and len(words) > 3:
+                    task = words[0].expr if trees.kind(words[0]) == "UnaryOp" else trees.plain(words[0])
+                    self.tasks.setdefault(getattr(task, "name", ""), []).append((name, words[3:4]))
 
     def names(self, function: str, node: object) -> List[str]:
         """What is named in a function, each with its members, as `first.lock`; nothing if that isn't known."""
@@ -27,16 +33,20 @@ class Given:
         return []
 
     def leads_to(self, function: str, pointer: object, seen: FrozenSet[str] = frozenset()) -> List[str]:
-        """The globals to which a pointer leads: that of which it is the address, or what the parameter of this name is given."""
+        """The globals to which a pointer leads: that of which it is the address, or what the local or the parameter of this name is given."""
         pointer = trees.plain(pointer)
         if trees.kind(pointer) == "UnaryOp" and pointer.op == "&":
             return [it for it in self.names(function, pointer.expr) if it.split(".")[0] in self.globals]
         if trees.kind(pointer) != "ID" or function in seen:
             return []
+        local = trees.find(self.functions[function].body, lambda it: trees.kind(it) == "Decl" and it.name == pointer.name)
+        if local is not None:
+            return self.leads_to(function, local.init, seen) if local.init is not None else []
         parameters = [it.name for it in trees.parameters_of(self.functions[function])]
         if pointer.name not in parameters:
             return []
         at = parameters.index(pointer.name)
-        given = [(caller, trees.arguments(call)[at:at + 1]) for caller, call in self.calls.get(function, [])]
+        calls = [*self.calls.get(function, []), *self.tasks.get(function, [])]
+        given = [(caller, words[at:at + 1]) for caller, words in calls]
         found = [name for caller, words in given for it in words for name in self.leads_to(caller, it, seen | {function})]
         return list(dict.fromkeys(found))

@@ -152,3 +152,31 @@ def folded(items: Sequence[Item]) -> Optional[Tuple[int, Tuple[Item, ...]]]:
         if turns > 1 and all(map(is_test, lacking)) and list(part) * turns == [*items, *lacking]:
             return turns, tuple(part)
     return None
+
+
+def fused(items: Sequence[Item]) -> List[Item]:
+    """The items without a test that asks again what the one before it has asked, as it is after an answer that a variable is given."""
+    found: List[Item] = []
+    for it in items:
+        if isinstance(it, Repeat):
+            it = Repeat(it.turns, tuple(fused(it.body)), it.place)
+        elif isinstance(it, If):
+            it = If(it.condition, tuple(fused(it.yes)), tuple(fused(it.no)), it.place)
+        last = found[-1] if found else None
+        if isinstance(it, If) and isinstance(last, If) and only_stores(last) and last.condition == it.condition:
+            found[-1] = If(it.condition, (*last.yes, *it.yes), it.no, it.place)
+        elif isinstance(it, If) and isinstance(last, If) and only_stores(last) and is_opposite(last.condition, it.condition):
+            found[-1] = If(it.condition, it.yes, (*last.yes, *it.no), it.place)
+        else:
+            found.append(it)
+    return found
+
+
+def only_stores(item: If) -> bool:
+    """Whether a branch does nothing but give variables the last answer, and its condition names none of them."""
+    is_fixed = item.condition.split()[-1] == "none" or item.condition.split()[-1].isdigit()
+    return is_fixed and not item.no and all(isinstance(it, Op) and it.text.split()[::2] == ["store", "answer"] for it in item.yes)
+
+
+def is_opposite(first: str, second: str) -> bool:
+    return first == f"not {second}" or second == f"not {first}"

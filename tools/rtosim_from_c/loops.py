@@ -1,13 +1,16 @@
 """Loops: as one that repeats for ever and is left, or, where a local counts its turns, as so many turns that are the same."""
 from dataclasses import dataclass, field
-from typing import Callable, List, Optional, Set, Tuple
+from typing import Callable, Dict, List, Optional, Set, Tuple, Union
 
 from . import trees
+from .directives import number
+from .families import Target
 from .frames import Continuation
 from .items import Break, Item, Repeat, chosen, folded, has_break
 from .paths import Path, State, is_same, merged
 from .refusals import Lost, LostUse
-from .statements import Statements
+from .statements import TURNS, Statements, first_comment
+from .unit import Handler, Task, Unit
 from .values import Known
 
 MOST_TURNS = 1000
@@ -32,6 +35,11 @@ Turn = Tuple[List[Item], Ways]
 class Loops(Statements):
     """`while`, `do` and `for`."""
 
+    def __init__(self, unit: Unit, target: Target, owner: Union[Task, Handler]):
+        super().__init__(unit, target, owner)
+        # Loops whose turns a comment counts, with how many are left.
+        self.turns_left: Dict[object, int] = {}
+
     def do_While(self, node: object, path: Path, rest: Optional[Continuation]) -> None:
         self.loop(node, path, rest)
 
@@ -47,10 +55,15 @@ class Loops(Statements):
 
     def loop(self, node: object, path: Path, rest: Optional[Continuation]) -> None:
         """The first of these forms in which every value that decides something is known."""
-        if self.is_handler:
-            items, ways = self.counted(node, path.state)
-        else:
-            items, ways = self.first_form(node, path.state)
+        turns = said_turns(node)
+        if turns is not None and getattr(node, "cond", None) is not None and self.is_lost(node.cond, path):
+            self.note(node, f"a comment says that this loop has {turns} turn{'s' * (turns != 1)}")
+            self.turns_left[node] = turns - (trees.kind(node) == "DoWhile")
+        try:
+            is_counted = self.is_handler or node in self.turns_left
+            items, ways = self.counted(node, path.state) if is_counted else self.first_form(node, path.state)
+        finally:
+            self.turns_left.pop(node, None)
         path.items += items
         self.after_loop(node, path, ways, rest)
 
@@ -128,7 +141,7 @@ class Loops(Statements):
             again = merged(ways.back)
             if again is None:
                 break
-            if is_asked and is_same(again, state) and not self.is_handler:
+            if is_asked and is_same(again, state) and not self.is_handler and node not in self.turns_left:
                 turns[-1] = [Repeat("forever", tuple(path.items), self.place(node))]
                 break
             self.give_up_on_many(node, turns, {key.split("@")[0] for key, it in again.locals.items() if state.locals.get(key) != it})
@@ -213,7 +226,10 @@ class Loops(Statements):
             self.condition_of(node, path, self.later(back), outside)
 
     def condition_of(self, node: object, path: Path, yes: Continuation, no: Continuation) -> None:
-        if getattr(node, "cond", None) is None:
+        if node in self.turns_left:
+            self.turns_left[node] -= 1
+            (yes if self.turns_left[node] >= 0 else no)(path)
+        elif getattr(node, "cond", None) is None:
             yes(path)
         else:
             self.condition(node.cond, path, yes, no)
@@ -264,3 +280,8 @@ class Loops(Statements):
         if rest is None:
             path.state = left
 
+
+def said_turns(node: object) -> Optional[int]:
+    """How many turns a comment at the beginning of a loop says that it has; None if there is no such comment."""
+    words = first_comment(node.stmt)
+    return number(words[2]) if words[:2] == TURNS and len(words) == 3 else None

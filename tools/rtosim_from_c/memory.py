@@ -1,10 +1,12 @@
 """Variables: globals, and locals of which the last answer doesn't keep enough. It is for a program that knows them (`families.py`).
 
 A read is `load`, a write `store`; arithmetic is done with the last answer and a number or a variable."""
+from dataclasses import replace
 from typing import Dict, Iterable, List, Optional, Set, Tuple, Union
 
 from . import trees
 from .answers import GREATEST, NONE, NUMBERS, Answers, answers, only
+from .calls import Argument
 from .core import Compared, Test
 from .expressions import NOT_SET, Written
 from .families import Family, Target
@@ -15,7 +17,7 @@ from .paths import Path
 from .refusals import Lost, LostUse
 from .statements import MIRRORED
 from .unit import Handler, Task, Unit
-from .values import ANSWER, LOST, NUMBER, Handle, Known, Stored, Value, binary, constant, converted, lost, the_answer
+from .values import ANSWER, LOST, NUMBER, Handle, Known, Piece, Stored, Value, binary, constant, converted, lost, the_answer
 
 SIZE = 1 << 32
 SIGN = 1 << 31
@@ -58,7 +60,7 @@ class Memory(Loops):
     def variable(self, key: str, type_: Integer, initial: int = 0) -> Stored:
         """The variable of a local, a global or a value between."""
         scope, shown = "" if key.startswith(GLOBAL) else self.owner.name, key.split("@")[0].replace(GLOBAL, "")
-        name = self.unit.names.name(f"variable {scope}", key, shown if " " not in shown else "t")
+        name = self.unit.names.name(f"variable {scope}", key, shown if shown.replace(".", "_").isidentifier() else "t")
         if key.startswith(GLOBAL):
             self.shared.add(name)
         self.unit.variables.setdefault(name, UNSIGNED.wrapped(type_.wrapped(initial)))
@@ -67,6 +69,7 @@ class Memory(Loops):
     # -- reads and writes
 
     def load(self, stored: Stored, node: object, path: Path) -> Value:
+        self.there(stored, node, path)
         if self.is_answer_now(stored, path):
             return the_answer(stored.type, path.state.answers)
         self.op(f"load {stored.name}", node, path)
@@ -216,7 +219,14 @@ class Memory(Loops):
             return self.evaluate(node, path)
         key = self.frame.local(inner.name)
         found = path.state.locals.get(key) if key is not None else self.stored_global(inner) if self.is_global(inner) else None
-        return found if isinstance(found, Stored) else self.evaluate(node, path)
+        return self.there(found, node, path) if isinstance(found, Stored) else self.evaluate(node, path)
+
+    def there(self, stored: Stored, node: object, path: Path) -> Stored:
+        """A variable that has what its local is in C, whatever was answered."""
+        found = stored.among(path.state.answers)
+        if found.missing is not None:
+            raise LostUse(self.place(node), found.missing)
+        return found
 
     def is_global(self, node: object) -> bool:
         return node.name in self.unit.globals and node.name not in self.unit.constants.numbers
@@ -371,9 +381,9 @@ class Memory(Loops):
 
     # -- items and marks
 
-    def mark_number(self, value: Known, node: object, path: Path) -> str:
+    def number_or_answer(self, value: Known, argument: Argument, node: object, path: Path) -> str:
         if not self.has_variables or isinstance(value, Value) and value.among(path.state.answers).constant() is not None:
-            return super().mark_number(value, node, path)
+            return super().number_or_answer(value, argument, node, path)
         self.bring(self.integer(value, node), node, path)
         return "answer"
 
@@ -384,15 +394,18 @@ class Memory(Loops):
         self.unit.with_large_items.add(queue.name)
         return "answer"
 
-    def keep_received(self, key: str, node: object, path: Path) -> None:
-        """Puts what was received into a variable, unless nothing was."""
-        stored = path.state.locals.get(key)
-        if not isinstance(stored, Stored):
-            return super().keep_received(key, node, path)
+    def keep_received(self, key: str, missing: Piece, node: object, path: Path) -> None:
+        """Puts what was received into a variable, unless nothing was. After a wait for a notification the variable is then not what
+        the local is in C, so it isn't known as long as the last answer may be `none`."""
+        if key not in self.in_memory:
+            return super().keep_received(key, missing, node, path)
+        keeps = isinstance(path.state.locals.get(key), Stored) and missing.lost is not None and missing.lost.local == key
+        stored = self.variable(key, self.types[key])
 
         def keep(fork: Path) -> None:
             self.op(f"store {stored.name} answer", node, fork)
         self.meet(path, lambda end: self.branch(path, NUMBERS, lambda fork: (keep(fork), end(fork)), end, node))
+        path.state = path.state.with_local(key, stored if keeps else replace(stored, missing=missing.lost))
         return None
 
     def learns(self, why: Lost) -> bool:

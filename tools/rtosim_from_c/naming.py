@@ -36,4 +36,5 @@ def fitting(text: str) -> str:
 
 def of_handler(function: str) -> str:
     """The name of a handler: that of the function, without what says that it is one."""
-    return re.sub(r"(_IRQHandler|_ISR|IRQHandler|_Handler)$", "", function) or function
+    name = re.sub(r"(_IRQHandler|_ISR|IRQHandler|_Handler)$", "", function) or function
+    return re.sub(r"_?[Cc]allback$", "", name) if len(name) > MOST else name

@@ -19,6 +19,7 @@ from .values import Known, Nothing, Value, constant
 AFTER_A_COMMENT = "/* rtosim: work 3 */ or /* rtosim: mark 3 */, after a statement"
 MOST_APART = 8
 HOLDS = ["rtosim", "holds"]
+TURNS = ["rtosim", "turns"]
 Cases = Tuple[List[List[object]], List[List[object]], Optional[int]]
 MIRRORED = {"==": "==", "!=": "!=", "<": ">", "<=": ">=", ">": "<", ">=": "<="}
 
@@ -87,7 +88,7 @@ class Statements(Api):
     def uses(self, nodes: Sequence[object], local: str) -> int:
         """How many of these statements it takes to the last one that names the local; 0 if the function names it later, or a jump
         passes over what follows."""
-        name = local.split("@")[0]
+        name = local.split("@")[0].split(".")[0]
         last = max((at for at, it in enumerate(nodes) if self.unit.mentions(it, name)), default=0)
         body = self.unit.functions[self.frame.function].body
         is_all = sum(self.unit.mentions(it, name) for it in nodes) == self.unit.named_from(body, name, self.place(nodes[0]).line)
@@ -131,7 +132,7 @@ class Statements(Api):
         name = local.split("@")[0]
         is_it = lambda node: trees.kind(trees.plain(node)) == "ID" and trees.plain(node).name == name
         found: Dict[Tuple[str, int], None] = {}
-        for node in trees.walk(self.unit.functions[self.frame.function].body):
+        for node in self.unit.below(self.unit.functions[self.frame.function].body):
             if trees.kind(node) == "BinaryOp" and node.op in COMPARISONS:
                 for side, other, operator in ((node.left, node.right, node.op), (node.right, node.left, MIRRORED[node.op])):
                     value = self.unit.constants.value(other) if is_it(side) else None
@@ -180,7 +181,7 @@ class Statements(Api):
     def do_Pragma(self, node: object, path: Path, rest: Optional[Continuation]) -> None:
         text = node.string or ""
         words = text.split()
-        if words == HOLDS:
+        if words == HOLDS or words[:2] == TURNS and len(words) == 3 and number(words[2]) is not None:
             return None
         if words[:1] != ["rtosim"]:
             return self.note(node, f"#pragma {text}: left out")
@@ -214,6 +215,7 @@ class Statements(Api):
         if type_ in OPAQUE:
             for it in trees.calls_of(node.init):
                 self.evaluate(it, path)
+            self.let_addresses_go(node.init, path)
             return None
         found = self.measured_from(node, node.init, path)
         return self.evaluate(node.init, path) if found is None else found
@@ -260,8 +262,11 @@ class Statements(Api):
         for it in trees.calls_of(node.cond):
             self.evaluate(it, trial)
         forks = [trial.fork(trial.state.answers) for _ in ways]
-        for fork, way in zip(forks, ways):
-            self.statements(way, fork, lambda it: None)
+        try:
+            for fork, way in zip(forks, ways):
+                self.statements(way, fork, lambda it: None)
+        except LostUse:
+            return False
         after = merged(it.state for it in forks)
         if any(it.items or it.state.answers != trial.state.answers for it in forks) or after is None:
             return False
@@ -375,8 +380,13 @@ class Statements(Api):
 
 def is_said_to_hold(node: object) -> bool:
     """Whether the branch of an `if` begins with the comment that says so."""
-    first = (node.iftrue.block_items or [None])[0] if trees.kind(node.iftrue) == "Compound" else None
-    return trees.kind(first) == "Pragma" and (first.string or "").split() == HOLDS
+    return first_comment(node.iftrue) == HOLDS
+
+
+def first_comment(node: object) -> List[str]:
+    """The words of the comment with which a block begins."""
+    first = (node.block_items or [None])[0] if trees.kind(node) == "Compound" else None
+    return (first.string or "").split() if trees.kind(first) == "Pragma" else []
 
 
 def decides_or_writes(node: object) -> bool:

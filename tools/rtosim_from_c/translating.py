@@ -8,9 +8,9 @@ from .api import not_here
 from .calls import CALLS, Who
 from .families import PROGRAM, Target
 from .frames import Frame, Jumps
+from .handles import Handles
 from .integers import INT
-from .items import If, Item, Line, Repeat, lines_of, takes_time
-from .memory import Memory
+from .items import If, Item, Line, Repeat, fused, lines_of, takes_time
 from .paths import Path, State
 from .refusals import Lost, LostUse, Note, Refusal, SeveralRefusals
 from .source import Lines, parsed, preprocessed
@@ -21,7 +21,7 @@ MOST_OPS = {True: 16, False: 256}
 MOST_LOOPS, MOST_BLOCKS = 4, 8
 MOST_VARIABLES = 32
 MOST_RETRIES = 40
-OF_HANDLER = lost(INT, Lost("what a handler is given isn't known", instead="a constant in its place, by `#ifdef RTOSIM`"))
+OF_HANDLER = lost(INT, Lost("what a handler is given isn't known", instead="--handler 'NAME(NUMBER)', which says what it is given"))
 
 
 @dataclass
@@ -56,7 +56,7 @@ class TooDeep(Refusal):
     """Blocks that are deeper than a script may have them."""
 
 
-class Translation(Memory):
+class Translation(Handles):
     """A task's function or a handler, from its first statement to its last."""
 
     uses_daemon = False
@@ -103,13 +103,14 @@ class Translation(Memory):
         self.frame = Frame(self.owner.function, Jumps(end), ({},))
         keys = [f"parameter {at}" for at in range(len(trees.parameters_of(definition)))]
         for it in keys[:1 + (len(keys) - 1) * self.is_handler]:
-            path.state = path.state.with_local(it, OF_HANDLER if self.is_handler else self.owner.parameter)
+            path.state = path.state.with_local(it, (self.owner.parameter or OF_HANDLER) if self.is_handler else self.owner.parameter)
         self.bind(definition, keys, definition, path)
         with self.using(self.frame.inner()):
             self.statements(definition.body.block_items or [], path, end)
-        lines = lines_of(path.items)
-        self.check_size(path.items, lines)
-        self.warn_of_polls(path.items)
+        items = fused(path.items)
+        lines = lines_of(items)
+        self.check_size(items, lines)
+        self.warn_of_polls(items)
         return Script(self.owner, lines, not ends)
 
     def warn_of_polls(self, items: Sequence[Item]) -> None:
@@ -199,9 +200,9 @@ def without_doubles(refusals: Sequence[Refusal]) -> List[Refusal]:
 
 
 def read_unit(name: str, lines: Lines, folders: Sequence[str] = (), macros: Sequence[str] = (), handlers: Sequence[str] = (),
-              ignored: Sequence[str] = ()) -> Unit:
+              ignored: Sequence[str] = (), failing: Sequence[str] = ()) -> Unit:
     """What the file declares, with its objects and tasks."""
     text = preprocessed(name, folders, macros, lines)
-    return Unit(parsed(text, name, lines), lines, handlers, ignored)
+    return Unit(parsed(text, name, lines), lines, handlers, ignored, failing)
 
 

@@ -1,16 +1,16 @@
 """What a file declares: its functions, constants and globals; the objects and tasks that it creates; its handlers."""
 import os
 from dataclasses import dataclass, field
-from typing import Dict, FrozenSet, Iterator, List, Optional, Sequence, Set, Tuple, Union
+from typing import Dict, FrozenSet, Iterator, List, Mapping, Optional, Sequence, Set, Tuple, Union
 
 from . import trees
 from .answers import Answers, answers, only
-from .calls import CALLS, CREATORS, KNOWN, SETUP, TASK_CREATORS, WITHOUT_OP
-from .constants import Constants
+from .calls import ABORT, CALLS, CREATORS, KNOWN, SETUP, TASK_CREATORS, WITHOUT_OP
+from .constants import Constants, numeral
 from .directives import Directives, Ignored
 from .given import Given
 from .integers import Integer
-from .naming import Names, fitting, of_handler
+from .naming import MOST, Names, fitting, of_handler
 from .refusals import Note, Place, Refusal
 from .source import HEADERS, Lines, place_of
 from .values import Address, Handle, Known, Value, constant
@@ -43,17 +43,20 @@ class Task:
 
 @dataclass
 class Handler:
+    """`parameter` is what the handler is given, if a comment or an option says so."""
+
     function: str
     name: str
     place: Place
+    parameter: Optional[Value] = None
 
 
 class Unit:
     """A file, as far as it is known without its functions being followed."""
 
-    def __init__(self, tree: object, lines: Lines, handlers: Sequence[str] = (), ignored: Sequence[str] = ()):
+    def __init__(self, tree: object, lines: Lines, handlers: Sequence[str] = (), ignored: Sequence[str] = (), failing: Sequence[str] = ()):
         self.lines, self.names, self.constants = lines, Names(), Constants()
-        self.directives = Directives(handlers=set(handlers), ignored=Ignored(ignored))
+        self.directives = Directives(handlers=set(handlers), ignored=Ignored(ignored), failing=Ignored(failing))
         self.functions: Dict[str, object] = {}
         self.globals: Dict[str, object] = {}
         self.objects: List[Object] = []
@@ -69,10 +72,13 @@ class Unit:
         # expressions whose value nothing takes
         self.statement_nodes: Set[object] = set()
         self.named_by_callers: List[Tuple[str, Optional[str]]] = []
+        # the tasks whose handles globals have from their creation on
+        self.created_as: Dict[str, str] = {}
         self.jumps: Dict[object, FrozenSet[str]] = {}
         self.called_lines: Dict[object, FrozenSet[int]] = {}
         self.tests: Dict[object, FrozenSet[str]] = {}
         self.name_lines: Dict[object, Dict[str, List[int]]] = {}
+        self.trees: Dict[object, List[object]] = {}
         self.bits: Optional[Answers] = None
         self.silent: Dict[str, bool] = {}
         self.declare(tree)
@@ -90,6 +96,8 @@ class Unit:
             for inner in trees.walk(it):
                 if trees.kind(inner) == "Enum":
                     self.constants.take_enum(inner)
+                elif trees.kind(inner) == "Struct":
+                    self.constants.take_structure(inner)
             if name == "Typedef":
                 self.constants.typedefs[it.name] = it
             elif name == "FuncDef":
@@ -138,7 +146,7 @@ class Unit:
                     for it in self.targets(function, node, target):
                         self.create(function, it, call)
                 elif call is not None and trees.called(call) == "xTaskGetCurrentTaskHandle":
-                    self.named_by_callers.append((function, target))
+                    self.named_by_callers += [(function, it) for it in self.targets(function, node, target)]
                 elif trees.called(node) in CREATORS and id(node) not in named:
                     self.create(function, None, node)
 
@@ -173,6 +181,12 @@ class Unit:
         if node not in self.jumps:
             self.jumps[node] = frozenset(trees.escapes(node))
         return self.jumps[node]
+
+    def below(self, node: object) -> List[object]:
+        """The node and all below it, in the order of the text."""
+        if node not in self.trees:
+            self.trees[node] = list(trees.walk(node))
+        return self.trees[node]
 
     def mentions(self, node: object, name: str) -> int:
         """How often a name is in a statement."""
@@ -235,12 +249,28 @@ class Unit:
     # -- handlers and tasks
 
     def find_handlers(self) -> None:
-        for name in sorted(self.directives.handlers - self.functions.keys()):
-            self.refusals.append(Refusal(None, f"no function is called {name}, which is to be a handler"))
+        named: Dict[str, List[str]] = {}
+        for text in sorted(self.directives.handlers):
+            name, _, given = text.partition("(")
+            named.setdefault(name, []).extend([given.rstrip(")")] if given else [])
+        for name in sorted(named.keys() - self.functions.keys()):
+            self.refusals.append(Refusal(None, f"no function is called {name}, and a handler must be one"))
         for name, it in self.functions.items():
-            if name in self.directives.handlers or name.endswith(HANDLER_ENDINGS):
-                place = self.place(it)
-                self.handlers.append(Handler(name, self.names.name("handler", of_handler(name)), place))
+            if name in named or name.endswith(HANDLER_ENDINGS):
+                self.add_handlers(name, self.place(it), named.get(name, []))
+
+    def add_handlers(self, function: str, place: Place, given: List[str]) -> None:
+        """The handler of a function; if it is given several numbers, one for each."""
+        shown = of_handler(function)
+        for text in given:
+            found = self.constants.numbers.get(text) or numeral(text)
+            if found is None:
+                self.refusals.append(Refusal(place, f"`{text}`, which {function} is given, is no number", f"--handler '{function}(NUMBER)'"))
+                continue
+            name = f"{shown[:MOST - len(text) - 1]}_{text}" if len(given) > 1 else shown
+            self.handlers.append(Handler(function, self.names.name("handler", f"{function} {text}", name), place, found))
+        if not given:
+            self.handlers.append(Handler(function, self.names.name("handler", shown), place))
 
     def find_tasks(self) -> None:
         for function in self.ordered_functions():
@@ -291,6 +321,7 @@ class Unit:
             target = created(whole)[0] if whole is not None else None
         if target is not None:
             self.handles[self.scope_of(target, scope), target] = Handle("task", task.name)
+            self.created_as[target] = task.name
 
     def parameter(self, scope: str, node: object) -> Known:
         found = self.handle(scope, trees.plain(node))
@@ -305,8 +336,8 @@ class Unit:
         raise Refusal(self.place(node), "this parameter of a task isn't known", "a number, NULL, a handle, or the address of a structure of the file")
 
     def name_caller(self, function: str, target: Optional[str]) -> None:
-        """A global that a task gives its own handle."""
-        owners = [it for it in self.tasks if it.function == function]
+        """A global that a task gives its own handle, itself or in a function that it calls."""
+        owners = [it for it in self.tasks if function in self.reached([it.function])]
         if target is not None and not self.scope_of(target, function) and len(owners) == 1:
             self.handles["", target] = Handle("task", owners[0].name)
 
@@ -314,6 +345,19 @@ class Unit:
         for node in trees.walk(loop):
             if trees.called(node) in (*CREATORS, *TASK_CREATORS):
                 self.refusals.append(Refusal(self.place(node), f"{trees.called(node)} in a loop", "each creation by itself"))
+
+    def may_be_suspended(self, task: str, changing: Mapping[str, FrozenSet[str]]) -> bool:
+        """Whether others may suspend this task, perhaps by a handle that changes. A wait of it may then end without what it waits for."""
+        for function, definition in self.functions.items():
+            for node in trees.walk(definition.body):
+                argument = trees.plain(trees.arguments(node)[0]) if trees.called(node) == "vTaskSuspend" else None
+                if argument is None or trees.called(argument) == "xTaskGetCurrentTaskHandle" or self.constants.value(argument) is not None:
+                    continue
+                handle = self.handle(function, argument)
+                tasks = {one for name in self.given.names(function, argument) for one in changing.get(name, ())}
+                if task in (tasks or {handle.name if handle is not None else task}):
+                    return True
+        return False
 
     # -- before the scheduler starts
 
@@ -345,6 +389,10 @@ class Unit:
 
     # -- what is read, and which functions call which
 
+    def fails(self, name: str) -> bool:
+        """Whether a function is called only if something is wrong: a call of it is a check that fails."""
+        return name in self.directives.failing or name == ABORT and name not in self.functions
+
     def names_read(self) -> Set[str]:
         """The names that decide something: not those that are only given values, or counted."""
         written = {id(it.lvalue) for it in self.nodes() if trees.kind(it) == "Assignment"}
@@ -372,7 +420,7 @@ class Unit:
         for name in self.reached([root]):
             for node in trees.walk(self.functions[name].body):
                 called = trees.called(node)
-                if called and not (called in self.functions or called in self.directives.ignored or called in KNOWN):
+                if called and not (called in self.functions or called in self.directives.ignored or self.fails(called) or called in KNOWN):
                     yield called, self.place(node)
 
     def has_no_op(self, name: str) -> bool:

@@ -2,10 +2,10 @@
 
 A script keeps nothing but its last answer. So a local may be a constant, it may be the last answer itself, or it may depend on the last
 answer in pieces: of `ok = xQueueReceive(..)` it is 0 for `none` and 1 otherwise. When another call answers, only constants are left."""
-from dataclasses import dataclass, field
+from dataclasses import dataclass, field, replace
 from typing import Callable, Iterable, Iterator, List, Optional, Tuple, Union
 
-from .answers import GREATEST, NONE, NUMBERS, Answers, answers
+from .answers import GREATEST, NONE, NUMBERS, Answers, answers, only
 from .integers import ARITHMETIC, BOOL, COMPARISONS, INT, SHIFTS, UNSIGNED, Integer, common, promoted
 from .refusals import Lost, Place
 
@@ -82,9 +82,10 @@ class Reference:
 
 @dataclass(frozen=True)
 class Address:
-    """The address of what a script has nothing of, an array or a structure, by its name."""
+    """The address of an array or a structure, or of a member, by its name. A local structure has a key, and its members are followed."""
 
     name: str
+    key: Optional[str] = None
 
 
 @dataclass(frozen=True)
@@ -96,10 +97,15 @@ class Stamp:
 
 @dataclass(frozen=True)
 class Stored:
-    """What is in a variable of the application, by its name."""
+    """What is in a variable of the application, by its name. `missing` says why the local isn't known if the last answer is `none`."""
 
     name: str
     type: Integer
+    missing: Optional[Lost] = None
+
+    def among(self, known: Answers) -> "Stored":
+        """The same where the last answer is one of these."""
+        return self if known & only(NONE) else replace(self, missing=None)
 
 
 @dataclass(frozen=True)
@@ -148,6 +154,8 @@ def is_received() -> Value:
 
 def either(first: Known, of_first: Answers, second: Known, of_second: Answers, why: Lost) -> Known:
     """The value of which one way says the first, for these answers, and another way the second: lost where both may be and differ."""
+    if isinstance(first, Stored) and isinstance(second, Stored) and first.name == second.name:
+        return replace(first, missing=first.among(of_first).missing or second.among(of_second).missing)
     if not isinstance(first, Value) or not isinstance(second, Value):
         return first if first == second else lost(INT, why)
     both = of_first & of_second
@@ -291,6 +299,9 @@ def truth(value: Value, known: Answers) -> Answers:
 
 def after_an_answer(known: Known, before: Answers, local: str, by: str, at: Place) -> Known:
     """What is left of a local when another call answers, at this place: constants."""
+    if isinstance(known, Stored):
+        missing = known.among(before).missing
+        return replace(known, missing=None) if missing is None else lost(known.type, missing)
     if not isinstance(known, Value):
         return known
     now = known.among(before)

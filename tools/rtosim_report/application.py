@@ -11,9 +11,12 @@ SILENT_WORDS = {"work", "mark", "expect", "repeat", "end", "if", "else", "break"
 # The ops on the last answer, whose second word is a number or the name of a variable.
 ARITHMETIC = {"add", "sub", "mul", "div", "mod", "and", "or", "xor"}
 # The word for the last answer, and the ops in which it may be in the place of a number.
-ANSWER, TAKES_ANSWER = "answer", {"send", "send_front", "overwrite", "mark", "store"}
+ANSWER, TAKES_ANSWER = "answer", {"send", "send_front", "overwrite", "mark", "store", "notify"}
+# The ops that wait for a notification, and all about the notification of the task that does them.
+AWAITS = ("notify_take", "notify_wait")
+OF_OWN_NOTIFICATION = {*AWAITS, "notify_clear", "notify_value_clear"}
 # Ops whose second word isn't the name of an object, a group, a variable or a task.
-NAMELESS = SILENT_WORDS | {"delay", "delay_until", "yield", "time", "since", "suspend_all", "resume_all"}
+NAMELESS = SILENT_WORDS | OF_OWN_NOTIFICATION | {"delay", "delay_until", "yield", "time", "since", "suspend_all", "resume_all"}
 # The ops that open and close a critical section.
 OPENS, CLOSES = "enter_critical", "exit_critical"
 # The sections of the objects, which are numbered in this order.

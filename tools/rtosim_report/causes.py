@@ -9,8 +9,8 @@ from collections import Counter
 from .whereabouts import Whereabouts
 
 LAST_CALLS = re.compile(rb" call ([^ ]+) ([0-9]+ [a-z_]+) = ")
-# A handler's call that wasn't possible: no room, also for a command, no item, nobody to resume.
-FAILED = rb"isr [A-Za-z0-9_]+ [0-9]+ (?:(?:send|send_front|give|resume|set|clear) = 0|(?:receive|peek) = none)"
+# A handler's call that wasn't possible: no room, also for a command or a notification, no item, nobody to resume.
+FAILED = rb"isr [A-Za-z0-9_]+ [0-9]+ (?:(?:send|send_front|give|notify|resume|set|clear) = 0|(?:receive|peek) = none)"
 FAILED_CALL, FAILED_LINE = re.compile(FAILED), re.compile(b" " + FAILED + rb"\n")
 
 

@@ -305,14 +305,19 @@ def parsed(words):
     return found
 
 
+def makes_report(found):
+    """Whether the program makes the report, of the application."""
+    return found.report is None and found.application is not None
+
+
 def check_together(parser, found):
     """Which words go together."""
-    makes_report = found.report is None and found.application is not None
+    has_made = makes_report(found)
     if found.command == "compare":
-        makes_report = any(it.endswith(APPLICATION) for it in (found.old, found.new))
-    if found.workers is not None and not makes_report:
+        has_made = any(it.endswith(APPLICATION) for it in (found.old, found.new))
+    if found.workers is not None and not has_made:
         parser.error("--workers goes with --application, without REPORT")
-    if makes_report and found.base is not None:
+    if has_made and found.base is not None:
         parser.error("--application makes the base run too: --base doesn't go with it, unless REPORT is there")
     if found.accept is not None and (found.by not in (By.DEFAULT, By.CAUSE) or getattr(found, "rows", False)):
         parser.error("--accept goes with classes by cause")
@@ -323,10 +328,11 @@ OF_SEVERAL_REPORTS = (do_compare, do_join, do_pairs)
 
 
 def output_of(found):
-    """Where the result goes."""
+    """Where the result goes. The objects of rows that the program makes may be of any size, and are written as they come."""
     if found.output:
         return output_file(found.output)
-    return direct_output() if found.do is do_join else standard_output()
+    is_direct = found.do is do_join or found.do is do_json and makes_report(found)
+    return direct_output() if is_direct else standard_output()
 
 
 def main(words=None):

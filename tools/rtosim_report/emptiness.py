@@ -13,10 +13,10 @@ class Emptiness(NamedTuple):
     why: str
 
     @property
-    def words(self):
+    def words(self) -> str:
         return f"{self.name}: {self.why}"
 
-    def line(self):
+    def line(self) -> str:
         return f"{self.words}; {ALLOWED_BY}"
 
 

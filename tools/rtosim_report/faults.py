@@ -1,4 +1,6 @@
 """What ends a command early: each fault has its status and what it says."""
+from typing import Optional
+
 from .escaping import plain
 
 STATUS_WORDS = 2
@@ -30,7 +32,7 @@ class OutputFault(Fault):
 class ProgramFault(Fault):
     """The program that should make the report failed, and has said why; of a file that it refuses there is more to say."""
 
-    def __init__(self, status, file):
+    def __init__(self, status: int, file: str) -> None:
         super().__init__(f"rtosim-check {file} explains it" if status == STATUS_REPORT else "")
         self.status = status
 
@@ -38,7 +40,7 @@ class ProgramFault(Fault):
 class BadReport(Fault):
     """A text that is no report: a line of it, what was expected there, and what is there."""
 
-    def __init__(self, line_number, expected, found):
+    def __init__(self, line_number: int, expected: str, found: Optional[bytes]) -> None:
         super().__init__(f"line {line_number}: expected {expected}, found {quoted(found)}")
         self.line_number = line_number
 
@@ -46,18 +48,18 @@ class BadReport(Fault):
 class CutOff(Fault):
     """A report that ends too early."""
 
-    def __init__(self, line_number, expected, rows):
+    def __init__(self, line_number: int, expected: str, rows: Optional[int]) -> None:
         note = "" if rows is None else f" ({counted(rows, 'whole row')}; --partial takes them)"
         super().__init__(f"line {line_number}: the report is cut off: expected {expected}, found its end{note}")
         self.line_number = line_number
 
 
-def counted(number, noun):
+def counted(number: int, noun: str) -> str:
     """As `1 row`, `2,000 rows`."""
     return f"{number:,} {noun}" + ("" if number == 1 else "es" if noun.endswith("ss") else "s")
 
 
-def quoted(found):
+def quoted(found: Optional[bytes]) -> str:
     """The beginning of a line, fit for a terminal."""
     if found is None:
         return "the end"

@@ -7,7 +7,7 @@ NUMBER = rb"(?:0|[1-9][0-9]{0,9})"
 # Elapsed ticks, which are up to 281474976710656.
 TICKS = rb"(?:0|[1-9][0-9]{0,14})"
 NAME = rb"[A-Za-z][A-Za-z0-9_]{0,15}"
-WORD = rb"[a-z][a-z_]{0,15}"
+WORD = rb"[a-z][a-z_]{0,23}"
 ANSWER = rb"(?:none|" + NUMBER + rb")"
 VERDICT = (
     rb"pass|ticks|steps|stuck|check " + NAME + rb" " + NUMBER + rb"|misuse " + NAME + rb" " + NUMBER + rb" " + NUMBER

@@ -8,7 +8,9 @@ import re
 from itertools import groupby, islice
 
 # What a task may report while a critical section is open.
-INSIDE = re.compile(rb"call [A-Za-z0-9_]+ [0-9]+ (?:time|since|waiting|spaces|bits|clear|load|store|add|sub|mul|div|mod|and|or|xor) = |mark ")
+INSIDE = re.compile(
+    rb"call [A-Za-z0-9_]+ [0-9]+ (?:time|since|waiting|spaces|bits|clear|notify_clear|notify_value_clear"
+    rb"|load|store|add|sub|mul|div|mod|and|or|xor) = |mark ")
 
 
 @functools.lru_cache(maxsize=64)

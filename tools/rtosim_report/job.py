@@ -2,7 +2,7 @@
 import sys
 
 from .application import read_application
-from .base_run import BaseRun, find_base, given_base, tail_of_row
+from .base_run import find_base, given_base, tail_of_row
 from .classes import By, Classifier
 from .emptiness import emptiness_of
 from .end_state import state_of
@@ -133,6 +133,9 @@ class Job:
             return
         survey = self.made.survey(True)
         self.total = survey.total
+        need = self.made.need_of_all(survey)
+        if need is not None:
+            say(need)
         if not survey.total.rows:
             yield self.made.base().run()
         yield from self.made.whole(None, survey)

@@ -2,7 +2,7 @@
 none."""
 import re
 import sys
-from typing import Dict, List, NamedTuple, Optional
+from typing import Any, Dict, Iterable, List, NamedTuple, Optional
 
 from .escaping import plain
 from .faults import Fault, counted
@@ -16,12 +16,12 @@ class Failure(NamedTuple):
     name: str
     rows: Optional[int] = None
 
-    def line(self):
+    def line(self) -> str:
         """As a file of known failures has it."""
         return self.name if self.rows is None else f"{counted(self.rows, 'row')}: {self.name}"
 
 
-def failures_of(classes) -> List[Failure]:
+def failures_of(classes: Iterable[Any]) -> List[Failure]:
     """Those of the classes that fail."""
     return [Failure(it.name, it.rows) for it in classes if not it.verdict.passes]
 
@@ -29,7 +29,7 @@ def failures_of(classes) -> List[Failure]:
 class Known:
     """The names of a file, each with the most rows that it may have; None is any number."""
 
-    def __init__(self, lines=()):
+    def __init__(self, lines: Iterable[str] = ()) -> None:
         self.most: Dict[str, Optional[int]] = {}
         for line in lines:
             numbered = ROWS_OF_A_NAME.fullmatch(line)
@@ -48,12 +48,13 @@ class Known:
     def accepts(self, failure: Failure) -> bool:
         return self.why_not(failure) is None
 
-    def fewer(self, failures) -> int:
+    def fewer(self, failures: Iterable[Failure]) -> int:
         """How many names are of fewer rows than they may have."""
-        return sum(self.most.get(it.name) is not None and it.rows is not None and it.rows < self.most[it.name] for it in failures)
+        rows_and_most = ((it.rows, self.most.get(it.name)) for it in failures)
+        return sum(rows is not None and most is not None and rows < most for rows, most in rows_and_most)
 
 
-def read_names(file) -> Known:
+def read_names(file: str) -> Known:
     try:
         with open(file, encoding="utf-8") as it:
             lines = [line.strip() for line in it]

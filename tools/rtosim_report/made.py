@@ -2,12 +2,13 @@
 whole, in pieces. What it writes is read as it comes, and nothing of it is kept on disk."""
 import bisect
 from array import array
-from typing import Dict, Iterator, List, NamedTuple, Optional
+from typing import Dict, Iterator, List, NamedTuple, Optional, Sequence, Tuple
 
 from .base_run import BaseRun, given_base
 from .faults import WordsFault, counted
 from .reading import Run, Tally
-from .source import lone_reader, program_reader
+from .report import Head
+from .source import ProgramReader, lone_reader, program_reader
 
 # So many bytes of rows the program makes at once, which it keeps until all of them are made.
 PIECE = 48 << 20
@@ -23,22 +24,22 @@ PASSING, FAILING = True, False
 class Survey:
     """What the heads of a campaign show: how many rows there are, and the numbers and the steps of those that were looked at."""
 
-    def __init__(self):
+    def __init__(self) -> None:
         self.total = Tally()
         self.rows: Dict[bool, array] = {PASSING: array("L"), FAILING: array("L")}
         self.steps: Dict[bool, array] = {PASSING: array("L"), FAILING: array("L")}
 
-    def add(self, head):
+    def add(self, head: Head) -> None:
         self.rows[head.verdict.passes].append(head.row)
         self.steps[head.verdict.passes].append(head.steps)
 
-    def size(self, passes, base: BaseRun) -> int:
+    def size(self, passes: bool, base: BaseRun) -> int:
         """About how many bytes the rows have that pass, or that fail."""
         return int(sum(self.steps[passes]) * bytes_of_a_step(base)) + 80 * len(self.rows[passes])
 
 
 def bytes_of_a_step(base: BaseRun) -> float:
-    return (len(base.text) + 1) / max(1, base.head.steps)
+    return (len(base.text) + 1) / max(1, base.head.steps if base.head else 0)
 
 
 class Plan(NamedTuple):
@@ -47,14 +48,14 @@ class Plan(NamedTuple):
     passing: bool
     failing: bool
 
-    def reads(self, passes):
+    def reads(self, passes: bool) -> bool:
         return self.passing if passes else self.failing
 
 
 class MadeReport:
     """The campaign of an application, and its base run."""
 
-    def __init__(self, application, workers=None, reads_all=False):
+    def __init__(self, application: str, workers: Optional[str] = None, reads_all: bool = False) -> None:
         self.application, self.reads_all = application, reads_all
         self.more = [] if workers is None else ["--workers", workers]
         self.known_base: Optional[BaseRun] = None
@@ -62,7 +63,7 @@ class MadeReport:
         self.has_several = False
         self.surveyed: Optional[Survey] = None
 
-    def campaign(self, *words):
+    def campaign(self, *words: str) -> ProgramReader:
         return program_reader("campaign", self.application, *self.more, *words)
 
     def base(self) -> BaseRun:
@@ -70,25 +71,25 @@ class MadeReport:
             self.known_base = given_base(lone_reader("run", self.application))
         return self.known_base
 
-    def survey(self, with_passing) -> Survey:
+    def survey(self, with_passing: bool) -> Survey:
         """The heads, or those of rows that fail alone."""
         found = Survey()
         reader = self.campaign(*([] if with_passing else ["--only", "failing"]), "--heads")
         for run in reader:
             found.add(run.head)
-            self.has_several = self.has_several or not run.head.point.is_single
-        found.total = reader.total
+            self.has_several = self.has_several or is_of_several(run.head)
+        found.total = reader.total or reader.tally
         self.surveyed = found
         return found
 
-    def plan(self, wants_passing, survey) -> Plan:
+    def plan(self, wants_passing: bool, survey: Survey) -> Plan:
         """What is read whole: what is wanted, unless it is too large."""
         passing = survey.size(PASSING, self.base()) if wants_passing else 0
         is_small = self.reads_all or passing <= MOST_OF_PASSING
         failing = survey.size(FAILING, self.base())
         return Plan(wants_passing and is_small, self.reads_all or failing <= MOST_OF_FAILING)
 
-    def needs(self, plan, survey, wants_passing) -> List[str]:
+    def needs(self, plan: Plan, survey: Survey, wants_passing: bool) -> List[str]:
         """What is read, and what isn't since it is too large, where that is much."""
         sizes = {it: survey.size(it, self.base()) for it in (PASSING, FAILING)}
         found = []
@@ -100,7 +101,14 @@ class MadeReport:
                 found.append(f"{rows}, {how}")
         return found
 
-    def whole(self, passes: Optional[bool], survey) -> Iterator[Run]:
+    def need_of_all(self, survey: Survey) -> Optional[str]:
+        """What it takes to read all rows whole, if that is much."""
+        size = sum(survey.size(it, self.base()) for it in (PASSING, FAILING))
+        if size <= WORTH_A_WORD:
+            return None
+        return f"{counted(survey.total.rows, 'row')}: some {amount(size)}, read in some {counted(size // BYTES_A_SECOND[PASSING] + 1, 'second')}"
+
+    def whole(self, passes: Optional[bool], survey: Survey) -> Iterator[Run]:
         """The rows that pass, those that fail, or all, whole and in order."""
         kinds = [passes] if passes is not None else [PASSING, FAILING]
         only = [] if passes is None else ["--only", ONLY[passes]]
@@ -109,7 +117,7 @@ class MadeReport:
         for shard in self.pieces(kinds, survey):
             yield from self.campaign(*only, *shard)
 
-    def pieces(self, kinds, survey) -> List[List[str]]:
+    def pieces(self, kinds: Sequence[bool], survey: Survey) -> List[List[str]]:
         """The words for the shards that have such rows, each of which has few enough bytes."""
         rows = survey.total.rows
         size = bytes_of_a_step(self.base())
@@ -121,7 +129,7 @@ class MadeReport:
                 return [["--shard", f"{it}/{shards}"] if shards > 1 else [] for it in sorted(filled)]
             shards = min(2 * shards, rows)
 
-    def runs(self, plan, survey) -> Iterator[Run]:
+    def runs(self, plan: Plan, survey: Survey) -> Iterator[Run]:
         """All rows in order, whole or as heads."""
         if plan.passing and plan.failing:
             yield from self.whole(None, survey)
@@ -131,17 +139,22 @@ class MadeReport:
             passes = run.head.verdict.passes
             yield next(whole[passes]) if plan.reads(passes) else run
 
-    def row(self, number) -> Run:
+    def row(self, number: int) -> Run:
         """One row, whole."""
         total = (self.surveyed or self.survey(False)).total
         if not 0 <= number < total.rows:
             raise WordsFault(f"there is no row {number}: the report has {counted(total.rows, 'row')}")
         found = list(self.campaign("--shard", f"{number + 1}/{total.rows}"))[0]
-        self.has_several = self.has_several or not found.head.point.is_single
+        self.has_several = self.has_several or is_of_several(found.head)
         return found
 
 
-def filled_shards(sizes, shards, rows) -> Dict[int, float]:
+def is_of_several(head: Head) -> bool:
+    """Whether a row's point has several injections."""
+    return head.point is not None and not head.point.is_single
+
+
+def filled_shards(sizes: Sequence[Tuple[int, float]], shards: int, rows: int) -> Dict[int, float]:
     """How many bytes each shard has that has any, by its number from 1."""
     ends = [number * rows // shards for number in range(1, shards + 1)] if shards < rows else range(1, rows + 1)
     found: Dict[int, float] = {}
@@ -151,6 +164,6 @@ def filled_shards(sizes, shards, rows) -> Dict[int, float]:
     return found
 
 
-def amount(size) -> str:
+def amount(size: float) -> str:
     """A number of bytes for people."""
     return f"{size / 1e9:,.1f} GB" if size >= 1e9 else f"{max(1, size // 1_000_000):,} MB"

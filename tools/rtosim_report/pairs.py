@@ -2,6 +2,7 @@
 from typing import Iterator, List, Tuple
 
 from .faults import WordsFault, counted
+from .output import Text
 from .report import Injection, Point
 
 MOST_POINTS = MOST_STEPS = 1_000_000
@@ -22,7 +23,7 @@ def orders_of(handlers: List[str]) -> List[Tuple[str, str]]:
     return [(one, other) for one in handlers for other in handlers if one != other]
 
 
-def write_pairs(output, handlers: List[str], steps: range, within: int) -> None:
+def write_pairs(output: Text, handlers: List[str], steps: range, within: int) -> None:
     """Writes the section, a line for each first step."""
     count = len(steps) * (within + 1) * len(orders_of(handlers))
     if count > MOST_POINTS:

@@ -1,10 +1,13 @@
 """Reads a report run by run, so that one run at a time is in memory, and says at which line a text is no report."""
+from __future__ import annotations
+
 import functools
 import re
-from typing import List, NamedTuple, Optional
+from typing import Any, Iterable, Iterator, List, Match, NamedTuple, NoReturn, Optional, Tuple
 
 from . import end_state, grammar
 from .faults import BadReport, CutOff, Fault, counted
+from .output import Progress
 from .report import Head, Injection, Line, Point, Verdict
 
 BLOCK = 1 << 20
@@ -23,7 +26,7 @@ class Run(NamedTuple):
     line_number: int
     state: bytes = b""
 
-    def lines(self, start=0) -> List[Line]:
+    def lines(self, start: int = 0) -> List[Line]:
         """The event lines from this byte on, checked."""
         text = self.text[start:] if start else self.text
         found = grammar.EVENT_LINES.findall(text)
@@ -32,13 +35,13 @@ class Run(NamedTuple):
         self.check_order(found)
         return found
 
-    def find_bad_line(self):
+    def find_bad_line(self) -> NoReturn:
         for index, line in enumerate(self.text.split(b"\n")[:-1]):
             if not grammar.EVENT_LINE.fullmatch(line):
                 raise BadReport(self.line_number + 1 + index, AFTER_A_HEAD, line)
         raise AssertionError("a bad line is there")
 
-    def check_order(self, lines):
+    def check_order(self, lines: List[Line]) -> None:
         """Steps rise, and are those of the run."""
         steps = [int(step) for step, _, _ in lines]
         if not steps or steps[-1] < self.head.steps and steps == sorted(steps):
@@ -50,7 +53,7 @@ class Run(NamedTuple):
                 raise BadReport(at, f"a step from {last} to {self.head.steps - 1}", b" ".join(lines[index]))
             last = step
 
-    def check_end(self, last_line: Optional[Line]):
+    def check_end(self, last_line: Optional[Line]) -> None:
         """In its last step a run that passes goes from a task that ends to idle, to the daemon, or to one that serves for ever: without
         that line some are missing."""
         if not self.head.verdict.passes or self.head.steps == 0:
@@ -60,7 +63,7 @@ class Run(NamedTuple):
             wanted = f"`{self.head.steps - 1} T run -` or another change of the processor as the last line of a run that passes"
             raise BadReport(at + 1, wanted, None if last_line is None else b" ".join(last_line))
 
-    def checked_lines(self):
+    def checked_lines(self) -> List[Line]:
         lines = self.lines()
         self.check_end(lines[-1] if lines else None)
         return lines
@@ -69,28 +72,28 @@ class Run(NamedTuple):
 class Tally:
     """Counts rows as the total line does."""
 
-    def __init__(self):
+    def __init__(self) -> None:
         self.rows = 0
         self.not_reached = 0
         self.by_kind = dict.fromkeys(grammar.VERDICT_KINDS, 0)
 
-    def add(self, head):
+    def add(self, head: Head) -> None:
         self.rows += 1
         self.not_reached += not head.is_reached
         self.by_kind[head.verdict.kind] += 1
 
-    def add_counts(self, other):
+    def add_counts(self, other: Tally) -> None:
         self.rows += other.rows
         self.not_reached += other.not_reached
         for kind, count in other.by_kind.items():
             self.by_kind[kind] += count
 
-    def text(self):
+    def text(self) -> str:
         kinds = ", ".join(f"{kind} {count}" for kind, count in self.by_kind.items())
         return f"total {self.rows}: {kinds}, not reached {self.not_reached}"
 
 
-def tally_of(line):
+def tally_of(line: bytes) -> Optional[Tally]:
     """What a total line counts; None where it is none, or its ends aren't as many as its rows."""
     match = grammar.TOTAL.fullmatch(line)
     if match is None:
@@ -106,7 +109,7 @@ class Reader:
 
     Heads, their numbers and the total line are checked here; the event lines of a run when they are asked for."""
 
-    def __init__(self, stream, partial=False, progress=None, first=0):
+    def __init__(self, stream: Any, partial: bool = False, progress: Optional[Progress] = None, first: int = 0) -> None:
         self.stream, self.partial, self.progress, self.first = stream, partial, progress, first
         self.tally = Tally()
         # What the total line counts.
@@ -115,7 +118,7 @@ class Reader:
         self.line_number = 1
         self.bytes_read = 0
 
-    def __iter__(self):
+    def __iter__(self) -> Iterator[Run]:
         kept = self.read()
         if not kept:
             raise CutOff(1, grammar.A_FIRST_LINE, None)
@@ -136,33 +139,33 @@ class Reader:
             kept += more
         yield from self.last_part(kept[1:])
 
-    def read(self):
+    def read(self) -> bytes:
         block = self.stream.read(BLOCK)
         self.bytes_read += len(block)
         if self.progress:
             self.progress.show(self.bytes_read, self.tally.rows)
         return block
 
-    def refuse_long_line(self, kept, more):
+    def refuse_long_line(self, kept: bytes, more: bytes) -> None:
         """A line longer than a block isn't gathered."""
         if len(more) == BLOCK and b"\n" not in more:
             at = self.line_number + kept.count(b"\n")
             raise BadReport(at, AFTER_A_HEAD, kept[kept.rfind(b"\n") + 1 :] + more[:80])
 
-    def is_next(self, row):
+    def is_next(self, row: Any) -> bool:
         """Whether a row of this number may follow."""
         return row == self.first + self.tally.rows
 
-    def next_row(self):
+    def next_row(self) -> str:
         """The row that may follow, in words."""
         return grammar.a_row(self.first + self.tally.rows)
 
-    def row_of(self, text):
+    def row_of(self, text: bytes) -> Run:
         """The row whose head, without its first word, and lines this is."""
         match = grammar.ROW_HEAD.match(text)
         head = None if match is None else row_head(match)
         tally = self.tally
-        if head is None or not self.is_next(head.row):
+        if match is None or head is None or not self.is_next(head.row):
             raise BadReport(self.line_number, self.next_row(), b"row " + first_line(text))
         body = text[match.end() :]
         run = Run(head, body, self.line_number)
@@ -170,7 +173,7 @@ class Reader:
         self.line_number += 1 + body.count(b"\n")
         return run
 
-    def lone_run(self, kept):
+    def lone_run(self, kept: bytes) -> Run:
         """The one run that follows a head of the base run."""
         text = self.rest(kept)
         line, _, body = text.partition(b"\n")
@@ -179,9 +182,10 @@ class Reader:
             raise BadReport(1, grammar.A_FIRST_LINE, line)
         if not text.endswith(b"\n"):
             raise CutOff(1 + text.count(b"\n"), "a line feed at the line's end", None)
+        assert head is not None
         return with_state(Run(head, body, 1))
 
-    def rest(self, kept):
+    def rest(self, kept: bytes) -> bytes:
         parts = [kept]
         while True:
             more = self.read()
@@ -190,7 +194,7 @@ class Reader:
             self.refuse_long_line(parts[-1], more)
             parts.append(more)
 
-    def last_part(self, text):
+    def last_part(self, text: bytes) -> Iterator[Run]:
         """The last row, if there is one, and the total line."""
         at = 0 if text.startswith(b"total ") else text.find(TOTAL_LINE) + 1
         row, total = text[:at], text[at:]
@@ -203,7 +207,7 @@ class Reader:
         else:
             self.cut_off(text)
 
-    def cut_off(self, row):
+    def cut_off(self, row: bytes) -> None:
         """A report without its total line. Its last row may lack lines too, so it isn't taken."""
         *lines, cut_line = row.split(b"\n")
         if cut_line and not CUT_LINE.fullmatch(cut_line):
@@ -219,7 +223,7 @@ class Reader:
             at = self.line_number + row.count(b"\n")
             raise CutOff(at, "the next line, up to the total line", self.tally.rows)
 
-    def check_total(self, total):
+    def check_total(self, total: bytes) -> None:
         line, feed, after = total.partition(b"\n")
         if after:
             raise BadReport(self.line_number + 1, "nothing after the total line", first_line(after))
@@ -236,39 +240,42 @@ class Reader:
 class ViewReader(Reader):
     """The rows of a report of which some are left out (`--only`), or of a shard: their numbers rise, and the total line counts all."""
 
-    def __init__(self, stream, partial=False, progress=None):
+    def __init__(self, stream: Any, partial: bool = False, progress: Optional[Progress] = None) -> None:
         super().__init__(stream, partial, progress)
-        self.last_row = -1
+        self.last_row: Optional[int] = -1
 
-    def row_of(self, text):
+    def row_of(self, text: bytes) -> Run:
         run = super().row_of(text)
         self.last_row = run.head.row
         return run
 
-    def is_next(self, row):
+    def is_next(self, row: Any) -> bool:
         return row > self.last_row
 
-    def next_row(self):
+    def next_row(self) -> str:
         return f"`row N at STEP HANDLER: VERDICT in N steps, E ticks` with a number above {self.last_row}"
 
-    def check_total(self, total):
+    def check_total(self, total: bytes) -> None:
         line, feed, after = total.partition(b"\n")
         self.total = tally_of(line) if feed and not after else None
         if self.total is None:
             super().check_total(total)
 
-    def contradiction(self):
+    def contradiction(self) -> Optional[str]:
         """Why the rows aren't those of a view, of which those of one end are all written or none is; None where they may be."""
-        for kind, count in self.total.by_kind.items():
+        total = self.total
+        if total is None:
+            return None
+        for kind, count in total.by_kind.items():
             if self.tally.by_kind[kind] not in (0, count):
                 return f"it has {counted(self.tally.by_kind[kind], 'row')} that end with `{kind}`, and its total line counts {count}"
-        is_whole = self.tally.by_kind == self.total.by_kind
-        if is_whole and self.tally.not_reached != self.total.not_reached:
-            return f"it has {counted(self.tally.not_reached, 'row')} that are not reached, and its total line counts {self.total.not_reached}"
+        is_whole = self.tally.by_kind == total.by_kind
+        if is_whole and self.tally.not_reached != total.not_reached:
+            return f"it has {counted(self.tally.not_reached, 'row')} that are not reached, and its total line counts {total.not_reached}"
         return None
 
 
-def lone_run_of(reader):
+def lone_run_of(reader: Iterable[Run]) -> Optional[Run]:
     """The one run that a text is the report of; None where it is of something else."""
     try:
         runs = list(reader)
@@ -277,13 +284,13 @@ def lone_run_of(reader):
     return runs[0] if len(runs) == 1 else None
 
 
-def with_state(run):
+def with_state(run: Run) -> Run:
     """A lone run, with the lines of its state apart from those of the run."""
     body, state = end_state.parted(run.text, run.line_number + 1)
     return run._replace(text=body, state=state)
 
 
-def whole_rows(kept):
+def whole_rows(kept: bytes) -> Tuple[List[bytes], bytes]:
     """The rows whose end is there, without their first word and their last line feed; and what follows them."""
     if not kept.startswith(NEXT_ROW):
         return [], kept
@@ -291,17 +298,17 @@ def whole_rows(kept):
     return rows, NEXT_ROW + last
 
 
-def first_line(text):
+def first_line(text: bytes) -> bytes:
     return text.partition(b"\n")[0]
 
 
 @functools.lru_cache(maxsize=1 << 12)
-def verdict_of(words):
+def verdict_of(words: bytes) -> Verdict:
     text = words.decode()
     return Verdict(text, text.split(" ", 1)[0])
 
 
-def base_head(line):
+def base_head(line: bytes) -> Optional[Head]:
     match = grammar.BASE_HEAD.fullmatch(line)
     if match is None:
         return None
@@ -310,12 +317,12 @@ def base_head(line):
 
 
 @functools.lru_cache(maxsize=1 << 6)
-def name_of(handler):
+def name_of(handler: bytes) -> str:
     return handler.decode()
 
 
 @functools.lru_cache(maxsize=1 << 14)
-def end_of_head(words):
+def end_of_head(words: bytes) -> Optional[Tuple[bool, Verdict, int, int]]:
     """Whether the point is reached, the verdict, the steps and the ticks; None where the words are no end of a head."""
     match = grammar.END_OF_ROW_HEAD.fullmatch(words)
     if match is None:
@@ -324,7 +331,7 @@ def end_of_head(words):
     return missed is None, verdict_of(verdict), int(steps), int(ticks)
 
 
-def row_head(match):
+def row_head(match: Match[bytes]) -> Optional[Head]:
     """The head of a row, or None where its end is none, or the steps of its injections fall."""
     row, step, handler, more, words = match.groups()
     end = end_of_head(words)
@@ -339,13 +346,13 @@ def row_head(match):
     return Head(int(row), point, is_reached, verdict, steps, ticks)
 
 
-def further_injections(words):
+def further_injections(words: bytes) -> List[Injection]:
     """Those behind the first."""
     parts = words.split()
     return [Injection(int(step), name_of(handler)) for step, handler in zip(parts[::2], parts[1::2])]
 
 
-def parts_of_rows(stream):
+def parts_of_rows(stream: Any) -> Iterator[bytes]:
     """The texts of the rows, each without its first word, unchecked: for a quick look. A last row that may be cut off, since no
     line of totals follows, is left out, unless it is the only one."""
     kept, is_alone = b"\n", True
@@ -361,8 +368,10 @@ def parts_of_rows(stream):
         yield row[len(NEXT_ROW) :].rstrip(b"\n")
 
 
-def run_of_part(part):
+def run_of_part(part: bytes) -> Optional[Run]:
     """The run of such a text, or None where it is none. The number of its line isn't known."""
     match = grammar.ROW_HEAD.match(part + b"\n")
     head = None if match is None else row_head(match)
-    return None if head is None else with_state(Run(head, part[match.end() :] + b"\n" * (match.end() <= len(part)), 0))
+    if match is None or head is None:
+        return None
+    return with_state(Run(head, part[match.end() :] + b"\n" * (match.end() <= len(part)), 0))

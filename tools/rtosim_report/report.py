@@ -11,24 +11,24 @@ class Injection(NamedTuple):
     step: int
     handler: str
 
-    def text(self):
+    def text(self) -> str:
         return f"{self.step} {self.handler}"
 
 
-class Point(tuple):
+class Point(Tuple[Injection, ...]):
     """A point of a campaign: one to three injections, whose steps don't fall. Up to the first of them its row is the base run."""
 
     __slots__ = ()
 
     @property
-    def first_step(self):
+    def first_step(self) -> int:
         return self[0].step
 
     @property
-    def is_single(self):
+    def is_single(self) -> bool:
         return len(self) == 1
 
-    def text(self):
+    def text(self) -> str:
         return " ".join(it.text() for it in self)
 
 
@@ -39,7 +39,7 @@ class Verdict(NamedTuple):
     kind: str
 
     @property
-    def passes(self):
+    def passes(self) -> bool:
         return self.kind == "pass"
 
     @property
@@ -65,22 +65,22 @@ class Head(NamedTuple):
     ticks: int
 
     @property
-    def is_tickless(self):
+    def is_tickless(self) -> bool:
         """Whether the run is surely one of a tickless application: no other step passes more than a tick."""
         return self.ticks > self.steps
 
-    def is_base(self):
+    def is_base(self) -> bool:
         """The lines below it are those of the base run."""
         return self.row is None or not self.is_reached
 
-    def end_text(self):
+    def end_text(self) -> str:
         return f"{self.verdict.text} in {self.steps} steps, {self.ticks} ticks"
 
-    def text(self):
+    def text(self) -> str:
         if self.row is None:
             return f"base: {self.end_text()}"
-        reached = "" if self.is_reached else "not reached, "
-        return f"row {self.row} at {self.point.text()}: {reached}{self.end_text()}"
+        reached, point = "" if self.is_reached else "not reached, ", self.point.text() if self.point else ""
+        return f"row {self.row} at {point}: {reached}{self.end_text()}"
 
 
 class Kind(enum.Enum):
@@ -103,7 +103,7 @@ class Event(NamedTuple):
     word: Optional[str] = None
     answer: Optional[int] = None
 
-    def short(self):
+    def short(self) -> str:
         """Without the name."""
         if self.kind is Kind.MARK:
             return f"mark {self.answer}"

@@ -1,18 +1,21 @@
 """Where a report comes from: a file, standard input, or the program. It can be read again and again, from its beginning.
 
 What can't be read twice, as a pipe, is copied to a file without a name in the folder for temporary files."""
+from __future__ import annotations
+
 import io
 import os
 import re
 import subprocess
 import sys
 import tempfile
+from typing import Any, Iterator, List, Optional, Sequence, Tuple
 
 from . import temporary
 from .escaping import plain, shell_word
 from .faults import Fault, ProgramFault
 from .output import Progress
-from .reading import NEXT_ROW, Reader, ViewReader, parts_of_rows, tally_of
+from .reading import NEXT_ROW, Reader, Run, ViewReader, parts_of_rows, tally_of
 
 ROOT = os.path.dirname(os.path.dirname(os.path.dirname(os.path.realpath(__file__))))
 PROGRAM = os.path.join(ROOT, "bin", "rtosim")
@@ -29,13 +32,13 @@ FIRST_ROW = re.compile(rb"row ([0-9]{1,7}) at ")
 class Source:
     """A report that can be read several times."""
 
-    def __init__(self, stream, partial=False):
+    def __init__(self, stream: Any, partial: bool = False) -> None:
         self.stream, self.partial = stream, partial
         self.size = stream.seek(0, os.SEEK_END)
-        self.known = None
+        self.known: Optional[Tuple[int, bool]] = None
         self.is_of_heads = False
 
-    def reader(self):
+    def reader(self) -> Reader:
         """A reader of all runs: of a report whose total line counts more rows than it has, one of a view of it."""
         first, lacks_rows = self.numbering()
         self.stream.seek(0)
@@ -43,7 +46,7 @@ class Source:
             return ViewReader(self.stream, self.partial, Progress(self.size))
         return Reader(self.stream, self.partial, Progress(self.size), first)
 
-    def numbering(self):
+    def numbering(self) -> Tuple[int, bool]:
         """The number of the first row, and whether rows are left out; of what isn't a whole report these are 0 and False."""
         if self.known is None:
             self.known = 0, False
@@ -57,12 +60,12 @@ class Source:
                 self.known = 0, True
         return self.known
 
-    def has_heads_alone(self):
+    def has_heads_alone(self) -> bool:
         """Whether no row has a line, though one has steps after which there is one."""
         self.numbering()
         return self.is_of_heads
 
-    def count_rows(self):
+    def count_rows(self) -> int:
         """How many lines begin as the head of a row does."""
         self.stream.seek(0)
         rows, lines, kept, has_steps = 0, 0, b"\n", False
@@ -77,31 +80,31 @@ class Source:
         self.is_of_heads = has_steps and lines == rows + 1
         return rows
 
-    def parts(self):
+    def parts(self) -> Iterator[bytes]:
         """The texts of the rows, unchecked."""
         self.stream.seek(0)
         return parts_of_rows(self.stream)
 
-    def beginning(self, size):
+    def beginning(self, size: int) -> bytes:
         self.stream.seek(0)
         return self.stream.read(size)
 
 
-def file_source(name, partial=False):
+def file_source(name: str, partial: bool = False) -> Source:
     try:
         return Source(seekable(open(name, "rb")), partial)
     except OSError as why:
         raise Fault(f"cannot read {plain(name)}: {why.strerror}") from None
 
 
-def standard_input(partial=False):
+def standard_input(partial: bool = False) -> Source:
     try:
         return Source(seekable(sys.stdin.buffer), partial)
     except (OSError, AttributeError) as why:
         raise Fault(f"cannot read standard input: {getattr(why, 'strerror', None) or 'it is closed'}") from None
 
 
-def seekable(stream):
+def seekable(stream: Any) -> Any:
     """The stream, or a copy of it that can be read again, in the folder for temporary files."""
     try:
         if stream.seekable() and stream.tell() == 0:
@@ -122,56 +125,57 @@ def seekable(stream):
 class ProgramStream:
     """What the program writes when it is called with these words, as it comes. Its end is that of a report, or a fault."""
 
-    def __init__(self, words):
+    def __init__(self, words: Sequence[str]) -> None:
         self.file = words[1]
         try:
             self.started = subprocess.Popen([PROGRAM, *words], stdin=subprocess.DEVNULL, stdout=subprocess.PIPE)
+            self.stdout: Any = self.started.stdout
         except OSError as why:
             raise Fault(f"cannot run {plain(PROGRAM)}: {why.strerror}") from None
 
-    def read(self, size):
-        block = self.started.stdout.read(size)
+    def read(self, size: int) -> bytes:
+        block = self.stdout.read(size)
         if not block:
             status = self.started.wait()
             if status not in STATUSES_OF_REPORTS:
                 raise ProgramFault(status if status > 0 else 70, shell_word(self.file))
         return block
 
-    def close(self):
+    def close(self) -> None:
         """Ends the program, if it hasn't ended."""
         if self.started.poll() is None:
             self.started.kill()
             self.started.wait()
-        self.started.stdout.close()
+        self.stdout.close()
 
 
 class ProgramReader(ViewReader):
     """The rows that the program writes. It is read once."""
 
-    def __init__(self, words):
+    def __init__(self, words: Sequence[str]) -> None:
         super().__init__(ProgramStream(words))
 
-    def __iter__(self):
+    def __iter__(self) -> Iterator[Run]:
         try:
             yield from super().__iter__()
         finally:
             self.stream.close()
 
 
-def program_reader(*words):
+def program_reader(*words: str) -> ProgramReader:
     return ProgramReader(words)
 
 
-def lone_reader(*words):
+def lone_reader(*words: str) -> List[Run]:
     """The one run that the program writes; all of it is read."""
     return list(ProgramReader(words))
 
 
-def state_source(application, words):
+def state_source(application: str, words: Sequence[str]) -> Optional[Source]:
     """The run of the point that these words name, with the state at its end; None where the program writes none. It has made
     a report before, so what it says of words that it doesn't know is kept from standard error."""
     try:
-        streams = {"stdout": subprocess.PIPE, "stderr": subprocess.DEVNULL}
+        streams: Any = {"stdout": subprocess.PIPE, "stderr": subprocess.DEVNULL}
         ran = subprocess.run([PROGRAM, "run", application, *words, "--state"], check=False, **streams)
     except OSError:
         return None

@@ -7,6 +7,7 @@ from .words import words_of_point
 
 AS_BASE = "as the base run, but for the handler's own lines"
 NOT_REACHED = "not reached: the base run itself"
+BASE_FAILS = "the base run fails so too, without an injection"
 
 
 class Given(NamedTuple):
@@ -94,6 +95,13 @@ def base_words(base, rows=0):
     return f"the base run: {base.head.end_text()}{origin}"
 
 
+def of_base(it, base):
+    """That the base run fails in the same check, or by the same misuse, as the rows of a class. Stuck runs may wait for different things."""
+    if base is None or base.head is None or it.verdict.kind not in ("check", "misuse"):
+        return []
+    return [BASE_FAILS] if it.verdict.text == base.head.verdict.text else []
+
+
 def write_classes(output, classes, base, total, given, failing=False, notes=()):
     """The table, with the lines of each class below its own; of those that fail alone, where that is asked for; and notes on the whole, as
     what a lone run says at its end."""
@@ -112,5 +120,5 @@ def write_classes(output, classes, base, total, given, failing=False, notes=()):
     output.line(heading)
     for it, line in zip(shown, lines):
         output.line(line)
-        for words in [*words_of(it), command_of(it.first, given)]:
+        for words in [*words_of(it), *of_base(it, base), command_of(it.first, given)]:
             output.line(f"       {words}")

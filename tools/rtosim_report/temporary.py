@@ -2,12 +2,13 @@
 import contextlib
 import os
 import tempfile
+from typing import Iterator
 
 from .escaping import plain
 from .faults import OutputFault
 
 
-def fault(why):
+def fault(why: object) -> OutputFault:
     """The fault of the folder, by its name."""
     try:
         folder = tempfile.gettempdir()
@@ -17,7 +18,7 @@ def fault(why):
 
 
 @contextlib.contextmanager
-def room():
+def room() -> Iterator[None]:
     """Around what is written there."""
     try:
         yield

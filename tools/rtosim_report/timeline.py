@@ -2,7 +2,6 @@
 
 A report has changes of the processor and the ends of calls. What isn't shown by them, nor by the scripts where the application is
 known, isn't drawn."""
-import bisect
 from itertools import combinations
 from typing import Dict, List
 
@@ -24,8 +23,8 @@ def of_base(base, application=None):
 
 
 def of_row(run, base, application=None):
-    """The timeline of a row. The base run shows whether a change of the processor at the injection is the step's own; and so does
-    the daemon, which can't do in fewer steps what it does."""
+    """The timeline of a row. The base run shows whether a change of the processor at the injection is the step's own; and so do
+    the daemon, which can't do in fewer steps what it does, and the scripts."""
     lines = run.checked_lines()
     own, switches = injected_lines(lines, run.head.point, base) if run.head.is_reached else (set(), set())
     arrivals = arrivals_of(lines, run.head.point)
@@ -153,6 +152,7 @@ class Builder:
         self.walk()
         daemon, self.is_contradicted = find_daemon(self)
         waits, endings, ops = self.away(None if daemon is None else daemon.lane)
+        self.is_contradicted |= self.leaves_a_script(ops)
         windows = self.windows(waits, ops)
         if daemon is not None:
             waits += daemon.bars(UNNAMED not in self.lanes)
@@ -211,6 +211,11 @@ class Builder:
                 if times.ops is not None:
                     ops[lane] = times.ops.stretches
         return found, endings, ops
+
+    def leaves_a_script(self, ops):
+        """Whether the turns and the calls of a task aren't those of its script."""
+        scripts = self.application.tasks if self.application else {}
+        return any(it.lane.name in scripts and it.lane not in ops for it in self.turns if it.end > it.start)
 
     def windows(self, waits, ops):
         sections = windows_of_sections(ops, self.application, self.head.steps)

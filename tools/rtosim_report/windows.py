@@ -1,13 +1,15 @@
 """The stretches in which a queue is locked or the scheduler is held, as the waits and the calls of a run show them; and those in which a
 critical section is open, as far as it is known which ops the tasks are in."""
-from .application import CLOSES, OPENS
+from .application import AWAITS, CLOSES, OPENS
 from .lanes import Doing, Window, WindowKind
 from .report import Kind
 
 # The calls on queues, semaphores and mutexes begin a wait in these steps: Start or Try, Decide, Place, Unlock, Leave.
 OBJECT_CALLS = {"send", "send_front", "receive", "peek", "take", "lock"}
-SILENT_STEPS = {**dict.fromkeys(OBJECT_CALLS, 5), "wait": 2}
-LOCKED_FROM, LOCKED_TO, HELD_FROM_OBJECT, HELD_FROM_BITS = 4, 1, 4, 2
+# Those that wait for bits or for a notification lock nothing: Start, Leave.
+PLAIN_CALLS = {"wait", *AWAITS}
+SILENT_STEPS = {**dict.fromkeys(OBJECT_CALLS, 5), **dict.fromkeys(PLAIN_CALLS, 2)}
+LOCKED_FROM, LOCKED_TO, HELD_FROM_OBJECT, HELD_FROM_PLAIN = 4, 1, 4, 2
 
 
 def windows_of_waits(waits, steps):
@@ -19,8 +21,8 @@ def windows_of_waits(waits, steps):
         if it.word in OBJECT_CALLS:
             found.append(Window(it.lane, it.start - LOCKED_FROM, it.start - LOCKED_TO, WindowKind.LOCKED))
             found.append(Window(it.lane, it.start - HELD_FROM_OBJECT, it.start, WindowKind.HELD))
-        elif it.word == "wait":
-            found.append(Window(it.lane, it.start - HELD_FROM_BITS, it.start, WindowKind.HELD))
+        elif it.word in PLAIN_CALLS:
+            found.append(Window(it.lane, it.start - HELD_FROM_PLAIN, it.start, WindowKind.HELD))
     return [it for it in found if 0 <= it.start < it.end <= steps]
 
 

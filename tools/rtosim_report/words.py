@@ -2,7 +2,7 @@
 `--point` of several, which not every program has."""
 import functools
 import subprocess
-from typing import List, Optional
+from typing import Any, List, Optional
 
 from .report import Point
 from .source import PROGRAM
@@ -12,7 +12,7 @@ from .source import PROGRAM
 def takes_points() -> bool:
     """Whether the program runs a point of several injections."""
     try:
-        streams = {"stdin": subprocess.DEVNULL, "stdout": subprocess.PIPE, "stderr": subprocess.DEVNULL}
+        streams: Any = {"stdin": subprocess.DEVNULL, "stdout": subprocess.PIPE, "stderr": subprocess.DEVNULL}
         return b"--point" in subprocess.run([PROGRAM, "run", "--help"], check=False, **streams).stdout
     except OSError:
         return False

@@ -82,6 +82,7 @@ pub fn put_numeral(bytes: &mut [u8], at: usize, numeral: Numeral<'_>, after: u8)
 pub fn put_short_number(bytes: &mut [u8], at: usize, number: u16) -> usize
     requires { at + 5 ≤ length bytes.old }
     ensures end { result ≤ at + 5 }
+    ensures digits { result ≡ at + length (decimal number) }
     ensures text { take result bytes.new ≡ take at bytes.old ++ decimal number }
 {
     let mut buffer = itoa::Buffer::new();

@@ -2,7 +2,8 @@
 
 use model::{
     Access, AnswerCondition, App, Arithmetic, Command, Condition, GroupId, HandlerId, IsrOp,
-    ObjectId, ObjectKind, Op, Point, PointEntry, TaskId, Value, ValueOp, VariableId,
+    NotificationClear, NotificationMasks, NotificationWait, NotifyAction, ObjectId, ObjectKind, Op,
+    Point, PointEntry, TaskId, Value, ValueOp, VariableId,
 };
 use script::FromDocument;
 use std::alloc::Global;
@@ -371,6 +372,74 @@ fn groups_and_the_ops_on_them_and_those_that_suspend_are_loaded(rt: HostRuntime)
         IsrOp::GetBits(g),
         IsrOp::Resume(a),
         IsrOp::GetBits(any),
+    ];
+    has_isr_ops(&rt, &app, &isr_ops);
+}
+
+const NOTIFICATIONS: &str = "
+[[task]]
+name = 'a'
+priority = 1
+script = [
+    'notify none none', 'notify a  bits 4294967295', ' notify bits increment', 'notify a overwrite answer',
+    'notify none keep 0007 ', 'notify_take clear forever', 'notify_take  decrement 4294967294',
+    'notify_wait 0 4294967295 0', ' notify_wait 6 1 forever', 'notify_clear', 'notify_value_clear 4294967295',
+    'notify_value_clear 0',
+]
+
+[[task]]
+name = 'none'
+priority = 2
+script = []
+
+[[task]]
+name = 'bits'
+priority = 2
+script = []
+
+[[handler]]
+name = 'h'
+ops = ['notify none bits 1', ' notify  a increment ', 'notify bits keep answer', 'notify a none', 'notify a overwrite 0']
+";
+
+/// A wait for any notification that clears these bits at its start and those at its end.
+fn waits(entry: u32, exit: u32, ticks: Option<u32>) -> Op {
+    let masks = NotificationMasks { entry, exit };
+    Op::AwaitNotification(NotificationWait::Wait(masks), ticks)
+}
+
+/// A take of one or of all.
+fn takes(clears: bool, ticks: Option<u32>) -> Op {
+    Op::AwaitNotification(NotificationWait::Take(clears), ticks)
+}
+
+#[test]
+fn notifies_waits_for_notifications_and_clears_are_loaded(rt: HostRuntime) {
+    let app = loaded(&rt, rt.alloc(), NOTIFICATIONS);
+    let a = TaskId { number: 0 };
+    let none = TaskId { number: 1 };
+    let bits = TaskId { number: 2 };
+    let ops = [
+        Op::Notify(none, NotifyAction::Nothing),
+        Op::Notify(a, NotifyAction::SetBits(Value::Number(4_294_967_295))),
+        Op::Notify(bits, NotifyAction::Increment),
+        Op::Notify(a, NotifyAction::Overwrite(Value::Answer)),
+        Op::Notify(none, NotifyAction::Keep(Value::Number(7))),
+        takes(true, None),
+        takes(false, Some(4_294_967_294)),
+        waits(0, 4_294_967_295, Some(0)),
+        waits(6, 1, None),
+        Op::ClearNotification(NotificationClear::Pending),
+        Op::ClearNotification(NotificationClear::Bits(4_294_967_295)),
+        Op::ClearNotification(NotificationClear::Bits(0)),
+    ];
+    has_ops(&rt, &app, &ops);
+    let isr_ops = [
+        IsrOp::Notify(none, NotifyAction::SetBits(Value::Number(1))),
+        IsrOp::Notify(a, NotifyAction::Increment),
+        IsrOp::Notify(bits, NotifyAction::Keep(Value::Answer)),
+        IsrOp::Notify(a, NotifyAction::Nothing),
+        IsrOp::Notify(a, NotifyAction::Overwrite(Value::Number(0))),
     ];
     has_isr_ops(&rt, &app, &isr_ops);
 }

@@ -8,7 +8,8 @@ use Rattle.std.proofs.Math.ListN.{length-set}
 use Rattle.std.proofs.lemmas.Bool.{cases_eq, cases_lt, eq-eqb, ne_eqb}
 use Rattle.std.proofs.lemmas.List.{get_or-set_other, get_or-set_same}
 use Rattle.std.proofs.lemmas.List.Elements.{filter-append}
-use Rattle.model.specs.State.{State, Status, Task, Ready, Awake, Waiting, Asleep, WaitingForBits, Suspended, Ended, for_each}
+use Rattle.model.specs.State.{State, Status, Task, Ready, Awake, Waiting, Asleep, WaitingForBits, WaitingForNotification, Suspended}
+use Rattle.model.specs.State.{Ended, for_each}
 use Rattle.model.specs.State.{no_task, status_at, task_at, progress_at, call_at, with_call, take_ticket, ticket_if_ready, ticket_of}
 use Rattle.model.specs.State.{wake_time_of, with_status}
 use Rattle.model.specs.Order.{Entry, Key, entry, key, list_by, put, tasks_of}
@@ -23,6 +24,7 @@ use Rattle.model.specs.declared.call.CallProgress.{CallProgress}
 use Rattle.model.specs.declared.call.WaitList.{WaitList}
 use Rattle.model.specs.Waiting.{wait_in}
 use Rattle.model.specs.Groups.{wait_for_bits}
+use Rattle.model.specs.Notifications.{wait_for_notification}
 use Rattle.model.proofs.Statuses.{ready_awake}
 use Rattle.model.proofs.Tables.{below_delayed, table-make_ready, table-set, table-taken, ticket_at}
 use Rattle.lists.specs.Lists.{Each, EachOnce, IsSorted, has_node, insert_sorted, without}
@@ -190,6 +192,7 @@ asleep_none (Awake w) t = absurd cc
 asleep_none (Waiting w) t = absurd cc
 asleep_none (Asleep m b) t = absurd cc
 asleep_none (WaitingForBits g m d) t = absurd cc
+asleep_none (WaitingForNotification m d) t = absurd cc
 asleep_none Suspended t = refl
 asleep_none Ended t = refl
 
@@ -569,6 +572,9 @@ sleeper_in t s i (Ready n) h is some = absurd cc
 sleeper_in t s i (WaitingForBits g n d) h is some =
     let u = some_time d some in
     sleeper_until t s i u.0 n (WaitingForBits g n d) h is u.1 (delayed_until d n u.0 u.1)
+sleeper_in t s i (WaitingForNotification n d) h is some =
+    let u = some_time d some in
+    sleeper_until t s i u.0 n (WaitingForNotification n d) h is u.1 (delayed_until d n u.0 u.1)
 sleeper_in t s i Suspended h is some = absurd cc
 sleeper_in t s i Ended h is some = absurd cc
 
@@ -654,6 +660,14 @@ pub stands_waiting_bits : (t : Timeline) (s : State) (i group : ℕ) → StandsF
 unfolding wait_for_bits
 stands_waiting_bits t s i group h l ready =
     waits t s i h l ready (λ ticket deadline. WaitingForBits group ticket deadline)
+    (λ n d. refl) (λ n d. refl) (call_at s i).deadline
+
+-- The same, for a notification.
+pub stands_waiting_notification : (t : Timeline) (s : State) (i : ℕ) → StandsFor t s → i < length s.tasks
+    → is_ready s i ≡ true → StandsBefore i (call_at s i).deadline t (wait_for_notification i s)
+unfolding wait_for_notification
+stands_waiting_notification t s i h l ready =
+    waits t s i h l ready (λ ticket deadline. WaitingForNotification ticket deadline)
     (λ n d. refl) (λ n d. refl) (call_at s i).deadline
 
 -- a task is suspended, and is asleep no more

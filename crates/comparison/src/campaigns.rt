@@ -268,12 +268,13 @@ fn fail(rt: &impl Abort, alloc: Global, seed: u32, app: &App, points: &[Point], 
 }
 
 /// For applications whose tasks crowd about objects, and as often for those whose tasks go by what was answered, open critical
-/// sections, or calculate.
+/// sections, calculate, or notify each other.
 fn dice_of(seed: u32) -> Dice {
     match seed % 8 {
         0 => Dice::deciding(seed),
-        2 | 6 => Dice::masking(seed),
+        2 => Dice::masking(seed),
         4 => Dice::calculating(seed),
+        6 => Dice::signalling(seed),
         _ => Dice::crowding(seed),
     }
 }

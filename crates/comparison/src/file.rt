@@ -2,7 +2,8 @@
 
 use model::{
     Access, AnswerCondition, App, Condition, HandlerDefinition, Injection, Interrupt, IsrOp,
-    ObjectId, ObjectKind, Op, Plan, Point, TaskDefinition, Value, ValueOp,
+    NotificationClear, NotificationMasks, NotificationWait, NotifyAction, ObjectId, ObjectKind, Op,
+    Plan, Point, TaskDefinition, TaskId, Value, ValueOp,
 };
 use std::alloc::{AllocError, Global};
 
@@ -112,6 +113,62 @@ fn push_condition(file: &mut String, condition: Condition) -> Result<(), AllocEr
     push_word(file, if condition.clear { "clear" } else { "keep" })
 }
 
+// What a notify does, as words.
+fn push_action(file: &mut String, action: NotifyAction<Value>) -> Result<(), AllocError> {
+    push_word(
+        file,
+        match action {
+            NotifyAction::Nothing => "none",
+            NotifyAction::SetBits(_) => "bits",
+            NotifyAction::Increment => "increment",
+            NotifyAction::Overwrite(_) => "overwrite",
+            NotifyAction::Keep(_) => "keep",
+        },
+    )?;
+    match action.value() {
+        Some(value) => push_value(file, value),
+        None => Ok(()),
+    }
+}
+
+// The words of a notify behind its first, of a task or of a handler.
+fn push_notify(
+    file: &mut String,
+    app: &App,
+    task: TaskId,
+    action: NotifyAction<Value>,
+) -> Result<(), AllocError> {
+    push_word(file, app.name(task))?;
+    push_action(file, action)
+}
+
+fn push_masks(file: &mut String, masks: NotificationMasks) -> Result<(), AllocError> {
+    push_number(file, masks.entry)?;
+    push_number(file, masks.exit)
+}
+
+// For what a call waits by its notification, as words.
+fn push_notification_wait(file: &mut String, wait: NotificationWait) -> Result<(), AllocError> {
+    match wait {
+        NotificationWait::Take(true) => push_word(file, "clear"),
+        NotificationWait::Take(false) => push_word(file, "decrement"),
+        NotificationWait::Wait(masks) => push_masks(file, masks),
+    }
+}
+
+// The words of an op on notifications behind its first. Any other has none.
+fn push_rest_on_notification(file: &mut String, app: &App, op: &Op) -> Result<(), AllocError> {
+    match *op {
+        Op::Notify(task, action) => push_notify(file, app, task, action),
+        Op::AwaitNotification(wait, ticks) => {
+            push_notification_wait(file, wait)?;
+            push_number_or(file, ticks, "forever")
+        }
+        Op::ClearNotification(NotificationClear::Bits(bits)) => push_number(file, bits),
+        _ => Ok(()),
+    }
+}
+
 // The words of an op on an object behind its first. Any other op has none.
 fn push_rest_on_object(file: &mut String, op: &Op) -> Result<(), AllocError> {
     match *op {
@@ -155,6 +212,9 @@ fn push_rest(file: &mut String, app: &App, op: &Op) -> Result<(), AllocError> {
         Op::Repeat(None) => push_word(file, "forever"),
         Op::Expect(condition) | Op::If(condition) => push_answer_condition(file, condition),
         Op::Suspend(task) | Op::Resume(task) => push_word(file, app.name(task)),
+        Op::Notify(_, _) | Op::AwaitNotification(_, _) | Op::ClearNotification(_) => {
+            push_rest_on_notification(file, app, op)
+        }
         _ => push_rest_on_group(file, op),
     }
 }
@@ -173,6 +233,7 @@ fn push_isr_rest(file: &mut String, app: &App, op: &IsrOp) -> Result<(), AllocEr
         IsrOp::Value(op) => push_rest_on_values(file, op),
         IsrOp::Do(object, access) => push_access(file, object, access),
         IsrOp::Resume(task) => push_word(file, app.name(task)),
+        IsrOp::Notify(task, action) => push_notify(file, app, task, action),
         IsrOp::GetBits(group) => push_name(file, "e", group.number),
         IsrOp::Command(command) => {
             push_name(file, "e", command.group.number)?;

@@ -170,6 +170,32 @@ struct Seen {
     passed_on: usize,
     /// A handler sent its last answer.
     answers_sent_by_handlers: usize,
+    /// A task was notified.
+    notifies: usize,
+    /// One that waited for it was.
+    notified_wakes: usize,
+    /// One that waited, and hadn't left the processor yet, was.
+    window_notifies: usize,
+    /// One that was suspended was.
+    suspended_notifies: usize,
+    /// A value was kept while a notification was pending.
+    kept_values: usize,
+    /// One was overwritten.
+    lost_values: usize,
+    /// A count was added to another.
+    added_counts: usize,
+    /// A take answered a count.
+    taken_counts: usize,
+    /// It left some.
+    left_counts: usize,
+    /// A wait for a notification ended at its deadline.
+    notice_timeouts: usize,
+    /// One cleared bits at its start.
+    entry_clears: usize,
+    /// One cleared some at its end.
+    exit_clears: usize,
+    /// A pending notification was cleared.
+    cleared_notices: usize,
     injections: Injections,
 }
 
@@ -197,6 +223,7 @@ impl Seen {
         self.count_looks(slow);
         self.count_measures(slow);
         self.count_values(slow);
+        self.count_notifications(slow);
         self.count_endless(slow, app);
         self.count_injections(injections);
     }
@@ -321,6 +348,23 @@ impl Seen {
         );
     }
 
+    fn count_notifications(&mut self, slow: &SlowKernel) {
+        let tally = slow.tally;
+        see(&mut self.notifies, tally.notifies);
+        see(&mut self.notified_wakes, tally.notified_wakes);
+        see(&mut self.window_notifies, tally.window_notifies);
+        see(&mut self.suspended_notifies, tally.suspended_notifies);
+        see(&mut self.kept_values, tally.kept_values);
+        see(&mut self.lost_values, tally.lost_values);
+        see(&mut self.added_counts, tally.added_counts);
+        see(&mut self.taken_counts, tally.taken_counts);
+        see(&mut self.left_counts, tally.left_counts);
+        see(&mut self.notice_timeouts, tally.notice_timeouts);
+        see(&mut self.entry_clears, tally.entry_clears);
+        see(&mut self.exit_clears, tally.exit_clears);
+        see(&mut self.cleared_notices, tally.cleared_notices);
+    }
+
     fn count_injections(&mut self, injections: &Injections) {
         add(&mut self.injections.all, injections.all);
         add(&mut self.injections.inside_calls, injections.inside_calls);
@@ -393,6 +437,8 @@ enum Sort {
     Decision,
     /// Tasks open critical sections. Handlers are injected in three of four runs.
     Section,
+    /// Tasks notify each other. Handlers are injected in three of four runs.
+    Signal,
     /// Tasks and handlers calculate. Handlers are injected in three of four runs.
     Calculation,
 }
@@ -407,6 +453,7 @@ impl Sort {
             Sort::Suspension => Dice::suspending(seed),
             Sort::Decision => Dice::deciding(seed),
             Sort::Section => Dice::masking(seed),
+            Sort::Signal => Dice::signalling(seed),
             Sort::Calculation => Dice::calculating(seed),
         }
     }
@@ -416,7 +463,7 @@ impl Sort {
             Sort::Any => false,
             Sort::Crowd => true,
             Sort::Contest | Sort::Gathering | Sort::Decision => seed % 2 != 0,
-            Sort::Suspension | Sort::Section | Sort::Calculation => seed % 4 != 0,
+            Sort::Suspension | Sort::Section | Sort::Signal | Sort::Calculation => seed % 4 != 0,
         }
     }
 
@@ -615,6 +662,21 @@ fn the_slow_program_agrees_where_tasks_and_handlers_calculate(rt: HostRuntime) {
     has_enough(&rt, &seen, has_sent && seen.passed_on > 400);
 }
 
+#[test]
+fn the_slow_program_agrees_where_tasks_wait_for_notifications(rt: HostRuntime) {
+    let seen = seen_in(&rt, rt.alloc(), Sort::Signal);
+    let has_wakes = seen.notifies > 18_600 && seen.notified_wakes > 13_400;
+    has_enough(&rt, &seen, has_wakes && seen.window_notifies > 2_400);
+    let has_timeouts = seen.notice_timeouts > 10_800 && seen.suspended_notifies > 10_500;
+    has_enough(&rt, &seen, has_timeouts && seen.suspended_waits > 4_400);
+    let has_values = seen.kept_values > 10_300 && seen.lost_values > 10_400;
+    has_enough(&rt, &seen, has_values && seen.valueless_ops > 150);
+    let has_counts = seen.added_counts > 14_600 && seen.taken_counts > 14_400;
+    has_enough(&rt, &seen, has_counts && seen.left_counts > 7_600);
+    let has_clears = seen.entry_clears > 4_000 && seen.exit_clears > 11_600;
+    has_enough(&rt, &seen, has_clears && seen.cleared_notices > 4_200);
+}
+
 /// The application that a file describes.
 pub(crate) fn loaded(rt: &impl Abort, alloc: Global, file: &str) -> App {
     let document = toml::table_from_str(alloc, file)
@@ -684,6 +746,8 @@ fn an_application_that_is_shown_as_a_file_is_loaded_as_it_was(rt: HostRuntime) {
         let app = Dice::deciding(seed).app(rt.alloc()).expect(&rt, "memory");
         load_again(&rt, rt.alloc(), &app);
         let app = Dice::masking(seed).app(rt.alloc()).expect(&rt, "memory");
+        load_again(&rt, rt.alloc(), &app);
+        let app = Dice::signalling(seed).app(rt.alloc()).expect(&rt, "memory");
         load_again(&rt, rt.alloc(), &app);
         let app = Dice::calculating(seed)
             .app(rt.alloc())

@@ -65,16 +65,16 @@ impl Dice {
         self.isr_call_on(objects, object, kind)
     }
 
-    /// An op of a handler that resumes a task, or asks for the bits of a group.
+    /// An op of a handler that resumes a task, or asks for the bits of a group; or, in applications of all sorts, one that
+    /// notifies a task.
     #[tactic(auto, using(crate::proofs::Known::knows_group, crate::proofs::Known::knows_task))]
     fn isr_resume(&mut self, objects: &[ObjectKind]) -> IsrOp
         ensures { IsKnownIsr objects.now result }
     {
-        let _ = objects;
-        if self.roll(4) == 0 {
-            IsrOp::GetBits(self.group())
-        } else {
-            IsrOp::Resume(self.some_task())
+        match self.roll(4) {
+            0 => IsrOp::GetBits(self.group()),
+            1 if self.theme == Theme::Any => self.isr_notify(objects),
+            _ => IsrOp::Resume(self.some_task()),
         }
     }
 
@@ -83,8 +83,12 @@ impl Dice {
     fn resumes(&mut self) -> bool {
         match self.theme {
             Theme::Crowd | Theme::Contest => false,
-            Theme::Any | Theme::Gathering | Theme::Decision | Theme::Section | Theme::Calculation =>
-                self.roll(4) == 0,
+            Theme::Any
+            | Theme::Gathering
+            | Theme::Decision
+            | Theme::Section
+            | Theme::Signal
+            | Theme::Calculation => self.roll(4) == 0,
             Theme::Suspension => self.roll(2) == 0,
         }
     }
@@ -112,6 +116,7 @@ impl Dice {
             | Theme::Suspension
             | Theme::Decision
             | Theme::Section
+            | Theme::Signal
             | Theme::Calculation => self.roll(3) == 0,
             Theme::Gathering => self.roll(3) > 0,
         }
@@ -123,7 +128,7 @@ impl Dice {
         match self.theme {
             Theme::Decision => self.roll(5) < 3,
             Theme::Any | Theme::Section => self.roll(10) == 0,
-            Theme::Calculation => self.roll(4) == 0,
+            Theme::Signal | Theme::Calculation => self.roll(4) == 0,
             Theme::Crowd | Theme::Contest | Theme::Gathering | Theme::Suspension => false,
         }
     }
@@ -163,6 +168,9 @@ impl Dice {
         if self.calculates() {
             return self.isr_value_op(objects);
         }
+        if self.notifies() {
+            return self.isr_notify(objects);
+        }
         if has_daemon && self.commands() {
             return self.isr_command(objects, has_daemon);
         }
@@ -183,12 +191,12 @@ impl Dice {
         ensures { result ≤ 8 }
     {
         match self.theme {
-            Theme::Decision | Theme::Calculation => self.roll(9),
+            Theme::Decision | Theme::Signal | Theme::Calculation => self.roll(9),
             _ => self.roll(6),
         }
     }
 
-    /// Up to five ops of a handler, or eight where it goes by what was answered or calculates. An op that isn't allowed in its place
+    /// Up to five ops of a handler, or eight where it goes by what was answered, notifies or calculates. An op that isn't allowed in its place
     /// is left out. Then the branches that are open end.
     fn isr_ops(
         &mut self,

@@ -21,6 +21,7 @@ mod daemon;
 mod handler_ops;
 mod handlers;
 mod kinds;
+mod notifications;
 mod ops;
 mod sections;
 mod values;
@@ -69,6 +70,8 @@ enum Theme {
     Decision,
     /// They open and close critical sections, and call on objects in between.
     Section,
+    /// They notify each other, and wait for notifications. Handlers notify them.
+    Signal,
     /// They load and store variables, calculate, and pass on what was answered. So do the handlers.
     Calculation,
 }
@@ -77,9 +80,9 @@ enum Theme {
 #[derive(Clone, Copy, PartialEq, Eq)]
 enum Role {
     Any,
-    /// They send to queues, give semaphores and set bits.
+    /// They send to queues, give semaphores, set bits and notify.
     Sends,
-    /// They receive from queues, take semaphores and wait for bits.
+    /// They receive from queues, take semaphores, and wait for bits and for notifications.
     Receives,
 }
 
@@ -152,6 +155,11 @@ impl Dice {
         Dice::of_theme(seed, Theme::Section)
     }
 
+    /// For applications whose tasks notify each other, and wait for notifications.
+    pub fn signalling(seed: u32) -> Self {
+        Dice::of_theme(seed, Theme::Signal)
+    }
+
     /// For applications whose tasks and handlers calculate.
     pub fn calculating(seed: u32) -> Self {
         Dice::of_theme(seed, Theme::Calculation)
@@ -217,7 +225,7 @@ impl Dice {
         let first = match self.theme {
             Theme::Any => 0,
             Theme::Crowd => 4,
-            Theme::Contest | Theme::Gathering | Theme::Suspension => 2,
+            Theme::Contest | Theme::Gathering | Theme::Suspension | Theme::Signal => 2,
             Theme::Decision | Theme::Section | Theme::Calculation => 1,
         };
         match first + self.roll(8 - first) {
@@ -315,7 +323,7 @@ impl Dice {
         }
     }
 
-    /// Up to eight ops, or 24 where tasks go by what was answered, or 16 where they open critical sections or calculate. An op that
+    /// Up to eight ops, or 24 where tasks go by what was answered, or 16 where they open critical sections, notify or calculate. An op that
     /// isn't allowed in its place is left out. Then sections that are open are closed, the scheduler is resumed if it is suspended,
     /// mutexes that are held are given back, and branches and loops that are open end.
     fn script(&mut self, alloc: Global, objects: &[ObjectKind]) -> Option<Script>
@@ -349,8 +357,9 @@ impl Dice {
             Theme::Any | Theme::Decision | Theme::Section | Theme::Calculation => self.roll(
                 3,
             ) as u8,
-            Theme::Crowd | Theme::Gathering if self.is_late => 1 + self.roll(2) as u8,
-            Theme::Crowd | Theme::Gathering => 1,
+            Theme::Crowd | Theme::Gathering | Theme::Signal if self.is_late => 1
+                + self.roll(2) as u8,
+            Theme::Crowd | Theme::Gathering | Theme::Signal => 1,
             Theme::Contest | Theme::Suspension if self.is_late => 1 + self.roll(3) as u8,
             Theme::Contest | Theme::Suspension => self.roll(2) as u8,
         }
@@ -368,9 +377,9 @@ impl Dice {
     }
 
     /// What the calls of the first two tasks do, and those of the others: where tasks crowd about queues and semaphores, or
-    /// about event groups, some send, give or set and the others receive, take or wait.
+    /// about event groups, or notify each other, some send, give, set or notify and the others receive, take or wait.
     fn roles(&mut self) -> (Role, Role) {
-        let is_divided = matches!(self.theme, Theme::Crowd | Theme::Gathering);
+        let is_divided = matches!(self.theme, Theme::Crowd | Theme::Gathering | Theme::Signal);
         match self.roll(2) {
             _ if !is_divided => (Role::Any, Role::Any),
             0 => (Role::Sends, Role::Receives),

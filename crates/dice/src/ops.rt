@@ -107,7 +107,7 @@ impl Dice {
 
     /// Suspends some task, perhaps the one that does it, or resumes one, mostly the other one that it has suspended last.
     #[tactic(auto, using(crate::proofs::Known::knows_task))]
-    fn suspension_op(&mut self, objects: &[ObjectKind]) -> Op
+    pub(super) fn suspension_op(&mut self, objects: &[ObjectKind]) -> Op
         ensures range { InRange result }
         ensures known { IsKnown objects.now result }
     {
@@ -166,6 +166,9 @@ impl Dice {
         if self.calculates() {
             return self.task_value_op(objects);
         }
+        if self.theme == Theme::Signal && self.roll(4) == 0 {
+            return self.notification_clear(objects);
+        }
         match self.roll(16) {
             0..=6 => Op::Work(1 + self.roll(4)),
             7 => self.clock_op(objects),
@@ -184,6 +187,7 @@ impl Dice {
         ensures known { IsKnown objects.now result }
     {
         match self.roll(24) {
+            2 if self.theme == Theme::Any && self.roll(2) == 0 => self.notification_op(objects),
             0..=2 => self.group_op(objects),
             3..=4 => self.suspension_op(objects),
             5 => self.begin_suspension(objects),
@@ -267,6 +271,7 @@ impl Dice {
             Theme::Suspension => self.suspending_op(objects),
             Theme::Decision => self.deciding_op(objects),
             Theme::Section => self.masking_op(objects),
+            Theme::Signal => self.signalling_op(objects),
             Theme::Calculation => self.calculating_op(objects),
         }
     }

@@ -2,7 +2,7 @@
 ghost use Rattle.model.specs.Scripts.{InRange};
 ghost use Rattle.dice.specs.Known.{IsKnown};
 
-use super::Dice;
+use super::{Dice, Theme};
 use model::{ObjectId, ObjectKind, Op};
 
 impl Dice {
@@ -64,6 +64,9 @@ impl Dice {
     {
         if self.calculates() {
             return self.task_value_op(objects);
+        }
+        if self.theme == Theme::Signal && self.roll(4) == 0 {
+            return self.notification_clear(objects);
         }
         match self.roll(16) {
             0..=2 => self.look(objects),

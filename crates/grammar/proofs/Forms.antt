@@ -6,11 +6,13 @@ use Rattle.std.specs.Option.{option_map, option_and_then, option_or, IfSome}
 use Rattle.std.specs.Str.{bytes_eq}
 use Rattle.model.specs.declared.answer.AnswerCondition.{AnswerCondition}
 use Rattle.model.specs.declared.answer.AnswerCondition.TheVariants.{Is, IsNot, Below, Above}
+use Rattle.model.specs.declared.notification.NotifyAction.{NotifyAction}
+use Rattle.model.specs.declared.notification.NotifyAction.TheVariants as notify
 use Rattle.model.specs.declared.value.Value.{Value}
 use Rattle.model.specs.declared.value.Value.TheVariants as value
 use Rattle.model.proofs.Sorting.{by_test}
 use Rattle.grammar.specs.Grammar.{Word, Naming, NameSort, OfVariable, Form, Done, Number, NumberUnless, Operand, Choice}
-use Rattle.grammar.specs.Grammar.{Asked, Name}
+use Rattle.grammar.specs.Grammar.{ActionWord, ActionValue, Asked, Name, given, action_of}
 use Rattle.grammar.specs.Grammar.{number_of, number_unless, variable_of, operand_of, is_of_conditions, compared_of, answer_of}
 use Rattle.grammar.specs.Grammar.{choice_of, take_condition, WritesCondition, read, read_by}
 use Rattle.grammar.proofs.Reading.{chosen, condition_sound}
@@ -87,8 +89,18 @@ module _ {O : Type 0} (Holds : O → Type 0) (At : NameSort → ℕ → Type 0) 
   Makes (NumberUnless other next) = (n : Option ℕ) → Makes (next n)
   Makes (Operand next) = (v : Value) → AtValue At v → Makes (next v)
   Makes (Choice first second next) = (b : Bool) → Makes (next b)
+  Makes (ActionWord next) = (a : NotifyAction Unit) → Makes (next a)
   Makes (Asked next) = (condition : AnswerCondition) → AtCondition At condition → Makes (next condition)
   Makes (Name sort next) = (n : ℕ) → At sort n → Makes (next n)
+
+  -- an action with a value or without one
+  pub action_makes : (next : NotifyAction Value → Form O) → ((action : NotifyAction Value) → Makes (next action))
+      → (a : NotifyAction Unit) → Makes (ActionValue next a)
+  action_makes next makes notify.Nothing = makes notify.Nothing
+  action_makes next makes (notify.SetBits u) = λ n. makes (notify.SetBits (given n))
+  action_makes next makes notify.Increment = makes notify.Increment
+  action_makes next makes (notify.Overwrite u) = λ n. makes (notify.Overwrite (given n))
+  action_makes next makes (notify.Keep u) = λ n. makes (notify.Keep (given n))
 
 module _ {O : Type 0} (named : Naming) (Holds : O → Type 0) (At : NameSort → ℕ → Type 0)
     (found : (sort : NameSort) (w : Word) (n : ℕ) → named sort w ≡ Some n → At sort n) where
@@ -121,6 +133,9 @@ module _ {O : Type 0} (named : Naming) (Holds : O → Type 0) (At : NameSort →
   read_holds (Choice first second next) [] makes = tt
   read_holds (Choice first second next) (w ∷ ws) makes =
       taken_holds (choice_of first second w) ws (λ r. read named (next r.0) r.1) (λ b e. read_holds (next b) ws (makes b))
+  read_holds (ActionWord next) [] makes = tt
+  read_holds (ActionWord next) (w ∷ ws) makes =
+      taken_holds (action_of w) ws (λ r. read named (next r.0) r.1) (λ a e. read_holds (next a) ws (makes a))
   read_holds (Asked next) ws makes =
       condition_holds (take_condition named ws) (λ r. read named (next r.0) r.1)
       (λ r e. read_holds (next r.0) r.1 (makes r.0 (condition_at named At found ws r e)))

@@ -8,14 +8,18 @@ use Rattle.std.specs.Str.{bytes_eq}
 use Rattle.std.proofs.lemmas.Slice.Eq.{bytes_eq-Decides}
 use Rattle.std.proofs.lemmas.Bool.{and_parts, not-true}
 use Rattle.model.specs.declared.answer.AnswerCondition.{AnswerCondition}
+use Rattle.model.specs.declared.notification.NotifyAction.{NotifyAction}
+use Rattle.model.specs.declared.notification.NotifyAction.TheVariants as notify
 use Rattle.model.specs.declared.answer.AnswerCondition.TheVariants.{Is, IsNot, Below, Above}
 use Rattle.model.specs.declared.op.Op.{Op}
 use Rattle.model.specs.declared.op.IsrOp.{IsrOp}
 use Rattle.model.specs.Words.{word_of, word_of_isr}
 use Rattle.model.specs.Scripts.{is_in_range}
 use Rattle.model.specs.declared.value.Value.{Value}
-use Rattle.grammar.specs.Grammar.{Word, Naming, Form, Done, Number, NumberUnless, Operand, Choice, Asked, Name, forms, isr_forms}
-use Rattle.grammar.specs.Grammar.{number_of, number_unless, operand_of, compared_of, answer_of, choice_of, take_by, take_condition}
+use Rattle.grammar.specs.Grammar.{Word, Naming, Form, Done, Number, NumberUnless, Operand, Choice, ActionWord, Asked, Name}
+use Rattle.grammar.specs.Grammar.{ActionValue, forms, isr_forms}
+use Rattle.grammar.specs.Grammar.{number_of, number_unless, operand_of, compared_of, answer_of, choice_of, action_of, take_by}
+use Rattle.grammar.specs.Grammar.{take_condition, given}
 use Rattle.grammar.specs.Grammar.{WritesCondition, Writes, WritesBy, Spells, SpellsIsr, is_isr_in_range, read, read_by, op_of}
 use Rattle.grammar.specs.Grammar.{isr_op_of}
 
@@ -171,6 +175,10 @@ module _ {O : Type 0} (word : O → Word) where
   read_sound named (Choice first second next) (w ∷ ws) op e =
       let t = taken (choice_of first second w) ws (λ r. read named (next r.0) r.1) op e in
       (t.0, t.1, read_sound named (next t.0) ws op t.2)
+  read_sound named (ActionWord next) [] op e = cc
+  read_sound named (ActionWord next) (w ∷ ws) op e =
+      let t = taken (action_of w) ws (λ r. read named (next r.0) r.1) op e in
+      (t.0, t.1, read_sound named (next t.0) ws op t.2)
   read_sound named (Asked next) ws op e =
       let t = conditioned (take_condition named ws) (λ r. read named (next r.0) r.1) op e in
       (t.0.0, t.0.1, condition_sound named ws t.0.0 t.0.1 t.1, read_sound named (next t.0.0) t.0.1 op t.2)
@@ -191,6 +199,8 @@ module _ {O : Type 0} (word : O → Word) where
   read_complete named (Operand next) (w ∷ ws) op h = rw h.1 (read_complete named (next h.0) ws op h.2)
   read_complete named (Choice first second next) [] op h = absurd h
   read_complete named (Choice first second next) (w ∷ ws) op h = rw h.1 (read_complete named (next h.0) ws op h.2)
+  read_complete named (ActionWord next) [] op h = absurd h
+  read_complete named (ActionWord next) (w ∷ ws) op h = rw h.1 (read_complete named (next h.0) ws op h.2)
   read_complete named (Asked next) ws op h =
       rw (condition_complete named h.0 ws h.1 h.2) (read_complete named (next h.0) h.1 op h.3)
   read_complete named (Name sort next) [] op h = absurd h
@@ -204,6 +214,7 @@ module _ {O : Type 0} (word : O → Word) where
   HasWord w (NumberUnless other next) = (n : Option ℕ) → HasWord w (next n)
   HasWord w (Operand next) = (v : Value) → HasWord w (next v)
   HasWord w (Choice first second next) = (b : Bool) → HasWord w (next b)
+  HasWord w (ActionWord next) = (a : NotifyAction Unit) → HasWord w (next a)
   HasWord w (Asked next) = (condition : AnswerCondition) → HasWord w (next condition)
   HasWord w (Name sort next) = (entry : ℕ) → HasWord w (next entry)
 
@@ -220,9 +231,20 @@ module _ {O : Type 0} (word : O → Word) where
   word_written named w (Operand next) (v ∷ ws) op has h = word_written named w (next h.0) ws op (has h.0) h.2
   word_written named w (Choice first second next) [] op has h = absurd h
   word_written named w (Choice first second next) (v ∷ ws) op has h = word_written named w (next h.0) ws op (has h.0) h.2
+  word_written named w (ActionWord next) [] op has h = absurd h
+  word_written named w (ActionWord next) (v ∷ ws) op has h = word_written named w (next h.0) ws op (has h.0) h.2
   word_written named w (Asked next) ws op has h = word_written named w (next h.0) h.1 op (has h.0) h.3
   word_written named w (Name sort next) [] op has h = absurd h
   word_written named w (Name sort next) (v ∷ ws) op has h = word_written named w (next h.0) ws op (has h.0) h.2
+
+  -- with a value or without one
+  action_has_word : (w : Word) (next : NotifyAction Value → Form O) → ((action : NotifyAction Value) → HasWord w (next action))
+      → (a : NotifyAction Unit) → HasWord w (ActionValue next a)
+  action_has_word w next has notify.Nothing = has notify.Nothing
+  action_has_word w next has (notify.SetBits u) = λ n. has (notify.SetBits (given n))
+  action_has_word w next has notify.Increment = has notify.Increment
+  action_has_word w next has (notify.Overwrite u) = λ n. has (notify.Overwrite (given n))
+  action_has_word w next has (notify.Keep u) = λ n. has (notify.Keep (given n))
 
   abbrev HasOwnWord : Word × Form O → Type 0
   HasOwnWord form = HasWord form.0 form.1
@@ -272,13 +294,13 @@ module _ {O : Type 0} (word : O → Word) where
 -- ---- the ops of tasks, and those of handlers
 
 own_words : AllByRecursion (HasOwnWord word_of) forms
-own_words = search rules
+own_words = search (rules, action_has_word word_of)
 
 forms_distinct : are_distinct word_of forms ≡ true
 forms_distinct = refl
 
 isr_own_words : AllByRecursion (HasOwnWord word_of_isr) isr_forms
-isr_own_words = search rules
+isr_own_words = search (rules, action_has_word word_of_isr)
 
 isr_forms_distinct : are_distinct word_of_isr isr_forms ≡ true
 isr_forms_distinct = refl

@@ -14,10 +14,14 @@ use Rattle.model.specs.declared.op.Op.{Op}
 use Rattle.model.specs.declared.op.Op.TheVariants.{Work, Delay, DelayUntil, Yield, Time, Mark, Expect, Repeat, End, If, Else, Break}
 use Rattle.model.specs.declared.op.Op.TheVariants.{Stamp, Since, Await, Do, GiveMutex, MessagesWaiting, SpacesAvailable, SetBits}
 use Rattle.model.specs.declared.op.Op.TheVariants.{ClearBits, GetBits, WaitBits, Suspend, Resume, SuspendAll, ResumeAll}
-use Rattle.model.specs.declared.op.Op.TheVariants.{EnterCritical, ExitCritical}
+use Rattle.model.specs.declared.op.Op.TheVariants.{Notify, AwaitNotification, ClearNotification, EnterCritical, ExitCritical}
 use Rattle.model.specs.declared.op.Op.TheVariants as op
 use Rattle.model.specs.declared.op.IsrOp.{IsrOp}
 use Rattle.model.specs.declared.op.IsrOp.TheVariants as isr
+use Rattle.model.specs.declared.notification.NotifyAction.{NotifyAction}
+use Rattle.model.specs.declared.notification.NotifyAction.TheVariants as notify
+use Rattle.model.specs.declared.notification.NotificationWait.TheVariants as awaited
+use Rattle.model.specs.declared.notification.NotificationClear.TheVariants as cleared
 use Rattle.model.specs.declared.ids.VariableId.{VariableId}
 use Rattle.model.specs.declared.value.Value.{Value}
 use Rattle.model.specs.declared.value.Value.TheVariants as value
@@ -63,6 +67,16 @@ number_unless other w = if bytes_eq w other then Some None else option_map Some 
 abbrev pub choice_of : (first second : Word) → Word → Option Bool
 choice_of first second w = if bytes_eq w first then Some false else if bytes_eq w second then Some true else None
 
+-- the action of a notify that a word says; its value is the word behind it, where it has one
+abbrev pub action_of : Word → Option (NotifyAction Unit)
+action_of w =
+    if bytes_eq w (codes "none") then Some notify.Nothing
+    else if bytes_eq w (codes "bits") then Some (notify.SetBits tt)
+    else if bytes_eq w (codes "increment") then Some notify.Increment
+    else if bytes_eq w (codes "overwrite") then Some (notify.Overwrite tt)
+    else if bytes_eq w (codes "keep") then Some (notify.Keep tt)
+    else None
+
 -- What a name in an op's text has to be that of: an object of a sort, an event group, a task, or a variable.
 pub data NameSort : Type 0 where
   OfObject : (sort : ObjectSort) → NameSort
@@ -98,14 +112,15 @@ answer_of named w = if bytes_eq w (codes "none") then Some None else option_map 
 -- ---- the grammar
 
 -- How an op's text goes on after its own word (profile). It may be over. Or the next word writes a number, in whose place
--- another word may be allowed, writes an operand, is one of two words, or names an entry of a sort. Or one or two words write a
--- condition for the last answer. What comes then is of the same form. The op is a task's, or a handler's.
+-- another word may be allowed, writes an operand, is one of two words, says the action of a notify, or names an entry of a sort. Or
+-- one or two words write a condition for the last answer. What comes then is of the same form. The op is a task's, or a handler's.
 pub data Form (O : Type 0) : Type 0 where
   Done : (op : O) → Form O
   Number : (next : ℕ → Form O) → Form O
   NumberUnless : (other : Word) → (next : Option ℕ → Form O) → Form O
   Operand : (next : Value → Form O) → Form O
   Choice : (first second : Word) → (next : Bool → Form O) → Form O
+  ActionWord : (next : NotifyAction Unit → Form O) → Form O
   Asked : (next : AnswerCondition → Form O) → Form O
   Name : (sort : NameSort) → (next : ℕ → Form O) → Form O
 
@@ -125,6 +140,18 @@ given (Some n) = value.Number n
 -- the value that an op sends, stores or marks, which may be the last answer
 abbrev pub GivenValue : {O : Type 0} → (Value → Form O) → Form O
 GivenValue next = NumberUnless (codes "answer") (λ n. next (given n))
+
+-- how a text goes on behind the word of an action: with its value, where it has one
+abbrev pub ActionValue : {O : Type 0} → (NotifyAction Value → Form O) → NotifyAction Unit → Form O
+ActionValue next notify.Nothing = next notify.Nothing
+ActionValue next (notify.SetBits u) = GivenValue (λ v. next (notify.SetBits v))
+ActionValue next notify.Increment = next notify.Increment
+ActionValue next (notify.Overwrite u) = GivenValue (λ v. next (notify.Overwrite v))
+ActionValue next (notify.Keep u) = GivenValue (λ v. next (notify.Keep v))
+
+-- the action of a notify: one word, or two
+abbrev pub Action : {O : Type 0} → (NotifyAction Value → Form O) → Form O
+Action next = ActionWord (ActionValue next)
 
 -- the name of an object of a sort
 abbrev pub ObjectName : {O : Type 0} → ObjectSort → (ℕ → Form O) → Form O
@@ -203,6 +230,24 @@ group_forms =
     ∷ (codes "wait", GroupName (λ group. Bits (λ condition. WaitTime (λ ticks. Done (WaitBits group condition ticks)))))
     ∷ []
 
+-- those of each op on notifications
+abbrev pub notification_forms : List (Word × Form Op)
+notification_forms =
+    (codes "notify", TaskName (λ task. Action (λ action. Done (Notify task action))))
+    ∷ (
+      codes "notify_take",
+      Choice (codes "decrement") (codes "clear")
+          (λ clears. WaitTime (λ ticks. Done (AwaitNotification (awaited.Take clears) ticks))),
+    )
+    ∷ (
+      codes "notify_wait",
+      Number (λ entry. Number (λ exit. WaitTime (λ ticks.
+          Done (AwaitNotification (awaited.Wait (record { entry = entry; exit = exit })) ticks)))),
+    )
+    ∷ (codes "notify_clear", Done (ClearNotification cleared.Pending))
+    ∷ (codes "notify_value_clear", Number (λ bits. Done (ClearNotification (cleared.Bits bits))))
+    ∷ []
+
 -- those of each op that suspends or resumes, or opens or closes a critical section
 abbrev pub suspension_forms : List (Word × Form Op)
 suspension_forms =
@@ -232,7 +277,8 @@ value_forms made =
 -- those of each op
 abbrev pub forms : List (Word × Form Op)
 forms =
-    basic_forms ++ block_forms ++ queue_forms ++ semaphore_forms ++ group_forms ++ suspension_forms ++ value_forms op.Value
+    basic_forms ++ block_forms ++ queue_forms ++ semaphore_forms ++ group_forms ++ notification_forms ++ suspension_forms
+    ++ value_forms op.Value
 
 -- the arguments of a command, which sets bits or clears them
 abbrev pub CommandForm : (clear : Bool) → Form IsrOp
@@ -251,6 +297,7 @@ isr_call_forms =
     ∷ (codes "set", CommandForm false)
     ∷ (codes "clear", CommandForm true)
     ∷ (codes "bits", GroupName (λ group. Done (isr.GetBits group)))
+    ∷ (codes "notify", TaskName (λ task. Action (λ action. Done (isr.Notify task action))))
     ∷ (codes "mark", GivenValue (λ v. Done (isr.Mark v)))
     ∷ (codes "expect", Asked (λ condition. Done (isr.Expect condition)))
     ∷ (codes "if", Asked (λ condition. Done (isr.If condition)))
@@ -278,6 +325,7 @@ Writes named (Number next) (w ∷ ws) op = (n : ℕ) × (number_of w ≡ Some n)
 Writes named (NumberUnless other next) (w ∷ ws) op = (n : Option ℕ) × (number_unless other w ≡ Some n) × Writes named (next n) ws op
 Writes named (Operand next) (w ∷ ws) op = (v : Value) × (operand_of named w ≡ Some v) × Writes named (next v) ws op
 Writes named (Choice first second next) (w ∷ ws) op = (b : Bool) × (choice_of first second w ≡ Some b) × Writes named (next b) ws op
+Writes named (ActionWord next) (w ∷ ws) op = (a : NotifyAction Unit) × (action_of w ≡ Some a) × Writes named (next a) ws op
 Writes named (Asked next) ws op =
     (condition : AnswerCondition) × (others : List Word)
     × WritesCondition named condition ws others × Writes named (next condition) others op
@@ -333,6 +381,7 @@ read named (Number next) ws = option_and_then (λ r. read named (next r.0) r.1) 
 read named (NumberUnless other next) ws = option_and_then (λ r. read named (next r.0) r.1) (take_by (number_unless other) ws)
 read named (Operand next) ws = option_and_then (λ r. read named (next r.0) r.1) (take_by (operand_of named) ws)
 read named (Choice first second next) ws = option_and_then (λ r. read named (next r.0) r.1) (take_by (choice_of first second) ws)
+read named (ActionWord next) ws = option_and_then (λ r. read named (next r.0) r.1) (take_by action_of ws)
 read named (Asked next) ws = option_and_then (λ r. read named (next r.0) r.1) (take_condition named ws)
 read named (Name sort next) ws = option_and_then (λ r. read named (next r.0) r.1) (take_by (named sort) ws)
 

@@ -1,7 +1,7 @@
 //! Which text spells which op.
 ghost use Rattle.std.specs.Prelude.{◌≡◌, ◌++◌, List, ℕ, drop, None, Some, IfSome, MatchOption, option_and_then, if◌then◌else◌};
 ghost use Rattle.model.specs.declared.op.Op.{Op};
-ghost use Rattle.model.specs.declared.op.Op.TheVariants.{Await, Do, SetBits, ClearBits, WaitBits};
+ghost use Rattle.model.specs.declared.op.Op.TheVariants.{Await, Do, SetBits, ClearBits, WaitBits, Notify};
 ghost use Rattle.model.specs.declared.op.Op.TheVariants as op;
 ghost use Rattle.model.specs.declared.value.ValueOp.TheVariants.{Compute};
 ghost use Rattle.model.specs.declared.op.Access.TheVariants.{Send, SendFront};
@@ -9,12 +9,15 @@ ghost use Rattle.model.specs.declared.op.IsrOp.TheVariants as isr;
 ghost use Rattle.model.specs.declared.op.IsrOp.{IsrOp};
 ghost use Rattle.model.specs.Scripts.{InRange};
 ghost use Rattle.grammar.specs.declared.object_sort.ObjectSort.TheVariants.{Queue};
-ghost use Rattle.grammar.specs.Grammar.{Naming, words_of, Done, Number, ObjectName, GroupName, Bits, WaitTime, forms, block_forms, queue_forms, semaphore_forms, group_forms, suspension_forms, GivenValue, Operand, value_forms, CommandForm, isr_forms, read, read_by, if_in_range, is_isr_in_range, op_of, isr_op_of, Spells, SpellsIsr};
+ghost use Rattle.grammar.specs.Grammar.{Naming, words_of, Done, Number, ObjectName, GroupName, Bits, WaitTime, forms, block_forms, queue_forms, semaphore_forms, group_forms, notification_forms, suspension_forms, GivenValue, Action, TaskName, Operand, value_forms, CommandForm, isr_forms, read, read_by, if_in_range, is_isr_in_range, op_of, isr_op_of, Spells, SpellsIsr};
 
 use crate::finding::Finding;
 use crate::object_sort::ObjectSort;
 use crate::words::{Words, given, is};
-use model::{Access, Arithmetic, Command, Condition, IsrOp, Op, Value, ValueOp};
+use model::{
+    Access, Arithmetic, Command, Condition, IsrOp, NotificationClear, NotificationMasks,
+    NotificationWait, NotifyAction, Op, TaskId, Value, ValueOp,
+};
 
 // The call that sends an item to the front or the back of a queue.
 fn sending(to_front: bool, item: Value) -> Access<Value>
@@ -104,6 +107,35 @@ fn wait_op<F: Finding>(words: &mut Words<'_>, finding: &F) -> Option<Op>
     let clear = words.choice("keep", "clear")?;
     let condition = Condition { mask, all, clear };
     Some(Op::WaitBits(group, condition, words.number_unless("forever")?))
+}
+
+// The task that the next word names, and what a notify does to its notification value, as the words after it say.
+fn notified<F: Finding>(words: &mut Words<'_>, finding: &F) -> Option<(TaskId, NotifyAction<Value>)>
+    // What is still to be read is whether the text ends here.
+    ensures task { let form = TaskName (λ task. Action (λ action. Done (Notify task action))) in MatchOption result
+        (read (F.naming finding.now) form words.old ≡ None)
+        (λ n. read (F.naming finding.now) form words.old ≡ read (F.naming finding.now) (Done (Notify n.0 n.1)) words.new) }
+    ensures handler { let form = TaskName (λ task. Action (λ action. Done (isr.Notify task action))) in MatchOption result
+        (read (F.naming finding.now) form words.old ≡ None)
+        (λ n. read (F.naming finding.now) form words.old ≡ read (F.naming finding.now) (Done (isr.Notify n.0 n.1)) words.new) }
+{
+    let task = words.task(finding)?;
+    match words.action()? {
+        NotifyAction::Nothing => Some((task, NotifyAction::Nothing)),
+        NotifyAction::SetBits(()) => {
+            let bits = given(words.number_unless("answer")?);
+            Some((task, NotifyAction::SetBits(bits)))
+        }
+        NotifyAction::Increment => Some((task, NotifyAction::Increment)),
+        NotifyAction::Overwrite(()) => {
+            let new_value = given(words.number_unless("answer")?);
+            Some((task, NotifyAction::Overwrite(new_value)))
+        }
+        NotifyAction::Keep(()) => {
+            let new_value = given(words.number_unless("answer")?);
+            Some((task, NotifyAction::Keep(new_value)))
+        }
+    }
 }
 
 // The op that calculates with the operand that the next word writes.
@@ -205,10 +237,40 @@ fn suspension_op_after<F: Finding>(word: &[u8], words: &mut Words<'_>, finding: 
     }
 }
 
+// The op of this word by the forms of notifications and all behind them. Its arguments are the next words.
+fn notification_op_after<F: Finding>(word: &[u8], words: &mut Words<'_>, finding: &F) -> Option<Op>
+    // What is still to be read is whether the text ends here.
+    ensures { let these = notification_forms ++ suspension_forms ++ value_forms op.Value in MatchOption result
+        (read_by (F.naming finding.now) these word.now words.old ≡ None)
+        (λ op. read_by (F.naming finding.now) these word.now words.old
+        ≡ read (F.naming finding.now) (Done op) words.new) }
+{
+    if is(word, "notify") {
+        let (task, action) = notified(words, finding)?;
+        Some(Op::Notify(task, action))
+    } else if is(word, "notify_take") {
+        let clears = words.choice("decrement", "clear")?;
+        let ticks = words.number_unless("forever")?;
+        Some(Op::AwaitNotification(NotificationWait::Take(clears), ticks))
+    } else if is(word, "notify_wait") {
+        let entry = words.number()?;
+        let exit = words.number()?;
+        let ticks = words.number_unless("forever")?;
+        let wait = NotificationWait::Wait(NotificationMasks { entry, exit });
+        Some(Op::AwaitNotification(wait, ticks))
+    } else if is(word, "notify_clear") {
+        Some(Op::ClearNotification(NotificationClear::Pending))
+    } else if is(word, "notify_value_clear") {
+        Some(Op::ClearNotification(NotificationClear::Bits(words.number()?)))
+    } else {
+        suspension_op_after(word, words, finding)
+    }
+}
+
 // The op of this word by the forms of event groups and all behind them. Its arguments are the next words.
 fn group_op_after<F: Finding>(word: &[u8], words: &mut Words<'_>, finding: &F) -> Option<Op>
     // What is still to be read is whether the text ends here.
-    ensures { let these = group_forms ++ suspension_forms ++ value_forms op.Value in MatchOption result
+    ensures { let these = group_forms ++ notification_forms ++ suspension_forms ++ value_forms op.Value in MatchOption result
         (read_by (F.naming finding.now) these word.now words.old ≡ None)
         (λ op. read_by (F.naming finding.now) these word.now words.old
         ≡ read (F.naming finding.now) (Done op) words.new) }
@@ -222,14 +284,14 @@ fn group_op_after<F: Finding>(word: &[u8], words: &mut Words<'_>, finding: &F) -
     } else if is(word, "wait") {
         wait_op(words, finding)
     } else {
-        suspension_op_after(word, words, finding)
+        notification_op_after(word, words, finding)
     }
 }
 
 // The op of this word by the forms of semaphores and mutexes and all behind them. Its arguments are the next words.
 fn semaphore_op_after<F: Finding>(word: &[u8], words: &mut Words<'_>, finding: &F) -> Option<Op>
     // What is still to be read is whether the text ends here.
-    ensures { let these = semaphore_forms ++ group_forms ++ suspension_forms ++ value_forms op.Value in MatchOption result
+    ensures { let these = semaphore_forms ++ group_forms ++ notification_forms ++ suspension_forms ++ value_forms op.Value in MatchOption result
         (read_by (F.naming finding.now) these word.now words.old ≡ None)
         (λ op. read_by (F.naming finding.now) these word.now words.old
         ≡ read (F.naming finding.now) (Done op) words.new) }
@@ -251,7 +313,7 @@ fn semaphore_op_after<F: Finding>(word: &[u8], words: &mut Words<'_>, finding: &
 // The op of this word by the forms of queues that send nothing and all behind them. Its arguments are the next words.
 fn reading_op_after<F: Finding>(word: &[u8], words: &mut Words<'_>, finding: &F) -> Option<Op>
     // What is still to be read is whether the text ends here.
-    ensures { let these = drop 3 queue_forms ++ semaphore_forms ++ group_forms ++ suspension_forms ++ value_forms op.Value in MatchOption result
+    ensures { let these = drop 3 queue_forms ++ semaphore_forms ++ group_forms ++ notification_forms ++ suspension_forms ++ value_forms op.Value in MatchOption result
         (read_by (F.naming finding.now) these word.now words.old ≡ None)
         (λ op. read_by (F.naming finding.now) these word.now words.old
         ≡ read (F.naming finding.now) (Done op) words.new) }
@@ -272,7 +334,7 @@ fn reading_op_after<F: Finding>(word: &[u8], words: &mut Words<'_>, finding: &F)
 // The op of this word by the forms of queues and all behind them. Its arguments are the next words.
 fn queue_op_after<F: Finding>(word: &[u8], words: &mut Words<'_>, finding: &F) -> Option<Op>
     // What is still to be read is whether the text ends here.
-    ensures { let these = queue_forms ++ semaphore_forms ++ group_forms ++ suspension_forms ++ value_forms op.Value in MatchOption result
+    ensures { let these = queue_forms ++ semaphore_forms ++ group_forms ++ notification_forms ++ suspension_forms ++ value_forms op.Value in MatchOption result
         (read_by (F.naming finding.now) these word.now words.old ≡ None)
         (λ op. read_by (F.naming finding.now) these word.now words.old
         ≡ read (F.naming finding.now) (Done op) words.new) }
@@ -293,7 +355,7 @@ fn queue_op_after<F: Finding>(word: &[u8], words: &mut Words<'_>, finding: &F) -
 // The op of this word by the forms of blocks and all behind them. Its arguments are the next words.
 fn block_op_after<F: Finding>(word: &[u8], words: &mut Words<'_>, finding: &F) -> Option<Op>
     // What is still to be read is whether the text ends here; a number past what the code can hold is out of range.
-    ensures { let these = block_forms ++ queue_forms ++ semaphore_forms ++ group_forms ++ suspension_forms ++ value_forms op.Value in MatchOption result
+    ensures { let these = block_forms ++ queue_forms ++ semaphore_forms ++ group_forms ++ notification_forms ++ suspension_forms ++ value_forms op.Value in MatchOption result
         (option_and_then if_in_range (read_by (F.naming finding.now) these word.now words.old) ≡ None)
         (λ op. read_by (F.naming finding.now) these word.now words.old
         ≡ read (F.naming finding.now) (Done op) words.new) }
@@ -427,6 +489,9 @@ fn later_isr_op_after<F: Finding>(word: &[u8], words: &mut Words<'_>, finding: &
 {
     if is(word, "bits") {
         Some(IsrOp::GetBits(words.group(finding)?))
+    } else if is(word, "notify") {
+        let (task, action) = notified(words, finding)?;
+        Some(IsrOp::Notify(task, action))
     } else if is(word, "mark") {
         Some(IsrOp::Mark(given(words.number_unless("answer")?)))
     } else if is(word, "expect") {

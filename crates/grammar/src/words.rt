@@ -4,11 +4,11 @@ ghost use Rattle.std.specs.Char.{is_ascii_digit};
 ghost use Rattle.std.specs.List.{list_all, position_or_len};
 ghost use Rattle.std.specs.Str.Parse.{digits_value};
 ghost use Rattle.std.specs.Str.{bytes_eq};
-ghost use Rattle.grammar.specs.Grammar.{words_of, is_number, number_of, number_unless, given, is_of_conditions, operand_of, compared_of, answer_of, choice_of, OfObject, OfGroup, OfTask, OfVariable, take_by, take_condition};
+ghost use Rattle.grammar.specs.Grammar.{words_of, is_number, number_of, number_unless, given, is_of_conditions, operand_of, compared_of, answer_of, choice_of, action_of, OfObject, OfGroup, OfTask, OfVariable, take_by, take_condition};
 
 use crate::finding::Finding;
 use crate::object_sort::ObjectSort;
-use model::{AnswerCondition, GroupId, ObjectId, TaskId, Value, VariableId};
+use model::{AnswerCondition, GroupId, NotifyAction, ObjectId, TaskId, Value, VariableId};
 use std::marker::Model;
 
 /// Whether a word is this one.
@@ -153,6 +153,25 @@ fn choice_of(word: &[u8], first: &str, second: &str) -> Option<bool>
     }
 }
 
+// The action of a notify that a word says.
+fn action_of(word: &[u8]) -> Option<NotifyAction<()>>
+    ensures { result ≡ action_of word.now }
+{
+    if is(word, "none") {
+        Some(NotifyAction::Nothing)
+    } else if is(word, "bits") {
+        Some(NotifyAction::SetBits(()))
+    } else if is(word, "increment") {
+        Some(NotifyAction::Increment)
+    } else if is(word, "overwrite") {
+        Some(NotifyAction::Overwrite(()))
+    } else if is(word, "keep") {
+        Some(NotifyAction::Keep(()))
+    } else {
+        None
+    }
+}
+
 /// The words of a text that are still to be read.
 #[derive(Drop)]
 pub(crate) struct Words<'a> {
@@ -285,6 +304,14 @@ impl<'a> Words<'a> {
             (λ b. take_by (choice_of first.now second.now) self.old ≡ Some (b, self.new)) }
     {
         choice_of(self.next()?, first, second)
+    }
+
+    /// The action of a notify that the next word says.
+    pub(crate) fn action(&mut self) -> Option<NotifyAction<()>>
+        ensures { MatchOption result (take_by action_of self.old ≡ None)
+            (λ a. take_by action_of self.old ≡ Some (a, self.new)) }
+    {
+        action_of(self.next()?)
     }
 
     /// Whether no word is left.

@@ -4,7 +4,8 @@ use Rattle.std.specs.List.{AllByRecursion}
 use Rattle.std.specs.Option.{is_some}
 use Rattle.model.specs.declared.call.CallProgress.{CallProgress}
 use Rattle.model.specs.declared.call.Phase.{Phase}
-use Rattle.model.specs.State.{State, Task, Object, Progress, Status, Ready, Awake, Waiting, Asleep, WaitingForBits, Suspended}
+use Rattle.model.specs.State.{State, Task, Object, Progress, Status, Ready, Awake, Waiting, Asleep, WaitingForBits}
+use Rattle.model.specs.State.{WaitingForNotification, Suspended}
 use Rattle.model.specs.State.{Ended, no_task, task_at, status_at, progress_at, call_at, with_task, with_call, with_object}
 use Rattle.model.specs.State.{with_progress, go_on, take_ticket, for_each}
 use Rattle.model.specs.Switching.{make_ready, to_back, is_ready}
@@ -14,16 +15,16 @@ use Rattle.model.specs.Invariant.{IsTable}
 use Rattle.model.proofs.Sorting.{by_test}
 use Rattle.model.proofs.Tables.{each-set, table-set, ticket_at}
 use Rattle.groups.specs.EventGroups.{EventGroups}
-use Rattle.groups.specs.StandsFor.{SameBitWaits, StandsFor, bits_wait}
+use Rattle.groups.specs.StandsFor.{SameEventWaits, StandsFor, event_wait}
 use Rattle.groups.proofs.Keys.{ready_free_of_bits}
 use Rattle.groups.proofs.Standing.{stands_same}
 
 -- ---- one deed, and then another
 
-pub same : (s : State) → SameBitWaits s s
+pub same : (s : State) → SameEventWaits s s
 same s = record { bits = λ group. refl; waits = λ i. refl; wants = λ i some. refl }
 
-pub same_both : (a b c : State) → SameBitWaits a b → SameBitWaits b c → SameBitWaits a c
+pub same_both : (a b c : State) → SameEventWaits a b → SameEventWaits b c → SameEventWaits a c
 same_both a b c h k = record {
   bits = λ group. k.bits group ∙ h.bits group;
   waits = λ i. k.waits i ∙ h.waits i;
@@ -31,21 +32,22 @@ same_both a b c h k = record {
 }
 
 -- the tasks and the bits are the same: another time, other objects, another one runs, ..
-pub same_parts : (s t : State) → t.tasks ≡ s.tasks → t.group_bits ≡ s.group_bits → SameBitWaits s t
+pub same_parts : (s t : State) → t.tasks ≡ s.tasks → t.group_bits ≡ s.group_bits → SameEventWaits s t
 same_parts s t tasks bits = record {
   bits = λ group. ap (λ (bs : ℕ → ℕ). bs group) bits;
-  waits = λ i. ap (λ (ts : List Task). bits_wait (get_or ts i no_task).status) tasks;
+  waits = λ i. ap (λ (ts : List Task). event_wait (get_or ts i no_task).status) tasks;
   wants = λ i some. ap (λ (ts : List Task). (get_or ts i no_task).progress.call.wants) tasks;
 }
 
 -- ---- a task changes
 
 -- and waits for the same as before
-pub same_task : (i : ℕ) (t : Task) (s : State) → bits_wait t.status ≡ bits_wait (status_at s i)
-    → (is_some (bits_wait (status_at s i)) ≡ true → t.progress.call.wants ≡ (call_at s i).wants) → SameBitWaits s (with_task i t s)
+pub same_task : (i : ℕ) (t : Task) (s : State) → event_wait t.status ≡ event_wait (status_at s i)
+    → (is_some (event_wait (status_at s i)) ≡ true → t.progress.call.wants ≡ (call_at s i).wants)
+    → SameEventWaits s (with_task i t s)
 same_task i t s waits wants =
-    let W : ℕ → Task → Type 0 = λ j u. bits_wait u.status ≡ bits_wait (status_at s j) in
-    let C : ℕ → Task → Type 0 = λ j u. is_some (bits_wait (status_at s j)) ≡ true → u.progress.call.wants ≡ (call_at s j).wants in
+    let W : ℕ → Task → Type 0 = λ j u. event_wait u.status ≡ event_wait (status_at s j) in
+    let C : ℕ → Task → Type 0 = λ j u. is_some (event_wait (status_at s j)) ≡ true → u.progress.call.wants ≡ (call_at s j).wants in
     record {
       bits = λ group. refl;
       waits = each-set no_task W s.tasks i t waits (λ j. refl);
@@ -53,33 +55,33 @@ same_task i t s waits wants =
     }
 
 -- one that doesn't wait for bits, before and after
-pub same_free : (i : ℕ) (t : Task) (s : State) → bits_wait t.status ≡ None
-    → bits_wait (status_at s i) ≡ None → SameBitWaits s (with_task i t s)
+pub same_free : (i : ℕ) (t : Task) (s : State) → event_wait t.status ≡ None
+    → event_wait (status_at s i) ≡ None → SameEventWaits s (with_task i t s)
 same_free i t s now was = same_task i t s (now ∙ sym was) (λ some. absurd (let none = ap is_some was in cc))
 
-pub same_status : (i : ℕ) (u : Status) (s : State) → bits_wait u ≡ None → bits_wait (status_at s i) ≡ None
-    → SameBitWaits s (with_task i (record (task_at s i) { status = u }) s)
+pub same_status : (i : ℕ) (u : Status) (s : State) → event_wait u ≡ None → event_wait (status_at s i) ≡ None
+    → SameEventWaits s (with_task i (record (task_at s i) { status = u }) s)
 same_status i u s now was = same_free i (record (task_at s i) { status = u }) s now was
 
-pub same_ticket : (i : ℕ) (f : ℕ → Status) (s : State) → bits_wait (f s.next_ticket) ≡ None
-    → bits_wait (status_at s i) ≡ None → SameBitWaits s (take_ticket i f s)
+pub same_ticket : (i : ℕ) (f : ℕ → Status) (s : State) → event_wait (f s.next_ticket) ≡ None
+    → event_wait (status_at s i) ≡ None → SameEventWaits s (take_ticket i f s)
 same_ticket i f s now was =
     let k = same_status i (f s.next_ticket) s now was in
     record { bits = k.bits; waits = k.waits; wants = k.wants }
 
 -- its progress, where its call wants the same as before
-pub same_progress : (i : ℕ) (p : Progress) (s : State) → p.call.wants ≡ (call_at s i).wants → SameBitWaits s (with_progress i p s)
+pub same_progress : (i : ℕ) (p : Progress) (s : State) → p.call.wants ≡ (call_at s i).wants → SameEventWaits s (with_progress i p s)
 same_progress i p s wants = same_task i (record (task_at s i) { progress = p }) s refl (λ some. wants)
 
 -- or where it doesn't wait for bits
 pub same_progress_free : (i : ℕ) (p : Progress) (s : State)
-    → bits_wait (status_at s i) ≡ None → SameBitWaits s (with_progress i p s)
+    → event_wait (status_at s i) ≡ None → SameEventWaits s (with_progress i p s)
 same_progress_free i p s was = same_free i (record (task_at s i) { progress = p }) s was was
 
-pub same_call : (i : ℕ) (call : CallProgress) (s : State) → call.wants ≡ (call_at s i).wants → SameBitWaits s (with_call i call s)
+pub same_call : (i : ℕ) (call : CallProgress) (s : State) → call.wants ≡ (call_at s i).wants → SameEventWaits s (with_call i call s)
 same_call i call s wants = same_progress i (record (progress_at s i) { call = call }) s wants
 
-pub same_go_on : (i : ℕ) (phase : Phase) (s : State) → SameBitWaits s (go_on i phase s)
+pub same_go_on : (i : ℕ) (phase : Phase) (s : State) → SameEventWaits s (go_on i phase s)
 same_go_on i phase s = same_call i (record (call_at s i) { phase = phase }) s refl
 
 -- ---- the table stays in order
@@ -93,41 +95,41 @@ stands_progressed v s i p h wants =
     stands_same v s (with_progress i p s) h (same_progress i p s wants) (table-progress s i p h.table)
 
 pub stands_progressed_free : (v : EventGroups) (s : State) (i : ℕ) (p : Progress)
-    → StandsFor v s → bits_wait (status_at s i) ≡ None → StandsFor v (with_progress i p s)
+    → StandsFor v s → event_wait (status_at s i) ≡ None → StandsFor v (with_progress i p s)
 stands_progressed_free v s i p h was =
     stands_same v s (with_progress i p s) h (same_progress_free i p s was) (table-progress s i p h.table)
 
 -- ---- who runs
 
-pub same_ready : (i : ℕ) (s : State) → bits_wait (status_at s i) ≡ None → SameBitWaits s (make_ready i s)
+pub same_ready : (i : ℕ) (s : State) → event_wait (status_at s i) ≡ None → SameEventWaits s (make_ready i s)
 same_ready i s was = same_ticket i Ready s refl was
 
-pub same_all_ready : (is : List ℕ) (s : State) → AllByRecursion (λ i. bits_wait (status_at s i) ≡ None) is
-    → SameBitWaits s (for_each make_ready is s)
+pub same_all_ready : (is : List ℕ) (s : State) → AllByRecursion (λ i. event_wait (status_at s i) ≡ None) is
+    → SameEventWaits s (for_each make_ready is s)
 same_all_ready [] s h = same s
 same_all_ready (i ∷ is) s h =
     let k = same_ready i s h.0 in
     same_both s (make_ready i s) (for_each make_ready is (make_ready i s))
     k (same_all_ready is (make_ready i s) (still is h.1)) where
-      still : (js : List ℕ) → AllByRecursion (λ j. bits_wait (status_at s j) ≡ None) js
-          → AllByRecursion (λ j. bits_wait (status_at (make_ready i s) j) ≡ None) js
+      still : (js : List ℕ) → AllByRecursion (λ j. event_wait (status_at s j) ≡ None) js
+          → AllByRecursion (λ j. event_wait (status_at (make_ready i s) j) ≡ None) js
       still [] h' = tt
       still (j ∷ js) h' = ((same_ready i s h.0).waits j ∙ h'.0, still js h'.1)
 
 -- who is Ready doesn't wait for bits
-pub ready_waits_not : (s : State) (i : ℕ) → is_ready s i ≡ true → bits_wait (status_at s i) ≡ None
+pub ready_waits_not : (s : State) (i : ℕ) → is_ready s i ≡ true → event_wait (status_at s i) ≡ None
 ready_waits_not s i on = ready_free_of_bits (status_at s i) on
 
-pub same_to_back : (i : ℕ) (s : State) → SameBitWaits s (to_back i s)
+pub same_to_back : (i : ℕ) (s : State) → SameEventWaits s (to_back i s)
 unfolding to_back
 same_to_back i s = by_test (is_ready s i) (λ t. rw t (same_ready i s (ready_waits_not s i t))) (λ t. rw t (same s))
 
 -- ---- objects, priorities, and a task that is resumed
 
-pub same_object : (o : ℕ) (x : Object) (s : State) → SameBitWaits s (with_object o x s)
+pub same_object : (o : ℕ) (x : Object) (s : State) → SameEventWaits s (with_object o x s)
 same_object o x s = same_parts s (with_object o x s) refl refl
 
-pub same_set_priority : (i priority : ℕ) (s : State) → SameBitWaits s (set_priority i priority s)
+pub same_set_priority : (i priority : ℕ) (s : State) → SameEventWaits s (set_priority i priority s)
 unfolding set_priority
 same_set_priority i priority s =
     let t : Task = record (task_at s i) { priority = priority } in
@@ -136,23 +138,24 @@ same_set_priority i priority s =
     (λ e. rw e (same s))
     (λ e. rw e (same_both s ranked (to_back i ranked) (same_task i t s refl (λ some. refl)) (same_to_back i ranked)))
 
-resumed_waits_not : (u : Status) → can_resume u ≡ true → bits_wait u ≡ None
+resumed_waits_not : (u : Status) → can_resume u ≡ true → event_wait u ≡ None
 resumed_waits_not (Ready n) t = absurd cc
 resumed_waits_not (Awake w) t = absurd cc
 resumed_waits_not (Waiting w) t = absurd cc
 resumed_waits_not (Asleep w n) t = absurd cc
 resumed_waits_not (WaitingForBits g n d) t = absurd cc
+resumed_waits_not (WaitingForNotification n d) t = absurd cc
 resumed_waits_not Suspended t = refl
 resumed_waits_not Ended t = absurd cc
 
-pub same_resume : (i : ℕ) (s : State) → SameBitWaits s (resume i s)
+pub same_resume : (i : ℕ) (s : State) → SameEventWaits s (resume i s)
 unfolding resume
 same_resume i s =
     let p : Progress = resumed s.time (progress_at s i) in
     let on : State = with_progress i p s in
     by_test (can_resume (status_at s i))
     (λ t.
-    let was : bits_wait (status_at s i) ≡ None = resumed_waits_not (status_at s i) t in
-    let k : SameBitWaits s on = same_progress i p s refl in
+    let was : event_wait (status_at s i) ≡ None = resumed_waits_not (status_at s i) t in
+    let k : SameEventWaits s on = same_progress i p s refl in
     rw t (same_both s on (make_ready i on) k (same_ready i on (k.waits i ∙ was))))
     (λ t. rw t (same s))

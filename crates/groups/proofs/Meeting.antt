@@ -11,13 +11,15 @@ use Rattle.model.specs.declared.call.CallProgress.{CallProgress}
 use Rattle.model.specs.State.{State, bits_at, call_at, progress_at, with_bits, for_each}
 use Rattle.model.specs.Groups.{bits_left, bits_set, is_met, is_met_for, keep_answer, left_by as left_in_state, met_by, wake_all}
 use Rattle.model.specs.Groups.{set as set_bits, wake_with_bits}
+use Rattle.model.specs.Order.{tasks_of}
 use Rattle.model.proofs.Lists.{eqb-refl, eqb-apart}
 use Rattle.model.proofs.Sorting.{by_test}
 use Rattle.lists.specs.Lists.{Each, has_node, without}
 use Rattle.lists.proofs.Entries.{has_node-same}
-use Rattle.groups.specs.EventGroups.{EventGroups, bits_in, left_by, meets, met_of, waiting_in, wanted_by}
+use Rattle.groups.specs.EventGroups.{EventGroups, bits_in, for_notifications, left_by, meets, met_of, waiting_in, wanted_by}
 use Rattle.task_lists.specs.Tasks.{tasks_in}
 use Rattle.groups.specs.StandsFor.{StandsFor}
+use Rattle.groups.proofs.Keys.{waiters_are}
 use Rattle.groups.proofs.Standing.{stands_readied, stands_same}
 use Rattle.groups.proofs.Kept.{same_progress, table-progress}
 
@@ -52,13 +54,14 @@ wanted_alike s wants bits (e ∷ es) h = by_test (meets wants bits e)
     (λ t. let is = h.0 in rw (t, is) (ap (λ (cs : List Condition). wanted_by wants e.0 ∷ cs) (wanted_alike s wants bits es h.1)))
     (λ t. rw t (wanted_alike s wants bits es h.1))
 
-module _ (v : EventGroups) (s : State) (h : StandsFor v s) (group : ℕ) where
+module _ (v : EventGroups) (s : State) (h : StandsFor v s) (group : ℕ) (away : group ≢ for_notifications) where
   wanting : Wanting s v.wants (waiting_in v group)
   wanting =
-      each_has (λ n. (call_at s n).wants ≡ Some (wanted_by v.wants n)) (waiting_in v group) (λ n has. h.conditions group n has)
+      each_has (λ n. (call_at s n).wants ≡ Some (wanted_by v.wants n)) (waiting_in v group) (λ n has. h.conditions group n away has)
 
   pub met_is : (bits : ℕ) → met_of v.wants bits (waiting_in v group) ≡ met_by group bits s
-  met_is bits = met_alike s v.wants bits (waiting_in v group) wanting ∙ ap (filter (is_met_for bits s)) (h.tasks group)
+  met_is bits = met_alike s v.wants bits (waiting_in v group) wanting
+      ∙ ap (filter (is_met_for bits s)) (h.tasks group ∙ ap tasks_of (waiters_are s group away))
 
   pub left_is : (bits : ℕ)
       → left_by v.wants bits (met_of v.wants bits (waiting_in v group))
@@ -67,8 +70,9 @@ module _ (v : EventGroups) (s : State) (h : StandsFor v s) (group : ℕ) where
       ap (fold bits_left bits) (sym (wanted_alike s v.wants bits (waiting_in v group) wanting))
       ∙ ap (λ (ts : List ℕ). left_in_state ts bits s) (met_is bits)
 
-  pub set_is : (mask : ℕ) → bit_or (bits_in v group) mask ≡ bits_set group mask s
-  set_is mask = ap (λ (n : ℕ). bit_or n mask) (h.bits group)
+pub set_is : (v : EventGroups) (s : State) → StandsFor v s → (group mask : ℕ)
+    → bit_or (bits_in v group) mask ≡ bits_set group mask s
+set_is v s h group mask = ap (λ (n : ℕ). bit_or n mask) (h.bits group)
 
 -- ---- one is woken
 
@@ -107,6 +111,7 @@ stands_with_bits v s group bits known h = record {
   ];
   tasks = h.tasks;
   conditions = h.conditions;
+  apart = h.apart;
   table = record { tickets = h.table.tickets; few = h.table.few; current = h.table.current; holders = h.table.holders };
 }
 

@@ -105,7 +105,7 @@ pub record Passed (old new : List (List (ℕ × ℕ))) (list : ℕ) (wants : Lis
   pub here : at ≡ first_of rest
   pub still : entries_of new list ≡ unmet_of wants bits before ++ rest
   pub others : (k : ℕ) → k ≢ list → entries_of new k ≡ entries_of old k
-  pub sound : IsSound 16 32 new
+  pub sound : IsSound 17 32 new
   pub met : tasks ≡ met_of wants bits before
   pub remains : left ≡ left_by wants bits tasks
   -- those met were woken, one after another
@@ -148,7 +148,7 @@ module _ (old new : List (List (ℕ × ℕ))) (list : ℕ) (wants : List Conditi
       h.whole ∙ ap (λ (es : List (ℕ × ℕ)). h.before ++ es) first.is
       ∙ sym (append_assoc h.before ((n, first.value) ∷ []) first.later)
 
-  pub room : IsSound 16 32 old → length tasks < 32
+  pub room : IsSound 17 32 old → length tasks < 32
   room sound =
       let few : length (entries_of old list) ≤ 32 = sound.few list in
       let all : length (entries_of old list) ≡ length (h.before ++ (n, first.value) ∷ []) + length first.later =
@@ -195,7 +195,7 @@ module _ (old new : List (List (ℕ × ℕ))) (list : ℕ) (wants : List Conditi
 
   -- one whom they meet is taken out
   pub passes_met : (at : Option ℕ) → at ≡ first_of first.later → meets wants bits (n, first.value) ≡ true
-      → IsSound 16 32 (map (without n) new)
+      → IsSound 17 32 (map (without n) new)
       → Passed old (map (without n) new) list wants bits at (tasks ++ n ∷ []) (bits_left left (wanted_by wants n))
   passes_met at is met sound =
       let e : ℕ × ℕ = (n, first.value) in
@@ -257,13 +257,13 @@ module _ (old new : List (List (ℕ × ℕ))) (list : ℕ) (wants : List Conditi
   goes_on : at ≡ first_of first.later
   goes_on = next list (has old new list wants bits n tasks left h first) ∙ next_is old new list wants bits n tasks left h first
 
-  pub has_room : IsSound 16 32 old → length tasks < 32
+  pub has_room : IsSound 17 32 old → length tasks < 32
   has_room sound = room old new list wants bits n tasks left h first sound
 
   pub turn_unmet : is_met bits (wanted_by wants n) ≡ false → Passed old new list wants bits at tasks left
   turn_unmet unmet = passes_unmet old new list wants bits n tasks left h first at goes_on unmet
 
-  pub turn_met : is_met bits (wanted_by wants n) ≡ true → IsSound 16 32 (map (without n) new)
+  pub turn_met : is_met bits (wanted_by wants n) ≡ true → IsSound 17 32 (map (without n) new)
       → Passed old (map (without n) new) list wants bits at (tasks ++ n ∷ []) (bits_left left (wanted_by wants n))
   turn_met met sound = passes_met old new list wants bits n tasks left h first at goes_on met sound
 
@@ -272,7 +272,7 @@ module _ (old new : List (List (ℕ × ℕ))) (list : ℕ) (wants : List Conditi
   unfolding turn_unmet passes_unmet
   shorter_unmet unmet = shorter old new new list wants bits n tasks left h at tasks left (turn_unmet unmet) (behind n h.rest first)
 
-  pub shorter_met : is_met bits (wanted_by wants n) ≡ true → IsSound 16 32 (map (without n) new)
+  pub shorter_met : is_met bits (wanted_by wants n) ≡ true → IsSound 17 32 (map (without n) new)
       → length (from at (entries_of (map (without n) new) list)) < length (from (Some n) (entries_of new list))
   unfolding turn_met passes_met
   shorter_met met sound =
@@ -281,7 +281,7 @@ module _ (old new : List (List (ℕ × ℕ))) (list : ℕ) (wants : List Conditi
 
 -- at the end all are passed
 pub passed_all : (old new : List (List (ℕ × ℕ))) (list : ℕ) (wants : List Condition) (bits : ℕ) (tasks : List ℕ) (left : ℕ)
-    → list < 16 → IsSound 16 32 old → Passed old new list wants bits None tasks left
+    → list < 16 → IsSound 17 32 old → Passed old new list wants bits None tasks left
     → (tasks ≡ met_of wants bits (entries_of old list)) × (new ≡ set old list (unmet_of wants bits (entries_of old list)))
 passed_all old new list wants bits tasks left known sound h =
     let none : h.rest ≡ [] = no_first h.rest h.here in

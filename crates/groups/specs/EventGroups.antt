@@ -1,4 +1,4 @@
--- What callers see of the event groups: their bits, who waits for bits of them, and for which.
+-- What callers see of the event groups: their bits, who waits for bits of them, and for which; and who waits for a notification.
 use Rattle.std.specs.Prelude.{◌≡◌, ℕ, Bool, false, not, List, []}
 use Rattle.std.specs.Prelude.{map, replicate, fold, filter, length, bit_or, slice_index_or, slice_set}
 use Rattle.model.specs.declared.call.Condition.{Condition}
@@ -9,10 +9,15 @@ use Rattle.task_lists.specs.Tasks.{tasks_in}
 pub record EventGroups : Type 0 where
   -- the bits of each group
   pub bits : List ℕ
-  -- for each group the tasks that wait for bits of it, in the order in which they began to wait, each with a 0
+  -- for each group the tasks that wait for bits of it, and then those that wait for a notification, in the order in which they
+  -- began to wait, each with a 0
   pub waiting : List (List (ℕ × ℕ))
   -- for which bits each task waits, or waited last
   pub wants : List Condition
+
+-- the list of those who wait for a notification, behind those of the groups
+abbrev pub for_notifications : ℕ
+for_notifications = 16
 
 -- the bits of a group
 abbrev pub bits_in : EventGroups → ℕ → ℕ
@@ -28,7 +33,7 @@ no_condition = record { mask = 0; all = false; clear = false }
 
 -- groups with which nothing was ever done
 abbrev pub unused : EventGroups
-unused = record { bits = replicate 16 0; waiting = replicate 16 []; wants = replicate 32 no_condition }
+unused = record { bits = replicate 16 0; waiting = replicate 17 []; wants = replicate 32 no_condition }
 
 -- for which bits a task waits, or waited last
 abbrev pub wanted_by : List Condition → ℕ → Condition
@@ -61,5 +66,5 @@ after_set group mask v =
 
 -- what is true of them between two calls
 pub record AreGroups (v : EventGroups) : Type 0 where
-  pub sound : IsSound 16 32 v.waiting
+  pub sound : IsSound 17 32 v.waiting
   pub as_many : length v.wants ≡ 32

@@ -1,14 +1,15 @@
-//! The event groups, and who waits for bits of them.
+//! The event groups, and who waits for bits of them or for a notification.
 ghost use Rattle.std.specs.Prelude.{bit_or, ◌≡◌, ◌<◌, ◌++◌, ◌∷◌, ℕ, List, [], None, Some, Option, length, map, replicate, slice_set, if◌then◌else◌, true, IsTrue};
 ghost use Rattle.std.specs.List.{list_any};
 ghost use Rattle.std.specs.Option.{is_some};
 ghost use Rattle.lists.specs.Lists.{place_of, without};
-ghost use Rattle.model.specs.State.{State, Suspended, Task, bits_at, status_at, with_bits, with_status};
+ghost use Rattle.model.specs.State.{State, Suspended, Task, bits_at, status_at, waits_for_notification, with_bits, with_status};
 ghost use Rattle.model.specs.Switching.{make_ready};
 ghost use Rattle.model.specs.Invariant.{IsTable};
 ghost use Rattle.model.specs.Groups as definitions;
-ghost use Rattle.groups.specs.EventGroups.{bits_in, after_set, left_by, met_of, no_condition, waiting_in, wanted_by};
-ghost use Rattle.groups.specs.StandsFor.{StandsFor, bits_wait};
+ghost use Rattle.model.specs.Notifications.{begin_notification_wait, wait_for_notification};
+ghost use Rattle.groups.specs.EventGroups.{bits_in, after_set, for_notifications, left_by, met_of, no_condition, waiting_in, wanted_by};
+ghost use Rattle.groups.specs.StandsFor.{StandsFor, event_wait};
 
 use crate::bits::{bits_left, bits_without, is_met};
 use crate::met::{Met, take_met};
@@ -24,15 +25,16 @@ const NO_CONDITION: Condition = Condition {
     clear: false,
 };
 
-/// 16 event groups, each of 24 bits, and the tasks that wait for bits of them: each task at one group at most. A mask is 0 to
-/// 16,777,215; its bits above, which FreeRTOS refuses, are treated as the others (profile).
+/// 16 event groups, each of 24 bits, and the tasks that wait for bits of them, each task at one group at most, or for a notification. A
+/// mask is 0 to 16,777,215; its bits above, which FreeRTOS refuses, are treated as the others (profile).
 ///
 /// A group is FreeRTOS's `EventGroup_t`, whose `xTasksWaitingForBits` has the tasks in the order in which they began to
-/// wait too, whatever their priorities. That the groups are in one table is profile.
+/// wait too, whatever their priorities. That the groups are in one table is profile, and that who waits for a notification is in a list of
+/// it too.
 #[derive(Drop)]
 pub struct Groups {
     bits: [u32; 16],
-    lists: TaskLists<16, 48>,
+    lists: TaskLists<17, 49>,
     wants: [Condition; 32],
     /// Whether anything was done with a group. Where nothing was, nothing is copied or compared.
     used: bool,
@@ -51,6 +53,9 @@ impl Model for Groups {
         × (g.used ≡ false → record { bits = g.bits; waiting = g.lists; wants = g.wants } ≡ unused) };
 }
 
+/// The list of those who wait for a notification, after those of the groups.
+const FOR_NOTIFICATIONS: ListId = ListId { number: 16 };
+
 /// The list of those who wait for bits of a group.
 fn list_id(group: GroupId) -> ListId
     ensures number { result.number ≡ group }
@@ -65,10 +70,10 @@ impl Groups {
     /// No bit is set, and nobody waits.
     pub fn new() -> Self
         ensures clear { result.bits ≡ replicate 16 0 }
-        ensures nobody { result.waiting ≡ replicate 16 [] }
+        ensures nobody { result.waiting ≡ replicate 17 [] }
         ensures nothing { result.wants ≡ replicate 32 no_condition }
         ensures stands { (s : State) → IsTable s → ((group : ℕ) → bits_at s group ≡ 0)
-            → ((task : ℕ) → bits_wait (status_at s task) ≡ None) → StandsFor result s }
+            → ((task : ℕ) → event_wait (status_at s task) ≡ None) → StandsFor result s }
     {
         Groups {
             bits: [0; 16],
@@ -192,19 +197,19 @@ impl Groups {
         bits
     }
 
-    /// Whether a task waits for bits of a group.
+    /// Whether a task waits for bits of a group, or for a notification.
     pub fn is_waiting(&self, task: TaskId) -> bool
         ensures waiting { result ≡ is_some (place_of self.now.waiting task) }
         ensures stands { (s : State) → StandsFor self.now s
-            → result ≡ is_some (bits_wait (status_at s task)) }
+            → result ≡ is_some (event_wait (status_at s task)) }
     {
         self.lists.contains(task)
     }
 
-    /// Whether any task waits for bits of a group.
+    /// Whether any task waits for bits of a group, or for a notification.
     pub fn has_waiter(&self) -> bool
         ensures stands { (s : State) → StandsFor self.now s
-            → result ≡ list_any (λ (t : Task). is_some (bits_wait t.status)) s.tasks }
+            → result ≡ list_any (λ (t : Task). is_some (event_wait t.status)) s.tasks }
     {
         for number in 0..32 {
             if self.is_waiting(TaskId { number }) {
@@ -263,7 +268,35 @@ impl Groups {
         self.used = true;
     }
 
-    /// Takes a task out of the list of those who wait for bits, if it is in one: it has timed out, or is suspended.
+    /// Whether a task waits for a notification.
+    pub fn waits_for_notification(&self, task: TaskId) -> bool
+        ensures stands { (s : State) → StandsFor self.now s → result ≡ waits_for_notification (status_at s task) }
+    {
+        match self.lists.list_of(task) {
+            Some(list) => list.number == FOR_NOTIFICATIONS.number,
+            None => false,
+        }
+    }
+
+    /// Puts a task that waits for nothing here (see `is_waiting`) among those who wait for a notification.
+    pub fn place_for_notification(&mut self, task: TaskId)
+        requires free { place_of self.old.waiting task ≡ None }
+        ensures put { self.new ≡ record self.old {
+          waiting = slice_set self.old.waiting for_notifications (waiting_in self.old for_notifications ++ (task, 0) ∷ []);
+        } }
+        // In the definitions it begins to wait,
+        ensures stands { (s : State) → StandsFor self.old s → task < length s.tasks
+            → StandsFor self.new (wait_for_notification task s) }
+        // so that its call comes to its next phase.
+        ensures begins { (s : State) (ticks : Option ℕ) → StandsFor self.old s → task < length s.tasks
+            → StandsFor self.new (begin_notification_wait task ticks s) }
+    {
+        self.lists.push_back(FOR_NOTIFICATIONS, task, 0);
+        self.used = true;
+    }
+
+    /// Takes a task out of the list of those who wait for bits or for a notification, if it is in one: it has timed out, is suspended, or
+    /// is notified.
     pub fn drop_waiter(&mut self, task: TaskId)
         ensures gone { self.new ≡ record self.old { waiting = map (without task) self.old.waiting } }
         ensures unmoved { place_of self.old.waiting task ≡ None → self.new ≡ self.old }

@@ -41,14 +41,14 @@ impl Met {
 /// Takes the tasks out of a list that these bits meet, and reports them in `met`, whatever that has. Each is tested against all of the
 /// bits, whatever one before it clears.
 pub(crate) fn take_met(
-    lists: &mut TaskLists<16, 48>,
+    lists: &mut TaskLists<17, 49>,
     list: ListId,
     wants: &[Condition; 32],
     bits: u32,
     met: &mut Met,
 )
     requires list { list.number < 16 }
-    requires sound { IsSound 16 32 lists.old }
+    requires sound { IsSound 17 32 lists.old }
     ensures tasks { met.new.tasks.items ≡ met_of wants.now bits (entries_of lists.old list.number) }
     ensures bits { met.new.bits ≡ bits }
     ensures left { met.new.left ≡ left_by wants.now bits met.new.tasks.items }
@@ -58,7 +58,7 @@ pub(crate) fn take_met(
     ensures woken { (v : EventGroups) (s : State) → v.waiting ≡ lists.old → StandsFor v s
         → StandsFor (record v { waiting = lists.new })
         (wake_all met.new.tasks.items bits s) }
-    ensures sound { IsSound 16 32 lists.new }
+    ensures sound { IsSound 17 32 lists.new }
 {
     met.tasks.clear();
     met.bits = bits;

@@ -10,7 +10,8 @@ use Rattle.std.proofs.Common.{refl, ap, sym, subst, ◌∙◌, arith, append-nil
 use Rattle.model.specs.declared.op.Op.{Op}
 use Rattle.model.specs.declared.op.Op.TheVariants.{Work, Delay, DelayUntil, Yield, Time, Mark, Expect, Repeat, End as EndLoop, If}
 use Rattle.model.specs.declared.op.Op.TheVariants.{Else, EndIf, Break, Stamp, Since, Await, Do, GiveMutex, MessagesWaiting}
-use Rattle.model.specs.declared.op.Op.TheVariants.{SpacesAvailable, SetBits, ClearBits, GetBits, WaitBits, Suspend, Resume}
+use Rattle.model.specs.declared.op.Op.TheVariants.{SpacesAvailable, SetBits, ClearBits, GetBits, WaitBits, Notify}
+use Rattle.model.specs.declared.op.Op.TheVariants.{AwaitNotification, ClearNotification, Suspend, Resume}
 use Rattle.model.specs.declared.op.Op.TheVariants.{SuspendAll, ResumeAll, EnterCritical, ExitCritical, NextCommand, Obey}
 use Rattle.model.specs.declared.event.Event.{Event}
 use Rattle.model.specs.declared.loops.Loop.{Loop}
@@ -81,6 +82,9 @@ no_misuse (SetBits g m) t s task = absurd (cc)
 no_misuse (ClearBits g m) t s task = absurd (cc)
 no_misuse (GetBits g) t s task = refl
 no_misuse (WaitBits g c w) t s task = refl
+no_misuse (Notify j a) t s task = absurd (cc)
+no_misuse (AwaitNotification w ticks) t s task = absurd (cc)
+no_misuse (ClearNotification x) t s task = absurd (cc)
 no_misuse (Suspend j) t s task = absurd (cc)
 no_misuse (Resume j) t s task = absurd (cc)
 no_misuse SuspendAll t s task = absurd (cc)
@@ -116,6 +120,9 @@ takes_none (SetBits g m) t = refl
 takes_none (ClearBits g m) t = refl
 takes_none (GetBits g) t = refl
 takes_none (WaitBits g c w) t = refl
+takes_none (Notify j a) t = refl
+takes_none (AwaitNotification w ticks) t = refl
+takes_none (ClearNotification x) t = refl
 takes_none (Suspend j) t = refl
 takes_none (Resume j) t = refl
 takes_none SuspendAll t = absurd (cc)
@@ -227,6 +234,9 @@ other-act app i (SetBits g m) s t = absurd (cc)
 other-act app i (ClearBits g m) s t = absurd (cc)
 other-act app i (GetBits g) s t = other-answer app i _ s
 other-act app i (WaitBits g c w) s t = other-wait_bits app i g c w (call_at s i).phase s
+other-act app i (Notify j a) s t = absurd (cc)
+other-act app i (AwaitNotification w ticks) s t = absurd (cc)
+other-act app i (ClearNotification x) s t = absurd (cc)
 other-act app i (Suspend j) s t = absurd (cc)
 other-act app i (Resume j) s t = absurd (cc)
 other-act app i SuspendAll s t = absurd (cc)

@@ -21,7 +21,8 @@ use Rattle.model.specs.declared.op.Access.TheVariants.{Receive}
 use Rattle.model.specs.declared.op.Op.{Op}
 use Rattle.model.specs.declared.op.Op.TheVariants.{Work, Delay, DelayUntil, Yield, Time, Mark, Expect, Repeat, End as EndLoop, If}
 use Rattle.model.specs.declared.op.Op.TheVariants.{Else, EndIf, Break, Stamp, Since, Await, Do, GiveMutex, MessagesWaiting}
-use Rattle.model.specs.declared.op.Op.TheVariants.{SpacesAvailable, SetBits, ClearBits, GetBits, WaitBits, Suspend, Resume}
+use Rattle.model.specs.declared.op.Op.TheVariants.{SpacesAvailable, SetBits, ClearBits, GetBits, WaitBits, Notify}
+use Rattle.model.specs.declared.op.Op.TheVariants.{AwaitNotification, ClearNotification, Suspend, Resume}
 use Rattle.model.specs.declared.op.Op.TheVariants.{SuspendAll, ResumeAll, EnterCritical, ExitCritical, NextCommand, Obey}
 use Rattle.model.specs.Application.{Application, Limits, script_of, op_at}
 use Rattle.model.specs.declared.block.Block.{Block}
@@ -30,7 +31,7 @@ use Rattle.model.specs.Scripts.{fits_object, is_in_range, is_wait, IsWellFormed}
 use Rattle.model.specs.State.{State, Progress, Wait, task_at, progress_at, call_at, status_at}
 use Rattle.model.specs.Run.{end_of, are_all_ended, is_stuck}
 use Rattle.model.specs.Invariant.{Hold, IsSound, IsState, IsUsedBy, IsRunning, IsPlacing, IsWaitOf, RunsIn, Course, InOne, OnObject}
-use Rattle.model.specs.Invariant.{ToSetBits, course, IsPhaseOf, hold_of, holds, Suspension, wait_of}
+use Rattle.model.specs.Invariant.{ToSetBits, UntilWoken, course, IsPhaseOf, hold_of, holds, Suspension, wait_of}
 use Rattle.soundness.proofs.InScripts.{Known, script_formed, stands_at, known_at, range_at}
 use Rattle.soundness.proofs.Sound.{ready_reckoned}
 use Rattle.soundness.proofs.Frames.{keeps-before_step}
@@ -47,7 +48,7 @@ use Rattle.machine.specs.StandsFor.{StandsFor, StandsBefore, Stands, decider, pr
 use Rattle.machine.specs.StandsFor.Stands.{Placed, Placing}
 use Rattle.machine.specs.Can.{Runs, HasRoom, Agrees, IsAhead, IsInCall, StandsForSome}
 use Rattle.ops.specs.Can.{HasLoopRoom, HasObject, HasObjects, CanTick, Can, CanTry, IsShort, CanDecide, CanPlace, CanLeave, CanGoOn}
-use Rattle.ops.specs.Can.{CanSetBits, CanWaitBits, CanHold}
+use Rattle.ops.specs.Can.{CanSetBits, CanAwaitEvent, CanHold}
 use Rattle.kernel.specs.Can.{CanOp, CanAct, CanIdle, CanStep}
 use Rattle.machine.proofs.Either.{elapsed_is, held_is, now_is, current_is, progress_is, sections_are, suspensions_are}
 use Rattle.sched.specs.StandsFor.{depth_of, task_holds_of}
@@ -114,6 +115,9 @@ loop_room (SetBits g m) nesting h = tt
 loop_room (ClearBits g m) nesting h = tt
 loop_room (GetBits g) nesting h = tt
 loop_room (WaitBits g c w) nesting h = tt
+loop_room (Notify j a) nesting h = tt
+loop_room (AwaitNotification w ticks) nesting h = tt
+loop_room (ClearNotification x) nesting h = tt
 loop_room (Suspend j) nesting h = tt
 loop_room (Resume j) nesting h = tt
 loop_room EnterCritical nesting h = tt
@@ -155,6 +159,9 @@ known_object app i p (SetBits g m) brief t k room = absurd (cc)
 known_object app i p (ClearBits g m) brief t k room = tt
 known_object app i p (GetBits g) brief t k room = tt
 known_object app i p (WaitBits g c w) brief t k room = absurd (cc)
+known_object app i p (Notify j a) brief t k room = tt
+known_object app i p (AwaitNotification w ticks) brief t k room = absurd (cc)
+known_object app i p (ClearNotification x) brief t k room = tt
 known_object app i p (Suspend j) brief t k room = tt
 known_object app i p (Resume j) brief t k room = tt
 known_object app i p SuspendAll brief t k room = tt
@@ -428,20 +435,20 @@ module _ (app : Application) (formed : IsWellFormed app) (k : Machine) (state : 
     sets op is goes awake Unlock e =
         absurd (subst (λ (c : Course). IsPhaseOf (hold_of state) c Unlock) goes (fits_phase op is Unlock e))
 
-    -- a wait for bits
-    waits : (group : ℕ) (condition : Condition) (ticks : Option ℕ)
-        → op_at app task (progress_in k.progress task).op_index ≡ Some (WaitBits group condition ticks)
-        → k.sched.suspensions ≡ 0 → (phase : Phase) → (call_at state task).phase ≡ phase → CanWaitBits k task ticks phase
-    waits group c ticks is awake Start e = (
-      can_decide (WaitBits group c ticks) is (free_in Start e refl) awake,
-      short ticks (and_right _ (is_wait ticks) (in_range (WaitBits group c ticks) is)),
-      let l = time_low in omega arith,
-    )
-    waits group c ticks is awake Leave e = can_leave (WaitBits group c ticks) is awake e
-    waits group c ticks is awake Try e = can_decide (WaitBits group c ticks) is (free_in Try e refl) awake
-    waits group c ticks is awake Decide e = absurd (fits_phase (WaitBits group c ticks) is Decide e)
-    waits group c ticks is awake Place e = absurd (fits_phase (WaitBits group c ticks) is Place e)
-    waits group c ticks is awake Unlock e = absurd (fits_phase (WaitBits group c ticks) is Unlock e)
+    -- a wait for bits, or for a notification
+    waits : (op : Op) (ticks : Option ℕ) → op_at app task (progress_in k.progress task).op_index ≡ Some op
+        → course (Some op) ≡ UntilWoken → is_wait ticks ≡ true → k.sched.suspensions ≡ 0 → (phase : Phase)
+        → (call_at state task).phase ≡ phase → CanAwaitEvent k task ticks phase
+    waits op ticks is goes brief awake Start e =
+        (can_decide op is (free_in Start e refl) awake, short ticks brief, let l = time_low in omega arith)
+    waits op ticks is goes brief awake Leave e = can_leave op is awake e
+    waits op ticks is goes brief awake Try e = can_decide op is (free_in Try e refl) awake
+    waits op ticks is goes brief awake Decide e =
+        absurd (subst (λ (c : Course). IsPhaseOf (hold_of state) c Decide) goes (fits_phase op is Decide e))
+    waits op ticks is goes brief awake Place e =
+        absurd (subst (λ (c : Course). IsPhaseOf (hold_of state) c Place) goes (fits_phase op is Place e))
+    waits op ticks is goes brief awake Unlock e =
+        absurd (subst (λ (c : Course). IsPhaseOf (hold_of state) c Unlock) goes (fits_phase op is Unlock e))
 
     can_op : k.sched.suspensions ≡ 0 → (op : Op) → op_at app task (progress_in k.progress task).op_index ≡ Some op
         → CanOp app k task op
@@ -476,8 +483,15 @@ module _ (app : Application) (formed : IsWellFormed app) (k : Machine) (state : 
     can_op awake (ClearBits g m) is = brief_can (ClearBits g m) is awake refl
     can_op awake (GetBits g) is = brief_can (GetBits g) is awake refl
     can_op awake (WaitBits g c w) is =
-        subst (λ (p : Progress). CanWaitBits k task w p.call.phase)
-        (sym same) (waits g c w is awake (call_at state task).phase refl)
+        subst (λ (p : Progress). CanAwaitEvent k task w p.call.phase)
+        (sym same) (waits (WaitBits g c w) w is refl (and_right _ (is_wait w) (in_range (WaitBits g c w) is)) awake
+        (call_at state task).phase refl)
+    can_op awake (Notify j a) is = brief_can (Notify j a) is awake refl
+    can_op awake (AwaitNotification w ticks) is =
+        subst (λ (p : Progress). CanAwaitEvent k task ticks p.call.phase)
+        (sym same) (waits (AwaitNotification w ticks) ticks is refl (in_range (AwaitNotification w ticks) is) awake
+        (call_at state task).phase refl)
+    can_op awake (ClearNotification x) is = brief_can (ClearNotification x) is awake refl
     can_op awake (Suspend j) is = brief_can (Suspend j) is awake refl
     can_op awake (Resume j) is = brief_can (Resume j) is awake refl
     can_op awake SuspendAll is = brief_can SuspendAll is awake refl

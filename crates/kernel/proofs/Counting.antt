@@ -1,6 +1,6 @@
 -- No op changes how many steps are done: only the step itself counts.
 use Rattle.model.specs.declared.op.Op.TheVariants.{Value}
-use Rattle.model.specs.Step.{act_by_value, call_with_number}
+use Rattle.model.specs.Step.{act_by_value, call_with_number, notify_by_number}
 use Rattle.model.specs.Values.{number_of}
 use Rattle.soundness.proofs.Frames.{keeps-calculate}
 use Rattle.soundness.proofs.Passing.{by_value}
@@ -10,7 +10,8 @@ use Rattle.std.specs.Option.{option_eq}
 use Rattle.model.specs.declared.op.Op.{Op}
 use Rattle.model.specs.declared.op.Op.TheVariants.{Work, Delay, DelayUntil, Yield, Time, Mark, Expect, Repeat, End, If, Else, EndIf}
 use Rattle.model.specs.declared.op.Op.TheVariants.{Break, Stamp, Since, Await, Do, GiveMutex, MessagesWaiting, SpacesAvailable}
-use Rattle.model.specs.declared.op.Op.TheVariants.{SetBits, ClearBits, GetBits, WaitBits, Suspend, Resume, SuspendAll, ResumeAll}
+use Rattle.model.specs.declared.op.Op.TheVariants.{SetBits, ClearBits, GetBits, WaitBits, Notify, AwaitNotification}
+use Rattle.model.specs.declared.op.Op.TheVariants.{ClearNotification, Suspend, Resume, SuspendAll, ResumeAll}
 use Rattle.model.specs.declared.op.Op.TheVariants.{EnterCritical, ExitCritical, NextCommand, Obey}
 use Rattle.model.specs.declared.op.Access.{Access}
 use Rattle.model.specs.declared.op.Access.TheVariants.{Receive}
@@ -24,7 +25,7 @@ use Rattle.model.specs.declared.event.What.TheVariants as what
 use Rattle.model.specs.declared.answer.AnswerCondition.{AnswerCondition}
 use Rattle.model.specs.Answers.{holds}
 use Rattle.model.specs.Application.{Application, Limits, op_at}
-use Rattle.model.specs.State.{State, progress_at, call_at, object_at, bits_at, for_one, printed}
+use Rattle.model.specs.State.{State, progress_at, call_at, object_at, bits_at, notification_at, with_notification, for_one, printed}
 use Rattle.model.specs.Order.{tasks_of}
 use Rattle.model.specs.Switching.{preempt, slice, settle, is_scheduler_suspended, unless_held, write}
 use Rattle.model.specs.Waiting.{awakened, wait_in, set_deadline, is_expired, end_hold, unlock_object, unlock}
@@ -33,6 +34,9 @@ use Rattle.model.specs.Ops.{answer, use_up, expect, with_sections}
 use Rattle.model.specs.Objects.{possible}
 use Rattle.model.specs.Calls.{decide, leave_call, await}
 use Rattle.model.specs.Groups.{is_met, begin_set, set_bits, wait_for_bits, begin_bits_wait, check, wait_bits}
+use Rattle.model.specs.declared.notification.NotificationWait.{NotificationWait}
+use Rattle.model.specs.Notifications.{await_notification, begin_notification_wait, check_notification, entered, is_there}
+use Rattle.model.specs.Notifications.{wait_for_notification}
 use Rattle.model.specs.Suspension.{suspend_all, resume_scheduler, resume_all}
 use Rattle.model.specs.Daemon.{next_command, obeyed, end_set_by_daemon, obey, command_at}
 use Rattle.model.specs.Handlers.{interrupt, tick_interrupt, idle, ticks_ahead}
@@ -50,7 +54,7 @@ use Rattle.soundness.proofs.Frames.{keeps-delay_until, keeps-open_loop, keeps-cl
 use Rattle.soundness.proofs.Frames.{keeps-leave_loop, keeps-stamp, keeps-since, keeps-set_deadline, keeps-inherit, keeps-give_mutex}
 use Rattle.soundness.proofs.Frames.{keeps-try, keeps-do_now, keeps-set, keeps-clear, keeps-answer_bits, keeps-call_suspend}
 use Rattle.soundness.proofs.Frames.{keeps-call_resume, keeps-take_command, keeps-obeyed, keeps-clear_by_daemon, keeps-interrupt}
-use Rattle.soundness.proofs.Frames.{keeps-before_step}
+use Rattle.soundness.proofs.Frames.{keeps-before_step, keeps-call_notify, keeps-clear_notification, keeps-end_notification_wait}
 
 steps-unlock : (s : State) → (unlock s).steps ≡ s.steps
 unfolding unlock
@@ -120,6 +124,27 @@ steps-wait_bits app i group c ticks Try s = (lasts-final_bits app i group c (cal
 steps-wait_bits app i group c ticks Decide s = (lasts-final_bits app i group c (call_at s i).kept s).steps
 steps-wait_bits app i group c ticks Place s = (lasts-final_bits app i group c (call_at s i).kept s).steps
 steps-wait_bits app i group c ticks Unlock s = (lasts-final_bits app i group c (call_at s i).kept s).steps
+
+steps-begin_notice : (i : ℕ) (ticks : Option ℕ) (s : State) → (begin_notification_wait i ticks s).steps ≡ s.steps
+unfolding begin_notification_wait wait_for_notification set_deadline
+steps-begin_notice i ticks s = refl
+
+steps-check_notification : (app : Application) (i : ℕ) (wait : NotificationWait) (ticks : Option ℕ) (s : State)
+    → (check_notification app i wait ticks s).steps ≡ s.steps
+unfolding check_notification
+steps-check_notification app i wait ticks s = by_test (is_there wait (notification_at s i) || option_eq eqb ticks (Some 0))
+    (λ t. rw t ((keeps-end_notification_wait app i wait s).steps))
+    (λ t. rw t (steps-begin_notice i ticks s))
+
+steps-await_notification : (app : Application) (i : ℕ) (wait : NotificationWait) (ticks : Option ℕ) (phase : Phase) (s : State)
+    → (await_notification app i wait ticks phase s).steps ≡ s.steps
+steps-await_notification app i wait ticks Start s =
+    steps-check_notification app i wait ticks (with_notification i (entered wait (notification_at s i)) s)
+steps-await_notification app i wait ticks Leave s = (keeps-choose (end_hold i Try s)).steps
+steps-await_notification app i wait ticks Try s = (keeps-end_notification_wait app i wait s).steps
+steps-await_notification app i wait ticks Decide s = (keeps-end_notification_wait app i wait s).steps
+steps-await_notification app i wait ticks Place s = (keeps-end_notification_wait app i wait s).steps
+steps-await_notification app i wait ticks Unlock s = (keeps-end_notification_wait app i wait s).steps
 
 steps-next_command : (app : Application) (i o : ℕ) (phase : Phase) (s : State) → (next_command app i o phase s).steps ≡ s.steps
 steps-next_command app i o Start s = (keeps-take_command app i o s).steps
@@ -233,6 +258,9 @@ steps-act app i (SetBits g m) s = steps-set_bits app i g m (call_at s i).phase s
 steps-act app i (ClearBits g m) s = (keeps-clear app i g m s).steps
 steps-act app i (GetBits g) s = (keeps-answer app i (Some (bits_at s g)) s).steps
 steps-act app i (WaitBits g c ticks) s = steps-wait_bits app i g c ticks (call_at s i).phase s
+steps-act app i (Notify j a) s = (keeps-call_notify app i j (notify_by_number s i a) s).steps
+steps-act app i (AwaitNotification w ticks) s = steps-await_notification app i w ticks (call_at s i).phase s
+steps-act app i (ClearNotification x) s = (keeps-clear_notification app i x s).steps
 steps-act app i (Suspend j) s = (keeps-call_suspend app i j s).steps
 steps-act app i (Resume j) s = (keeps-call_resume app i j s).steps
 steps-act app i SuspendAll s = steps-suspends_all app i s

@@ -14,7 +14,8 @@ use Rattle.model.specs.declared.call.WaitList.{WaitList}
 use Rattle.model.specs.declared.call.WaitList.TheVariants.{ToReceive, ToSend}
 use Rattle.model.specs.declared.op.Op.{Op}
 use Rattle.model.specs.Application.{Application, op_at}
-use Rattle.model.specs.State.{State, Object, Progress, Status, Task, Wait, Ready, Awake, Waiting, WaitingForBits, Asleep, Suspended}
+use Rattle.model.specs.State.{State, Object, Progress, Status, Task, Wait, Ready, Awake, Waiting, WaitingForBits}
+use Rattle.model.specs.State.{WaitingForNotification, Asleep, Suspended}
 use Rattle.model.specs.State.{Ended, call_at, for_each, for_one, go_on, no_object, no_task, printed, progress_at, status_at}
 use Rattle.model.specs.State.{task_at, ticket_if_ready, wait_if_awake, wake_time_of}
 use Rattle.model.specs.Order.{Entry, Key, tasks_of}
@@ -26,7 +27,7 @@ use Rattle.model.proofs.Lists.{eqb-refl, eqb-same}
 use Rattle.model.proofs.Members.{has_task, has_task-key, has_task-none}
 use Rattle.model.proofs.Tables.{each-set}
 use Rattle.task_lists.specs.Tasks.{is_among}
-use Rattle.groups.specs.StandsFor.{bits_wait}
+use Rattle.groups.specs.StandsFor.{event_wait}
 use Rattle.objects.specs.declared.waiting_lists.Unlocked.{Unlocked}
 use Rattle.objects.specs.WaitersStand.{AtLocked, is_awake}
 use Rattle.objects.proofs.Awake.{nobody_awake}
@@ -222,6 +223,7 @@ told_suspended op b (Ready n) e = absurd (cc)
 told_suspended op b (Awake w) e = absurd (cc)
 told_suspended op b (Waiting w) e = absurd (cc)
 told_suspended op b (WaitingForBits g n d) e = absurd (cc)
+told_suspended op b (WaitingForNotification n d) e = absurd (cc)
 told_suspended op b (Asleep w n) e = absurd (cc)
 told_suspended op b Suspended e = refl
 told_suspended op b Ended e = absurd (cc)
@@ -232,6 +234,7 @@ told_ready op b (Ready n) e = refl
 told_ready op b (Awake w) e = absurd (cc)
 told_ready op b (Waiting w) e = absurd (cc)
 told_ready op b (WaitingForBits g n d) e = absurd (cc)
+told_ready op b (WaitingForNotification n d) e = absurd (cc)
 told_ready op b (Asleep w n) e = absurd (cc)
 told_ready op b Suspended e = absurd (cc)
 told_ready op b Ended e = absurd (cc)
@@ -241,18 +244,20 @@ told_awake op b (Ready n) e = absurd (cc)
 told_awake op b (Awake w) e = refl
 told_awake op b (Waiting w) e = absurd (cc)
 told_awake op b (WaitingForBits g n d) e = absurd (cc)
+told_awake op b (WaitingForNotification n d) e = absurd (cc)
 told_awake op b (Asleep w n) e = absurd (cc)
 told_awake op b Suspended e = absurd (cc)
 told_awake op b Ended e = absurd (cc)
 
 -- It waits, until this tick.
 pub told_waiting : (op : ℕ) (b : Bool) (u : Status) (until : Option ℕ)
-    → is_some (wait_if_awake u) ≡ false → (is_some (wait_of u) || is_some (bits_wait u)) ≡ true
+    → is_some (wait_if_awake u) ≡ false → (is_some (wait_of u) || is_some (event_wait u)) ≡ true
     → until ≡ option_map printed (wake_time_of u) → situation.Waits op until ≡ situation_by op b u
 told_waiting op b (Ready n) until a e t = absurd (cc)
 told_waiting op b (Awake w) until a e t = absurd (cc)
 told_waiting op b (Waiting w) until a e t = ap (λ o. situation.Waits op o) t
 told_waiting op b (WaitingForBits g n d) until a e t = ap (λ o. situation.Waits op o) t
+told_waiting op b (WaitingForNotification n d) until a e t = ap (λ o. situation.Waits op o) t
 told_waiting op b (Asleep w n) until a e t = absurd (cc)
 told_waiting op b Suspended until a e t = absurd (cc)
 told_waiting op b Ended until a e t = absurd (cc)
@@ -262,7 +267,7 @@ pub record IsElsewhere (u : Status) : Type 0 where
   pub suspended : can_resume u ≡ false
   pub ready : is_some (ticket_if_ready u) ≡ false
   pub awake : is_some (wait_if_awake u) ≡ false
-  pub waits : (is_some (wait_of u) || is_some (bits_wait u)) ≡ false
+  pub waits : (is_some (wait_of u) || is_some (event_wait u)) ≡ false
 
 pub told_asleep : (op : ℕ) (b : Bool) (u : Status) (until : ℕ) → IsElsewhere u
     → Some until ≡ option_map printed (wake_time_of u) → situation.Sleeps op until ≡ situation_by op b u
@@ -270,6 +275,7 @@ told_asleep op b (Ready n) until e t = absurd (cc)
 told_asleep op b (Awake w) until e t = let f = e.awake in absurd (cc)
 told_asleep op b (Waiting w) until e t = let f = e.waits in absurd (cc)
 told_asleep op b (WaitingForBits g n d) until e t = let f = e.waits in absurd (cc)
+told_asleep op b (WaitingForNotification n d) until e t = let f = e.waits in absurd (cc)
 told_asleep op b (Asleep w n) until e t = ap (λ m. situation.Sleeps op m) (same_Some until (printed w) t)
 told_asleep op b Suspended until e t = absurd (cc)
 told_asleep op b Ended until e t = absurd (cc)
@@ -280,6 +286,7 @@ told_ended op b (Ready n) e t = let f = e.ready in absurd (cc)
 told_ended op b (Awake w) e t = let f = e.awake in absurd (cc)
 told_ended op b (Waiting w) e t = let f = e.waits in absurd (cc)
 told_ended op b (WaitingForBits g n d) e t = let f = e.waits in absurd (cc)
+told_ended op b (WaitingForNotification n d) e t = let f = e.waits in absurd (cc)
 told_ended op b (Asleep w n) e t = absurd (cc)
 told_ended op b Suspended e t = let f = e.suspended in absurd (cc)
 told_ended op b Ended e t = refl
@@ -348,21 +355,22 @@ module _ (k : Machine) (awake : Unlocked) (s : State) (h : StandsOpened k awake 
 
     -- whether it waits
     abbrev Waits : Bool → Type 0
-    Waits b = b ≡ (is_some (wait_of (status_at h.objects.opened i)) || is_some (bits_wait (status_at s i)))
+    Waits b = b ≡ (is_some (wait_of (status_at h.objects.opened i)) || is_some (event_wait (status_at s i)))
 
-    waits_alike : (b : Bool) → Waits b → (is_some (wait_of (status_at s i)) || is_some (bits_wait (status_at s i))) ≡ b
+    waits_alike : (b : Bool) → Waits b → (is_some (wait_of (status_at s i)) || is_some (event_wait (status_at s i))) ≡ b
     waits_alike b w =
-        ap (λ (u : Status). is_some (wait_of u) || is_some (bits_wait (status_at s i))) (sym (h.objects.others i not_awake)) ∙ sym w
+        ap (λ (u : Status). is_some (wait_of u) || is_some (event_wait (status_at s i))) (sym (h.objects.others i not_awake))
+        ∙ sym w
 
     pub is_waiting_then : (op : ℕ) (until : Option ℕ) (b : Bool) → op ≡ (progress_in k.progress i).op_index
-        → b ≡ (is_some (wait_of (status_at h.objects.opened i)) || is_some (bits_wait (status_at s i))) → b ≡ true
+        → b ≡ (is_some (wait_of (status_at h.objects.opened i)) || is_some (event_wait (status_at s i))) → b ≡ true
         → until ≡ option_map printed (wake_time_of (status_at s i)) → situation.Waits op until ≡ situation_of s i
     is_waiting_then op until b e w t u =
         told_waiting op (is_same s.current (Some i)) (status_at s i) until not_awake (waits_alike b w ∙ t) u
         ∙ ap (λ (o : ℕ). situation_by o (is_same s.current (Some i)) (status_at s i)) (e ∙ at_op)
 
     module _ (off : is_suspended k.sched i ≡ false) (unready : schedule.is_ready k.sched i ≡ false) (b : Bool)
-        (w : b ≡ (is_some (wait_of (status_at h.objects.opened i)) || is_some (bits_wait (status_at s i)))) (t : b ≡ false) where
+        (w : b ≡ (is_some (wait_of (status_at h.objects.opened i)) || is_some (event_wait (status_at s i)))) (t : b ≡ false) where
       elsewhere : IsElsewhere (status_at s i)
       elsewhere =
           record {

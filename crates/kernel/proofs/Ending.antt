@@ -11,7 +11,8 @@ use Rattle.model.specs.declared.event.Event.{Event}
 use Rattle.model.specs.declared.event.End.{End}
 use Rattle.model.specs.declared.event.End.TheVariants.{Pass, Ticks, Steps, Stuck}
 use Rattle.model.specs.Application.{Application, Definition, Limits, is_any_awaited, is_endless, without_endless}
-use Rattle.model.specs.State.{State, Task, Progress, Status, Ready, Awake, Waiting, Asleep, WaitingForBits, Suspended, Ended}
+use Rattle.model.specs.State.{State, Task, Progress, Status, Ready, Awake, Waiting, Asleep, WaitingForBits, WaitingForNotification}
+use Rattle.model.specs.State.{Suspended, Ended}
 use Rattle.model.specs.State.{ticket_if_ready, wake_time_of, task_at, status_at, no_task}
 use Rattle.model.specs.Order.{Key, Entry, key, keyed, list_by, in_order, tasks_of}
 use Rattle.model.specs.Switching.{is_held, is_ready, ready_key, settle, unless_held}
@@ -36,7 +37,7 @@ use Rattle.objects.specs.WaitingLists.{waiting_in}
 use Rattle.task_lists.specs.Tasks.{insert_by_priority}
 use Rattle.objects.specs.WaitersStand.{joined_by, standing}
 use Rattle.objects.proofs.Keys.{same_list-refl}
-use Rattle.groups.specs.StandsFor.{bits_wait}
+use Rattle.groups.specs.StandsFor.{event_wait}
 use Rattle.kernel.specs.Blocked.{is_blocked}
 use Rattle.kernel.specs.Over.{is_at_tick_limit, is_over}
 use Rattle.model.specs.Suspension.{can_resume}
@@ -86,6 +87,7 @@ when_due t (Awake w) k e f = until_due w.deadline w.ticket k e f
 when_due t (Waiting w) k e f = until_due w.deadline w.ticket k e f
 when_due t (Asleep w n) k e f = f w (eqb-refl w)
 when_due t (WaitingForBits g n d) k e f = until_due d n k e f
+when_due t (WaitingForNotification n d) k e f = until_due d n k e f
 when_due t Suspended k e f = absurd (cc)
 when_due t Ended k e f = absurd (cc)
 
@@ -158,6 +160,9 @@ over o (t ∷ ts) = by_status t t.status (over (o + 1) ts) where
   by_status t (WaitingForBits g n d) later =
       and_not_true (eqb (length (keyed ready_key (o + 1) ts)) 0)
       (eqb (length (keyed delayed_key o (record t { status = WaitingForBits g n d } ∷ ts))) 0)
+  by_status t (WaitingForNotification n d) later =
+      and_not_true (eqb (length (keyed ready_key (o + 1) ts)) 0)
+      (eqb (length (keyed delayed_key o (record t { status = WaitingForNotification n d } ∷ ts))) 0)
   by_status t Suspended later =
       and_not_true (eqb (length (keyed ready_key (o + 1) ts)) 0)
       (eqb (length (keyed delayed_key o (record t { status = Suspended } ∷ ts))) 0)
@@ -178,6 +183,8 @@ asleep o (t ∷ ts) = by_status t t.status (asleep (o + 1) ts) where
       by_test (is_some w.deadline) (λ e. rw e (some (length (keyed delayed_key (o + 1) ts)))) (λ e. rw e later)
   by_status t (Asleep w n) later = some (length (keyed delayed_key (o + 1) ts))
   by_status t (WaitingForBits g n d) later =
+      by_test (is_some d) (λ e. rw e (some (length (keyed delayed_key (o + 1) ts)))) (λ e. rw e later)
+  by_status t (WaitingForNotification n d) later =
       by_test (is_some d) (λ e. rw e (some (length (keyed delayed_key (o + 1) ts)))) (λ e. rw e later)
   by_status t Suspended later = later
   by_status t Ended later = later
@@ -223,6 +230,7 @@ standing_none list o (u ∷ us) t = by_status u.status refl (standing_none list 
   by_status (Waiting w) e later = absurd (let f = rw e at t in cc)
   by_status (Asleep w n) e later = absurd (let f = rw e at t in cc)
   by_status (WaitingForBits g n d) e later = absurd (let f = rw e at t in cc)
+  by_status (WaitingForNotification n d) e later = absurd (let f = rw e at t in cc)
   by_status Suspended e later = absurd (let f = rw e at t in cc)
   by_status Ended e later = rw e (later (rw e at t))
 
@@ -450,6 +458,7 @@ on_unheld app s task awaited is runs free =
       ready_on (Waiting w) t = absurd (cc)
       ready_on (Asleep w n) t = absurd (cc)
       ready_on (WaitingForBits g n d) t = absurd (cc)
+      ready_on (WaitingForNotification n d) t = absurd (cc)
       ready_on Suspended t = absurd (cc)
       ready_on Ended t = absurd (cc)
 
@@ -619,12 +628,12 @@ any_either p q (t ∷ ts) =
 
 pub any_blocked : (ts : List Task)
     → list_any (λ (t : Task). is_some (wait_of t.status)) ts
-    || list_any (λ (t : Task). is_some (bits_wait t.status)) ts || list_any (λ (t : Task). can_resume t.status) ts
+    || list_any (λ (t : Task). is_some (event_wait t.status)) ts || list_any (λ (t : Task). can_resume t.status) ts
     ≡ list_any is_blocked ts
 any_blocked ts =
     ap (λ (b : Bool). b || list_any (λ (t : Task). can_resume t.status) ts)
-    (sym (any_either (λ (t : Task). is_some (wait_of t.status)) (λ (t : Task). is_some (bits_wait t.status)) ts))
-    ∙ sym (any_either (λ (t : Task). is_some (wait_of t.status) || is_some (bits_wait t.status))
+    (sym (any_either (λ (t : Task). is_some (wait_of t.status)) (λ (t : Task). is_some (event_wait t.status)) ts))
+    ∙ sym (any_either (λ (t : Task). is_some (wait_of t.status) || is_some (event_wait t.status))
     (λ (t : Task). can_resume t.status) ts)
 
 -- there is one

@@ -15,16 +15,18 @@ use Rattle.machine.specs.Sources.{Sources, is_pending}
 use Rattle.std.proofs.lemmas.List.{drop_all, drop_more, length-drop, take_all, take_more}
 use Rattle.model.specs.declared.event.What.{What}
 use Rattle.model.specs.declared.event.What.TheVariants.{IsrMark}
+use Rattle.model.specs.declared.notification.NotifyAction.{NotifyAction}
+use Rattle.model.specs.Notifications.{notify, notify_answer, notify_with_number}
 use Rattle.model.specs.declared.op.IsrOp.{IsrOp}
 use Rattle.model.specs.declared.op.Command as command
-use Rattle.model.specs.declared.op.IsrOp.TheVariants.{Do, Command, Resume, GetBits, Mark, Expect, If, Else, EndIf}
+use Rattle.model.specs.declared.op.IsrOp.TheVariants.{Do, Command, Resume, GetBits, Notify, Mark, Expect, If, Else, EndIf}
 use Rattle.model.specs.declared.op.Access.TheVariants.{Send}
 use Rattle.model.specs.declared.op.Access.{Access}
 use Rattle.std.specs.Prelude.{option_map, slice_get, unwrap_or}
 use Rattle.model.specs.Application.{Application, Handler, commands_of, ops_of}
 use Rattle.model.specs.Daemon.{item_of}
 use Rattle.model.specs.Scripts.{fits_object, has_group, is_mask, IsHandler, IsWellFormed, knows_isr}
-use Rattle.model.specs.State.{State, for_each, status_at, bits_at}
+use Rattle.model.specs.State.{State, for_each, status_at, bits_at, notification_at}
 use Rattle.model.specs.declared.event.Event.{Event}
 use Rattle.model.specs.Switching.{is_held, preempt, write}
 use Rattle.soundness.proofs.Settled.{when_free, when_held, held_by_call}
@@ -78,6 +80,15 @@ pub did_mark : (P : State → Type 0) (app : Application) (s : State) (handler o
 did_mark P app s handler op_index op last marked n is number h =
     rw is (subst (λ (m : ℕ). P (write (IsrMark handler m) s)) number h)
 
+pub did_notify : (P : State → Type 0) (app : Application) (s : State) (handler op_index : ℕ) (op : IsrOp) (last : Option ℕ)
+    (task : ℕ) (action : NotifyAction value.Value) (given : Option ℕ) (what : What) → op ≡ Notify task action
+    → what ≡ isr_told handler op_index given
+    → given ≡ notify_answer (notify_with_number s.variables last action) (notification_at s task)
+    → P (write what (notify task (notify_with_number s.variables last action) s)) → P (isr app handler op_index op last s)
+did_notify P app s handler op_index op last task action given what is told answer h =
+    let done : State = notify task (notify_with_number s.variables last action) s in
+    rw is (subst (λ (w : What). P (write w done)) (told ∙ ap (isr_told handler op_index) answer) h)
+
 pub did_value : (P : State → Type 0) (app : Application) (s : State) (handler op_index : ℕ) (op : IsrOp) (last : Option ℕ)
     (values : ValueOp) (given : Option ℕ) (what : What) → op ≡ Value values → what ≡ isr_told handler op_index given
     → given ≡ answer_of s.variables last values → P (write what (store values given s)) → P (isr app handler op_index op last s)
@@ -108,6 +119,7 @@ op_fits app formed k handler i op room l e = by_op op (at (ops_of app handler) i
       (room (commands_of app) (Send (item_of c)) (commands_fit app formed (item_of c) some), omega arith)
   by_op (Resume i) known = tt
   by_op (GetBits g) known = tt
+  by_op (Notify i a) known = tt
   by_op (Mark n) known = tt
   by_op (Value op) known = tt
   by_op (Expect c) known = tt

@@ -14,10 +14,12 @@ use Rattle.model.specs.declared.answer.AnswerCondition.{AnswerCondition}
 use Rattle.model.specs.declared.event.End.TheVariants as ending
 use Rattle.model.specs.declared.event.Misuse.{Misuse}
 use Rattle.model.specs.declared.event.Misuse.TheVariants.{WhileSuspended, NotSuspended, WhileCritical, NotCritical}
+use Rattle.model.specs.declared.notification.NotificationClear.{NotificationClear}
 use Rattle.model.specs.declared.op.Op.{Op}
 use Rattle.model.specs.declared.op.Op.TheVariants.{Work, Delay, DelayUntil, Yield, Time, Mark, Expect, Repeat, End as EndLoop, If}
 use Rattle.model.specs.declared.op.Op.TheVariants.{Else, EndIf, Break, Stamp, Since, Await, Do, GiveMutex, MessagesWaiting}
-use Rattle.model.specs.declared.op.Op.TheVariants.{SpacesAvailable, SetBits, ClearBits, GetBits, WaitBits, Suspend, Resume}
+use Rattle.model.specs.declared.op.Op.TheVariants.{SpacesAvailable, SetBits, ClearBits, GetBits, WaitBits, Notify}
+use Rattle.model.specs.declared.op.Op.TheVariants.{AwaitNotification, ClearNotification, Suspend, Resume}
 use Rattle.model.specs.declared.op.Op.TheVariants.{SuspendAll, ResumeAll, EnterCritical, ExitCritical, NextCommand, Obey}
 use Rattle.model.specs.Application.{Application}
 use Rattle.model.specs.State.{State, status_at, progress_at}
@@ -140,105 +142,114 @@ pub no_other : {X : Type 0} (op : Op) → may_switch op ≡ false → ((n : ℕ)
     → ((c : AnswerCondition) → op ≢ If c) → (op ≢ Else) → (op ≢ EndIf) → (op ≢ Break) → (op ≢ Stamp) → (op ≢ Since)
     → ((o : ℕ) → op ≢ MessagesWaiting o) → ((o : ℕ) → op ≢ SpacesAvailable o) → ((group mask : ℕ) → op ≢ ClearBits group mask)
     → ((group : ℕ) → op ≢ GetBits group) → (op ≢ SuspendAll) → (op ≢ ResumeAll) → (op ≢ EnterCritical) → (op ≢ ExitCritical)
-    → ((values : ValueOp) → op ≢ Value values) → X
+    → ((values : ValueOp) → op ≢ Value values) → ((what : NotificationClear) → op ≢ ClearNotification what) → X
 no_other (Work n) t work time mark expect repeat end_ if_ else_ end_if break_ stamp_ since_ messages spaces clear get suspend_
-    resume_ enter exit value_ =
+    resume_ enter exit value_ clear_notice =
     absurd (work n refl)
 no_other (Delay n) t work time mark expect repeat end_ if_ else_ end_if break_ stamp_ since_ messages spaces clear get suspend_
-    resume_ enter exit value_ =
+    resume_ enter exit value_ clear_notice =
     absurd (cc)
 no_other (DelayUntil n) t work time mark expect repeat end_ if_ else_ end_if break_ stamp_ since_ messages spaces clear get suspend_
-    resume_ enter exit value_ =
+    resume_ enter exit value_ clear_notice =
     absurd (cc)
 no_other Yield t work time mark expect repeat end_ if_ else_ end_if break_ stamp_ since_ messages spaces clear get suspend_ resume_
-    enter exit value_ =
+    enter exit value_ clear_notice =
     absurd (cc)
 no_other Time t work time mark expect repeat end_ if_ else_ end_if break_ stamp_ since_ messages spaces clear get suspend_ resume_
-    enter exit value_ =
+    enter exit value_ clear_notice =
     absurd (time refl)
 no_other (Mark n) t work time mark expect repeat end_ if_ else_ end_if break_ stamp_ since_ messages spaces clear get suspend_
-    resume_ enter exit value_ =
+    resume_ enter exit value_ clear_notice =
     absurd (mark n refl)
 no_other (Expect a) t work time mark expect repeat end_ if_ else_ end_if break_ stamp_ since_ messages spaces clear get suspend_
-    resume_ enter exit value_ =
+    resume_ enter exit value_ clear_notice =
     absurd (expect a refl)
 no_other (Repeat n) t work time mark expect repeat end_ if_ else_ end_if break_ stamp_ since_ messages spaces clear get suspend_
-    resume_ enter exit value_ =
+    resume_ enter exit value_ clear_notice =
     absurd (repeat n refl)
 no_other EndLoop t work time mark expect repeat end_ if_ else_ end_if break_ stamp_ since_ messages spaces clear get suspend_
-    resume_ enter exit value_ =
+    resume_ enter exit value_ clear_notice =
     absurd (end_ refl)
 no_other (If c) t work time mark expect repeat end_ if_ else_ end_if break_ stamp_ since_ messages spaces clear get suspend_ resume_
-    enter exit value_ =
+    enter exit value_ clear_notice =
     absurd (if_ c refl)
 no_other Else t work time mark expect repeat end_ if_ else_ end_if break_ stamp_ since_ messages spaces clear get suspend_ resume_
-    enter exit value_ =
+    enter exit value_ clear_notice =
     absurd (else_ refl)
 no_other EndIf t work time mark expect repeat end_ if_ else_ end_if break_ stamp_ since_ messages spaces clear get suspend_ resume_
-    enter exit value_ =
+    enter exit value_ clear_notice =
     absurd (end_if refl)
 no_other Break t work time mark expect repeat end_ if_ else_ end_if break_ stamp_ since_ messages spaces clear get suspend_ resume_
-    enter exit value_ =
+    enter exit value_ clear_notice =
     absurd (break_ refl)
 no_other Stamp t work time mark expect repeat end_ if_ else_ end_if break_ stamp_ since_ messages spaces clear get suspend_ resume_
-    enter exit value_ =
+    enter exit value_ clear_notice =
     absurd (stamp_ refl)
 no_other Since t work time mark expect repeat end_ if_ else_ end_if break_ stamp_ since_ messages spaces clear get suspend_ resume_
-    enter exit value_ =
+    enter exit value_ clear_notice =
     absurd (since_ refl)
 no_other (Value values) t work time mark expect repeat end_ if_ else_ end_if break_ stamp_ since_ messages spaces clear get suspend_
-    resume_ enter exit value_ =
+    resume_ enter exit value_ clear_notice =
     absurd (value_ values refl)
 no_other (Await o a w) t work time mark expect repeat end_ if_ else_ end_if break_ stamp_ since_ messages spaces clear get suspend_
-    resume_ enter exit value_ =
+    resume_ enter exit value_ clear_notice =
     absurd (cc)
 no_other (Do o a) t work time mark expect repeat end_ if_ else_ end_if break_ stamp_ since_ messages spaces clear get suspend_
-    resume_ enter exit value_ =
+    resume_ enter exit value_ clear_notice =
     absurd (cc)
 no_other (GiveMutex o) t work time mark expect repeat end_ if_ else_ end_if break_ stamp_ since_ messages spaces clear get suspend_
-    resume_ enter exit value_ =
+    resume_ enter exit value_ clear_notice =
     absurd (cc)
 no_other (MessagesWaiting o) t work time mark expect repeat end_ if_ else_ end_if break_ stamp_ since_ messages spaces clear get
-    suspend_ resume_ enter exit value_ =
+    suspend_ resume_ enter exit value_ clear_notice =
     absurd (messages o refl)
 no_other (SpacesAvailable o) t work time mark expect repeat end_ if_ else_ end_if break_ stamp_ since_ messages spaces clear get
-    suspend_ resume_ enter exit value_ =
+    suspend_ resume_ enter exit value_ clear_notice =
     absurd (spaces o refl)
 no_other (SetBits g m) t work time mark expect repeat end_ if_ else_ end_if break_ stamp_ since_ messages spaces clear get suspend_
-    resume_ enter exit value_ =
+    resume_ enter exit value_ clear_notice =
     absurd (cc)
 no_other (ClearBits g m) t work time mark expect repeat end_ if_ else_ end_if break_ stamp_ since_ messages spaces clear get
-    suspend_ resume_ enter exit value_ =
+    suspend_ resume_ enter exit value_ clear_notice =
     absurd (clear g m refl)
 no_other (GetBits g) t work time mark expect repeat end_ if_ else_ end_if break_ stamp_ since_ messages spaces clear get suspend_
-    resume_ enter exit value_ =
+    resume_ enter exit value_ clear_notice =
     absurd (get g refl)
 no_other (WaitBits g c w) t work time mark expect repeat end_ if_ else_ end_if break_ stamp_ since_ messages spaces clear
-    get suspend_ resume_ enter exit value_ =
+    get suspend_ resume_ enter exit value_ clear_notice =
     absurd (cc)
+no_other (Notify j a) t work time mark expect repeat end_ if_ else_ end_if break_ stamp_ since_ messages spaces clear get suspend_
+    resume_ enter exit value_ clear_notice =
+    absurd (cc)
+no_other (AwaitNotification w ticks) t work time mark expect repeat end_ if_ else_ end_if break_ stamp_ since_ messages spaces clear
+    get suspend_ resume_ enter exit value_ clear_notice =
+    absurd (cc)
+no_other (ClearNotification x) t work time mark expect repeat end_ if_ else_ end_if break_ stamp_ since_ messages spaces clear
+    get suspend_ resume_ enter exit value_ clear_notice =
+    absurd (clear_notice x refl)
 no_other (Suspend j) t work time mark expect repeat end_ if_ else_ end_if break_ stamp_ since_ messages spaces clear get suspend_
-    resume_ enter exit value_ =
+    resume_ enter exit value_ clear_notice =
     absurd (cc)
 no_other (Resume j) t work time mark expect repeat end_ if_ else_ end_if break_ stamp_ since_ messages spaces clear get suspend_
-    resume_ enter exit value_ =
+    resume_ enter exit value_ clear_notice =
     absurd (cc)
 no_other SuspendAll t work time mark expect repeat end_ if_ else_ end_if break_ stamp_ since_ messages spaces clear get suspend_
-    resume_ enter exit value_ =
+    resume_ enter exit value_ clear_notice =
     absurd (suspend_ refl)
 no_other ResumeAll t work time mark expect repeat end_ if_ else_ end_if break_ stamp_ since_ messages spaces clear get suspend_
-    resume_ enter exit value_ =
+    resume_ enter exit value_ clear_notice =
     absurd (resume_ refl)
 no_other EnterCritical t work time mark expect repeat end_ if_ else_ end_if break_ stamp_ since_ messages spaces clear get suspend_
-    resume_ enter exit value_ =
+    resume_ enter exit value_ clear_notice =
     absurd (enter refl)
 no_other ExitCritical t work time mark expect repeat end_ if_ else_ end_if break_ stamp_ since_ messages spaces clear get suspend_
-    resume_ enter exit value_ =
+    resume_ enter exit value_ clear_notice =
     absurd (exit refl)
 no_other (NextCommand o) t work time mark expect repeat end_ if_ else_ end_if break_ stamp_ since_ messages spaces clear get
-    suspend_ resume_ enter exit value_ =
+    suspend_ resume_ enter exit value_ clear_notice =
     absurd (cc)
 no_other Obey t work time mark expect repeat end_ if_ else_ end_if break_ stamp_ since_ messages spaces clear get suspend_ resume_
-    enter exit value_ =
+    enter exit value_ clear_notice =
     absurd (cc)
 
 -- ---- ops that begin or end a hold, where no task holds the scheduler

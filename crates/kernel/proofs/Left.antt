@@ -4,7 +4,8 @@ use Rattle.std.proofs.Common.{subst, ◌∙◌, append-nil}
 use Rattle.std.specs.Option.{is_some, option_and_then}
 use Rattle.model.specs.declared.call.WaitList.{WaitList}
 use Rattle.model.specs.Application.{Application}
-use Rattle.model.specs.State.{State, Status, Ready, Awake, Waiting, Asleep, WaitingForBits, Suspended, Ended, ticket_if_ready}
+use Rattle.model.specs.State.{State, Status, Ready, Awake, Waiting, Asleep, WaitingForBits, WaitingForNotification, Suspended}
+use Rattle.model.specs.State.{Ended, ticket_if_ready}
 use Rattle.model.specs.State.{wake_time_of, status_at, call_at}
 use Rattle.model.specs.Order.{Key}
 use Rattle.model.specs.Switching.{is_ready}
@@ -26,7 +27,7 @@ use Rattle.clock.specs.Timeline.{Timeline, is_asleep}
 use Rattle.clock.proofs.Standing as on_clock
 use Rattle.objects.specs.WaitersStand.{Decider}
 use Rattle.objects.specs.Objects as objects
-use Rattle.groups.specs.StandsFor.{bits_wait}
+use Rattle.groups.specs.StandsFor.{event_wait}
 use Rattle.machine.specs.declared.machine.Machine.{Machine}
 use Rattle.machine.specs.StandsFor.{StandsFor, StandsBefore, Stands, decider}
 use Rattle.machine.specs.StandsFor.Stands.{Placed, Placing}
@@ -43,6 +44,7 @@ ready_on (Awake w) t = refl
 ready_on (Waiting w) t = refl
 ready_on (Asleep w n) t = refl
 ready_on (WaitingForBits g n d) t = refl
+ready_on (WaitingForNotification n d) t = refl
 ready_on Suspended t = refl
 ready_on Ended t = absurd (cc)
 
@@ -52,6 +54,7 @@ asleep_on (Awake w) t = refl
 asleep_on (Waiting w) t = refl
 asleep_on (Asleep w n) t = refl
 asleep_on (WaitingForBits g n d) t = refl
+asleep_on (WaitingForNotification n d) t = refl
 asleep_on Suspended t = refl
 asleep_on Ended t = absurd (cc)
 
@@ -61,26 +64,29 @@ waits_on (Awake w) t = refl
 waits_on (Waiting w) t = refl
 waits_on (Asleep w n) t = refl
 waits_on (WaitingForBits g n d) t = refl
+waits_on (WaitingForNotification n d) t = refl
 waits_on Suspended t = refl
 waits_on Ended t = absurd (cc)
 
-pub bits_on : (u : Status) → is_some (bits_wait u) ≡ true → is_ended u ≡ false
+pub bits_on : (u : Status) → is_some (event_wait u) ≡ true → is_ended u ≡ false
 bits_on (Ready n) t = refl
 bits_on (Awake w) t = refl
 bits_on (Waiting w) t = refl
 bits_on (Asleep w n) t = refl
 bits_on (WaitingForBits g n d) t = refl
+bits_on (WaitingForNotification n d) t = refl
 bits_on Suspended t = refl
 bits_on Ended t = absurd (cc)
 
 -- who is in no list is Suspended or Ended
 in_none : (u : Status) → is_some (ticket_if_ready u) ≡ false → is_some (wake_time_of u) ≡ false
-    → is_some (wait_of u) ≡ false → is_some (bits_wait u) ≡ false → not (can_resume u) ≡ is_ended u
+    → is_some (wait_of u) ≡ false → is_some (event_wait u) ≡ false → not (can_resume u) ≡ is_ended u
 in_none (Ready n) r a w b = absurd (cc)
 in_none (Awake x) r a w b = absurd (cc)
 in_none (Waiting x) r a w b = absurd (cc)
 in_none (Asleep x n) r a w b = absurd (cc)
 in_none (WaitingForBits g n d) r a w b = absurd (cc)
+in_none (WaitingForNotification n d) r a w b = absurd (cc)
 in_none Suspended r a w b = refl
 in_none Ended r a w b = refl
 
@@ -190,7 +196,7 @@ module _ (k : Machine) (s : State) (i : ℕ) (q : Bool) (h : Stands k s)
     by_stands (Placing task list b) = b.sched.suspended i
 
   pub ended_if_in_none : schedule.is_ready k.sched i ≡ false → is_asleep k.clock i ≡ false → q ≡ false
-      → is_some (bits_wait (status_at s i)) ≡ false → not (schedule.is_suspended k.sched i) ≡ is_ended (status_at s i)
+      → is_some (event_wait (status_at s i)) ≡ false → not (schedule.is_suspended k.sched i) ≡ is_ended (status_at s i)
   ended_if_in_none ready asleep waiting bits = ap not suspended_is ∙ by_seen seen where
     by_seen : Seen k s i q → not (can_resume (status_at s i)) ≡ is_ended (status_at s i)
     by_seen (Listed r a w) = in_none (status_at s i) (sym r ∙ ready) (sym a ∙ asleep) (sym w ∙ waiting) bits

@@ -7,7 +7,8 @@ use Rattle.model.specs.Daemon.{command_of, end_set_by_daemon}
 use Rattle.model.specs.declared.op.Op.{Op}
 use Rattle.model.specs.declared.op.Op.TheVariants.{Work, Delay, DelayUntil, Yield, Time, Mark, Expect, Repeat, End, If, Else, EndIf}
 use Rattle.model.specs.declared.op.Op.TheVariants.{Break, Stamp, Since, Await, Do, GiveMutex, MessagesWaiting, SpacesAvailable}
-use Rattle.model.specs.declared.op.Op.TheVariants.{SetBits, ClearBits, GetBits, WaitBits, Suspend, Resume, SuspendAll, ResumeAll}
+use Rattle.model.specs.declared.op.Op.TheVariants.{SetBits, ClearBits, GetBits, WaitBits, Notify, AwaitNotification}
+use Rattle.model.specs.declared.op.Op.TheVariants.{ClearNotification, Suspend, Resume, SuspendAll, ResumeAll}
 use Rattle.model.specs.declared.op.Op.TheVariants.{EnterCritical, ExitCritical, NextCommand, Obey}
 use Rattle.model.specs.declared.call.Condition.{Condition}
 use Rattle.model.specs.declared.call.Phase.TheVariants.{Start, Leave, Try}
@@ -21,7 +22,7 @@ use Rattle.machine.specs.declared.machine.Machine.{Machine}
 use Rattle.machine.specs.Logged.{Logged}
 use Rattle.machine.specs.StandsFor.{Does, DoesAny, progress_in}
 use Rattle.machine.proofs.Either.{does_any, does_more}
-use Rattle.ops.specs.Can.{CanLeave, CanSetBits, CanWaitBits}
+use Rattle.ops.specs.Can.{CanLeave, CanSetBits, CanAwaitEvent}
 use Rattle.machine.specs.Can.{Runs}
 use Rattle.ops.proofs.EventBits.{set_in_phase, wait_in_phase}
 use Rattle.ops.proofs.Commanding.{obey_in_phase}
@@ -46,7 +47,7 @@ module _ (app : Application) (k : Machine) (task : ℕ) (op : Op) (l : IsLetting
 
   module _ (group : ℕ) (condition : Condition) (ticks : Option ℕ) (is : op ≡ WaitBits group condition ticks) where
     pub can_leave_wait : CanLeave k task
-    can_leave_wait = subst (CanWaitBits k task ticks) l.reached (subst (CanOp app k task) is can)
+    can_leave_wait = subst (CanAwaitEvent k task ticks) l.reached (subst (CanOp app k task) is can)
 
     pub leaves_wait : (limits : Limits) (new : Machine) (old_log new_log : Logged)
         → Does 1 k old_log new new_log (λ s. choose (end_hold task Try s))
@@ -97,6 +98,9 @@ no_other (MessagesWaiting o) e sets waits obeys = absurd (cc)
 no_other (SpacesAvailable o) e sets waits obeys = absurd (cc)
 no_other (ClearBits g m) e sets waits obeys = absurd (cc)
 no_other (GetBits g) e sets waits obeys = absurd (cc)
+no_other (Notify j a) e sets waits obeys = absurd (cc)
+no_other (AwaitNotification w ticks) e sets waits obeys = absurd (cc)
+no_other (ClearNotification x) e sets waits obeys = absurd (cc)
 no_other (Suspend j) e sets waits obeys = absurd (cc)
 no_other (Resume j) e sets waits obeys = absurd (cc)
 no_other SuspendAll e sets waits obeys = absurd (cc)

@@ -2,7 +2,7 @@
 use Rattle.std.specs.Prelude.{◌≡◌, ◌<◌, ◌≤◌, ◌+◌, ℕ, false, List, Option, Some, None}
 use Rattle.model.specs.declared.op.Op.{Op}
 use Rattle.model.specs.declared.op.Access.TheVariants.{Receive}
-use Rattle.model.specs.declared.op.Op.TheVariants.{Await, SetBits, WaitBits, NextCommand, Obey}
+use Rattle.model.specs.declared.op.Op.TheVariants.{Await, AwaitNotification, SetBits, WaitBits, NextCommand, Obey}
 use Rattle.model.specs.declared.ids.TaskId.{TaskId}
 use Rattle.model.specs.Application.{Application, Limits, op_at}
 use Rattle.model.specs.Scripts.{AreLimits}
@@ -12,7 +12,7 @@ use Rattle.model.specs.Run.{end_of, is_stuck}
 use Rattle.model.specs.Invariant.{IsState}
 use Rattle.machine.specs.declared.machine.Machine.{Machine}
 use Rattle.machine.specs.StandsFor.{Stands, StandsFor, progress_in}
-use Rattle.ops.specs.Can.{CanTick, Can, CanGoOn, CanSetBits, CanWaitBits, CanHold}
+use Rattle.ops.specs.Can.{CanTick, Can, CanGoOn, CanSetBits, CanAwaitEvent, CanHold}
 
 -- The running task can do what its op is to do next.
 abbrev pub CanOp : Application → Machine → ℕ → Op → Type 0
@@ -20,7 +20,8 @@ CanOp app k task (Await object access ticks) =
     (variables : List ℕ) (answer : Option ℕ)
     → CanGoOn k task object (with_number variables answer access) ticks (progress_in k.progress task).call.phase
 CanOp app k task (SetBits group mask) = CanSetBits k task (progress_in k.progress task).call.phase
-CanOp app k task (WaitBits group condition ticks) = CanWaitBits k task ticks (progress_in k.progress task).call.phase
+CanOp app k task (WaitBits group condition ticks) = CanAwaitEvent k task ticks (progress_in k.progress task).call.phase
+CanOp app k task (AwaitNotification wait ticks) = CanAwaitEvent k task ticks (progress_in k.progress task).call.phase
 CanOp app k task (NextCommand queue) = CanGoOn k task queue Receive None (progress_in k.progress task).call.phase
 CanOp app k task Obey = CanSetBits k task (progress_in k.progress task).call.phase
 CanOp app k task op = Can app k task op

@@ -19,6 +19,7 @@ use ops::calls::go_on_by_value;
 use ops::daemon::{next_command, obey};
 use ops::event_groups::{BitsWait, clear_bits, get_bits, set_bits, wait_bits};
 use ops::mutexes::give_mutex;
+use ops::notifications::{await_notification, call_notify, clear_notification};
 use ops::queues::{do_by_value, messages_waiting, spaces_available};
 use ops::script::{branch, close_turn, end_if, expect, leave_loop, mark, open_loop, skip_branch};
 use ops::suspension::{call_resume, call_suspend};
@@ -219,6 +220,11 @@ pub(crate) fn act<L: Log>(
         Op::GetBits(group) => {
             return Following::answered_if(get_bits(machine, app, task, group, log));
         }
+        Op::Notify(other, action) => call_notify(machine, app, task, other, action, log),
+        Op::AwaitNotification(wait, ticks) => {
+            await_notification(machine, app, task, wait, ticks, log);
+        }
+        Op::ClearNotification(what) => clear_notification(machine, app, task, what, log),
         Op::Suspend(other) => call_suspend(machine, app, task, other, log),
         Op::Resume(other) => call_resume(machine, app, task, other, log),
         Op::SuspendAll => {

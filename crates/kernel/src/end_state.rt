@@ -8,7 +8,7 @@ ghost use Rattle.model.specs.Switching.{is_same};
 ghost use Rattle.model.specs.Invariant.{IsState, wait_of};
 ghost use Rattle.model.specs.Run.{IsRun, state_after};
 ghost use Rattle.task_lists.specs.Tasks.{is_among};
-ghost use Rattle.groups.specs.StandsFor.{StandsFor as GroupsStandFor, bits_wait};
+ghost use Rattle.groups.specs.StandsFor.{StandsFor as GroupsStandFor, event_wait};
 ghost use Rattle.objects.specs.Objects.{StandsFor as ObjectsStandFor};
 ghost use Rattle.objects.specs.WaitersStand.{AtLocked};
 ghost use Rattle.machine.specs.StandsFor.{Stands, StandsFor};
@@ -110,7 +110,7 @@ fn ready_situation(op_index: u16, is_running: bool) -> Situation
 /// Whether a task is in a waiting list, or waits for bits.
 fn is_waiting(machine: &Machine, task: TaskId) -> bool
     ensures { (opened s : State) → ObjectsStandFor machine.now.objects None opened → GroupsStandFor machine.now.groups s
-        → result ≡ is_some (wait_of (status_at opened task)) || is_some (bits_wait (status_at s task)) }
+        → result ≡ is_some (wait_of (status_at opened task)) || is_some (event_wait (status_at s task)) }
 {
     machine.objects.is_waiting(task) || machine.groups.is_waiting(task)
 }

@@ -15,6 +15,7 @@ pub(crate) fn is_failed(op: &IsrOp, variables: &[u32], last: Option<u32>) -> boo
     match *op {
         IsrOp::Expect(condition) => !condition.holds(variables, last),
         IsrOp::Do(_, access) => access.lacks_item(last),
+        IsrOp::Notify(_, action) => action.lacks_value(last),
         IsrOp::Mark(value) => value.is_missing(last),
         IsrOp::Value(op) => op.answer(variables, last).is_none(),
         _ => false,

@@ -21,6 +21,7 @@ use machine::{Log, Machine, Trail};
 use model::{App, End, Injection, Limits, Misuse, ObjectId, Op, TaskId};
 use ops::critical::{enter_critical, exit_critical};
 use ops::event_groups::{clear_bits, get_bits};
+use ops::notifications::clear_notification;
 use ops::queues::{messages_waiting, spaces_available};
 use ops::script::{branch, close_turn, end_if, expect, leave_loop, mark, open_loop, skip_branch};
 use ops::suspension::{resume_all, suspend_all};
@@ -41,6 +42,8 @@ fn may_switch(op: &Op) -> bool
             | Op::GiveMutex(_)
             | Op::SetBits(_, _)
             | Op::WaitBits(_, _, _)
+            | Op::Notify(_, _)
+            | Op::AwaitNotification(_, _)
             | Op::Suspend(_)
             | Op::Resume(_)
             | Op::NextCommand(_)
@@ -218,6 +221,7 @@ fn act_on<L: Log>(machine: &mut Machine, app: &App, task: TaskId, op: &Op, log: 
         Op::GetBits(group) => {
             get_bits(machine, app, task, group, log);
         }
+        Op::ClearNotification(what) => clear_notification(machine, app, task, what, log),
         Op::SuspendAll => suspend_all(machine, app, task, log),
         Op::ResumeAll => resume_all(machine, app, task, log),
         Op::EnterCritical => enter_critical(machine, app, task),

@@ -17,7 +17,8 @@ use Rattle.model.specs.Run.{IsRun, Run, are_all_ended, end_of, state_after}
 use Rattle.model.proofs.Sorting.{by_test}
 use Rattle.soundness.proofs.Handled.{and_left, and_right}
 use Rattle.laws.specs.Looking.{is_by_misuse}
-use Rattle.laws.proofs.Changes.{Stops, is_failed_check, kept_after}
+use Rattle.laws.proofs.Changes.{kept_after}
+use Rattle.laws.proofs.Staying.{Stops, is_failed_check}
 use Rattle.laws.proofs.Sleeping.{NoneBetween}
 
 -- ---- a run is stopped by a failure alone

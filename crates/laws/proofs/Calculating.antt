@@ -20,7 +20,8 @@ use Rattle.model.specs.declared.value.ValueOp.TheVariants.{Load, Store}
 use Rattle.model.specs.Application.{Application, Limits, op_at}
 use Rattle.model.specs.Handlers.{is_failed, isr_each}
 use Rattle.model.specs.Ops.{answer, calculate, called, fail, go_to, store}
-use Rattle.model.specs.State.{State, Progress, Status, Ready, Awake, Waiting, Asleep, WaitingForBits, Suspended, Ended}
+use Rattle.model.specs.State.{State, Progress, Status, Ready, Awake, Waiting, Asleep, WaitingForBits, WaitingForNotification}
+use Rattle.model.specs.State.{Suspended, Ended}
 use Rattle.model.specs.State.{progress_at, status_at}
 use Rattle.model.specs.State.{ticket_if_ready}
 use Rattle.model.specs.Step.{act_current, is_ended, judge, lacks_value, misuse, misused}
@@ -37,6 +38,7 @@ ready_goes_on (Awake w) h = refl
 ready_goes_on (Waiting w) h = refl
 ready_goes_on (Asleep w n) h = refl
 ready_goes_on (WaitingForBits g n d) h = refl
+ready_goes_on (WaitingForNotification n d) h = refl
 ready_goes_on Suspended h = refl
 ready_goes_on Ended h = absurd (cc)
 

@@ -3,7 +3,8 @@ use Rattle.std.proofs.Common.{◌≡◌, ◌+◌, ℕ, zero, suc, true, false, L
 use Rattle.std.proofs.Common.{arith, ◌++◌}
 use Rattle.std.specs.List.{AllByRecursion}
 use Rattle.std.specs.Option.{option_map, is_some, option_to_list}
-use Rattle.model.specs.State.{State, Task, Status, Ready, Awake, Waiting, Asleep, WaitingForBits, Suspended, Ended, ticket_if_ready}
+use Rattle.model.specs.State.{State, Task, Status, Ready, Awake, Waiting, Asleep, WaitingForBits, WaitingForNotification, Suspended}
+use Rattle.model.specs.State.{Ended, ticket_if_ready}
 use Rattle.model.specs.State.{task_at, no_task}
 use Rattle.model.specs.Order.{Key, Entry, key, put, in_order, entry, keyed, first, before, task_of}
 use Rattle.model.specs.Switching.{ready_list, ready_key, is_ready, choice}
@@ -46,6 +47,7 @@ ready_is (Awake w) h = absurd (cc)
 ready_is (Waiting w) h = absurd (cc)
 ready_is (Asleep w n) h = absurd (cc)
 ready_is (WaitingForBits g n d) h = absurd (cc)
+ready_is (WaitingForNotification n d) h = absurd (cc)
 ready_is Suspended h = absurd (cc)
 ready_is Ended h = absurd (cc)
 
@@ -56,6 +58,7 @@ key_is p (Awake w) k h = absurd (cc)
 key_is p (Waiting w) k h = absurd (cc)
 key_is p (Asleep w n) k h = absurd (cc)
 key_is p (WaitingForBits g n d) k h = absurd (cc)
+key_is p (WaitingForNotification n d) k h = absurd (cc)
 key_is p Suspended k h = absurd (cc)
 key_is p Ended k h = absurd (cc)
 

@@ -12,6 +12,9 @@ use Rattle.model.specs.declared.op.Access.TheVariants.{Send}
 use Rattle.model.specs.declared.op.IsrOp.{IsrOp}
 use Rattle.model.specs.declared.op.IsrOp.TheVariants as isr_op
 use Rattle.model.specs.Answers.{holds}
+use Rattle.model.specs.declared.notification.NotifyAction.{NotifyAction}
+use Rattle.model.specs.Notifications.{notified, notify, notify_with_number}
+use Rattle.model.specs.State.{notification_at, waits_for_notification, with_notification}
 use Rattle.model.specs.Application.{Application, Limits, commands_of, ops_of}
 use Rattle.model.specs.Blocks.{edge_of_isr, isr_edges_of, past_branch}
 use Rattle.model.specs.Daemon.{item_of}
@@ -33,7 +36,9 @@ use Rattle.soundness.proofs.Settled.{when_free, when_held}
 use Rattle.laws.specs.Branches.{AreWhole, ends_branch}
 use Rattle.laws.specs.Looking.{is_by_misuse, is_misused}
 use Rattle.laws.proofs.Blocks.{past_whole_branch}
-use Rattle.laws.proofs.Changes.{Stops, anyone, kept-act_current}
+use Rattle.laws.proofs.Deeds.{Keeping}
+use Rattle.laws.proofs.Changes.{anyone, kept-act_current}
+use Rattle.laws.proofs.Staying.{Stops}
 use Rattle.laws.proofs.Awaited.{stopped-all_ready}
 use Rattle.laws.proofs.Sleeping.{NoneBetween}
 
@@ -132,12 +137,19 @@ stopped-resume : (i : ℕ) (s : State) → (resume i s).stopped ≡ s.stopped
 unfolding resume
 stopped-resume i s = by_test (can_resume (status_at s i)) (λ t. rw t refl) (λ t. rw t refl)
 
+stopped-notify : (i : ℕ) (action : NotifyAction ℕ) (s : State) → (notify i action s).stopped ≡ s.stopped
+unfolding notify
+stopped-notify i action s =
+    let t : State = with_notification i (notified action (notification_at s i)) s in
+    by_test (waits_for_notification (status_at t i)) (λ q. rw q refl) (λ q. rw q refl)
+
 stopped-isr : (app : Application) (handler op_index : ℕ) (op : IsrOp) (last : Option ℕ) (s : State)
     → (isr app handler op_index op last s).stopped ≡ s.stopped
 stopped-isr app handler op_index (isr_op.Do o a) last s = stopped-attempt None o (with_number s.variables last a) s
 stopped-isr app handler op_index (isr_op.Command c) last s = stopped-attempt None (commands_of app) (Send (item_of c)) s
 stopped-isr app handler op_index (isr_op.Resume i) last s = stopped-resume i s
 stopped-isr app handler op_index (isr_op.GetBits group) last s = refl
+stopped-isr app handler op_index (isr_op.Notify i action) last s = stopped-notify i (notify_with_number s.variables last action) s
 stopped-isr app handler op_index (isr_op.Value op) last s = refl
 stopped-isr app handler op_index (isr_op.Mark value) last s = refl
 stopped-isr app handler op_index (isr_op.Expect condition) last s = refl
@@ -245,10 +257,16 @@ module _ (end : End) where
       let t : State = record s { time = s.time + n } in
       subst (λ (o : Option End). (o ≡ Some end) ⊎ (is_by_misuse o ≡ true)) (sym (stopped-all_ready (tasks_of (due t)) t)) h
 
+  stands-kept : Keeping StandsOrMisused anyone anyone 0 true 0 true
+  stands-kept = record {
+    framed = λ s t e n m stops left. stands-framed s t e n m stops;
+    moved = λ s i t u remains k. k;
+    taken = λ s i status is later k. k;
+    passed = stands-passed;
+  }
+
   pub stands_in_step : (app : Application) (limits : Limits) (running : Option ℕ) (s : State)
       → IsStopped s → StandsOrMisused (act_current app limits running s)
   stands_in_step app limits running s h =
-      kept-act_current StandsOrMisused anyone anyone 0 true (λ s t e n m stops left. stands-framed s t e n m stops)
-      (λ s i t u remains k. k)
-      (λ s i status is later k. k) stands-passed app (λ no. absurd (cc)) limits running s
-      (λ i runs. (λ is. refl, λ no. absurd (cc), refl)) (inl h)
+      kept-act_current stands-kept app (λ no. absurd (cc)) limits running s
+      (λ i runs. (λ is. refl, λ no. absurd (cc), refl, λ no. absurd (cc))) (inl h)

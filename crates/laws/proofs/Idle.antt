@@ -13,7 +13,12 @@ use Rattle.model.specs.declared.op.Op.{Op}
 use Rattle.model.specs.declared.op.Op.TheVariants.{Work, Delay, DelayUntil, Yield, Time, Mark, Expect, Repeat, End, If, Else, EndIf}
 use Rattle.model.specs.declared.op.Op.TheVariants.{Break, Stamp, Since, Await, Do, GiveMutex, MessagesWaiting, SpacesAvailable}
 use Rattle.model.specs.declared.op.Op.TheVariants.{SetBits, ClearBits, GetBits, WaitBits, Suspend, Resume, SuspendAll, ResumeAll}
-use Rattle.model.specs.declared.op.Op.TheVariants.{EnterCritical, ExitCritical, NextCommand, Obey}
+use Rattle.model.specs.declared.op.Op.TheVariants.{EnterCritical, ExitCritical, Notify, AwaitNotification, ClearNotification}
+use Rattle.model.specs.declared.op.Op.TheVariants.{NextCommand, Obey}
+use Rattle.model.specs.declared.notification.NotificationWait.{NotificationWait}
+use Rattle.model.specs.Notifications.{call_notify, is_there, entered, end_notification_wait, wait_for_notification}
+use Rattle.model.specs.Notifications.{begin_notification_wait, check_notification, await_notification, clear_notification}
+use Rattle.model.specs.State.{notification_at, with_notification}
 use Rattle.model.specs.declared.op.Access.{Access}
 use Rattle.model.specs.declared.op.Access.TheVariants.{Receive}
 use Rattle.model.specs.declared.op.Command.{Command}
@@ -297,6 +302,35 @@ idle-wait_bits app i g c ticks Decide s r = idle-final app i g c s r
 idle-wait_bits app i g c ticks Place s r = idle-final app i g c s r
 idle-wait_bits app i g c ticks Unlock s r = idle-final app i g c s r
 
+-- ---- notifications
+
+current-end_notification_wait : (app : Application) (i : ℕ) (wait : NotificationWait) (s : State)
+    → (end_notification_wait app i wait s).current ≡ s.current
+unfolding end_notification_wait answer go_to
+current-end_notification_wait app i wait s = refl
+
+current-check_notification : (app : Application) (i : ℕ) (wait : NotificationWait) (ticks : Option ℕ) (s : State)
+    → (check_notification app i wait ticks s).current ≡ s.current
+unfolding check_notification begin_notification_wait wait_for_notification set_deadline
+current-check_notification app i wait ticks s = by_test (is_there wait (notification_at s i) || option_eq eqb ticks (Some 0))
+    (λ t. rw t (current-end_notification_wait app i wait s))
+    (λ t. rw t refl)
+
+idle-await_notification : (app : Application) (i : ℕ) (wait : NotificationWait) (ticks : Option ℕ) (phase : Phase) (s : State)
+    → s.current ≡ Some i → IdleAlone (await_notification app i wait ticks phase s)
+idle-await_notification app i wait ticks Start s r =
+    let t : State = with_notification i (entered wait (notification_at s i)) s in
+    still_runs i s (check_notification app i wait ticks t) r (current-check_notification app i wait ticks t)
+idle-await_notification app i wait ticks Leave s r = idle-choose (end_hold i Try s)
+idle-await_notification app i wait ticks Try s r =
+    still_runs i s (end_notification_wait app i wait s) r (current-end_notification_wait app i wait s)
+idle-await_notification app i wait ticks Decide s r =
+    still_runs i s (end_notification_wait app i wait s) r (current-end_notification_wait app i wait s)
+idle-await_notification app i wait ticks Place s r =
+    still_runs i s (end_notification_wait app i wait s) r (current-end_notification_wait app i wait s)
+idle-await_notification app i wait ticks Unlock s r =
+    still_runs i s (end_notification_wait app i wait s) r (current-end_notification_wait app i wait s)
+
 -- ---- the daemon
 
 idle-take_command : (app : Application) (i o : ℕ) (s : State) → s.current ≡ Some i → IdleAlone (take_command app i o s)
@@ -344,7 +378,7 @@ idle-judge i op_index s h = by_judgement IdleAlone i op_index s h (λ kind. h)
 
 idle-act : (app : Application) (i : ℕ) (op : Op) (s : State) → s.current ≡ Some i → IdleAlone (act app i op s)
 unfolding answer go_to open_loop close_turn skip_branch leave_loop stamp since clear call_suspend call_resume suspend_all
-    with_sections calculate
+    with_sections calculate call_notify clear_notification
 idle-act app i (Work n) s r = idle-work app i (use_up app i n s) (current-use_up app i n s ∙ r)
 idle-act app i (Delay n) s r = idle-delay app i n s r
 idle-act app i (DelayUntil n) s r =
@@ -372,6 +406,9 @@ idle-act app i (SetBits g m) s r = idle-set_bits app i g m (call_at s i).phase s
 idle-act app i (ClearBits g m) s r = still_runs i s (act app i (ClearBits g m) s) r refl
 idle-act app i (GetBits g) s r = still_runs i s (act app i (GetBits g) s) r refl
 idle-act app i (WaitBits g c ticks) s r = idle-wait_bits app i g c ticks (call_at s i).phase s r
+idle-act app i (Notify j action) s r = idle-preempt _
+idle-act app i (AwaitNotification wait ticks) s r = idle-await_notification app i wait ticks (call_at s i).phase s r
+idle-act app i (ClearNotification what) s r = still_runs i s (clear_notification app i what s) r refl
 idle-act app i (Suspend j) s r = idle-preempt _
 idle-act app i (Resume j) s r = idle-preempt _
 idle-act app i (NextCommand o) s r = idle-next_command app i o (call_at s i).phase s r

@@ -18,7 +18,9 @@ use Rattle.model.specs.declared.op.Op.{Op}
 use Rattle.model.specs.declared.op.Op.TheVariants.{Work, Delay, DelayUntil, Yield, Time, Mark, Expect, Repeat, End, If, Else, EndIf}
 use Rattle.model.specs.declared.op.Op.TheVariants.{Break, Stamp, Since, Await, Do, GiveMutex, MessagesWaiting, SpacesAvailable}
 use Rattle.model.specs.declared.op.Op.TheVariants.{SetBits, ClearBits, GetBits, WaitBits, Suspend, Resume, SuspendAll, ResumeAll}
-use Rattle.model.specs.declared.op.Op.TheVariants.{EnterCritical, ExitCritical, NextCommand, Obey}
+use Rattle.model.specs.declared.op.Op.TheVariants.{EnterCritical, ExitCritical, Notify, AwaitNotification, ClearNotification}
+use Rattle.model.specs.declared.op.Op.TheVariants.{NextCommand, Obey}
+use Rattle.model.specs.Notifications.{clear_notification}
 use Rattle.model.specs.Answers.{holds}
 use Rattle.model.specs.Application.{Application, Limits, op_at}
 use Rattle.model.specs.Scripts.{IsWellFormed}
@@ -78,7 +80,7 @@ module _ (xs : List Source) where
 
     -- an op that has its place in a critical section
     blind-act : (op : Op) (s : State) → is_barred op ≡ false → IsBlind (act app i op) s
-    unfolding go_to answer open_loop skip_branch leave_loop stamp since clear with_sections calculate
+    unfolding go_to answer open_loop skip_branch leave_loop stamp since clear with_sections calculate clear_notification
     blind-act (Work n) s t = absurd (cc)
     blind-act (Delay n) s t = absurd (cc)
     blind-act (DelayUntil n) s t = absurd (cc)
@@ -104,6 +106,9 @@ module _ (xs : List Source) where
     blind-act (ClearBits g m) s t = refl
     blind-act (GetBits g) s t = refl
     blind-act (WaitBits g c ticks) s t = absurd (cc)
+    blind-act (Notify j action) s t = absurd (cc)
+    blind-act (AwaitNotification wait ticks) s t = absurd (cc)
+    blind-act (ClearNotification what) s t = refl
     blind-act (Suspend j) s t = absurd (cc)
     blind-act (Resume j) s t = absurd (cc)
     blind-act SuspendAll s t = absurd (cc)
@@ -352,7 +357,7 @@ module _ (app : Application) (i : ℕ) where
   tells-branch condition s h = by_test (holds s.variables condition (progress_at s i).answer) (λ t. rw t h) (λ t. rw t h)
 
   tells-act : (op : Op) (s : State) → is_barred op ≡ false → AreTasks s.log → AreTasks (act app i op s).log
-  unfolding go_to open_loop close_turn skip_branch leave_loop stamp since clear with_sections calculate
+  unfolding go_to open_loop close_turn skip_branch leave_loop stamp since clear with_sections calculate clear_notification
   tells-act (Work n) s t h = absurd (cc)
   tells-act (Delay n) s t h = absurd (cc)
   tells-act (DelayUntil n) s t h = absurd (cc)
@@ -378,6 +383,9 @@ module _ (app : Application) (i : ℕ) where
   tells-act (ClearBits g m) s t h = tells-answer _ _ h
   tells-act (GetBits g) s t h = tells-answer _ s h
   tells-act (WaitBits g c ticks) s t h = absurd (cc)
+  tells-act (Notify j action) s t h = absurd (cc)
+  tells-act (AwaitNotification wait ticks) s t h = absurd (cc)
+  tells-act (ClearNotification what) s t h = tells-answer _ _ h
   tells-act (Suspend j) s t h = absurd (cc)
   tells-act (Resume j) s t h = absurd (cc)
   tells-act SuspendAll s t h = absurd (cc)

@@ -20,7 +20,9 @@ use Rattle.soundness.proofs.Frames.{keeps-before_step}
 use Rattle.soundness.proofs.Judging.{by_judgement}
 use Rattle.soundness.proofs.Passing.{by_value}
 use Rattle.laws.proofs.Answering.{Same, StaysWithin, same-choose, stays_within}
-use Rattle.laws.proofs.Changes.{IsLeft, Remains, Stays, Stops, anyone, kept-before_step, kept-step, one_task}
+use Rattle.laws.proofs.Deeds.{Keeping}
+use Rattle.laws.proofs.Changes.{anyone, kept-before_step, kept-step}
+use Rattle.laws.proofs.Staying.{AreLeft, Remains, Stays, Stops, one_task}
 use Rattle.laws.proofs.Sleeping.{NoneBetween}
 
 module _ (i : ℕ) (last : Option ℕ) where
@@ -29,7 +31,7 @@ module _ (i : ℕ) (last : Option ℕ) where
   HasAnswer s = (progress_at s i).answer ≡ last
 
   has-framed : (s t : State) → t.tasks ≡ s.tasks → t.next_ticket ≡ s.next_ticket
-      → t.time ≡ s.time → Stops s.stopped t.stopped → IsLeft 0 true s t → HasAnswer s → HasAnswer t
+      → t.time ≡ s.time → Stops s.stopped t.stopped → AreLeft 0 true 0 true s t → HasAnswer s → HasAnswer t
   has-framed s t e n m stops left h = ap (λ (ts : List Task). (get_or ts i no_task).progress.answer) e ∙ h
 
   -- one task changes, and this one's last answer stays
@@ -64,17 +66,28 @@ module _ (i : ℕ) (last : Option ℕ) where
       (λ t. let here : running ≡ Some i = runs ∙ ap Some (sym (eqb-same i j t)) in absurd (elsewhere here))
       (λ t. ap not t)
 
+  has-kept : Keeping HasAnswer anyone others 0 true 0 true
+  has-kept = record {
+    framed = has-framed;
+    moved = has-moved;
+    taken = λ s j status is later. has-taken s j status;
+    passed = has-passed;
+  }
+
   has_before_step : (app : Application) (handlers : List ℕ) (s : State) → HasAnswer s → HasAnswer (before_step app handlers s)
   has_before_step app handlers s h =
-      kept-before_step HasAnswer anyone others 0 true has-framed has-moved (λ s j status is later. has-taken s j status) has-passed
-      app (λ no. absurd (cc)) handlers s h
+      kept-before_step has-kept app (λ no. absurd (cc)) handlers s h
 
   has_after_step : (app : Application) (limits : Limits) (handlers : List ℕ) (s : State)
       → ((before_step app handlers s).current ≡ Some i → ⊥) → HasAnswer s → HasAnswer (step app limits handlers s)
   has_after_step app limits handlers s elsewhere h =
-      kept-step HasAnswer anyone others 0 true has-framed has-moved (λ s j status is later. has-taken s j status) has-passed
-      app (λ no. absurd (cc)) limits handlers s
-      (λ j runs. (λ is. refl, λ no. absurd (cc), another_runs (before_step app handlers s).current elsewhere j runs)) h
+      kept-step has-kept app (λ no. absurd (cc)) limits handlers s
+      (λ j runs. (
+        λ is. refl,
+        λ no. absurd (cc),
+        another_runs (before_step app handlers s).current elsewhere j runs,
+        λ no. absurd (cc),
+      )) h
 
 pub others_stay : (app : Application) (limits : Limits) (handlers : List ℕ) (i : ℕ) (s : State)
     → ((before_step app handlers s).current ≡ Some i → ⊥)

@@ -4,6 +4,8 @@ pub mod LatePoints
 pub mod Idle
 pub mod Sleeping
 pub mod Working
+pub mod Staying
+pub mod Deeds
 pub mod Changes
 pub mod WakeTimes
 pub mod Tickets
@@ -19,3 +21,4 @@ pub mod Calculating
 pub mod Storing
 pub mod Answering
 pub mod LastAnswers
+pub mod Notifying

@@ -16,7 +16,9 @@ use Rattle.model.proofs.Lists.{eqb-refl, eqb-same}
 use Rattle.model.proofs.Sorting.{by_test}
 use Rattle.laws.specs.Branches.{IsQuiet}
 use Rattle.laws.proofs.Blocks.{at-go_to, fits_held, quiet-go_to}
-use Rattle.laws.proofs.Changes.{Remains, Stays, Stops, anyone, kept-step, one_task}
+use Rattle.laws.proofs.Deeds.{Keeping}
+use Rattle.laws.proofs.Changes.{anyone, kept-step}
+use Rattle.laws.proofs.Staying.{Remains, Stays, Stops, one_task}
 use Rattle.laws.proofs.Sleeping.{NoneBetween}
 
 -- ---- what the two ops do
@@ -106,13 +108,20 @@ module _ (i : ℕ) (noted : ℕ) where
       (λ t. let here : DoesNoStamp app s j = subst (DoesNoStamp app s) (eqb-same i j t) never in absurd (here runs is))
       (λ t. ap not t)
 
+  has-kept : Keeping HasStamp others anyone 0 true 0 true
+  has-kept = record {
+    framed = λ s t e n m stops left. has-framed s t e n m stops;
+    moved = has-moved;
+    taken = λ s j status is later. has-taken s j status;
+    passed = has-passed;
+  }
+
   pub stays_noted : (app : Application) (limits : Limits) (handlers : List ℕ) (s : State)
       → DoesNoStamp app (before_step app handlers s) i
       → HasStamp s → HasStamp (step app limits handlers s)
   stays_noted app limits handlers s never h =
-      kept-step HasStamp others anyone 0 true (λ s t e n m stops left. has-framed s t e n m stops) has-moved
-      (λ s j status is later. has-taken s j status) has-passed app (λ no. absurd (cc)) limits handlers s
-      (λ j runs. (others_stamp app (before_step app handlers s) never j runs, λ no. absurd (cc), refl)) h
+      kept-step has-kept app (λ no. absurd (cc)) limits handlers s
+      (λ j runs. (others_stamp app (before_step app handlers s) never j runs, λ no. absurd (cc), refl, λ no. absurd (cc))) h
 
 pub noted_at_reset : (app : Application) (i : ℕ) → IfSome (definition_of app i) (λ d. (progress_at (reset app) i).stamp ≡ app.start)
 unfolding reset ready_at_reset nobody_ready

@@ -14,7 +14,8 @@ use Rattle.model.specs.Run.{state_after}
 use Rattle.model.proofs.Tables.{each-set}
 use Rattle.soundness.proofs.Reached.{reached_after}
 use Rattle.laws.proofs.Sleeping.{NoneBetween}
-use Rattle.laws.proofs.Changes.{Remains, Stays, Stops, kept_after}
+use Rattle.laws.proofs.Changes.{kept_after}
+use Rattle.laws.proofs.Staying.{Remains, Stays, Stops}
 
 -- ---- base priorities are those at reset
 

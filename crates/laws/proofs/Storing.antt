@@ -1,5 +1,5 @@
 -- A variable is as it was if nothing stores to it.
-use Rattle.std.proofs.Common.{◌≡◌, ◌<◌, ◌≤◌, ◌+◌, ℕ, zero, suc, false, List, [], ◌∷◌, refl, ap, ◌∙◌, arith}
+use Rattle.std.proofs.Common.{◌≡◌, ◌<◌, ◌≤◌, ◌+◌, ℕ, zero, suc, true, false, List, [], ◌∷◌, refl, ap, ◌∙◌, arith}
 use Rattle.model.specs.declared.plan.Injection.{Injection}
 use Rattle.model.specs.Application.{Application, Limits}
 use Rattle.model.specs.Order.{tasks_of}
@@ -10,7 +10,9 @@ use Rattle.model.specs.Switching.{make_ready}
 use Rattle.model.specs.Time.{due, wake_due}
 use Rattle.model.specs.Values.{variable_in}
 use Rattle.laws.specs.Values.{NoHandlerStores, NoTaskStores}
-use Rattle.laws.proofs.Changes.{IsLeft, Stops, anyone, kept-step}
+use Rattle.laws.proofs.Deeds.{Keeping}
+use Rattle.laws.proofs.Changes.{anyone, kept-step}
+use Rattle.laws.proofs.Staying.{AreLeft, Stops}
 use Rattle.laws.proofs.Sleeping.{NoneBetween}
 
 variables-all_ready : (is : List ℕ) (s : State) → (for_each make_ready is s).variables ≡ s.variables
@@ -23,8 +25,8 @@ module _ (x value : ℕ) where
   Is s = variable_in s.variables x ≡ value
 
   is-framed : (s t : State) → t.tasks ≡ s.tasks → t.next_ticket ≡ s.next_ticket
-      → t.time ≡ s.time → Stops s.stopped t.stopped → IsLeft x false s t → Is s → Is t
-  is-framed s t e n m stops left h = left refl ∙ h
+      → t.time ≡ s.time → Stops s.stopped t.stopped → AreLeft x false 0 true s t → Is s → Is t
+  is-framed s t e n m stops left h = left.0 refl ∙ h
 
   is-passed : (n : ℕ) (s : State) → NoneBetween n s → Is s → Is (wake_due (record s { time = s.time + n }))
   unfolding wake_due
@@ -32,11 +34,18 @@ module _ (x value : ℕ) where
       let t : State = record s { time = s.time + n } in
       ap (λ variables. variable_in variables x) (variables-all_ready (tasks_of (due t)) t) ∙ h
 
+  is-kept : Keeping Is anyone anyone x false 0 true
+  is-kept = record {
+    framed = is-framed;
+    moved = λ s i t u remains k. k;
+    taken = λ s i status is later k. k;
+    passed = is-passed;
+  }
+
   pub is_after_step : (app : Application) (limits : Limits) (handlers : List ℕ) (s : State)
       → NoHandlerStores app x → NoTaskStores app x (before_step app handlers s) → Is s → Is (step app limits handlers s)
   is_after_step app limits handlers s spared spares h =
-      kept-step Is anyone anyone x false is-framed (λ s i t u remains k. k) (λ s i status is later k. k) is-passed
-      app (λ _. spared) limits handlers s (λ i runs. (λ is. refl, λ _. spares i runs, refl)) h
+      kept-step is-kept app (λ _. spared) limits handlers s (λ i runs. (λ is. refl, λ _. spares i runs, refl, λ no. absurd (cc))) h
 
 pub same_after_step : (app : Application) (limits : Limits) (handlers : List ℕ) (x : ℕ) (s : State)
     → NoHandlerStores app x → NoTaskStores app x (before_step app handlers s)

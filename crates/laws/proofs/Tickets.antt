@@ -12,7 +12,8 @@ use Rattle.model.specs.Time.{due, wake_due}
 use Rattle.model.specs.Step.{nobody_ready, task_at_reset}
 use Rattle.model.specs.Run.{state_after}
 use Rattle.laws.proofs.Sleeping.{NoneBetween}
-use Rattle.laws.proofs.Changes.{Remains, Stays, Stops, kept_after, one_task, status_same, ended_at_reset}
+use Rattle.laws.proofs.Changes.{kept_after}
+use Rattle.laws.proofs.Staying.{Remains, Stays, Stops, one_task, status_same, ended_at_reset}
 
 abbrev Below : ℕ → Status → Type 0
 Below next u = IfSome (ticket_of u) (λ ticket. ticket < next)

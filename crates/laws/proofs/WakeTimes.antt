@@ -5,7 +5,8 @@ use Rattle.std.specs.List.{AllByRecursion, filter}
 use Rattle.std.specs.Prelude.{if◌then◌else◌}
 use Rattle.std.specs.Option.{IfSome, is_some}
 use Rattle.model.specs.Application.{Application, Limits}
-use Rattle.model.specs.State.{State, Task, Status, Ready, Awake, Waiting, Asleep, WaitingForBits, Suspended, Ended, ticket_of}
+use Rattle.model.specs.State.{State, Task, Status, Ready, Awake, Waiting, Asleep, WaitingForBits, WaitingForNotification, Suspended}
+use Rattle.model.specs.State.{Ended, ticket_of}
 use Rattle.model.specs.State.{wake_time_of, task_at, status_at, with_task, take_ticket, for_each, no_task}
 use Rattle.model.specs.Order.{Entry, Key, key, entry, keyed, tasks_of}
 use Rattle.model.specs.Switching.{make_ready}
@@ -18,7 +19,8 @@ use Rattle.model.proofs.Lists.{eqb-refl, eqb-same}
 use Rattle.soundness.proofs.Frames.{keeps-all_ready}
 use Rattle.laws.proofs.Sleeping.{NoneBetween}
 use Rattle.laws.proofs.Choice.{at_index, All-from_in_order}
-use Rattle.laws.proofs.Changes.{Remains, Stays, Stops, ended_at_reset, kept_after, one_task, status_same}
+use Rattle.laws.proofs.Changes.{kept_after}
+use Rattle.laws.proofs.Staying.{Remains, Stays, Stops, ended_at_reset, one_task, status_same}
 
 -- ---- a sleeper's wake time is after now
 
@@ -115,6 +117,8 @@ delayed_some t (Waiting w) time e v =
     (key 0 w.ticket, ap (λ (u : Status). delayed_key (record t { status = u })) e ∙ until_key w.deadline w.ticket time v)
 delayed_some t (Asleep w n) time e v = (key 0 n, ap (λ (u : Status). delayed_key (record t { status = u })) e)
 delayed_some t (WaitingForBits g n d) time e v =
+    (key 0 n, ap (λ (u : Status). delayed_key (record t { status = u })) e ∙ until_key d n time v)
+delayed_some t (WaitingForNotification n d) time e v =
     (key 0 n, ap (λ (u : Status). delayed_key (record t { status = u })) e ∙ until_key d n time v)
 delayed_some t Suspended time e v = absurd (cc)
 delayed_some t Ended time e v = absurd (cc)

@@ -16,6 +16,7 @@ use Rattle.laws.specs.HandlerExamples.{point_at, sends, with_handler}
 use Rattle.laws.specs.ValueExamples.{compute, isr_store, load, store, task_alone, with_variables, x, y}
 use Rattle.laws.specs.MutexExamples.{lock, lock_forever, m, n}
 use Rattle.laws.specs.DaemonExamples.{deferred}
+use Rattle.laws.specs.NotificationExamples.{alone_with, wait_clearing}
 
 -- ---- words
 
@@ -152,6 +153,17 @@ nobody_sets = record {
   stands = record { situations = Waits 0 None ∷ Waits 0 None ∷ []; held = []; variables = [] };
 }
 
+-- ---- notifications
+
+-- The task has begun to wait for one, until tick 9.
+abbrev pub nobody_notifies : Stopped
+nobody_notifies = record {
+  app = alone_with (wait_clearing 0 0 9 ∷ []);
+  plan = [];
+  steps = 1;
+  stands = record { situations = Waits 0 (Some 9) ∷ []; held = []; variables = [] };
+}
+
 -- ---- variables
 
 -- A task locks a mutex, and adds 4 to a variable, which becomes another. A handler stores the first.
@@ -182,5 +194,5 @@ nothing_stored = record {
 
 abbrev pub end_states : List Stopped
 end_states =
-    tried ∷ decided ∷ placed ∷ woken ∷ unlocked ∷ stuck ∷ begun ∷ waiting ∷ resumed ∷ nobody_sets ∷ both_stored
-    ∷ nothing_stored ∷ []
+    tried ∷ decided ∷ placed ∷ woken ∷ unlocked ∷ stuck ∷ begun ∷ waiting ∷ resumed ∷ nobody_sets
+    ∷ nobody_notifies ∷ both_stored ∷ nothing_stored ∷ []

@@ -10,6 +10,8 @@ pub mod HoldExamples
 pub mod Looking
 pub mod LookingExamples
 pub mod MutexExamples
+pub mod NotificationExamples
+pub mod Notifications
 pub mod PlacementExamples
 pub mod SectionExamples
 pub mod Sections

@@ -12,6 +12,7 @@ ghost use Rattle.laws.specs.LookingExamples.{looking_examples};
 ghost use Rattle.laws.specs.SectionExamples.{section_examples};
 ghost use Rattle.laws.specs.ValueExamples.{value_examples};
 ghost use Rattle.laws.specs.StampExamples.{stamp_examples};
+ghost use Rattle.laws.specs.NotificationExamples.{notification_examples};
 ghost use Rattle.laws.specs.EndStateExamples.{StandsSo, end_states};
 
 /// Each application of the table of worked examples runs as the table says: round robin, `delay 0` that yields, `delay 1`
@@ -111,10 +112,18 @@ pub fn examples_with_values_run()
     ensures { AllByRecursion RunsWith value_examples }
 {}
 
+/// Each application of the table of examples with notifications runs as the table says: a handler that notifies before each step of a take,
+/// also between its start and the switch, and after its deadline; two counts that are taken at once, and one by one; values that are kept
+/// and overwritten; the bits that a wait clears at its start and at its end; who is woken and who isn't; calls that are misuses, or have no
+/// value to work with.
+pub fn examples_with_notifications_run()
+    ensures { AllByRecursion RunsWith notification_examples }
+{}
+
 /// The state after the steps of each of these is what the table says: a receive that has tried, that waits and isn't in its list yet, that
 /// waits there, that a handler woke through the locked queue, and that runs on once the queue is unlocked; two tasks that wait for each
 /// other's mutex, for ever and until a tick; a task that is suspended, one that sleeps, two that are Ready, and those whose scripts are done;
-/// a daemon without a command; variables that a task and a handler have stored, and one that an op without a value hasn't.
+/// a daemon without a command; a task that begins to wait for a notification; variables that a task and a handler have stored, and one that an op without a value hasn't.
 pub fn end_states_of_examples()
     ensures { AllByRecursion StandsSo end_states }
 {}

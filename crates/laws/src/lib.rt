@@ -7,6 +7,7 @@ mod campaigns;
 mod endless;
 mod examples;
 mod looking;
+mod notifications;
 mod placements;
 mod runs;
 mod sections;
@@ -25,12 +26,16 @@ pub use examples::{
     end_states_of_examples, examples_run, examples_with_a_daemon_run, examples_with_branches_run,
     examples_with_endless_tasks_run, examples_with_handlers_run,
     examples_with_handlers_that_look_run, examples_with_holds_run, examples_with_mutexes_run,
-    examples_with_sections_run, examples_with_stamps_run, examples_with_values_run,
-    rows_of_one_receive, rows_of_two_injections, tickless_examples_run,
+    examples_with_notifications_run, examples_with_sections_run, examples_with_stamps_run,
+    examples_with_values_run, rows_of_one_receive, rows_of_two_injections, tickless_examples_run,
 };
 pub use looking::{
     failed_checks_end_the_handler, first_failed_check_counts, handlers_do_one_branch,
     passed_checks_change_nothing,
+};
+pub use notifications::{
+    increments_add_up, notifies_are_not_lost, notifies_wake_no_one_else, one_of_two_values_is_lost,
+    pending_notifications_stay,
 };
 pub use placements::{
     order_counts_within_a_step, placements_are_ordered, placements_of_two_steps,

@@ -18,7 +18,7 @@ use Rattle.model.specs.Daemon.{received, obeyed}
 use Rattle.machine.specs.declared.machine.Machine.{Machine}
 use Rattle.sched.specs.Schedule.{Schedule, block}
 use Rattle.sched.proofs.Standing as on_sched
-use Rattle.groups.specs.StandsFor.{bits_wait}
+use Rattle.groups.specs.StandsFor.{event_wait}
 use Rattle.machine.specs.StandsFor.{progress_in, At, with_progress, IsPlaced}
 use Rattle.machine.specs.Can.{Agrees, Runs}
 use Rattle.machine.proofs.Parts.{stands-changed, stands-gone, stands-ended, stands-unseen, stands-told}
@@ -31,7 +31,7 @@ within k log s h i r =
 
 -- A task's progress changes, in the kernel and in its state.
 pub changed : (k : Machine) (log : List Event) (s : State) → At k log s → (i : ℕ) → i < length s.tasks → (p : Progress)
-    → p.call.phase ≢ Place → (is_some (bits_wait (status_at s i)) ≡ true → p.call.wants ≡ (call_at s i).wants)
+    → p.call.phase ≢ Place → (is_some (event_wait (status_at s i)) ≡ true → p.call.wants ≡ (call_at s i).wants)
     → At (with_progress i p k) log (state.with_progress i p s)
 changed k log s h i l p off wants = record { stands = stands-changed k s h.stands i l p off wants; log = h.log }
 

@@ -41,7 +41,7 @@ use Rattle.machine.proofs.Parts.{clock-same, ready_alike, rest_with_clock}
 use Rattle.sched.proofs.LinedUp.{ready_made}
 use Rattle.machine.proofs.Waking.{kept-all_ready, progress-all_ready, still_awake}
 use Rattle.model.specs.Suspension.{can_resume}
-use Rattle.groups.specs.StandsFor.{bits_wait, SameBitWaits}
+use Rattle.groups.specs.StandsFor.{event_wait, SameEventWaits}
 use Rattle.groups.proofs.Kept as bits_kept
 use Rattle.model.specs.Invariant.{Hold, Suspension, IsTable}
 use Rattle.model.proofs.Resets.{call-reset}
@@ -355,7 +355,7 @@ booted app formed k v w h ready chooses =
     sched_chosen w s (chooses s ready
     (held_by_none s (ap (λ (h : Hold). h.held) keep.hold) (ap (λ (x : Suspension). x.suspensions) keep.suspension)
     (ap (λ (x : Suspension). x.sections) keep.suspension))) in
-    let bits : SameBitWaits none (reset app) =
+    let bits : SameEventWaits none (reset app) =
     bits_kept.same_both none s (reset app) (bits_kept.same_all_ready is none (nobody_waits is))
     (bits_kept.same_parts s (reset app) refl refl) in
     let c =
@@ -365,9 +365,9 @@ booted app formed k v w h ready chooses =
       sched = on;
       rest = rest_with_clock h.rest c (progress-all_ready is none) (kept-all_ready is none) (same_at_reset app) bits;
     } where
-      nobody_waits : (js : List ℕ) → AllByRecursion (λ i. bits_wait (status_at (nobody_ready app) i) ≡ None) js
+      nobody_waits : (js : List ℕ) → AllByRecursion (λ i. event_wait (status_at (nobody_ready app) i) ≡ None) js
       nobody_waits [] = tt
-      nobody_waits (j ∷ js) = (ap bits_wait (ended_reset app.start j app.tasks), nobody_waits js)
+      nobody_waits (j ∷ js) = (ap event_wait (ended_reset app.start j app.tasks), nobody_waits js)
 
 -- ---- no source is pending
 

@@ -8,7 +8,7 @@ use Rattle.model.specs.declared.event.Event.{Event}
 use Rattle.model.specs.State.{State, Progress, status_at, progress_at, call_at, with_call, go_on}
 use Rattle.model.specs.State as state
 use Rattle.model.specs.Waiting.{set_deadline}
-use Rattle.groups.specs.StandsFor.{bits_wait}
+use Rattle.groups.specs.StandsFor.{event_wait}
 use Rattle.machine.specs.declared.machine.Machine.{Machine}
 use Rattle.machine.specs.StandsFor.{At, progress_in, with_progress}
 use Rattle.machine.proofs.Acting.{within, changed}
@@ -18,7 +18,7 @@ module _ (k new : Machine) (log : List Event) (s : State) (h : At k log s) (i : 
   not_placing e = h.stands.rest.placed i (ap (λ (p : Progress). p.call.phase) (h.stands.rest.progress i) ∙ e)
 
   pub recalled : (c d : CallProgress) → new ≡ with_progress i (record (progress_in k.progress i) { call = c }) k
-      → c ≡ d → d.phase ≢ Place → (is_some (bits_wait (status_at s i)) ≡ true → d.wants ≡ (call_at s i).wants)
+      → c ≡ d → d.phase ≢ Place → (is_some (event_wait (status_at s i)) ≡ true → d.wants ≡ (call_at s i).wants)
       → At new log (with_call i d s)
   recalled c d is e off wants =
       let P : Progress → Type 0 = λ p.

@@ -8,7 +8,8 @@ use Rattle.machine.specs.declared.machine.Machine.{Machine}
 use Rattle.sched.specs.StandsFor.{task_holds_of}
 use Rattle.sched.proofs.Standing as on_sched
 use Rattle.sched.proofs.Standing.{none_suspends}
-use Rattle.machine.specs.StandsFor.{AreSources, StandsBefore, Stands, At, AtAny, Does, DoesAny, Moves, progress_in}
+use Rattle.machine.specs.StandsFor.{AreNotifications, AreSources, StandsBefore, Stands, At, AtAny, Does, DoesAny, Moves}
+use Rattle.machine.specs.StandsFor.{progress_in}
 use Rattle.machine.specs.Logged.{Logged}
 use Rattle.machine.specs.Can.{Agrees}
 use Rattle.machine.specs.StandsFor.Stands.{Placed, Placing}
@@ -65,6 +66,10 @@ module _ (k : Machine) (s : State) where
   pub variables_are : Stands k s → k.variables ≡ s.variables
   variables_are (Placed h) = h.rest.variables
   variables_are (Placing task list b) = b.variables
+
+  pub notifications_are : Stands k s → AreNotifications k.notifications s.notifications
+  notifications_are (Placed h) = h.rest.notifications
+  notifications_are (Placing task list b) = b.notifications
 
   pub sources_are : Stands k s → AreSources k.sources s.sources
   sources_are (Placed h) = h.rest.sources

@@ -7,7 +7,9 @@ use Rattle.std.proofs.Math.ListN.{length-set}
 use Rattle.model.specs.declared.call.Phase.TheVariants.{Place}
 use Rattle.model.specs.declared.event.Event.{Event}
 use Rattle.model.specs.declared.event.End.{End}
-use Rattle.model.specs.State.{State, Task, Progress, Status, Ready, Awake, Waiting, Asleep, WaitingForBits, Suspended, Ended}
+use Rattle.model.specs.declared.notification.Notification.{Notification}
+use Rattle.model.specs.State.{State, Task, Progress, Status, Ready, Awake, Waiting, Asleep, WaitingForBits, WaitingForNotification}
+use Rattle.model.specs.State.{Suspended, Ended}
 use Rattle.model.specs.State.{Object, Source, ticket_if_ready, wait_if_awake, wake_time_of, no_call, no_task, no_progress, task_at}
 use Rattle.model.specs.State.{status_at, progress_at, call_at, with_task, printed}
 use Rattle.model.specs.State as state
@@ -38,12 +40,12 @@ use Rattle.objects.proofs.Kept.{stands_same, same_free, same_ticket, same_progre
 use Rattle.objects.proofs.Awake.{at_locked_same}
 use Rattle.groups.specs.EventGroups.{EventGroups}
 use Rattle.groups.specs.StandsFor as groups
-use Rattle.groups.specs.StandsFor.{SameBitWaits, bits_wait}
+use Rattle.groups.specs.StandsFor.{SameEventWaits, event_wait}
 use Rattle.groups.proofs.Standing as on_groups
 use Rattle.groups.proofs.Kept as bits_kept
 use Rattle.groups.proofs.Kept.{ready_waits_not}
 use Rattle.machine.specs.declared.machine.Machine.{Machine}
-use Rattle.machine.specs.StandsFor.{progress_in, AreSources, RestStandsFor, StandsFor, At, with_progress}
+use Rattle.machine.specs.StandsFor.{AreNotifications, progress_in, AreSources, RestStandsFor, StandsFor, At, with_progress}
 
 -- ---- each task's progress
 
@@ -113,6 +115,7 @@ ready_alike (Awake w) n t = record { key = rw t refl; wake_time = sym t }
 ready_alike (Waiting w) n t = record { key = rw t refl; wake_time = sym t }
 ready_alike (Asleep w m) n t = absurd (cc)
 ready_alike (WaitingForBits g m d) n t = record { key = rw t refl; wake_time = sym t }
+ready_alike (WaitingForNotification m d) n t = record { key = rw t refl; wake_time = sym t }
 ready_alike Suspended n t = record { key = refl; wake_time = refl }
 ready_alike Ended n t = record { key = refl; wake_time = refl }
 
@@ -122,6 +125,7 @@ ended_alike (Awake w) t = record { key = rw t refl; wake_time = sym t }
 ended_alike (Waiting w) t = record { key = rw t refl; wake_time = sym t }
 ended_alike (Asleep w m) t = absurd (cc)
 ended_alike (WaitingForBits g m d) t = record { key = rw t refl; wake_time = sym t }
+ended_alike (WaitingForNotification m d) t = record { key = rw t refl; wake_time = sym t }
 ended_alike Suspended t = record { key = refl; wake_time = refl }
 ended_alike Ended t = record { key = refl; wake_time = refl }
 
@@ -150,10 +154,10 @@ same_parts s new tasks objects locked = record {
 
 -- what the kernel keeps of a state beside its parts
 abbrev pub Kept : Type 0
-Kept = ℕ × Option End × List Source × ℕ × List ℕ
+Kept = ℕ × Option End × List Source × ℕ × List ℕ × (ℕ → Notification)
 
 abbrev pub kept_of : State → Kept
-kept_of s = (s.steps, s.stopped, s.sources, s.sections, s.variables)
+kept_of s = (s.steps, s.stopped, s.sources, s.sections, s.variables, s.notifications)
 
 -- The clock represents the new state; each task is where it was in its script, and what is kept beside the parts stays.
 module _ {k : Machine} {s new : State} {v : Schedule} {t : Timeline} (h : RestStandsFor k s) (on : clock.StandsFor t new)
@@ -169,6 +173,7 @@ module _ {k : Machine} {s new : State} {v : Schedule} {t : Timeline} (h : RestSt
     objects = left;
     groups = there;
     awake = locked;
+    notifications = subst (AreNotifications k.notifications) (sym (ap (λ (x : Kept). x.5) kept)) h.notifications;
     variables = h.variables ∙ sym (ap (λ (x : Kept). x.4) kept);
     sources = subst (AreSources k.sources) (sym (ap (λ (x : Kept). x.2) kept)) h.sources;
     sections = h.sections ∙ sym (ap (λ (x : Kept). x.3) kept);
@@ -179,7 +184,7 @@ module _ {k : Machine} {s new : State} {v : Schedule} {t : Timeline} (h : RestSt
 
   -- the objects are given, and the same tasks wait for bits
   pub rest_with_objects : {q : Objects} → objects.StandsFor q None new → AtLocked None new
-      → SameBitWaits s new → RestStandsFor (record k { sched = v; clock = t; objects = q }) new
+      → SameEventWaits s new → RestStandsFor (record k { sched = v; clock = t; objects = q }) new
   rest_with_objects left locked bits = rest_with left locked (on_groups.stands_same k.groups s new h.groups bits on.table)
 
   -- the groups are given, and the same tasks wait at objects
@@ -189,7 +194,7 @@ module _ {k : Machine} {s new : State} {v : Schedule} {t : Timeline} (h : RestSt
       rest_with (stands_same s new waits k.objects None h.objects on.table) (at_locked_same None s new waits h.awake) there
 
   -- the same tasks wait
-  pub rest_with_clock : SameWaits s new → SameBitWaits s new → RestStandsFor (record k { sched = v; clock = t }) new
+  pub rest_with_clock : SameWaits s new → SameEventWaits s new → RestStandsFor (record k { sched = v; clock = t }) new
   rest_with_clock waits bits = rest_with_groups waits (on_groups.stands_same k.groups s new h.groups bits on.table)
 
 -- Other parts represent the same state, and the guess may be another.
@@ -201,7 +206,7 @@ rest_again h on left there = rest_with h on (λ _. refl) refl left h.awake there
 -- A task's progress changes, in the kernel and in its state, and is not in Place; the same tasks wait.
 pub rest_moved : {k : Machine} {s new : State} {v : Schedule} → RestStandsFor k s → clock.StandsFor k.clock new
     → kept_of new ≡ kept_of s → (i : ℕ) (t : Task) → i < length s.tasks → length s.tasks ≤ 32
-    → new.tasks ≡ set s.tasks i t → t.progress.call.phase ≢ Place → SameWaits s new → SameBitWaits s new
+    → new.tasks ≡ set s.tasks i t → t.progress.call.phase ≢ Place → SameWaits s new → SameEventWaits s new
     → RestStandsFor (record k { progress = set k.progress i t.progress; sched = v }) new
 rest_moved {k} {s} {new} h on kept i t l few is off waits bits =
     let n = h.full in
@@ -213,6 +218,7 @@ rest_moved {k} {s} {new} h on kept i t l few is off waits bits =
       objects = stands_same s new waits k.objects None h.objects on.table;
       groups = on_groups.stands_same k.groups s new h.groups bits on.table;
       awake = at_locked_same None s new waits h.awake;
+      notifications = subst (AreNotifications k.notifications) (sym (ap (λ (x : Kept). x.5) kept)) h.notifications;
       variables = h.variables ∙ sym (ap (λ (x : Kept). x.4) kept);
       sources = subst (AreSources k.sources) (sym (ap (λ (x : Kept). x.2) kept)) h.sources;
       sections = h.sections ∙ sym (ap (λ (x : Kept). x.3) kept);
@@ -221,12 +227,12 @@ rest_moved {k} {s} {new} h on kept i t l few is off waits bits =
       placed = each-set no_progress (λ _ (p : Progress). p.call.phase ≢ Place) k.progress i t.progress off h.placed;
     }
 
--- what the clock, the objects, the groups, the variables and the sources see of a state
+-- what the clock, the objects, the groups, the notifications, the variables and the sources see of a state
 abbrev pub Seen : Type 0
-Seen = List Task × ℕ × (ℕ × ℕ) × List Object × (ℕ → ℕ) × Option ℕ × List Source × List ℕ
+Seen = List Task × ℕ × (ℕ × ℕ) × List Object × (ℕ → ℕ) × Option ℕ × List Source × List ℕ × (ℕ → Notification)
 
 abbrev pub seen : State → Seen
-seen s = (s.tasks, s.time, ticks_of s, s.objects, s.group_bits, s.locked, s.sources, s.variables)
+seen s = (s.tasks, s.time, ticks_of s, s.objects, s.group_bits, s.locked, s.sources, s.variables, s.notifications)
 
 -- Nothing changes that they see.
 pub rest_unseen : {k : Machine} {s new : State} {v : Schedule} {m n : ℕ} {e : Option End} → RestStandsFor k s
@@ -242,6 +248,7 @@ rest_unseen {k} {s} {new} h table same sections steps stopped =
       objects = stands_same s new waits k.objects None h.objects table;
       groups = on_groups.stands_same k.groups s new h.groups (bits_kept.same_parts s new tasks (ap (λ (x : Seen). x.4) same)) table;
       awake = at_locked_same None s new waits h.awake;
+      notifications = subst (AreNotifications k.notifications) (sym (ap (λ (x : Seen). x.8) same)) h.notifications;
       variables = h.variables ∙ sym (ap (λ (x : Seen). x.7) same);
       sources = subst (AreSources k.sources) (sym (ap (λ (x : Seen). x.6) same)) h.sources;
       sections = sections;
@@ -280,7 +287,7 @@ pub ready_within : (s : State) (i : ℕ) → is_ready s i ≡ true → i < lengt
 ready_within s i t = there_if (λ u. is_some (ticket_if_ready u)) refl s i t
 
 -- a Ready task waits for no bits
-pub not_for_bits : {X : Type 0} (s : State) (i : ℕ) → is_ready s i ≡ true → is_some (bits_wait (status_at s i)) ≡ true → X
+pub not_for_bits : {X : Type 0} (s : State) (i : ℕ) → is_ready s i ≡ true → is_some (event_wait (status_at s i)) ≡ true → X
 not_for_bits s i ready some =
     let none = ready_waits_not s i ready in
     let f : false ≡ true = sym (ap (λ o. is_some o) none) ∙ some in
@@ -319,7 +326,7 @@ module _ (k : Machine) (s : State) (h : StandsFor k s) (i : ℕ) (l : i < length
 
   -- a task's progress changes
   pub stands-changed : (p : Progress) → p.call.phase ≢ Place
-      → (is_some (bits_wait (status_at s i)) ≡ true → p.call.wants ≡ (call_at s i).wants)
+      → (is_some (event_wait (status_at s i)) ≡ true → p.call.wants ≡ (call_at s i).wants)
       → StandsFor (with_progress i p k) (state.with_progress i p s)
   stands-changed p off wants =
       let t : Task = record (task_at s i) { progress = p } in

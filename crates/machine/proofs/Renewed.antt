@@ -23,7 +23,8 @@ begun_before : (k : Machine) (s : State) (task : ℕ) (list : WaitList) → Stan
 begun_before k s task list b log steps n stopped end e same_end =
     subst (λ (values : List ℕ). StandsBefore task list (record k { steps = n; stopped = end })
     (record s { variables = values; log = log; steps = steps; stopped = stopped }))
-    b.variables (before_with k s task list b log steps n stopped end e same_end k.sources s.sources b.sources k.variables)
+    b.variables (before_with k s task list b log steps n stopped end e same_end k.sources s.sources b.sources k.variables
+    k.notifications s.notifications b.notifications)
 
 -- steps and events are another's
 pub renewed : (k : Machine) (s : State) → Stands k s → (log : List Event) (steps : ℕ) (n : ℕ)

@@ -5,7 +5,8 @@ use Rattle.std.specs.List.{AllByRecursion, IsDistinct, filter}
 use Rattle.std.specs.Option.{option_eq}
 use Rattle.std.proofs.lemmas.List.{take_more}
 use Rattle.model.specs.declared.event.Event.{Event}
-use Rattle.model.specs.State.{State, Task, Status, Ready, Awake, Waiting, WaitingForBits, Asleep, Suspended, Ended, wake_time_of}
+use Rattle.model.specs.State.{State, Task, Status, Ready, Awake, Waiting, WaitingForBits, WaitingForNotification, Asleep, Suspended}
+use Rattle.model.specs.State.{Ended, wake_time_of}
 use Rattle.model.specs.State.{task_at, status_at, progress_at, for_each, no_task}
 use Rattle.model.specs.Suspension.{can_resume}
 use Rattle.model.specs.Order.{Entry, tasks_of}
@@ -120,6 +121,7 @@ due_unsuspended s (Ready n) e = refl
 due_unsuspended s (Awake w) e = refl
 due_unsuspended s (Waiting w) e = refl
 due_unsuspended s (WaitingForBits g n d) e = refl
+due_unsuspended s (WaitingForNotification n d) e = refl
 due_unsuspended s (Asleep w n) e = refl
 due_unsuspended s Suspended e = absurd (cc)
 due_unsuspended s Ended e = refl

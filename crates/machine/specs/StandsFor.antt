@@ -6,7 +6,9 @@ use Rattle.model.specs.declared.call.Phase.TheVariants.{Place}
 use Rattle.model.specs.declared.call.WaitList.{WaitList}
 use Rattle.model.specs.declared.event.Event.{Event}
 use Rattle.model.specs.declared.event.What.TheVariants as what
-use Rattle.model.specs.State.{State, Progress, Source, no_progress, no_source, task_at, progress_at, call_at, printed}
+use Rattle.model.specs.declared.notification.Notification.{Notification}
+use Rattle.model.specs.State.{State, Progress, Source, no_progress, no_source, no_notification, task_at, progress_at, call_at}
+use Rattle.model.specs.State.{printed}
 use Rattle.model.specs.Switching.{is_same}
 use Rattle.sched.specs.StandsFor as sched
 use Rattle.clock.specs.StandsFor as clock
@@ -25,6 +27,15 @@ progress_in ps task = slice_index_or ps task no_progress
 abbrev pub AreBlankFrom : ℕ → List Progress → Type 0
 AreBlankFrom tasks ps = (task : ℕ) → tasks ≤ task → progress_in ps task ≡ no_progress
 
+-- the notification that the kernel keeps of this task
+abbrev pub notification_in : List Notification → ℕ → Notification
+notification_in ns task = slice_index_or ns task no_notification
+
+-- Those of the tasks are these.
+pub record AreNotifications (kept : List Notification) (notifications : ℕ → Notification) : Type 0 where
+  pub same : (task : ℕ) → notification_in kept task ≡ notifications task
+  pub full : length kept ≡ 32
+
 -- The code keeps in 17 places which of these sources are pending.
 pub record AreSources (kept : Sources) (sources : List Source) : Type 0 where
   pub number : kept.number ≡ length sources
@@ -40,6 +51,7 @@ pub record RestStandsFor (k : Machine) (s : State) : Type 0 where
   pub objects : objects.StandsFor k.objects None s
   pub groups : groups.StandsFor k.groups s
   pub awake : AtLocked None s
+  pub notifications : AreNotifications k.notifications s.notifications
   pub variables : k.variables ≡ s.variables
   pub sources : AreSources k.sources s.sources
   pub sections : k.sections ≡ s.sections
@@ -49,8 +61,8 @@ pub record RestStandsFor (k : Machine) (s : State) : Type 0 where
 
 -- Where each task is in its script is kept as it is. The scheduler represents who is Ready, who runs and what holds it, and the
 -- clock the time and who wakes when. The objects represent what they hold, who waits at them, and which one is locked, and the
--- groups their bits and who waits for them. Beside them the variables are kept, which interrupt sources are pending, and how many
--- critical sections are open.
+-- groups their bits, and who waits for them or for a notification. Beside them the notifications and the variables are kept, which
+-- interrupt sources are pending, and how many critical sections are open.
 pub record StandsFor (k : Machine) (s : State) : Type 0 where
   pub sched : sched.StandsFor k.sched s
   pub rest : RestStandsFor k s
@@ -69,6 +81,7 @@ pub record StandsBefore (task : ℕ) (list : WaitList) (k : Machine) (s : State)
   pub awake : AtLocked (Some (decider task list s)) s
   pub progress : (other : ℕ) → progress_in k.progress other ≡ progress_at s other
   pub full : length k.progress ≡ 32
+  pub notifications : AreNotifications k.notifications s.notifications
   pub variables : k.variables ≡ s.variables
   pub sources : AreSources k.sources s.sources
   pub sections : k.sections ≡ s.sections

@@ -15,6 +15,7 @@ ghost use Rattle.machine.specs.Can.{IsUnderWay};
 ghost use Rattle.machine.specs.Boot.{priorities_in, HasNoneFrom};
 
 use crate::machine::Machine;
+use crate::notifications::Notifications;
 use crate::progress::Progress;
 use crate::sources::Sources;
 use crate::variables::Variables;
@@ -110,6 +111,7 @@ impl Machine {
             clock: Clock::new(app.start()),
             objects: Objects::new(app.objects()),
             groups: Groups::new(),
+            notifications: Notifications::new(),
             variables: Variables::new(app.variables()),
             sources: Sources::new(app.handlers().len()),
             sections: 0,

@@ -43,7 +43,7 @@ impl Machine {
         let runs = self.sched.current().map(|task| task.number as u64);
         let time = mixed(self.clock.now(), self.clock.elapsed());
         let counts = self.objects.hint();
-        let shared = counts ^ self.variables.hint();
+        let shared = counts ^ self.variables.hint() ^ self.notifications.hint();
         let mut hash = mixed(mixed(time, shared ^ self.steps as u64), numbered(runs));
         for task in 0..tasks.min(32) {
             if !self.progress[task].is_first() {

@@ -7,6 +7,7 @@ ghost use Rattle.machine.specs.Loops.{after_turn, next_turn};
 ghost use Rattle.machine.specs.StandsFor.{AreBlankFrom, Does, DoesAny, progress_in, with_progress};
 
 use crate::log::Log;
+use crate::notifications::Notifications;
 use crate::progress::Progress;
 use crate::sources::Sources;
 use crate::variables::Variables;
@@ -24,6 +25,7 @@ pub struct Machine {
     pub clock: Clock,
     pub objects: Objects,
     pub groups: Groups,
+    pub notifications: Notifications,
     pub variables: Variables,
     pub sources: Sources,
     /// How many critical sections are open, each of which holds the scheduler once.
@@ -58,6 +60,7 @@ impl Machine {
             clock: self.clock.copy(),
             objects: self.objects.copy(),
             groups: self.groups.copy(),
+            notifications: self.notifications.copy(),
             variables: self.variables.copy(),
             sources: self.sources.copy(),
             sections: self.sections,
@@ -86,6 +89,7 @@ impl Machine {
         self.clock.set_from(&other.clock);
         self.objects.set_from(&other.objects);
         self.groups.set_from(&other.groups);
+        self.notifications.set_from(&other.notifications);
         self.variables.set_from(&other.variables);
         self.sources.set_from(&other.sources);
         self.sections = other.sections;

@@ -6,6 +6,7 @@ ghost use Rattle.machine.specs.StandsFor.{AreBlankFrom, Stands};
 
 use crate::front::{fill_from, front_of, is_same_progress, save_front};
 use crate::machine::Machine;
+use crate::notifications::Notifications;
 use crate::progress::Progress;
 use crate::sources::Sources;
 use crate::variables::Variables;
@@ -27,6 +28,7 @@ pub struct Snapshot {
     clock: Clock,
     objects: ObjectsSnapshot,
     groups: Groups,
+    notifications: Notifications,
     variables: Variables,
     sources: Sources,
     sections: u32,
@@ -44,7 +46,7 @@ impl Model for Snapshot {
 
     ghost Value = { declared.Machine };
 
-    ghost view = { λ s. record { progress = with_blanks s.progress.items; sched = s.sched; clock = s.clock; objects = s.objects; groups = s.groups; variables = s.variables; sources = s.sources; sections = s.sections; wait_list = s.wait_list; next_interrupt = s.next_interrupt; steps = s.steps; stopped = s.stopped } };
+    ghost view = { λ s. record { progress = with_blanks s.progress.items; sched = s.sched; clock = s.clock; objects = s.objects; groups = s.groups; notifications = s.notifications; variables = s.variables; sources = s.sources; sections = s.sections; wait_list = s.wait_list; next_interrupt = s.next_interrupt; steps = s.steps; stopped = s.stopped } };
 
     ghost invariant = { λ s. length s.progress.items ≤ 32 };
 }
@@ -101,6 +103,7 @@ impl Machine {
             clock: self.clock.copy(),
             objects,
             groups: self.groups.copy(),
+            notifications: self.notifications.copy(),
             variables: self.variables.copy(),
             sources: self.sources.copy(),
             sections: self.sections,
@@ -125,6 +128,7 @@ impl Machine {
         snapshot.sched.set_from(&self.sched);
         snapshot.clock.set_from(&self.clock);
         snapshot.groups.set_from(&self.groups);
+        snapshot.notifications.set_from(&self.notifications);
         snapshot.variables.set_from(&self.variables);
         snapshot.sources.set_from(&self.sources);
         snapshot.sections = self.sections;
@@ -144,6 +148,7 @@ impl Machine {
         self.clock.set_from(&snapshot.clock);
         self.objects.restore(&snapshot.objects);
         self.groups.set_from(&snapshot.groups);
+        self.notifications.set_from(&snapshot.notifications);
         self.variables.set_from(&snapshot.variables);
         self.sources.set_from(&snapshot.sources);
         self.sections = snapshot.sections;
@@ -169,6 +174,7 @@ impl Machine {
         }
         self.clock.is_same(&snapshot.clock)
             && self.variables.is_same(&snapshot.variables)
+            && self.notifications.is_same(&snapshot.notifications)
             && self.sources.is_same(&snapshot.sources)
             && self.sched.is_same(&snapshot.sched)
             && is_same_progress(&self.progress, snapshot.progress.as_slice(), tasks)

@@ -13,6 +13,7 @@ pub mod Counting
 pub mod Injected
 pub mod OneRun
 pub mod Packing
+pub mod Masks
 pub mod Points
 pub mod Among
 pub mod Placements

@@ -4,7 +4,8 @@ use Rattle.std.specs.List.{AllByRecursion, cons_option}
 use Rattle.std.specs.Option.{IfSome, is_some}
 use Rattle.std.specs.Prelude.{if◌then◌else◌}
 use Rattle.std.proofs.Math.ListN.{length-set}
-use Rattle.model.specs.State.{State, Task, Status, Ready, Awake, Waiting, Asleep, WaitingForBits, Suspended, Ended, ticket_of}
+use Rattle.model.specs.State.{State, Task, Status, Ready, Awake, Waiting, Asleep, WaitingForBits, WaitingForNotification, Suspended}
+use Rattle.model.specs.State.{Ended, ticket_of}
 use Rattle.model.specs.State.{task_at, with_task, take_ticket, no_task, Object}
 use Rattle.model.specs.Order.{Key, key}
 use Rattle.model.specs.Switching.{ready_key, make_ready}
@@ -24,6 +25,7 @@ ready_below n t (Awake w) b = tt
 ready_below n t (Waiting w) b = tt
 ready_below n t (Asleep w m) b = tt
 ready_below n t (WaitingForBits g m d) b = tt
+ready_below n t (WaitingForNotification m d) b = tt
 ready_below n t Suspended b = tt
 ready_below n t Ended b = tt
 
@@ -38,6 +40,7 @@ delayed_below n t (Awake w) b = until_below n w.deadline w.ticket b
 delayed_below n t (Waiting w) b = until_below n w.deadline w.ticket b
 delayed_below n t (Asleep w m) b = (b, tt)
 delayed_below n t (WaitingForBits g m d) b = until_below n d m b
+delayed_below n t (WaitingForNotification m d) b = until_below n d m b
 delayed_below n t Suspended b = tt
 delayed_below n t Ended b = tt
 

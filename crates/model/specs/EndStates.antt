@@ -4,7 +4,9 @@ use Rattle.std.specs.List.{cons_option, range_with_len}
 use Rattle.model.specs.declared.end_state.Situation.{Situation}
 use Rattle.model.specs.declared.end_state.Situation.TheVariants as situation
 use Rattle.model.specs.declared.end_state.HeldMutex.{HeldMutex}
-use Rattle.model.specs.State.{State, Object, Status, Ready, Awake, Waiting, WaitingForBits, Asleep, Suspended, Ended, progress_at}
+use Rattle.model.specs.State.{State, Object, Status, Ready, Awake, Waiting, WaitingForBits, WaitingForNotification, Asleep}
+use Rattle.model.specs.State.{Suspended, Ended}
+use Rattle.model.specs.State.{progress_at}
 use Rattle.model.specs.State.{status_at, printed}
 use Rattle.model.specs.Switching.{is_same}
 
@@ -15,6 +17,7 @@ situation_by op_index is_running (Ready ticket) = if is_running then situation.R
 situation_by op_index is_running (Awake wait) = situation.Awake op_index
 situation_by op_index is_running (Waiting wait) = situation.Waits op_index (option_map printed wait.deadline)
 situation_by op_index is_running (WaitingForBits group ticket deadline) = situation.Waits op_index (option_map printed deadline)
+situation_by op_index is_running (WaitingForNotification ticket deadline) = situation.Waits op_index (option_map printed deadline)
 situation_by op_index is_running (Asleep wake_time ticket) = situation.Sleeps op_index (printed wake_time)
 situation_by op_index is_running Suspended = situation.Suspended op_index
 situation_by op_index is_running Ended = situation.Ended

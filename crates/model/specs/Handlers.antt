@@ -3,7 +3,7 @@ use Rattle.std.specs.Prelude.{ℕ, zero, suc, ◌+◌, ◌-◌, Bool, true, fals
 use Rattle.std.specs.Prelude.{if◌then◌else◌, map, filter, fold, filter_map, option_map, length, is_none}
 use Rattle.std.specs.List.{range_with_len}
 use Rattle.model.specs.declared.op.IsrOp.{IsrOp}
-use Rattle.model.specs.declared.op.IsrOp.TheVariants.{Do, Command, Resume, GetBits, Mark, Expect, If, Else, Value}
+use Rattle.model.specs.declared.op.IsrOp.TheVariants.{Do, Command, Resume, GetBits, Notify, Mark, Expect, If, Else, Value}
 use Rattle.model.specs.declared.event.End.TheVariants.{HandlerCheck}
 use Rattle.model.specs.Values.{answer_of, is_missing, lacks_item, number_of, with_number}
 use Rattle.model.specs.Answers.{holds}
@@ -12,12 +12,14 @@ use Rattle.model.specs.declared.op.Access.TheVariants.{Send}
 use Rattle.model.specs.declared.event.What.{What}
 use Rattle.model.specs.declared.event.What.TheVariants.{Isr, IsrNone, IsrMark}
 use Rattle.model.specs.Application.{Application, Interrupt, Limits, ops_of, commands_of, interrupts_at}
-use Rattle.model.specs.State.{State, Task, Source, wake_time_of, status_at, bits_at, source_at, with_source, for_each}
+use Rattle.model.specs.State.{State, Task, Source, wake_time_of, status_at, bits_at, notification_at, source_at, with_source}
+use Rattle.model.specs.State.{for_each}
 use Rattle.model.specs.Switching.{write, preempt, slice, unless_held}
 use Rattle.model.specs.Time.{increment_tick, jump}
 use Rattle.model.specs.Ops.{fail, one_if, store}
 use Rattle.model.specs.Objects.{answer_to, attempt}
 use Rattle.model.specs.Suspension.{can_resume, resume}
+use Rattle.model.specs.Notifications.{lacks_notify_value, notify_with_number, notify_answer, notify}
 use Rattle.model.specs.Daemon.{item_of}
 
 -- what an op of a handler reports: its answer, or that this is `none`
@@ -31,6 +33,8 @@ isr_answer app s (Do object access) answer = answer_to s object (with_number s.v
 isr_answer app s (Command c) answer = answer_to s (commands_of app) (Send (item_of c))
 isr_answer app s (Resume task) answer = one_if (can_resume (status_at s task))
 isr_answer app s (GetBits group) answer = Some (bits_at s group)
+isr_answer app s (Notify task action) answer =
+    notify_answer (notify_with_number s.variables answer action) (notification_at s task)
 isr_answer app s (Value op) answer = answer_of s.variables answer op
 isr_answer app s _ answer = answer
 
@@ -47,6 +51,8 @@ isr app handler op_index (Command c) answer s =
     tell app handler op_index (Command c) answer s (attempt None (commands_of app) (Send (item_of c)) s)
 isr app handler op_index (Resume task) answer s = tell app handler op_index (Resume task) answer s (resume task s)
 isr app handler op_index (GetBits group) answer s = tell app handler op_index (GetBits group) answer s s
+isr app handler op_index (Notify task action) answer s =
+    tell app handler op_index (Notify task action) answer s (notify task (notify_with_number s.variables answer action) s)
 isr app handler op_index (Value op) answer s =
     tell app handler op_index (Value op) answer s (store op (answer_of s.variables answer op) s)
 isr app handler op_index (Mark value) answer s = write (IsrMark handler (number_of s.variables answer value)) s
@@ -56,6 +62,7 @@ isr app handler op_index _ answer s = s
 abbrev pub is_failed : State → IsrOp → Option ℕ → Bool
 is_failed s (Expect condition) answer = not (holds s.variables condition answer)
 is_failed s (Do object access) answer = lacks_item answer access
+is_failed s (Notify task action) answer = lacks_notify_value answer action
 is_failed s (Mark value) answer = is_missing answer value
 is_failed s (Value op) answer = is_none (answer_of s.variables answer op)
 is_failed s _ answer = false

@@ -8,7 +8,7 @@ use Rattle.model.specs.declared.block.Block.{Block}
 use Rattle.model.specs.declared.block.Edge.{Edge}
 use Rattle.model.specs.declared.op.Access.TheVariants.{Receive}
 use Rattle.model.specs.declared.op.Op.{Op}
-use Rattle.model.specs.declared.op.Op.TheVariants.{Work, Await, SetBits, WaitBits, NextCommand, Obey}
+use Rattle.model.specs.declared.op.Op.TheVariants.{Work, Await, SetBits, WaitBits, AwaitNotification, NextCommand, Obey}
 use Rattle.model.specs.declared.call.Phase.{Phase}
 use Rattle.model.specs.declared.call.Phase.TheVariants.{Start, Try, Decide, Place, Unlock, Leave}
 use Rattle.model.specs.declared.call.WaitList.{WaitList}
@@ -94,17 +94,19 @@ pub record Hold : Type 0 where
 abbrev pub hold_of : State → Hold
 hold_of s = record { held = s.call_hold; locked = s.locked }
 
--- how an op goes: in one phase, or in those of a call that may wait on an object, or for bits, or in those of a set of bits
+-- how an op goes: in one phase, or in those of a call that may wait on an object, or of one that waits until it is woken, for bits
+-- or for a notification, or in those of a set of bits
 pub data Course : Type 0 where
   InOne : Course
   OnObject : (object : ℕ) → Course
-  ForBits : Course
+  UntilWoken : Course
   ToSetBits : Course
 
 -- that of an op, where there is one
 abbrev pub course : Option Op → Course
 course (Some (Await object access ticks)) = OnObject object
-course (Some (WaitBits group condition ticks)) = ForBits
+course (Some (WaitBits group condition ticks)) = UntilWoken
+course (Some (AwaitNotification wait ticks)) = UntilWoken
 course (Some (SetBits group mask)) = ToSetBits
 course (Some (NextCommand object)) = OnObject object
 course (Some Obey) = ToSetBits
@@ -118,8 +120,8 @@ IsPhaseOf hold (OnObject object) Decide = Unit {0}
 IsPhaseOf hold (OnObject object) Place = (hold.held ≡ true) × (hold.locked ≡ Some object)
 IsPhaseOf hold (OnObject object) Unlock = (hold.held ≡ true) × (hold.locked ≡ Some object)
 IsPhaseOf hold (OnObject object) Leave = (hold.held ≡ true) × (hold.locked ≡ None)
-IsPhaseOf hold ForBits Leave = (hold.held ≡ true) × (hold.locked ≡ None)
-IsPhaseOf hold ForBits Try = Unit {0}
+IsPhaseOf hold UntilWoken Leave = (hold.held ≡ true) × (hold.locked ≡ None)
+IsPhaseOf hold UntilWoken Try = Unit {0}
 IsPhaseOf hold ToSetBits Leave = (hold.held ≡ true) × (hold.locked ≡ None)
 IsPhaseOf hold _ _ = ⊥
 

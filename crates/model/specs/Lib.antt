@@ -17,6 +17,7 @@ pub mod Mutexes
 pub mod Objects
 pub mod Calls
 pub mod Groups
+pub mod Notifications
 pub mod Suspension
 pub mod Daemon
 pub mod Handlers

@@ -8,7 +8,9 @@ use Rattle.model.specs.declared.op.Access.{Access}
 use Rattle.model.specs.declared.op.Access.TheVariants.{Send, SendFront, Overwrite, Receive, Peek, Take, Give, Lock}
 use Rattle.model.specs.declared.op.Op.{Op}
 use Rattle.model.specs.declared.op.Op.TheVariants.{Work, DelayUntil, Repeat, Await, Do, GiveMutex, MessagesWaiting, SpacesAvailable}
-use Rattle.model.specs.declared.op.Op.TheVariants.{SetBits, ClearBits, GetBits, WaitBits, Suspend, Resume, NextCommand, Obey}
+use Rattle.model.specs.declared.op.Op.TheVariants.{SetBits, ClearBits, GetBits, WaitBits, Notify, AwaitNotification, Suspend}
+use Rattle.model.specs.declared.op.Op.TheVariants.{Resume}
+use Rattle.model.specs.declared.op.Op.TheVariants.{NextCommand, Obey}
 use Rattle.model.specs.declared.op.Op.TheVariants as op
 use Rattle.model.specs.declared.answer.AnswerCondition.{AnswerCondition}
 use Rattle.model.specs.declared.answer.AnswerCondition.TheVariants.{Is, IsNot, Below, Above}
@@ -132,6 +134,7 @@ is_in_range (Await object access ticks) = is_wait ticks
 is_in_range (SetBits group mask) = is_mask mask
 is_in_range (ClearBits group mask) = is_mask mask
 is_in_range (WaitBits group condition ticks) = is_mask condition.mask && is_wait ticks
+is_in_range (AwaitNotification wait ticks) = is_wait ticks
 is_in_range (op.Value values) = is_defined values
 is_in_range _ = true
 
@@ -243,6 +246,7 @@ knows app (SetBits group mask) = has_group app group
 knows app (ClearBits group mask) = has_group app group
 knows app (GetBits group) = has_group app group
 knows app (WaitBits group condition ticks) = has_group app group
+knows app (Notify other action) = has_task app other
 knows app (NextCommand object) = false
 knows app Obey = false
 knows app (Suspend other) = has_task app other
@@ -262,6 +266,7 @@ knows_isr app (isr.Do object access) = fits_object app object access && may_inte
 knows_isr app (isr.Command c) = is_some app.daemon && (has_group app c.group && is_mask c.mask)
 knows_isr app (isr.Resume task) = has_task app task
 knows_isr app (isr.GetBits group) = has_group app group
+knows_isr app (isr.Notify task action) = has_task app task
 knows_isr app (isr.Expect condition) = knows_condition app condition
 knows_isr app (isr.If condition) = knows_condition app condition
 knows_isr app (isr.Value values) = knows_values app values && is_defined values

@@ -2,13 +2,14 @@
 --
 -- Every entry to the ready list and every beginning of a sleep or a wait takes the next ticket. Tickets say who came
 -- first; the code has none.
-use Rattle.std.specs.Prelude.{ℕ, ◌+◌, ◌%◌, ◌==◌, if◌then◌else◌, Bool, false, List, Option, Some, None, [], slice_index_or}
+use Rattle.std.specs.Prelude.{ℕ, ◌+◌, ◌%◌, ◌==◌, if◌then◌else◌, Bool, true, false, List, Option, Some, None, [], slice_index_or}
 use Rattle.std.specs.Prelude.{slice_set, fold}
 use Rattle.model.specs.declared.call.CallProgress.{CallProgress}
 use Rattle.model.specs.declared.call.Phase.{Phase}
 use Rattle.model.specs.declared.call.Phase.TheVariants.{Start}
 use Rattle.model.specs.declared.call.WaitList.{WaitList}
 use Rattle.model.specs.declared.loops.Loop.{Loop}
+use Rattle.model.specs.declared.notification.Notification.{Notification}
 use Rattle.model.specs.declared.event.Event.{Event}
 use Rattle.model.specs.declared.event.End.{End}
 
@@ -30,6 +31,8 @@ pub data Status : Type 0 where
   Waiting : (wait : Wait) → Status
   -- waiting for bits of an event group, until a deadline at most
   WaitingForBits : (group ticket : ℕ) (deadline : Option ℕ) → Status
+  -- waiting for a notification, until a deadline at most
+  WaitingForNotification : (ticket : ℕ) (deadline : Option ℕ) → Status
   Asleep : (wake_time ticket : ℕ) → Status
   Suspended : Status
   Ended : Status
@@ -54,12 +57,18 @@ abbrev pub ticket_if_for_bits : ℕ → Status → Option ℕ
 ticket_if_for_bits group (WaitingForBits other ticket deadline) = if other == group then Some ticket else None
 ticket_if_for_bits group _ = None
 
+-- The task waits for a notification.
+abbrev pub waits_for_notification : Status → Bool
+waits_for_notification (WaitingForNotification ticket deadline) = true
+waits_for_notification _ = false
+
 -- the ticket that a task has
 abbrev pub ticket_of : Status → Option ℕ
 ticket_of (Ready ticket) = Some ticket
 ticket_of (Awake wait) = Some wait.ticket
 ticket_of (Waiting wait) = Some wait.ticket
 ticket_of (WaitingForBits group ticket deadline) = Some ticket
+ticket_of (WaitingForNotification ticket deadline) = Some ticket
 ticket_of (Asleep wake_time ticket) = Some ticket
 ticket_of _ = None
 
@@ -69,6 +78,7 @@ wake_time_of (Asleep wake_time ticket) = Some wake_time
 wake_time_of (Waiting wait) = wait.deadline
 wake_time_of (Awake wait) = wait.deadline
 wake_time_of (WaitingForBits group ticket deadline) = deadline
+wake_time_of (WaitingForNotification ticket deadline) = deadline
 wake_time_of _ = None
 
 -- ---- tasks, objects, and the whole
@@ -122,6 +132,8 @@ pub record State : Type 0 where
   pub objects : List Object
   -- the bits that are set of each event group
   pub group_bits : ℕ → ℕ
+  -- the notification of each task
+  pub notifications : ℕ → Notification
   -- what each variable is
   pub variables : List ℕ
   -- the time, without bound (`xTickCount`)
@@ -236,6 +248,18 @@ bits_at s group = s.group_bits group
 -- The event group's bits are now these, and those of the others are as they were.
 abbrev pub with_bits : ℕ → ℕ → State → State
 with_bits group bits s = record s { group_bits = λ other. if other == group then bits else bits_at s other }
+
+-- what is kept of a notification at reset
+abbrev pub no_notification : Notification
+no_notification = record { value = 0; pending = false }
+
+-- the notification of this task
+abbrev pub notification_at : State → ℕ → Notification
+notification_at s task = s.notifications task
+
+-- The task's notification is now as given, and those of the others are as they were.
+abbrev pub with_notification : ℕ → Notification → State → State
+with_notification task n s = record s { notifications = λ other. if other == task then n else notification_at s other }
 
 -- A deed is done with this one, if there is one.
 abbrev pub for_one : {A : Type 0} → (A → State → State) → Option A → State → State

@@ -8,9 +8,11 @@ use Rattle.model.specs.declared.op.Op.{Op}
 use Rattle.model.specs.declared.op.Op.TheVariants.{Work, Delay, DelayUntil, Yield, Time, Mark, Expect, Repeat, End, If, Else, EndIf}
 use Rattle.model.specs.declared.op.Op.TheVariants.{Break, Stamp, Since, Await, Do, GiveMutex, MessagesWaiting, SpacesAvailable}
 use Rattle.model.specs.declared.op.Op.TheVariants.{SetBits, ClearBits, GetBits, WaitBits, Suspend, Resume, SuspendAll, ResumeAll}
-use Rattle.model.specs.declared.op.Op.TheVariants.{EnterCritical, ExitCritical, Value, NextCommand, Obey}
+use Rattle.model.specs.declared.op.Op.TheVariants.{EnterCritical, ExitCritical, Value, Notify, AwaitNotification, ClearNotification}
+use Rattle.model.specs.declared.op.Op.TheVariants.{NextCommand, Obey}
 use Rattle.model.specs.declared.op.Access.{Access}
 use Rattle.model.specs.declared.value.Value as value
+use Rattle.model.specs.declared.notification.NotifyAction.{NotifyAction}
 use Rattle.model.specs.declared.call.Phase.{Phase}
 use Rattle.model.specs.declared.call.Phase.TheVariants.{Start}
 use Rattle.model.specs.Values.{answer_of, is_missing, lacks_item, number_of, with_number}
@@ -20,7 +22,8 @@ use Rattle.model.specs.declared.event.Misuse.{Misuse}
 use Rattle.model.specs.declared.event.Misuse.TheVariants.{WhileSuspended, NotSuspended, NotHolder, EndedSuspended, WhileCritical}
 use Rattle.model.specs.declared.event.Misuse.TheVariants.{NotCritical, EndedCritical}
 use Rattle.model.specs.Application.{Application, Definition, Handler, Limits, op_at}
-use Rattle.model.specs.State.{State, Task, Object, Status, Ended, no_progress, no_object, no_source, status_at, progress_at}
+use Rattle.model.specs.State.{State, Task, Object, Status, Ended, no_progress, no_object, no_source, no_notification, status_at}
+use Rattle.model.specs.State.{progress_at}
 use Rattle.model.specs.State.{call_at}
 use Rattle.model.specs.State.{object_at, bits_at, for_one, for_each, printed}
 use Rattle.model.specs.Switching.{write, is_same, make_ready, choice, yield_now, settle, is_scheduler_suspended, is_critical}
@@ -30,6 +33,7 @@ use Rattle.model.specs.Ops.{leave_loop, stamp, since, enter_critical, exit_criti
 use Rattle.model.specs.Calls.{await, do_now}
 use Rattle.model.specs.Mutexes.{give_mutex}
 use Rattle.model.specs.Groups.{set_bits, clear, wait_bits}
+use Rattle.model.specs.Notifications.{lacks_notify_value, notify_with_number, call_notify, await_notification, clear_notification}
 use Rattle.model.specs.Suspension.{call_suspend, call_resume, suspend_all, resume_all}
 use Rattle.model.specs.Daemon.{next_command, obey, command_at}
 use Rattle.model.specs.Handlers.{inject, pend, serve_pending, tick_interrupt, idle}
@@ -37,6 +41,10 @@ use Rattle.model.specs.Handlers.{inject, pend, serve_pending, tick_interrupt, id
 -- the call of this task with its value as a number
 abbrev pub call_with_number : State → ℕ → Access value.Value → Access ℕ
 call_with_number s task access = with_number s.variables (progress_at s task).answer access
+
+-- the notify of this task with its value as a number
+abbrev pub notify_by_number : State → ℕ → NotifyAction value.Value → NotifyAction ℕ
+notify_by_number s task action = notify_with_number s.variables (progress_at s task).answer action
 
 -- what each op does; that yield answers 0, and all of mark, is profile
 abbrev pub act : Application → ℕ → Op → State → State
@@ -67,6 +75,9 @@ act app task (SetBits group mask) s = set_bits app task group mask (call_at s ta
 act app task (ClearBits group mask) s = clear app task group mask s
 act app task (GetBits group) s = answer app task (Some (bits_at s group)) s
 act app task (WaitBits group condition ticks) s = wait_bits app task group condition ticks (call_at s task).phase s
+act app task (Notify other action) s = call_notify app task other (notify_by_number s task action) s
+act app task (AwaitNotification wait ticks) s = await_notification app task wait ticks (call_at s task).phase s
+act app task (ClearNotification what) s = clear_notification app task what s
 act app task (Suspend other) s = call_suspend app task other s
 act app task (Resume other) s = call_resume app task other s
 act app task SuspendAll s = suspend_all app task s
@@ -89,6 +100,8 @@ may_switch (Do object access) = true
 may_switch (GiveMutex object) = true
 may_switch (SetBits group mask) = true
 may_switch (WaitBits group condition ticks) = true
+may_switch (Notify other action) = true
+may_switch (AwaitNotification wait ticks) = true
 may_switch (Suspend other) = true
 may_switch (Resume other) = true
 may_switch (NextCommand object) = true
@@ -149,6 +162,7 @@ abbrev pub lacks_value : State → ℕ → Op → Bool
 lacks_value s task (Await object access ticks) =
     is_start (call_at s task).phase && lacks_item (progress_at s task).answer access
 lacks_value s task (Do object access) = lacks_item (progress_at s task).answer access
+lacks_value s task (Notify other action) = lacks_notify_value (progress_at s task).answer action
 lacks_value s task (Mark value) = is_missing (progress_at s task).answer value
 lacks_value s task (Value op) = is_none (answer_of s.variables (progress_at s task).answer op)
 lacks_value s task op = false
@@ -216,6 +230,7 @@ nobody_ready app = record {
   tasks = map (task_at_reset app.start) app.tasks;
   objects = map object_at_reset app.objects;
   group_bits = λ group. 0;
+  notifications = λ task. no_notification;
   variables = app.variables;
   time = app.start;
   elapsed = 0;

@@ -8,7 +8,12 @@ use Rattle.model.specs.declared.op.Op.{Op}
 use Rattle.model.specs.declared.op.Op.TheVariants.{Work, Delay, DelayUntil, Yield, Time, Mark, Expect, Repeat, End, If, Else, EndIf}
 use Rattle.model.specs.declared.op.Op.TheVariants.{Break, Stamp, Since, Await, Do, GiveMutex, MessagesWaiting, SpacesAvailable}
 use Rattle.model.specs.declared.op.Op.TheVariants.{SetBits, ClearBits, GetBits, WaitBits, Suspend, Resume, SuspendAll, ResumeAll}
-use Rattle.model.specs.declared.op.Op.TheVariants.{EnterCritical, ExitCritical, Value, NextCommand, Obey}
+use Rattle.model.specs.declared.op.Op.TheVariants.{Notify, AwaitNotification, ClearNotification, EnterCritical, ExitCritical, Value}
+use Rattle.model.specs.declared.op.Op.TheVariants.{NextCommand, Obey}
+use Rattle.model.specs.declared.notification.NotificationWait.{NotificationWait}
+use Rattle.model.specs.declared.notification.NotificationWait.TheVariants as wait
+use Rattle.model.specs.declared.notification.NotificationClear.{NotificationClear}
+use Rattle.model.specs.declared.notification.NotificationClear.TheVariants as clear
 use Rattle.model.specs.declared.value.Arithmetic.{Arithmetic}
 use Rattle.model.specs.declared.value.Arithmetic.TheVariants.{Add, Sub, Mul, Div, Mod, And, Or, Xor}
 use Rattle.model.specs.declared.value.ValueOp.{ValueOp}
@@ -46,6 +51,16 @@ word_of_value_op (Load x) = codes "load"
 word_of_value_op (Store x value) = codes "store"
 word_of_value_op (Compute kind value) = word_of_arithmetic kind
 
+-- the first word of the text of a wait for a notification
+abbrev pub word_of_notification_wait : NotificationWait → List ℕ
+word_of_notification_wait (wait.Take clears) = codes "notify_take"
+word_of_notification_wait (wait.Wait masks) = codes "notify_wait"
+
+-- the first word of the text of a call that clears something of a notification
+abbrev pub word_of_notification_clear : NotificationClear → List ℕ
+word_of_notification_clear clear.Pending = codes "notify_clear"
+word_of_notification_clear (clear.Bits bits) = codes "notify_value_clear"
+
 -- the first word of an op's text
 abbrev pub word_of : Op → List ℕ
 word_of (Work n) = codes "work"
@@ -72,6 +87,9 @@ word_of (SetBits group mask) = codes "set"
 word_of (ClearBits group mask) = codes "clear"
 word_of (GetBits group) = codes "bits"
 word_of (WaitBits group condition ticks) = codes "wait"
+word_of (Notify other action) = codes "notify"
+word_of (AwaitNotification wait ticks) = word_of_notification_wait wait
+word_of (ClearNotification what) = word_of_notification_clear what
 word_of (Suspend other) = codes "suspend"
 word_of (Resume other) = codes "resume"
 word_of SuspendAll = codes "suspend_all"
@@ -92,6 +110,7 @@ word_of_isr (isr.Do object access) = word_of_access access
 word_of_isr (isr.Command c) = word_of_command c
 word_of_isr (isr.Resume task) = codes "resume"
 word_of_isr (isr.GetBits group) = codes "bits"
+word_of_isr (isr.Notify task action) = codes "notify"
 word_of_isr (isr.Mark n) = codes "mark"
 word_of_isr (isr.Expect condition) = codes "expect"
 word_of_isr (isr.If condition) = codes "if"

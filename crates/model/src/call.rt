@@ -7,10 +7,10 @@ use crate::ids::ObjectId;
 #[derive(Clone, Copy, Default, PartialEq, Eq)]
 pub enum Phase {
     /// The first step: a call on an object tries, and its deadline counts from here; a `set` sets its bits, and a `wait` looks
-    /// at them.
+    /// at them, as a wait for a notification looks at that.
     #[default]
     Start,
-    /// A later try. A wait for bits, which is over then, answers.
+    /// A later try. A wait for bits or for a notification, which is over then, answers.
     Try,
     /// The scheduler is held and the queue locked; the task begins to wait, if that is still due.
     Decide,

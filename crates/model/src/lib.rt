@@ -12,6 +12,7 @@ mod ids;
 mod interrupts;
 mod limits;
 mod loops;
+mod notification;
 mod object;
 mod op;
 mod plan;
@@ -30,6 +31,9 @@ pub use ids::{GroupId, HandlerId, ObjectId, TaskId, VariableId};
 pub use interrupts::{BaseInterrupts, Interrupt};
 pub use limits::{Limits, Meter};
 pub use loops::Loop;
+pub use notification::{
+    Notification, NotificationClear, NotificationMasks, NotificationWait, NotifyAction,
+};
 pub use object::ObjectKind;
 pub use op::{Access, Command, IsrOp, Op};
 pub use plan::{BadPlan, BadPoint, Injection, Injections, Plan, Point, PointEntry};

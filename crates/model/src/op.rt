@@ -3,6 +3,7 @@ use crate::answer::AnswerCondition;
 use crate::block::Edge;
 use crate::call::Condition;
 use crate::ids::{GroupId, ObjectId, TaskId};
+use crate::notification::{NotificationClear, NotificationWait, NotifyAction};
 use crate::value::{Value, ValueOp};
 
 /// What a call asks of an object. The items that it puts there are values in a script, and numbers in the kernel.
@@ -222,6 +223,14 @@ pub enum Op {
     /// Waits until bits of an event group are set, at most for this many ticks, 0 to 4,294,967,294; `None` is for ever
     /// (`xEventGroupWaitBits`).
     WaitBits(GroupId, Condition, Option<u32>),
+    /// Notifies a task, perhaps itself (`xTaskNotify`, `xTaskNotifyGive`): its notification value changes so, a notification is pending,
+    /// and a task that waits for one is Ready.
+    Notify(TaskId, NotifyAction<Value>),
+    /// Waits for a notification, at most for this many ticks, 0 to 4,294,967,294; `None` is for ever (`ulTaskNotifyTake`,
+    /// `xTaskNotifyWait`).
+    AwaitNotification(NotificationWait, Option<u32>),
+    /// Clears something of its own notification (`xTaskNotifyStateClear`, `ulTaskNotifyValueClear`).
+    ClearNotification(NotificationClear),
     /// Suspends a task, perhaps itself (`vTaskSuspend`).
     Suspend(TaskId),
     /// Resumes a suspended task (`vTaskResume`).
@@ -290,6 +299,9 @@ impl Op {
             Op::ClearBits(_, _) => "clear",
             Op::GetBits(_) => "bits",
             Op::WaitBits(_, _, _) => "wait",
+            Op::Notify(_, _) => "notify",
+            Op::AwaitNotification(wait, _) => wait.word(),
+            Op::ClearNotification(clear) => clear.word(),
             Op::Suspend(_) => "suspend",
             Op::Resume(_) => "resume",
             Op::SuspendAll => "suspend_all",
@@ -314,6 +326,8 @@ pub enum IsrOp {
     Resume(TaskId),
     /// Answers which bits of an event group are set (`xEventGroupGetBitsFromISR`).
     GetBits(GroupId),
+    /// Notifies a task (`xTaskNotifyFromISR`, `vTaskNotifyGiveFromISR`).
+    Notify(TaskId, NotifyAction<Value>),
     /// Writes a mark line with this number, 0 to 4,294,967,295 (profile).
     Mark(Value),
     /// Ends the handler, and the run behind the step, where this doesn't hold of the answer of the handler's op before (profile).
@@ -354,6 +368,7 @@ impl IsrOp {
             IsrOp::Command(command) => command.word(),
             IsrOp::Resume(_) => "resume",
             IsrOp::GetBits(_) => "bits",
+            IsrOp::Notify(_, _) => "notify",
             IsrOp::Mark(_) => "mark",
             IsrOp::Expect(_) => "expect",
             IsrOp::If(_) => "if",

@@ -164,6 +164,7 @@ impl Op {
             Op::Await(_, _, ticks) => is_wait(*ticks),
             Op::SetBits(_, mask) | Op::ClearBits(_, mask) => is_mask(*mask),
             Op::WaitBits(_, condition, ticks) => is_mask(condition.mask) && is_wait(*ticks),
+            Op::AwaitNotification(_, ticks) => is_wait(*ticks),
             Op::Value(op) => op.is_defined(),
             _ => true,
         }

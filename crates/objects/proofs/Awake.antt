@@ -6,7 +6,8 @@ use Rattle.std.specs.Option.{IfSome, option_and_then}
 use Rattle.model.specs.declared.call.Phase.TheVariants.{Place}
 use Rattle.model.specs.declared.call.WaitList.{WaitList}
 use Rattle.model.specs.declared.op.Access.{Access}
-use Rattle.model.specs.State.{State, Object, Status, Task, Wait, Ready, Awake, Waiting, Asleep, WaitingForBits, Suspended, Ended}
+use Rattle.model.specs.State.{State, Object, Status, Task, Wait, Ready, Awake, Waiting, Asleep, WaitingForBits}
+use Rattle.model.specs.State.{WaitingForNotification, Suspended, Ended}
 use Rattle.model.specs.State.{no_task, wait_if_awake, wait_if_waiting, status_at, task_at, with_object, go_on, for_one, for_each}
 use Rattle.model.specs.Order.{Entry, Key, first, task_of}
 use Rattle.model.specs.Switching.{make_ready}
@@ -83,6 +84,7 @@ woken_at locked list k (Waiting w) shown e = by_test (same_list w.list list)
     (λ t. let f = rw t at e in absurd cc)
 woken_at locked list k (Asleep m n) shown e = absurd cc
 woken_at locked list k (WaitingForBits g m d) shown e = absurd cc
+woken_at locked list k (WaitingForNotification m d) shown e = absurd cc
 woken_at locked list k Suspended shown e = absurd cc
 woken_at locked list k Ended shown e = absurd cc
 

@@ -7,7 +7,8 @@ use Rattle.std.proofs.lemmas.Bool.{ltb-false}
 use Rattle.std.proofs.lemmas.List.{get_or-set_same, get_or-set_other}
 use Rattle.model.specs.declared.call.WaitList.{WaitList}
 use Rattle.model.specs.declared.call.WaitList.TheVariants.{ToReceive, ToSend}
-use Rattle.model.specs.State.{State, Status, Ready, Awake, Waiting, Asleep, WaitingForBits, Suspended, Ended, Task, Wait, no_task}
+use Rattle.model.specs.State.{State, Status, Ready, Awake, Waiting, Asleep, WaitingForBits, WaitingForNotification, Suspended}
+use Rattle.model.specs.State.{Ended, Task, Wait, no_task}
 use Rattle.model.specs.State.{wait_if_awake, wait_if_waiting, task_at, status_at, for_one}
 use Rattle.model.specs.Invariant.{wait_of}
 use Rattle.model.specs.Order.{Key, Entry, entry, first, in_order, keyed, list_by, put, before, task_of}
@@ -125,6 +126,7 @@ waits_stands q k (Awake w) h = absurd (cc)
 waits_stands q k (Waiting w) h = h
 waits_stands q k (Asleep m b) h = absurd (cc)
 waits_stands q k (WaitingForBits g m d) h = absurd (cc)
+waits_stands q k (WaitingForNotification m d) h = absurd (cc)
 waits_stands q k Suspended h = absurd (cc)
 waits_stands q k Ended h = absurd (cc)
 
@@ -142,6 +144,7 @@ stands_once q p k (Awake w) h e = key_elsewhere q p k w h e
 stands_once q p k (Waiting w) h e = key_elsewhere q p k w h e
 stands_once q p k (Asleep m b) h e = refl
 stands_once q p k (WaitingForBits g m d) h e = refl
+stands_once q p k (WaitingForNotification m d) h e = refl
 stands_once q p k Suspended h e = refl
 stands_once q p k Ended h e = refl
 
@@ -152,6 +155,7 @@ awakes q k (Awake w) h = refl
 awakes q k (Waiting w) h = refl
 awakes q k (Asleep m b) h = absurd (cc)
 awakes q k (WaitingForBits g m d) h = absurd (cc)
+awakes q k (WaitingForNotification m d) h = absurd (cc)
 awakes q k Suspended h = absurd (cc)
 awakes q k Ended h = absurd (cc)
 

@@ -5,7 +5,8 @@ use Rattle.std.specs.List.{AllByRecursion, cons_option}
 use Rattle.std.specs.Option.{IfSome, option_and_then, option_map, option_to_list}
 use Rattle.model.specs.declared.call.WaitList.{WaitList}
 use Rattle.model.specs.declared.call.WaitList.TheVariants.{ToReceive, ToSend}
-use Rattle.model.specs.State.{State, Status, Ready, Awake, Waiting, Asleep, WaitingForBits, Suspended, Ended, Task, Wait, no_task}
+use Rattle.model.specs.State.{State, Status, Ready, Awake, Waiting, Asleep, WaitingForBits, WaitingForNotification, Suspended}
+use Rattle.model.specs.State.{Ended, Task, Wait, no_task}
 use Rattle.model.specs.State.{wait_if_waiting, wait_if_awake, ticket_of, status_at}
 use Rattle.model.specs.Order.{Key, Entry, entry, in_order, keyed}
 use Rattle.model.specs.Waiting.{same_list, wait_key, waiters, is_locked, awake_status}
@@ -59,6 +60,7 @@ standing_below n list (Awake w) h = key_below n list w h
 standing_below n list (Waiting w) h = key_below n list w h
 standing_below n list (Asleep m b) h = tt
 standing_below n list (WaitingForBits g m d) h = tt
+standing_below n list (WaitingForNotification m d) h = tt
 standing_below n list Suspended h = tt
 standing_below n list Ended h = tt
 
@@ -73,6 +75,7 @@ wait_of-awake (Awake w) = refl
 wait_of-awake (Waiting w) = refl
 wait_of-awake (Asleep m b) = refl
 wait_of-awake (WaitingForBits g m d) = refl
+wait_of-awake (WaitingForNotification m d) = refl
 wait_of-awake Suspended = refl
 wait_of-awake Ended = refl
 
@@ -82,6 +85,7 @@ ticket_of-awake (Awake w) = refl
 ticket_of-awake (Waiting w) = refl
 ticket_of-awake (Asleep m b) = refl
 ticket_of-awake (WaitingForBits g m d) = refl
+ticket_of-awake (WaitingForNotification m d) = refl
 ticket_of-awake Suspended = refl
 ticket_of-awake Ended = refl
 
@@ -106,6 +110,7 @@ waiting_same s list (Awake w) shut h = sym (locked_key s list w shut h)
 waiting_same s list (Waiting w) shut h = refl
 waiting_same s list (Asleep m b) shut h = refl
 waiting_same s list (WaitingForBits g m d) shut h = refl
+waiting_same s list (WaitingForNotification m d) shut h = refl
 waiting_same s list Suspended shut h = refl
 waiting_same s list Ended shut h = refl
 

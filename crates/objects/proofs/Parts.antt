@@ -4,7 +4,8 @@ use Rattle.std.proofs.Common.{arith, get_or, length, take, drop, append_assoc, l
 use Rattle.std.specs.List.{filter}
 use Rattle.std.specs.Option.{is_some, option_and_then, option_map, option_to_list}
 use Rattle.model.specs.declared.call.WaitList.{WaitList}
-use Rattle.model.specs.State.{State, Status, Ready, Awake, Waiting, Asleep, WaitingForBits, Suspended, Ended, Task, no_task}
+use Rattle.model.specs.State.{State, Status, Ready, Awake, Waiting, Asleep, WaitingForBits, WaitingForNotification, Suspended}
+use Rattle.model.specs.State.{Ended, Task, no_task}
 use Rattle.model.specs.State.{wait_if_waiting, wait_if_awake}
 use Rattle.model.specs.Invariant.{wait_of}
 use Rattle.model.specs.Order.{Key, Entry, entry, in_order, keyed, list_by, tasks_of}
@@ -70,6 +71,7 @@ awake-part list (Awake w) = refl
 awake-part list (Waiting w) = refl
 awake-part list (Asleep m b) = refl
 awake-part list (WaitingForBits g m d) = refl
+awake-part list (WaitingForNotification m d) = refl
 awake-part list Suspended = refl
 awake-part list Ended = refl
 
@@ -81,6 +83,7 @@ waiting-part list (Awake w) = refl
 waiting-part list (Waiting w) = refl
 waiting-part list (Asleep m b) = refl
 waiting-part list (WaitingForBits g m d) = refl
+waiting-part list (WaitingForNotification m d) = refl
 waiting-part list Suspended = refl
 waiting-part list Ended = refl
 

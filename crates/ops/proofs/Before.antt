@@ -5,7 +5,8 @@ use Rattle.std.specs.Prelude.{if◌then◌else◌}
 use Rattle.std.specs.List.{AllByRecursion}
 use Rattle.std.specs.Option.{option_map, option_and_then}
 use Rattle.model.specs.declared.call.WaitList.{WaitList}
-use Rattle.model.specs.State.{State, Task, Progress, Status, Object, Ready, Awake, Waiting, Asleep, WaitingForBits, Suspended}
+use Rattle.model.specs.State.{State, Task, Progress, Status, Object, Ready, Awake, Waiting, Asleep, WaitingForBits}
+use Rattle.model.specs.State.{WaitingForNotification, Suspended}
 use Rattle.model.specs.State.{Ended, wait_if_waiting, task_at, status_at, progress_at, call_at, with_object, for_one, no_task}
 use Rattle.model.specs.Order.{Key, Entry, first, task_of}
 use Rattle.model.specs.Switching.{is_ready, make_ready}
@@ -33,12 +34,14 @@ use Rattle.objects.specs.Objects as objects
 use Rattle.objects.specs.Objects.{Objects}
 use Rattle.objects.proofs.Keys.{same_list-true, same_list-refl}
 use Rattle.objects.proofs.Awake.{at_locked-stored, at_locked-wake_best}
-use Rattle.groups.specs.StandsFor.{SameBitWaits}
+use Rattle.groups.specs.EventGroups.{EventGroups}
+use Rattle.groups.specs.StandsFor as groups
+use Rattle.groups.specs.StandsFor.{SameEventWaits}
 use Rattle.groups.proofs.Standing as on_groups
 use Rattle.groups.proofs.Kept as bits_kept
 use Rattle.groups.proofs.Elsewhere as bits_elsewhere
 use Rattle.machine.specs.declared.machine.Machine.{Machine}
-use Rattle.machine.specs.StandsFor.{AreSources, StandsBefore, Stands, decider}
+use Rattle.machine.specs.StandsFor.{AreNotifications, AreSources, StandsBefore, Stands, decider}
 use Rattle.machine.specs.StandsFor.Stands.{Placed, Placing}
 use Rattle.machine.proofs.Parts.{Kept, kept_of, progress-kept}
 use Rattle.machine.proofs.Waking.{progress-ready}
@@ -49,38 +52,50 @@ use Rattle.ops.proofs.Waits.Unwoken.{Nobody, Counted}
 -- ---- what isn't changed stays
 
 -- A task changes, but not its priority.
-priority-kept : (ts : List Task) (i : ℕ) (t : Task) → t.priority ≡ (get_or ts i no_task).priority
+pub priority-kept : (ts : List Task) (i : ℕ) (t : Task) → t.priority ≡ (get_or ts i no_task).priority
     → (j : ℕ) → (get_or (set ts i t) j no_task).priority ≡ (get_or ts j no_task).priority
 priority-kept ts i t e = each-set no_task (λ j (u : Task). u.priority ≡ (get_or ts j no_task).priority) ts i t e (λ j. refl)
 
--- The scheduler, the clock and the objects are given, and the same tasks wait for bits;
--- each task is where it was in its script, and what is kept beside the parts stays.
-before_with : {task : ℕ} {list : WaitList} {k : Machine} {s new : State} {v : Schedule} {t : Timeline} {q : Objects}
-    → StandsBefore task list k s → sched.StandsBefore task v new → clock.StandsBefore task (call_at s task).deadline t new
-    → objects.StandsFor q (Some (decider task list s)) new → AtLocked (Some (decider task list s)) new → SameBitWaits s new
+-- The scheduler, the clock, the objects and the groups are given; each task is where it was in its script, and what is kept beside
+-- the parts stays.
+pub before_with_groups : {task : ℕ} {list : WaitList} {k : Machine} {s new : State} {v : Schedule} {t : Timeline} {q : Objects}
+    {g : EventGroups} → StandsBefore task list k s → sched.StandsBefore task v new
+    → clock.StandsBefore task (call_at s task).deadline t new
+    → objects.StandsFor q (Some (decider task list s)) new → AtLocked (Some (decider task list s)) new → groups.StandsFor g new
     → ((i : ℕ) → progress_at new i ≡ progress_at s i) → (task_at new task).priority ≡ (task_at s task).priority
     → kept_of new ≡ kept_of s → new.current ≡ s.current → new.call_hold ≡ s.call_hold
-    → StandsBefore task list (record k { sched = v; clock = t; objects = q }) new
-before_with {task} {list} {k} {s} {new} {v} {t} {q} b on awake there locked bits progress priority kept current held = record {
+    → StandsBefore task list (record k { sched = v; clock = t; objects = q; groups = g }) new
+before_with_groups {task} {list} {k} {s} {new} {v} {t} {q} {g} b on awake there locked bits progress rank kept runs held = record {
   sched = on;
   clock = subst (λ (p : Progress). clock.StandsBefore task p.call.deadline t new) (sym (progress task)) awake;
   objects =
-      subst (λ (n : ℕ). objects.StandsFor q (Some (record { task = task; list = list; priority = n })) new) (sym priority) there;
-  groups = on_groups.stands_same k.groups s new b.groups bits on.table;
-  awake = subst (λ (n : ℕ). AtLocked (Some (record { task = task; list = list; priority = n })) new) (sym priority) locked;
+      subst (λ (n : ℕ). objects.StandsFor q (Some (record { task = task; list = list; priority = n })) new) (sym rank) there;
+  groups = bits;
+  awake = subst (λ (n : ℕ). AtLocked (Some (record { task = task; list = list; priority = n })) new) (sym rank) locked;
   progress = λ i. b.progress i ∙ sym (progress i);
   full = b.full;
+  notifications = subst (AreNotifications k.notifications) (sym (ap (λ (x : Kept). x.5) kept)) b.notifications;
   variables = b.variables ∙ sym (ap (λ (x : Kept). x.4) kept);
   sources = subst (AreSources k.sources) (sym (ap (λ (x : Kept). x.2) kept)) b.sources;
   sections = b.sections ∙ sym (ap (λ (x : Kept). x.3) kept);
   steps = b.steps ∙ sym (ap (λ (x : Kept). x.0) kept);
   stopped = b.stopped ∙ sym (ap (λ (x : Kept). x.1) kept);
-  current = current ∙ b.current;
+  current = runs ∙ b.current;
   held = held ∙ b.held;
   phase = ap (λ (p : Progress). p.call.phase) (progress task) ∙ b.phase;
   wait_list = b.wait_list;
   placed = b.placed;
 }
+
+-- the same, where the same tasks wait for bits or for a notification
+before_with : {task : ℕ} {list : WaitList} {k : Machine} {s new : State} {v : Schedule} {t : Timeline} {q : Objects}
+    → StandsBefore task list k s → sched.StandsBefore task v new → clock.StandsBefore task (call_at s task).deadline t new
+    → objects.StandsFor q (Some (decider task list s)) new → AtLocked (Some (decider task list s)) new → SameEventWaits s new
+    → ((i : ℕ) → progress_at new i ≡ progress_at s i) → (task_at new task).priority ≡ (task_at s task).priority
+    → kept_of new ≡ kept_of s → new.current ≡ s.current → new.call_hold ≡ s.call_hold
+    → StandsBefore task list (record k { sched = v; clock = t; objects = q }) new
+before_with {k = k} {s = s} {new = new} b on awake there locked bits =
+    before_with_groups b on awake there locked (on_groups.stands_same k.groups s new b.groups bits on.table)
 
 -- ---- it waits in its list, or was woken there
 
@@ -109,6 +124,7 @@ one_list a b k m (Waiting w) e f = by_test (same_list w.list a)
     (λ t. let g = rw t at e in absurd (cc))
 one_list a b k m (Asleep w n) e f = absurd (cc)
 one_list a b k m (WaitingForBits g n d) e f = absurd (cc)
+one_list a b k m (WaitingForNotification n d) e f = absurd (cc)
 one_list a b k m Suspended e f = absurd (cc)
 one_list a b k m Ended e f = absurd (cc)
 
@@ -187,7 +203,7 @@ module _ (task : ℕ) (list : WaitList) (k : Machine) (s : State) (b : StandsBef
   -- someone is Awake, perhaps itself
   pub awakened_before : (i : ℕ) → i < length s.tasks → (q : Objects)
       → objects.StandsFor q (Some (decider task list s)) (awaken i s) → AtLocked (Some (decider task list s)) (awaken i s)
-      → SameBitWaits s (awaken i s) → StandsBefore task list (record k { objects = q }) (awaken i s)
+      → SameEventWaits s (awaken i s) → StandsBefore task list (record k { objects = q }) (awaken i s)
   awakened_before i l q there locked bits =
       let t : Task = record (task_at s i) { status = awake_status (status_at s i) } in
       let table : IsTable (awaken i s) = there.waiters.table in
@@ -221,7 +237,7 @@ module _ (task : ℕ) (tl : WaitList) (k : Machine) (s : State) (b : StandsBefor
       let d : Option Decider = Some (decider task tl s) in
       let left = subst (objects.StandsFor q d) one there in
       let locked = subst (AtLocked d) one (at_locked-wake_best d list s b.awake) in
-      let bits = subst (SameBitWaits s) one (bits_elsewhere.same_wake_best list s) in
+      let bits = subst (SameEventWaits s) one (bits_elsewhere.same_wake_best list s) in
       let priority = priority-kept s.tasks i (record (task_at s i) { status = Ready s.next_ticket }) refl task in
       subst (StandsBefore task tl (record k { sched = v; clock = t; objects = q })) (sym one)
       (before_with b (on apart_there l) (awake apart_there l) left locked bits (progress-ready s i) priority refl refl refl)
@@ -249,7 +265,7 @@ module _ (task : ℕ) (tl : WaitList) (k : Machine) (s : State) (b : StandsBefor
         subst (StandsBefore task tl (record k { objects = q })) (sym one)
         (awakened_before task tl k s b i l q (subst (objects.StandsFor q (Some (decider task tl s))) one there)
         (subst (AtLocked (Some (decider task tl s))) one (at_locked-wake_best (Some (decider task tl s)) list s b.awake))
-        (subst (SameBitWaits s) one (bits_elsewhere.same_wake_best list s)))
+        (subst (SameEventWaits s) one (bits_elsewhere.same_wake_best list s)))
 
 -- what a wake reports: nothing
 pub log-wake_best : (list : WaitList) (s : State) → (wake_best list s).log ≡ s.log

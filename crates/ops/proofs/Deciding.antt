@@ -41,7 +41,7 @@ use Rattle.groups.proofs.Kept as bits_kept
 use Rattle.groups.proofs.Kept.{ready_waits_not}
 use Rattle.groups.proofs.Elsewhere as bits_elsewhere
 use Rattle.machine.specs.declared.machine.Machine.{Machine}
-use Rattle.machine.specs.StandsFor.{AreSources, StandsBefore, At, AtAny, decider, progress_in, with_progress}
+use Rattle.machine.specs.StandsFor.{AreNotifications, AreSources, StandsBefore, At, AtAny, decider, progress_in, with_progress}
 use Rattle.machine.specs.StandsFor.Stands.{Placing}
 use Rattle.ops.specs.Can.{CanDecide, CanLeave}
 use Rattle.machine.proofs.Parts.{clock-same, progress-set, rest_unseen, rest_with_objects, same_parts, same_alike, sched-same}
@@ -138,8 +138,9 @@ module _ (s : State) (i : ℕ) (list : WaitList) (object : ℕ) (l : i < length 
   pub begun_free : (begun.call_hold ≡ s.call_hold) × (begun.current ≡ s.current) × (begun.time ≡ s.time)
       × (begun.elapsed ≡ s.elapsed) × (begun.steps ≡ s.steps) × (begun.stopped ≡ s.stopped) × (begun.log ≡ s.log)
       × (begun.sources ≡ s.sources) × (begun.sections ≡ s.sections) × (begun.variables ≡ s.variables)
+      × (begun.notifications ≡ s.notifications)
   unfolding wait_in
-  begun_free = (refl, refl, refl, refl, refl, refl, refl, refl, refl, refl)
+  begun_free = (refl, refl, refl, refl, refl, refl, refl, refl, refl, refl, refl)
 
   -- the scheduler
   pub sched_decided : (v : Schedule) → v.pending ≡ [] → sched.StandsFor v s → is_ready s i ≡ true → s.call_hold ≡ false
@@ -262,6 +263,7 @@ module _ (k : Machine) (log : List Event) (s : State) (h : At k log s) (i o : �
             awake = awake_there;
             progress = progress_then;
             full = rw length-set h.stands.rest.full;
+            notifications = notifications_then;
             variables = variables_then;
             sources = sources_then;
             sections = sections_then;
@@ -297,6 +299,10 @@ module _ (k : Machine) (log : List Event) (s : State) (h : At k log s) (i o : �
 
           sources_then : AreSources k.sources after.sources
           sources_then = subst (AreSources k.sources) (sym (begun_free s i list o l).7) h.stands.rest.sources
+
+          notifications_then : AreNotifications k.notifications after.notifications
+          notifications_then =
+              subst (AreNotifications k.notifications) (sym (begun_free s i list o l).10) h.stands.rest.notifications
 
           variables_then : k.variables ≡ after.variables
           variables_then = h.stands.rest.variables ∙ sym (begun_free s i list o l).9
@@ -381,6 +387,7 @@ module _ (k : Machine) (log : List Event) (s : State) (i : ℕ) (list : WaitList
             objects = shown table;
             groups = on_groups.stands_same k.groups s later b.groups (bits_kept.same_task i u s refl (λ _. refl)) table;
             awake = at_locked_same None s later same (at_locked-placed (Some (decider i list s)) s b.awake);
+            notifications = b.notifications;
             variables = b.variables;
             sources = b.sources;
             sections = b.sections;

@@ -12,7 +12,8 @@ use Rattle.model.specs.declared.call.Phase.TheVariants.{Start, Try, Decide, Plac
 use Rattle.model.specs.declared.event.Event.{Event}
 use Rattle.model.specs.declared.op.Op.TheVariants.{SetBits, WaitBits}
 use Rattle.model.specs.Application.{Application}
-use Rattle.model.specs.State.{State, Task, Progress, Status, Ready, Awake, Waiting, WaitingForBits, Asleep, Suspended, Ended}
+use Rattle.model.specs.State.{State, Task, Progress, Status, Ready, Awake, Waiting, WaitingForBits, WaitingForNotification, Asleep}
+use Rattle.model.specs.State.{Suspended, Ended}
 use Rattle.model.specs.State.{no_task, ticket_if_ready, ticket_if_for_bits, task_at, status_at, progress_at, call_at, bits_at}
 use Rattle.model.specs.State.{with_bits, for_each}
 use Rattle.model.specs.Order.{Key, Entry, key, tasks_of}
@@ -48,7 +49,7 @@ use Rattle.machine.specs.StandsFor.{StandsFor, At, AtAny, DoesAny, Moves, progre
 use Rattle.machine.specs.Logged.{Logged}
 use Rattle.machine.specs.Keeping.{keep_in, kept_by}
 use Rattle.machine.specs.Can.{AreThere, AreToWake}
-use Rattle.ops.specs.Can.{CanDecide, CanWaitBits}
+use Rattle.ops.specs.Can.{CanDecide, CanAwaitEvent}
 use Rattle.machine.proofs.Parts.{apart, clock-same, not_for_bits, progress-kept, rest_again, rest_with_groups, same_parts}
 use Rattle.machine.proofs.Parts.{sched-same}
 use Rattle.machine.proofs.Acting.{within, changed}
@@ -254,6 +255,7 @@ waits_for_bits group (Awake w) k e = absurd (cc)
 waits_for_bits group (Waiting w) k e = absurd (cc)
 waits_for_bits group (Asleep w n) k e = absurd (cc)
 waits_for_bits group (WaitingForBits g m d) k e = (refl, refl, refl)
+waits_for_bits group (WaitingForNotification m d) k e = (refl, refl, refl)
 waits_for_bits group Suspended k e = absurd (cc)
 waits_for_bits group Ended k e = absurd (cc)
 
@@ -469,7 +471,7 @@ left_at k new log s h i r left bits e is =
 
 -- Past Start and Leave, a wait for bits can decide.
 pub decides_at_last : (k : Machine) (task : ℕ) (ticks : Option ℕ) (phase : Phase)
-    → phase ≢ Start → phase ≢ Leave → CanWaitBits k task ticks phase → CanDecide k task
+    → phase ≢ Start → phase ≢ Leave → CanAwaitEvent k task ticks phase → CanDecide k task
 decides_at_last k task ticks Start off on can = absurd (off refl)
 decides_at_last k task ticks Try off on can = can
 decides_at_last k task ticks Decide off on can = can

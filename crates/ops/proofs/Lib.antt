@@ -5,6 +5,7 @@ pub mod Ranking
 pub mod Deciding
 pub mod Unlocking
 pub mod EventBits
+pub mod Notifying
 pub mod Before
 pub mod Calling
 pub mod Suspending

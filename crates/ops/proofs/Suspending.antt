@@ -9,7 +9,8 @@ use Rattle.model.specs.declared.call.Phase.TheVariants.{Start, Try, Decide, Plac
 use Rattle.model.specs.declared.call.WaitList.{WaitList}
 use Rattle.model.specs.declared.event.Event.{Event}
 use Rattle.model.specs.Application.{Application, op_count}
-use Rattle.model.specs.State.{State, Task, Progress, Status, Ready, Awake, Waiting, Asleep, WaitingForBits, Suspended, Ended}
+use Rattle.model.specs.State.{State, Task, Progress, Status, Ready, Awake, Waiting, Asleep, WaitingForBits, WaitingForNotification}
+use Rattle.model.specs.State.{Suspended, Ended}
 use Rattle.model.specs.State.{ticket_if_ready, wait_if_awake, wake_time_of, task_at, status_at, progress_at, call_at, with_task}
 use Rattle.model.specs.State.{with_status, no_task}
 use Rattle.model.specs.State as state
@@ -34,7 +35,7 @@ use Rattle.objects.specs.Objects.{Objects, SameWaits}
 use Rattle.objects.proofs.Kept.{stands_same, same_task}
 use Rattle.objects.proofs.Awake.{at_locked_same}
 use Rattle.groups.specs.StandsFor as groups
-use Rattle.groups.specs.StandsFor.{bits_wait}
+use Rattle.groups.specs.StandsFor.{event_wait}
 use Rattle.groups.specs.EventGroups.{EventGroups}
 use Rattle.groups.proofs.Standing as on_groups
 use Rattle.groups.proofs.Kept as bits_kept
@@ -54,6 +55,7 @@ ready_can (Awake w) t = refl
 ready_can (Waiting w) t = refl
 ready_can (Asleep w n) t = refl
 ready_can (WaitingForBits g n d) t = refl
+ready_can (WaitingForNotification n d) t = refl
 ready_can Suspended t = absurd (cc)
 ready_can Ended t = absurd (cc)
 
@@ -63,6 +65,7 @@ asleep_can (Awake w) t = refl
 asleep_can (Waiting w) t = refl
 asleep_can (Asleep w n) t = refl
 asleep_can (WaitingForBits g n d) t = refl
+asleep_can (WaitingForNotification n d) t = refl
 asleep_can Suspended t = absurd (cc)
 asleep_can Ended t = absurd (cc)
 
@@ -72,17 +75,19 @@ waiting_can (Awake w) t = refl
 waiting_can (Waiting w) t = refl
 waiting_can (Asleep w n) t = refl
 waiting_can (WaitingForBits g n d) t = refl
+waiting_can (WaitingForNotification n d) t = refl
 waiting_can Suspended t = absurd (cc)
 waiting_can Ended t = absurd (cc)
 
 -- of the others those who wait for bits
 pub rest_can : (u : Status) → is_some (ticket_if_ready u) ≡ false → is_some (wake_time_of u) ≡ false
-    → is_some (wait_of u) ≡ false → is_some (bits_wait u) ≡ can_suspend u
+    → is_some (wait_of u) ≡ false → is_some (event_wait u) ≡ can_suspend u
 rest_can (Ready n) r a w = absurd (cc)
 rest_can (Awake v) r a w = absurd (cc)
 rest_can (Waiting v) r a w = absurd (cc)
 rest_can (Asleep v n) r a w = absurd (cc)
 rest_can (WaitingForBits g n d) r a w = refl
+rest_can (WaitingForNotification n d) r a w = refl
 rest_can Suspended r a w = refl
 rest_can Ended r a w = refl
 
@@ -213,6 +218,7 @@ module _ (u : Status) (t : can_resume u ≡ true) where
     by_status (Waiting w) e = absurd (cc)
     by_status (Asleep w n) e = absurd (cc)
     by_status (WaitingForBits g n d) e = absurd (cc)
+    by_status (WaitingForNotification n d) e = absurd (cc)
     by_status Suspended e = refl
     by_status Ended e = absurd (cc)
 
@@ -250,7 +256,7 @@ module _ (k : Machine) (s : State) (i : ℕ) (t : can_resume (status_at s i) ≡
       let on_new : sched.StandsFor v new = subst (sched.StandsFor v) one on in
       let alike = ready_alike (status_at s i) s.next_ticket (ap wake_time_of (is_suspended (status_at s i) t)) in
       let c = on_clock.stands_kept k.clock s new i (resumed_task s i) h.rest.clock l refl refl refl alike on_new.table in
-      let bits = subst (groups.SameBitWaits s) one (bits_kept.same_resume i s) in
+      let bits = subst (groups.SameEventWaits s) one (bits_kept.same_resume i s) in
       let off : phase_resumed (call_at s i).phase ≢ Place =
       not_resumed_place (call_at s i).phase (λ e. h.rest.placed i (ap (λ (x : Progress). x.call.phase) (h.rest.progress i) ∙ e)) in
       subst (StandsFor (kernel_resumed k v now i)) (sym one)
@@ -290,12 +296,13 @@ module _ (k : Machine) (s : State) (i : ℕ) (t : can_resume (status_at s i) ≡
             (sym own) (stands_same s new same k.objects
             (Some (record { task = task; list = list; priority = (task_at s task).priority })) b.objects table);
         groups =
-            on_groups.stands_same k.groups s new b.groups (subst (groups.SameBitWaits s) one (bits_kept.same_resume i s)) table;
+            on_groups.stands_same k.groups s new b.groups (subst (groups.SameEventWaits s) one (bits_kept.same_resume i s)) table;
         awake =
             subst (λ (u : Task). AtLocked (Some (record { task = task; list = list; priority = u.priority })) new) (sym own)
             (at_locked_same (Some (record { task = task; list = list; priority = (task_at s task).priority })) s new same b.awake);
         progress = progress-set k.progress s.tasks i (resumed_task s i) b.progress many l;
         full = rw length-set b.full;
+        notifications = b.notifications;
         variables = b.variables;
         sources = b.sources;
         sections = b.sections;

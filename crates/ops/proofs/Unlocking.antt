@@ -5,7 +5,8 @@ use Rattle.std.specs.Option.{option_and_then}
 use Rattle.model.specs.declared.call.WaitList.{WaitList}
 use Rattle.model.specs.declared.call.WaitList.TheVariants.{ToReceive, ToSend}
 use Rattle.model.specs.declared.event.Event.{Event}
-use Rattle.model.specs.State.{State, Task, Status, Ready, Awake, Waiting, Asleep, WaitingForBits, Suspended, Ended, wait_if_awake}
+use Rattle.model.specs.State.{State, Task, Status, Ready, Awake, Waiting, Asleep, WaitingForBits, WaitingForNotification, Suspended}
+use Rattle.model.specs.State.{Ended, wait_if_awake}
 use Rattle.model.specs.State.{status_at, for_one, for_each}
 use Rattle.model.specs.Order.{Key, Entry, tasks_of}
 use Rattle.model.specs.Switching.{is_ready, make_ready}
@@ -25,7 +26,7 @@ use Rattle.objects.specs.Objects.{Objects, locked_by}
 use Rattle.objects.proofs.Awake.{at_locked-unlock}
 use Rattle.objects.proofs.Unlocking.{each_append}
 use Rattle.objects.proofs.Counting.{Distinct, distinct_from}
-use Rattle.groups.specs.StandsFor.{SameBitWaits}
+use Rattle.groups.specs.StandsFor.{SameEventWaits}
 use Rattle.groups.proofs.Elsewhere as bits_elsewhere
 use Rattle.machine.specs.declared.machine.Machine.{Machine}
 use Rattle.machine.specs.StandsFor.{StandsFor, At}
@@ -50,6 +51,7 @@ in_one o (Awake w) k m e f = by_list w.list refl where
 in_one o (Waiting w) k m e f = absurd (cc)
 in_one o (Asleep w n) k m e f = absurd (cc)
 in_one o (WaitingForBits g n d) k m e f = absurd (cc)
+in_one o (WaitingForNotification n d) k m e f = absurd (cc)
 in_one o Suspended k m e f = absurd (cc)
 in_one o Ended k m e f = absurd (cc)
 
@@ -139,7 +141,7 @@ module _ (k : Machine) (log : List Event) (s : State) (h : At k log s) where
   unlocked_at is v t q e on awake there =
       let left = subst (objects.StandsFor q None) e there in
       let locked = subst (AtLocked None) e (at_locked-unlock None s h.stands.rest.awake) in
-      let bits = subst (SameBitWaits s) e (bits_elsewhere.same_unlock s) in
+      let bits = subst (SameEventWaits s) e (bits_elsewhere.same_unlock s) in
       subst (At (record k { sched = v; clock = t; objects = q }) log) (sym e) (record {
         stands =
             record {

@@ -9,7 +9,8 @@ use Rattle.model.specs.declared.call.WaitList.{WaitList}
 use Rattle.model.specs.declared.op.Access.{Access}
 use Rattle.model.specs.declared.event.Event.{Event}
 use Rattle.model.specs.Application.{Application}
-use Rattle.model.specs.State.{State, Task, Progress, Object, Status, Wait, Ready, Awake, Waiting, Asleep, WaitingForBits, Suspended}
+use Rattle.model.specs.State.{State, Task, Progress, Object, Status, Wait, Ready, Awake, Waiting, Asleep, WaitingForBits}
+use Rattle.model.specs.State.{WaitingForNotification, Suspended}
 use Rattle.model.specs.State.{Ended, ticket_if_ready, wait_if_waiting, wait_if_awake, task_at, status_at, call_at, with_object}
 use Rattle.model.specs.State.{go_on, for_one}
 use Rattle.model.specs.Order.{Key, Entry, first, task_of}
@@ -35,7 +36,7 @@ use Rattle.objects.specs.WaitersStand.{AtLocked}
 use Rattle.objects.specs.Objects as objects
 use Rattle.objects.specs.Objects.{Objects}
 use Rattle.objects.proofs.Awake.{at_locked-stored, at_locked-wake_best}
-use Rattle.groups.specs.StandsFor.{SameBitWaits}
+use Rattle.groups.specs.StandsFor.{SameEventWaits}
 use Rattle.groups.proofs.Kept as bits_kept
 use Rattle.groups.proofs.Elsewhere as bits_elsewhere
 use Rattle.machine.specs.declared.machine.Machine.{Machine}
@@ -68,6 +69,7 @@ unready (Awake w) e = refl
 unready (Waiting w) e = refl
 unready (Asleep w n) e = refl
 unready (WaitingForBits g m d) e = refl
+unready (WaitingForNotification m d) e = refl
 unready Suspended e = refl
 unready Ended e = refl
 
@@ -81,6 +83,7 @@ waiting_waits (Awake w) e = refl
 waiting_waits (Waiting w) e = refl
 waiting_waits (Asleep w n) e = absurd (cc)
 waiting_waits (WaitingForBits g m d) e = absurd (cc)
+waiting_waits (WaitingForNotification m d) e = absurd (cc)
 waiting_waits Suspended e = absurd (cc)
 waiting_waits Ended e = absurd (cc)
 
@@ -90,6 +93,7 @@ awake_waits (Awake w) e = refl
 awake_waits (Waiting w) e = refl
 awake_waits (Asleep w n) e = absurd (cc)
 awake_waits (WaitingForBits g m d) e = absurd (cc)
+awake_waits (WaitingForNotification m d) e = absurd (cc)
 awake_waits Suspended e = absurd (cc)
 awake_waits Ended e = absurd (cc)
 
@@ -122,6 +126,7 @@ waiting_unsuspended (Awake w) e = refl
 waiting_unsuspended (Waiting w) e = refl
 waiting_unsuspended (Asleep w n) e = refl
 waiting_unsuspended (WaitingForBits g m d) e = refl
+waiting_unsuspended (WaitingForNotification m d) e = refl
 waiting_unsuspended Suspended e = absurd (cc)
 waiting_unsuspended Ended e = refl
 
@@ -169,7 +174,7 @@ module _ (k : Machine) (s : State) (h : StandsFor k s) (list : WaitList) (i : �
       let one = wakes_it s list i is in
       let there = subst (objects.StandsFor q None) one left in
       let locked = subst (AtLocked None) one (at_locked-wake_best None list s h.rest.awake) in
-      let bits = subst (SameBitWaits s) one (bits_elsewhere.same_wake_best list s) in
+      let bits = subst (SameEventWaits s) one (bits_elsewhere.same_wake_best list s) in
       subst (At (record k { sched = v; clock = t; objects = q }) log) (sym one) (record {
         stands = record { sched = on l; rest = rest_with_objects h.rest (awake l) (progress-ready s i) refl there locked bits };
         log = same;
@@ -203,6 +208,7 @@ awake_unready (Awake w) = refl
 awake_unready (Waiting w) = refl
 awake_unready (Asleep w n) = refl
 awake_unready (WaitingForBits g m d) = refl
+awake_unready (WaitingForNotification m d) = refl
 awake_unready Suspended = refl
 awake_unready Ended = refl
 
@@ -213,6 +219,7 @@ awake_resumes (Awake w) = refl
 awake_resumes (Waiting w) = refl
 awake_resumes (Asleep w n) = refl
 awake_resumes (WaitingForBits g m d) = refl
+awake_resumes (WaitingForNotification m d) = refl
 awake_resumes Suspended = refl
 awake_resumes Ended = refl
 
@@ -222,6 +229,7 @@ awake_alike (Awake w) = record { key = refl; wake_time = refl }
 awake_alike (Waiting w) = record { key = refl; wake_time = refl }
 awake_alike (Asleep w n) = record { key = refl; wake_time = refl }
 awake_alike (WaitingForBits g m d) = record { key = refl; wake_time = refl }
+awake_alike (WaitingForNotification m d) = record { key = refl; wake_time = refl }
 awake_alike Suspended = record { key = refl; wake_time = refl }
 awake_alike Ended = record { key = refl; wake_time = refl }
 
@@ -229,7 +237,7 @@ module _ (k : Machine) (log : List Event) (s : State) (h : At k log s) (list : W
     (is : None ≡ (if is_locked s.locked list then None else best s list)) (q : Objects)
     (left : objects.StandsFor q None (wake_best list s)) where
   awakened_at : (i : ℕ) → i < length s.tasks → objects.StandsFor q None (awaken i s) → AtLocked None (awaken i s)
-      → SameBitWaits s (awaken i s) → At (record k { objects = q }) log (awaken i s)
+      → SameEventWaits s (awaken i s) → At (record k { objects = q }) log (awaken i s)
   awakened_at i l there locked bits =
       let t : Task = record (task_at s i) { status = awake_status (status_at s i) } in
       let table : IsTable (awaken i s) = there.waiters.table in
@@ -261,7 +269,7 @@ module _ (k : Machine) (log : List Event) (s : State) (h : At k log s) (list : W
     by_case (Counted i l one) =
         subst (At (record k { objects = q }) log) (sym one) (awakened_at i l (subst (objects.StandsFor q None) one left)
         (subst (AtLocked None) one (at_locked-wake_best None list s h.stands.rest.awake))
-        (subst (SameBitWaits s) one (bits_elsewhere.same_wake_best list s)))
+        (subst (SameEventWaits s) one (bits_elsewhere.same_wake_best list s)))
 
 -- one task more is Ready, and the running one is as before
 pub still_runs : (k new : Machine) (i j : ℕ) → Runs k j → schedule.is_ready k.sched i ≡ false

@@ -118,11 +118,11 @@ abbrev pub CanSetBits : Machine → ℕ → Phase → Type 0
 CanSetBits k task Start = CanDecide k task
 CanSetBits k task _ = Runs k task × CanLeave k task
 
--- What a wait for bits can do next in this phase.
-abbrev pub CanWaitBits : Machine → ℕ → Option ℕ → Phase → Type 0
-CanWaitBits k task ticks Start = CanDecide k task × IsShort ticks × (k.clock.now + 2 ^ 32 < 2 ^ 63)
-CanWaitBits k task ticks Leave = CanLeave k task
-CanWaitBits k task ticks _ = CanDecide k task
+-- What a wait for bits or for a notification can do next in this phase.
+abbrev pub CanAwaitEvent : Machine → ℕ → Option ℕ → Phase → Type 0
+CanAwaitEvent k task ticks Start = CanDecide k task × IsShort ticks × (k.clock.now + 2 ^ 32 < 2 ^ 63)
+CanAwaitEvent k task ticks Leave = CanLeave k task
+CanAwaitEvent k task ticks _ = CanDecide k task
 
 -- While a task holds the scheduler, by `suspend_all` or in a critical section, and no call does: the task runs and can do this
 -- op, and one more of each of these and of the held ticks can be counted.

@@ -14,7 +14,7 @@ ghost use Rattle.clock.specs.StandsFor.{StandsFor as ClockStandsFor};
 ghost use Rattle.machine.specs.StandsFor.{StandsFor, Does, DoesAny, IsPlaced, Moves, progress_in};
 ghost use Rattle.machine.specs.Keeping.{kept_by};
 ghost use Rattle.machine.specs.Can.{AreThere, AreToWake, Runs};
-ghost use Rattle.ops.specs.Can.{CanDecide, CanLeave, CanSetBits, CanWaitBits, IsShort};
+ghost use Rattle.ops.specs.Can.{CanDecide, CanLeave, CanSetBits, CanAwaitEvent, IsShort};
 ghost use Rattle.ops.specs.InCall.{IsUnmet, Remains, TakesHold};
 ghost use Rattle.ops.specs.declared.event_groups.BitsWait.TheVariants as wait;
 
@@ -343,7 +343,7 @@ pub fn wait_bits<L: Log>(
     log: &mut L,
 ) -> BitsWait
     requires room { 2 ≤ (L.logged log.old).room }
-    requires can { CanWaitBits machine.old task ticks
+    requires can { CanAwaitEvent machine.old task ticks
         (progress_in machine.old.progress task).call.phase }
     ensures does { DoesAny 2 machine.old (L.logged log.old) machine.new (L.logged log.new)
         (act app.now task (op.WaitBits group condition ticks)) }

@@ -9,6 +9,7 @@ pub mod critical;
 pub mod daemon;
 pub mod event_groups;
 pub mod mutexes;
+pub mod notifications;
 pub mod queues;
 pub mod script;
 pub mod suspension;

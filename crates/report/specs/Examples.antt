@@ -5,7 +5,12 @@ use Rattle.model.specs.Run.{Run}
 use Rattle.model.specs.Campaign as campaign
 use Rattle.model.specs.declared.op.Op.{Op}
 use Rattle.model.specs.declared.op.Op.TheVariants.{Delay, DelayUntil, Mark, Await, Do, GiveMutex, SetBits, ClearBits, GetBits}
-use Rattle.model.specs.declared.op.Op.TheVariants.{WaitBits, Suspend, Resume, SuspendAll, ResumeAll}
+use Rattle.model.specs.declared.op.Op.TheVariants.{WaitBits, Notify, AwaitNotification, ClearNotification, Suspend, Resume}
+use Rattle.model.specs.declared.op.Op.TheVariants.{SuspendAll}
+use Rattle.model.specs.declared.op.Op.TheVariants.{ResumeAll}
+use Rattle.model.specs.declared.notification.NotifyAction.TheVariants as notify
+use Rattle.model.specs.declared.notification.NotificationWait.TheVariants as awaited
+use Rattle.model.specs.declared.notification.NotificationClear.TheVariants as cleared
 use Rattle.model.specs.declared.op.Access.TheVariants.{SendFront, Take, Give, Lock}
 use Rattle.model.specs.declared.value.Value.TheVariants.{Number}
 use Rattle.model.specs.declared.op.IsrOp.{IsrOp}
@@ -120,6 +125,26 @@ each_hold_run = record {
   steps = 10;
   ticks = 0;
   end = Misuse a 7 WhileSuspended;
+}
+
+-- a task that has to do with its own notification, and a handler that notifies it
+abbrev pub each_notification : Application
+each_notification = record (app_of (a_task (codes "a") (
+    Notify 0 notify.Increment ∷ AwaitNotification (awaited.Take true) None
+    ∷ AwaitNotification (awaited.Wait (record { entry = 0; exit = 1 })) (Some 5) ∷ ClearNotification cleared.Pending
+    ∷ ClearNotification (cleared.Bits 1) ∷ []) ∷ [])) {
+      handlers = record { name = codes "h"; ops = isr_op.Notify 0 notify.Nothing ∷ [] } ∷ [];
+    }
+
+-- one event of each of their ops; no run reports these events
+abbrev pub each_notification_run : Run
+each_notification_run = record {
+  events =
+      event_at 0 0 (what.Isr 0 0 1) ∷ event_at 0 0 (what.Call a 0 1) ∷ event_at 1 0 (what.Call a 1 1)
+      ∷ event_at 8 5 (what.CallNone a 2) ∷ event_at 9 5 (what.Call a 3 0) ∷ event_at 10 5 (what.Call a 4 4294967295) ∷ [];
+  steps = 11;
+  ticks = 5;
+  end = Pass;
 }
 
 -- a handler that sends an item to the front of a queue

@@ -1,7 +1,7 @@
 //! Laws of the definitions: each is the contract of a function that does nothing.
 ghost use Rattle.std.specs.Prelude.{◌≡◌, ◌<◌, ◌++◌, ℕ, List, codes, length, map, true, false, []};
 ghost use Rattle.std.specs.List.{flat_map};
-ghost use Rattle.report.specs.Examples.{delay_one, delay_one_run, two_unlocks, two_unlocks_row, two_unlocks_run, each_hold, each_hold_run, each_form, each_form_run, last_row, longest_row, two_marks, two_rows, all_pass, each_end, failing_rows, heads_alone, second_half};
+ghost use Rattle.report.specs.Examples.{delay_one, delay_one_run, two_unlocks, two_unlocks_row, two_unlocks_run, each_hold, each_hold_run, each_notification, each_notification_run, each_form, each_form_run, last_row, longest_row, two_marks, two_rows, all_pass, each_end, failing_rows, heads_alone, second_half};
 ghost use Rattle.report.specs.Text.{head_text, run_text, verdict_text, total_text, campaign_text};
 ghost use Rattle.report.specs.declared.title.Title.TheVariants.{Base};
 ghost use Rattle.report.specs.Shards.{Shard, added, first_of, part_of, shards, undivided};
@@ -55,6 +55,18 @@ pub fn report_of_each_hold()
         ++ codes "9 0 call a 7 resume_all = 0\n"
         ++ codes "9 0 call a 1 set = 1\n"
         ++ codes "9 0 call a 1 clear = 1\n" }
+{}
+
+/// The words of ops on notifications, letter by letter.
+pub fn report_of_each_notification()
+    ensures { run_text each_notification Base each_notification_run ≡
+        codes "base: pass in 11 steps, 5 ticks\n"
+        ++ codes "0 0 isr h 0 notify = 1\n"
+        ++ codes "0 0 call a 0 notify = 1\n"
+        ++ codes "1 0 call a 1 notify_take = 1\n"
+        ++ codes "8 5 call a 2 notify_wait = none\n"
+        ++ codes "9 5 call a 3 notify_clear = 0\n"
+        ++ codes "10 5 call a 4 notify_value_clear = 4294967295\n" }
 {}
 
 /// How each misuse is printed, letter by letter.

@@ -36,11 +36,12 @@ pub(crate) fn name(app: &App, task: TaskId) -> &[u8]
 }
 
 // The first word of a task's op of this index.
-#[tactic(auto, using(crate::proofs::Short::word_short))]
+#[tactic(auto, using(crate::proofs::Short::index_and_word_short))]
 fn word(app: &App, task: TaskId, op_index: u16) -> &'static [u8]
     ensures text { result.now ≡ word_at app.now task op_index }
-    ensures size { length result.now ≤ 14 }
+    ensures size { length (decimal op_index) + length result.now ≤ 21 }
 {
+    app.well_formed();
     match app.op(task, op_index) {
         None => b"",
         Some(op) => op.word().as_bytes(),
@@ -60,7 +61,7 @@ fn handler_name(app: &App, handler: HandlerId) -> &[u8]
 #[tactic(auto, using(crate::proofs::Short::isr_word_short))]
 fn isr_word(app: &App, handler: HandlerId, op_index: u16) -> &'static [u8]
     ensures text { result.now ≡ isr_word_at app.now handler op_index }
-    ensures size { length result.now ≤ 14 }
+    ensures size { length result.now ≤ 18 }
 {
     match app.isr_op(handler, op_index) {
         None => b"",

@@ -11,8 +11,10 @@ use Rattle.model.specs.declared.call.CallProgress.{CallProgress}
 use Rattle.model.specs.declared.call.WaitList.{WaitList}
 use Rattle.model.specs.Waiting.{wait_in}
 use Rattle.model.specs.Groups.{wait_for_bits}
+use Rattle.model.specs.Notifications.{wait_for_notification}
 use Rattle.model.specs.Suspension.{can_resume}
-use Rattle.model.specs.State.{State, Status, Task, Ready, Awake, Waiting, Asleep, WaitingForBits, Suspended, Ended, no_task}
+use Rattle.model.specs.State.{State, Status, Task, Ready, Awake, Waiting, Asleep, WaitingForBits, WaitingForNotification, Suspended}
+use Rattle.model.specs.State.{Ended, no_task}
 use Rattle.model.specs.State.{task_at, status_at, progress_at, call_at, with_task, with_call, take_ticket, ticket_if_ready, for_one}
 use Rattle.model.specs.Order.{Entry, entry, first, key, keyed, list_by, put, task_of}
 use Rattle.model.specs.Switching.{choice, choose, dispatch, is_above, is_beside, is_held, is_outranked, is_ready, is_same}
@@ -130,6 +132,7 @@ ready_unsuspended (Awake w) t = absurd cc
 ready_unsuspended (Waiting w) t = absurd cc
 ready_unsuspended (Asleep m n) t = absurd cc
 ready_unsuspended (WaitingForBits g m d) t = absurd cc
+ready_unsuspended (WaitingForNotification m d) t = absurd cc
 ready_unsuspended Suspended t = absurd cc
 ready_unsuspended Ended t = absurd cc
 
@@ -287,6 +290,7 @@ ready_at s i p (Awake w) ep eu = has_task-none ready_key i s.tasks (ready_key_of
 ready_at s i p (Waiting w) ep eu = has_task-none ready_key i s.tasks (ready_key_of ep eu)
 ready_at s i p (Asleep w n) ep eu = has_task-none ready_key i s.tasks (ready_key_of ep eu)
 ready_at s i p (WaitingForBits g m d) ep eu = has_task-none ready_key i s.tasks (ready_key_of ep eu)
+ready_at s i p (WaitingForNotification m d) ep eu = has_task-none ready_key i s.tasks (ready_key_of ep eu)
 ready_at s i p Suspended ep eu = has_task-none ready_key i s.tasks (ready_key_of ep eu)
 ready_at s i p Ended ep eu = has_task-none ready_key i s.tasks (ready_key_of ep eu)
 
@@ -662,6 +666,14 @@ unfolding wait_for_bits
 stands_waiting_bits v s i group none h l ready =
     let deadline : Option ℕ = (call_at s i).deadline in
     stands_begun v s i (λ ticket. WaitingForBits group ticket deadline) none h l ready (omega arith) refl refl
+
+-- and for a notification
+pub stands_waiting_notification : (v : Schedule) (s : State) (i : ℕ) → v.pending ≡ [] → StandsFor v s
+    → i < length s.tasks → is_ready s i ≡ true → StandsBefore i v (wait_for_notification i s)
+unfolding wait_for_notification
+stands_waiting_notification v s i none h l ready =
+    let deadline : Option ℕ = (call_at s i).deadline in
+    stands_begun v s i (λ ticket. WaitingForNotification ticket deadline) none h l ready (omega arith) refl refl
 
 -- A task that is still to be placed, or another, keeps its key.
 pub stands_before_kept : (v : Schedule) (s new : State) (i j : ℕ) (t : Task) → StandsBefore i v s → j < length s.tasks

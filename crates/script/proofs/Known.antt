@@ -11,6 +11,7 @@ use Rattle.model.specs.declared.op.Op.{Op}
 use Rattle.model.specs.declared.op.Op.TheVariants as op
 use Rattle.model.specs.declared.op.IsrOp.{IsrOp}
 use Rattle.model.specs.declared.op.IsrOp.TheVariants as isr
+use Rattle.model.specs.declared.notification.NotifyAction.{NotifyAction}
 use Rattle.model.specs.declared.value.Value.{Value}
 use Rattle.model.specs.declared.value.ValueOp.{ValueOp}
 use Rattle.model.specs.Application.{Application, Handler}
@@ -22,8 +23,9 @@ use Rattle.grammar.specs.declared.object_sort.ObjectSort.TheVariants.{Queue, Sem
 use Rattle.script.specs.declared.place.Place.{Place}
 use Rattle.script.specs.Arrays.{each_fault}
 use Rattle.grammar.specs.Grammar.{Word, Form, forms, basic_forms, block_forms, queue_forms, semaphore_forms, group_forms}
-use Rattle.grammar.specs.Grammar.{suspension_forms, value_forms, given, CommandForm, isr_call_forms, isr_forms, read_by}
-use Rattle.grammar.specs.Grammar.{if_in_range}
+use Rattle.grammar.specs.Grammar.{ActionValue, Done, notification_forms, suspension_forms, value_forms, given, CommandForm}
+use Rattle.grammar.specs.Grammar.{isr_call_forms, isr_forms, read_by}
+use Rattle.grammar.specs.Grammar.{if_in_range, OfTask}
 use Rattle.grammar.specs.Grammar.{is_isr_in_range, if_isr_in_range, op_of, isr_op_of, words_of}
 use Rattle.script.specs.Entries.{RawIsr, Raw, Entries, HasEntries}
 use Rattle.script.specs.Finding.{among}
@@ -31,7 +33,7 @@ use Rattle.script.specs.Ops.{Ops, task_ops, handler_ops, is_allowed, is_isr_allo
 use Rattle.script.specs.Ops.{op_fault, script_fault, ops_named, handler_scripts, task_scripts, scripts_fault, handler_ops_fault}
 use Rattle.script.specs.Ops.{with_script, with_isr_ops}
 use Rattle.script.proofs.Checks.{none_fails}
-use Rattle.grammar.proofs.Forms.{Makes, read_by_holds}
+use Rattle.grammar.proofs.Forms.{Makes, action_makes, read_by_holds}
 use Rattle.script.proofs.Fitting.{IsAt, found_at, at_fits, allowed_fits, at_group, at_task, at_variable, at_value, at_condition}
 use Rattle.script.proofs.Fitting.{has_daemon}
 use Rattle.script.proofs.Scripts.{taken_stands, handler_nests}
@@ -136,6 +138,17 @@ module _ (app : Application) (entries : Entries) (has : HasEntries app entries) 
     ),
   )
 
+  notify_known : (t : ℕ) → IsAt entries OfTask t → (a : NotifyAction Unit)
+      → Makes IsKnown (IsAt entries) (ActionValue (λ action. Done (op.Notify t action)) a)
+  notify_known t at = action_makes IsKnown (IsAt entries) (λ action. Done (op.Notify t action))
+      (λ action a. at_task app entries has t at)
+
+  notification_forms_known : AllKnown notification_forms
+  notification_forms_known = (
+    notify_known,
+    ((λ clears ticks a. refl), ((λ entry exit ticks a. refl), ((λ a. refl), ((λ bits a. refl), tt)))),
+  )
+
   group_forms_known : AllKnown group_forms
   group_forms_known = (
     (λ g at mask a. at_group app entries has g at),
@@ -215,15 +228,21 @@ module _ (app : Application) (entries : Entries) (has : HasEntries app entries) 
   forms_known =
       let values = value_forms op.Value in
       let from_suspension = both_known suspension_forms values suspension_forms_known value_forms_known in
-      let from_groups = both_known group_forms (suspension_forms ++ values) group_forms_known from_suspension in
+      let from_notifications =
+      both_known notification_forms (suspension_forms ++ values) notification_forms_known from_suspension in
+      let from_groups =
+      both_known group_forms (notification_forms ++ suspension_forms ++ values) group_forms_known from_notifications in
       let from_semaphores =
-      both_known semaphore_forms (group_forms ++ suspension_forms ++ values) semaphore_forms_known from_groups in
+      both_known semaphore_forms (group_forms ++ notification_forms ++ suspension_forms ++ values)
+      semaphore_forms_known from_groups in
       let from_queues =
-      both_known queue_forms (semaphore_forms ++ group_forms ++ suspension_forms ++ values) queue_forms_known from_semaphores in
+      both_known queue_forms (semaphore_forms ++ group_forms ++ notification_forms ++ suspension_forms ++ values)
+      queue_forms_known from_semaphores in
       let from_blocks =
-      both_known block_forms (queue_forms ++ semaphore_forms ++ group_forms ++ suspension_forms ++ values)
+      both_known block_forms (queue_forms ++ semaphore_forms ++ group_forms ++ notification_forms ++ suspension_forms ++ values)
       block_forms_known from_queues in
-      both_known basic_forms (block_forms ++ queue_forms ++ semaphore_forms ++ group_forms ++ suspension_forms ++ values)
+      both_known basic_forms
+      (block_forms ++ queue_forms ++ semaphore_forms ++ group_forms ++ notification_forms ++ suspension_forms ++ values)
       basic_forms_known from_blocks
 
   abbrev AreKnown : Option Op → Type 0
@@ -280,7 +299,7 @@ module _ (app : Application) (entries : Entries) (has : HasEntries app entries) 
   AllIsrKnown fs = AllByRecursion (λ (form : Word × Form IsrOp). Makes IsIsrKnown (IsAt entries) form.1) fs
 
   -- those that name no object, no event group and no task
-  plain_forms_known : AllIsrKnown (drop 10 isr_call_forms)
+  plain_forms_known : AllIsrKnown (drop 11 isr_call_forms)
   plain_forms_known = (
     (λ n r a s. refl),
     (
@@ -288,6 +307,11 @@ module _ (app : Application) (entries : Entries) (has : HasEntries app entries) 
       ((λ condition at r a s. at_condition app entries has condition at), ((λ r a s. refl), ((λ r a s. refl), tt))),
     ),
   )
+
+  isr_notify_known : (t : ℕ) → IsAt entries OfTask t → (a : NotifyAction Unit)
+      → Makes IsIsrKnown (IsAt entries) (ActionValue (λ action. Done (isr.Notify t action)) a)
+  isr_notify_known t at =
+      action_makes IsIsrKnown (IsAt entries) (λ action. Done (isr.Notify t action)) (λ action r a s. at_task app entries has t at)
 
   isr_call_forms_known : AllIsrKnown isr_call_forms
   isr_call_forms_known = (
@@ -306,7 +330,7 @@ module _ (app : Application) (entries : Entries) (has : HasEntries app entries) 
                 (λ t at r a s. at_task app entries has t at),
                 (
                   command_known false,
-                  (command_known true, ((λ g at r a s. at_group app entries has g at), plain_forms_known)),
+                  (command_known true, ((λ g at r a s. at_group app entries has g at), (isr_notify_known, plain_forms_known))),
                 ),
               ),
             ),

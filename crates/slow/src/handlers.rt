@@ -51,6 +51,7 @@ impl SlowKernel {
             IsrOp::Command(command) => self.send_command(app, command),
             IsrOp::Resume(task) => Some(self.resume(task) as u32),
             IsrOp::GetBits(group) => Some(self.bits(group)),
+            IsrOp::Notify(task, action) => Some(self.notify(task, action, last)),
             IsrOp::Value(op) => self.isr_values(op, last),
         };
         self.write(match answer {

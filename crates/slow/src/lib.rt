@@ -4,6 +4,7 @@
 
 use calls::Side;
 use model::{App, End, Event, Injection, Limits, Loop, Op, Phase, TaskId, What};
+use notifications::{Notice, NoticeWait};
 use shared::Object;
 use std::alloc::Global;
 use values::receives;
@@ -16,6 +17,7 @@ mod handlers;
 mod idle;
 mod misuses;
 mod mutexes;
+mod notifications;
 mod sections;
 mod shared;
 mod suspension;
@@ -46,6 +48,7 @@ enum Status {
     },
     Waiting(Wait),
     WaitingForBits(BitWait),
+    WaitingForNotification(NoticeWait),
     /// In no list. Where a `delay_until` was cut off, this is the time until which it would have slept.
     Suspended(Option<u64>),
     Ended,
@@ -194,6 +197,23 @@ pub struct Tally {
     pub sent_answers: u32,
     pub passed_on: u32,
     pub answers_sent_by_handlers: u32,
+    /// A task was notified: one that waited for it; one that hadn't left the processor yet; one that was suspended.
+    pub notifies: u32,
+    pub notified_wakes: u32,
+    pub window_notifies: u32,
+    pub suspended_notifies: u32,
+    /// While a notification was pending, a value was kept; one was overwritten. A count was added to another.
+    pub kept_values: u32,
+    pub lost_values: u32,
+    pub added_counts: u32,
+    /// A take answered a count; it left some. A wait for a notification ended at its deadline.
+    pub taken_counts: u32,
+    pub left_counts: u32,
+    pub notice_timeouts: u32,
+    /// A `notify_wait` cleared bits at its start; at its end. A pending notification was cleared.
+    pub entry_clears: u32,
+    pub exit_clears: u32,
+    pub cleared_notices: u32,
 }
 
 /// Counts something, where it is so.
@@ -207,6 +227,8 @@ pub struct SlowKernel {
     objects: Vec<Object>,
     /// Which bits of each event group are set.
     groups: [u32; 16],
+    /// The notification of each task.
+    notices: [Notice; 32],
     /// The value of each variable.
     variables: [u32; 32],
     time: u64,
@@ -251,6 +273,7 @@ impl SlowKernel {
             tasks: [no_task; 32],
             objects: Vec::new(alloc),
             groups: [0; 16],
+            notices: [Notice::default(); 32],
             variables: [0; 32],
             time: app.start() as u64,
             elapsed: 0,
@@ -422,6 +445,7 @@ impl SlowKernel {
             } => Some((wake_time, ticket)),
             Status::Waiting(wait) | Status::Awake(wait) => Some((wait.deadline?, wait.ticket)),
             Status::WaitingForBits(wait) => Some((wait.deadline?, wait.ticket)),
+            Status::WaitingForNotification(wait) => Some((wait.deadline?, wait.ticket)),
             Status::Ready(_) | Status::Suspended(_) | Status::Ended => None,
         }
     }
@@ -449,7 +473,9 @@ impl SlowKernel {
         let is_timeout = matches!(status, Status::Waiting(_));
         let is_bit_timeout = matches!(status, Status::WaitingForBits(_));
         count_if(&mut self.tally.timeouts, is_timeout);
+        let is_notice_timeout = matches!(status, Status::WaitingForNotification(_));
         count_if(&mut self.tally.bit_timeouts, is_bit_timeout);
+        count_if(&mut self.tally.notice_timeouts, is_notice_timeout);
     }
 
     /// All who are due wake.
@@ -662,6 +688,9 @@ impl SlowKernel {
             Op::WaitBits(group, condition, ticks) => {
                 self.wait_for_bits(app, id, group, condition, ticks);
             }
+            Op::Notify(other, action) => self.call_notify(app, id, other, action),
+            Op::AwaitNotification(wait, ticks) => self.await_notice(app, id, wait, ticks),
+            Op::ClearNotification(what) => self.clear_notice(app, id, what),
             Op::Suspend(other) => self.call_suspend(app, id, other),
             Op::Resume(other) => self.call_resume(app, id, other),
             Op::SuspendAll => self.suspend_all(app, id),

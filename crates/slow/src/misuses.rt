@@ -23,6 +23,7 @@ fn may_be_held(op: Op) -> bool {
             | Op::SpacesAvailable(_)
             | Op::GetBits(_)
             | Op::ClearBits(_, _)
+            | Op::ClearNotification(_)
             | Op::SuspendAll
             | Op::ResumeAll
             | Op::EnterCritical

@@ -13,7 +13,10 @@ impl SlowKernel {
 
     fn count_suspend(&mut self, id: TaskId) {
         let task = self.task(id);
-        let waits = matches!(task.status, Status::Waiting(_) | Status::WaitingForBits(_));
+        let waits = matches!(
+            task.status,
+            Status::Waiting(_) | Status::WaitingForBits(_) | Status::WaitingForNotification(_)
+        );
         let decides = task.call.phase == Phase::Decide;
         let has_answer = task.call.kept.is_some();
         count_if(&mut self.tally.suspended_waits, waits);

@@ -1,6 +1,7 @@
 //! Variables, and ops that work with values.
 
 use super::calls::item_of;
+use super::notifications::lacks_notice;
 use super::{SlowKernel, Task, count_if};
 use model::{
     Access, AnswerCondition, App, Arithmetic, IsrOp, Op, Phase, TaskId, Value, ValueOp, VariableId,
@@ -201,6 +202,7 @@ impl SlowKernel {
                 task.call.phase == Phase::Start && Self::lacks_item(access, task.answer)
             }
             Op::Do(_, access) => Self::lacks_item(access, task.answer),
+            Op::Notify(_, action) => lacks_notice(action, task.answer),
             Op::Mark(value) => self.number(value, task.answer).is_none(),
             Op::Value(op) => self.outcome(op, task.answer).is_none(),
             _ => false,
@@ -225,6 +227,7 @@ impl SlowKernel {
     pub(super) fn is_isr_without_value(&mut self, op: &IsrOp, last: Option<u32>) -> bool {
         let is_missing = match *op {
             IsrOp::Do(_, access) => Self::lacks_item(access, last),
+            IsrOp::Notify(_, action) => lacks_notice(action, last),
             IsrOp::Mark(value) => self.number(value, last).is_none(),
             IsrOp::Value(op) => self.outcome(op, last).is_none(),
             _ => false,

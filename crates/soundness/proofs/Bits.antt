@@ -11,9 +11,9 @@ use Rattle.model.specs.declared.call.Condition.{Condition}
 use Rattle.model.specs.declared.call.Phase.TheVariants.{Start, Leave, Try}
 use Rattle.model.specs.Application.{Application, op_at}
 use Rattle.model.specs.Scripts.{IsWellFormed, is_wait}
-use Rattle.model.specs.State.{State, Task, Status, Ready, Awake, Waiting, WaitingForBits, Asleep, Suspended, Ended, Wait}
-use Rattle.model.specs.State.{ticket_if_ready, ticket_if_for_bits, task_at, status_at, progress_at, call_at, bits_at, with_task}
-use Rattle.model.specs.State.{with_bits, go_on, take_ticket, no_task}
+use Rattle.model.specs.State.{State, Task, Status, Ready, Awake, Waiting, WaitingForBits, WaitingForNotification, Asleep, Suspended}
+use Rattle.model.specs.State.{Ended, Wait, ticket_if_ready, ticket_if_for_bits, task_at, status_at, progress_at, call_at, bits_at}
+use Rattle.model.specs.State.{with_task, with_bits, go_on, take_ticket, no_task}
 use Rattle.model.specs.Order.{Key, Entry, key, tasks_of}
 use Rattle.model.specs.Switching.{make_ready, is_ready, choose}
 use Rattle.model.specs.Waiting.{set_deadline, end_hold}
@@ -21,8 +21,8 @@ use Rattle.model.specs.Ops.{answer}
 use Rattle.model.specs.Groups.{is_met, bits_without, bits_left, want, keep_answer, bits_key, waiters_for_bits, is_met_for, met_by}
 use Rattle.model.specs.Groups.{wake_with_bits, bits_set, set, begin_set, clear, answer_bits, wait_for_bits, left_by, wake_all}
 use Rattle.model.specs.Groups.{begin_bits_wait, final_bits}
-use Rattle.model.specs.Invariant.{IsReckoned, Hold, hold_of, ForBits, ToSetBits, course, IsPhaseOf, IsWaitOf, list_of_op, IsSound}
-use Rattle.model.specs.Invariant.{holds, suspension_of, IsState, wait_of}
+use Rattle.model.specs.Invariant.{HasTicketBelow, IsReckoned, Hold, hold_of, UntilWoken, ToSetBits, course, IsPhaseOf, IsWaitOf}
+use Rattle.model.specs.Invariant.{list_of_op, IsSound, holds, suspension_of, IsState, wait_of}
 use Rattle.model.proofs.Sorting.{by_test}
 use Rattle.model.proofs.Lists.{HasKey, list_has}
 use Rattle.model.proofs.Tables.{ticket_at, each-set}
@@ -31,7 +31,7 @@ use Rattle.soundness.proofs.InScripts.{nesting_past}
 use Rattle.soundness.proofs.Frames.{Keeps, keeps_both, keeps-set, keeps-with_call, keeps-take_ticket, keeps-set_deadline}
 use Rattle.soundness.proofs.Sound.{CanBeReady, can_still, framed, otherwise, changed, taken, kept_free, made_ready, answered}
 use Rattle.soundness.proofs.Sound.{chosen, ready_reckoned}
-use Rattle.soundness.proofs.Called.{went_on, dated}
+use Rattle.soundness.proofs.Called.{went_on, dated, dated_at}
 use Rattle.soundness.proofs.Phases.{free, unsuspended, in_hold, others_free, held_by_all, hold_ended}
 
 -- ---- who may be woken
@@ -43,6 +43,7 @@ bits_reckoned now p group (Awake w) k e r = r
 bits_reckoned now p group (Waiting w) k e r = r
 bits_reckoned now p group (Asleep v n) k e r = absurd (cc)
 bits_reckoned now p group (WaitingForBits g m d) k e r = r
+bits_reckoned now p group (WaitingForNotification m d) k e r = r
 bits_reckoned now p group Suspended k e r = absurd (cc)
 bits_reckoned now p group Ended k e r = absurd (cc)
 
@@ -103,6 +104,12 @@ stays-take_ticket i f s =
     let k = stays-with_task i (record (task_at s i) { status = f s.next_ticket }) s refl refl in
     record { current = refl; tasks = k.tasks; op_index = k.op_index; phase = k.phase }
 
+pub stays-set_deadline : (i : ℕ) (ticks : Option ℕ) (s : State) → Stays s (set_deadline i ticks s)
+unfolding set_deadline
+stays-set_deadline i ticks s =
+    let call : CallProgress = record (call_at s i) { deadline = option_map (λ n. s.time + n) ticks } in
+    stays-with_task i (record (task_at s i) { progress = record (progress_at s i) { call = call } }) s refl refl
+
 stays-wake_with_bits : (i bits : ℕ) (s : State) → Stays s (wake_with_bits i bits s)
 stays-wake_with_bits i bits s =
     let t : State = keep_answer i bits s in
@@ -155,6 +162,18 @@ module _ (i : ℕ) where
   pub ready-set : (group mask : ℕ) (s : State) → is_ready s i ≡ true → is_ready (set group mask s) i ≡ true
   unfolding set
   ready-set group mask s r = ready-wake_all (bits_set group mask s) (met_by group (bits_set group mask s) s) s r
+
+-- ---- a wait in no list of an object
+
+-- A task that gets such a status when it takes a ticket waits in no list of an object.
+pub record WaitsApart (status : ℕ → Status) : Type 0 where
+  pub free : (ticket : ℕ) → wait_of (status ticket) ≡ None
+  pub below : (ticket : ℕ) → HasTicketBelow (ticket + 1) (status ticket)
+  pub reckoned : (now previous ticket : ℕ) → previous ≤ now → IsReckoned now previous (status ticket)
+
+for_bits : (group : ℕ) (deadline : Option ℕ) → WaitsApart (λ ticket. WaitingForBits group ticket deadline)
+for_bits group deadline =
+    record { free = λ ticket. refl; below = λ ticket. omega arith; reckoned = λ now previous ticket past. past }
 
 -- ---- what is kept
 
@@ -228,13 +247,14 @@ module _ (app : Application) (formed : IsWellFormed app) (hold : Hold) where
     final_done group c (Some bits) = answered app formed hold s i op h free is (Some bits) (flat _)
 
   -- a wait begins
-  waited : (s : State) (i group : ℕ) → IsSound app hold s → is_ready s i ≡ true → IsSound app hold (wait_for_bits i group s)
-  unfolding wait_for_bits
-  waited s i group h r =
+  waited : (s : State) (i : ℕ) (status : ℕ → Status) → WaitsApart status → IsSound app hold s → is_ready s i ≡ true
+      → IsSound app hold (take_ticket i status s)
+  waited s i status w h r =
       let past : (progress_at s i).previous_wake ≤ s.time =
       ready_reckoned s.time (progress_at s i).previous_wake (status_at s i) (h.progress i).reckoned r in
-      taken app formed hold s i (λ ticket. WaitingForBits group ticket (call_at s i).deadline) h (omega arith)
-      (kept_free app formed hold s i (WaitingForBits group s.next_ticket (call_at s i).deadline) h refl past)
+      taken app formed hold s i status h (w.below s.next_ticket)
+      (kept_free app formed hold s i (status s.next_ticket) h (w.free s.next_ticket)
+      (w.reckoned s.time (progress_at s i).previous_wake s.next_ticket past))
 
 -- ---- a call that holds the scheduler
 
@@ -244,25 +264,22 @@ module _ (app : Application) (formed : IsWellFormed app) where
       (runs : s.current ≡ Some i) (l : i < length s.tasks) (r : is_ready s i ≡ true)
       (is : op_at app i (progress_at s i).op_index ≡ Some op) where
     -- the scheduler is held, and nothing locked
-    holding : Hold
+    abbrev pub holding : Hold
     holding = record { held = true; locked = None }
 
-    begun : State
+    abbrev pub begun : State
     begun = record s { call_hold = true }
 
     begun_hold : hold_of begun ≡ holding
-    unfolding begun holding
     begun_hold = ap (λ o. record { held = true; locked = o }) unlocked
 
     begun_sound : IsSound app holding begun
-    unfolding begun holding
     begun_sound =
         framed app formed holding s s.log s.steps s.stopped s.locked true (held_by_all app formed s holding h none unlocked)
 
     -- from here on the call is in its phase Leave
     leaving : (t : State) → IsSound app holding t → Keeps begun t → Stays begun t → IsPhaseOf holding (course (Some op)) Leave
         → (course (Some op) ≡ ToSetBits → is_ready t i ≡ true) → IsState app (go_on i Leave t)
-    unfolding begun holding
     leaving t sound k st fits setting =
         let same : hold_of t ≡ holding = k.hold ∙ begun_hold in
         let P : Option Op → Type 0 = λ o. IsPhaseOf holding (course o) Leave in
@@ -275,7 +292,7 @@ module _ (app : Application) (formed : IsWellFormed app) where
         (λ j ne. ap holds (st.phase j) ∙ others_free app formed s h none j) (k.suspension ∙ calm)
 
     pub set_begun : (group mask : ℕ) → course (Some op) ≡ ToSetBits → IsState app (begin_set i group mask s)
-    unfolding begin_set begun holding
+    unfolding begin_set
     set_begun group mask e =
         let u : State = set group mask begun in
         let bits : ℕ = bits_at u group in
@@ -288,37 +305,42 @@ module _ (app : Application) (formed : IsWellFormed app) where
         (rw e (refl, refl))
         (λ _. ready-keep_answer i i bits u (ready-set i group mask begun r))
 
+    -- the task waits until it is woken
+    pub wait_started : (u : State) (status : ℕ → Status) → WaitsApart status → IsSound app holding u → Keeps begun u
+        → Stays begun u → is_ready u i ≡ true → course (Some op) ≡ UntilWoken → IsState app (go_on i Leave (take_ticket i status u))
+    wait_started u status w sound k st ready way =
+        leaving (take_ticket i status u) (waited app formed holding u i status w sound ready)
+        (keeps_both begun u (take_ticket i status u) k (keeps-take_ticket i status u))
+        (stays_both begun u (take_ticket i status u) st (stays-take_ticket i status u))
+        (subst (λ c. IsPhaseOf holding c Leave) (sym way) (refl, refl))
+        (λ e. let f : UntilWoken ≡ ToSetBits = sym way ∙ e in absurd (cc))
+
+    -- when the deadline of its call is set
+    pub dated_sound : (ticks : Option ℕ) → is_wait ticks ≡ true → IsSound app holding (set_deadline i ticks begun)
+    dated_sound ticks range = dated app formed holding begun i ticks begun_sound (ready_free (status_at s i) r) range
+
+    pub dated_ready : (ticks : Option ℕ) → is_ready (set_deadline i ticks begun) i ≡ true
+    dated_ready ticks = (dated_at begun i ticks l).0 ∙ r
+
     pub wait_begun : (group : ℕ) (c : Condition) (ticks : Option ℕ) → op ≡ WaitBits group c ticks
         → is_wait ticks ≡ true → IsState app (begin_bits_wait i group c ticks s)
-    unfolding begin_bits_wait begun holding wait_for_bits set_deadline
+    unfolding begin_bits_wait wait_for_bits
     wait_begun group c ticks e range =
         let t : State = set_deadline i ticks begun in
         let u : State = want i c t in
-        let v : State = wait_for_bits i group u in
-        let dated_ : IsSound app holding t =
-        dated app formed holding begun i ticks begun_sound (ready_free (status_at s i) r) range in
-        let wanted_ : IsSound app holding u = wanted app formed holding t i c dated_ in
-        let call1 : CallProgress = record (call_at s i) { deadline = option_map (λ n. s.time + n) ticks } in
-        let t1 : Task = record (task_at s i) { progress = record (progress_at s i) { call = call1 } } in
-        let at1 : task_at t i ≡ t1 = get_or-set_same s.tasks i t1 no_task l in
-        let t2 : Task =
-        record (task_at t i) { progress = record (progress_at t i) { call = record (call_at t i) { wants = Some c } } } in
-        let at2 : task_at u i ≡ t2 = get_or-set_same t.tasks i t2 no_task (rw length-set l) in
-        let still : is_ready u i ≡ true =
-        ap (λ (x : Task). is_some (ticket_if_ready x.status)) (at2
-        ∙ ap (λ (x : Task). record x { progress = record x.progress { call = record x.progress.call { wants = Some c } } }) at1)
-        ∙ r in
-        leaving v (waited app formed holding u i group wanted_ still)
-        (keeps_both begun t v (keeps-set_deadline i ticks begun) (keeps_both t u v
-        (keeps-with_call i (record (call_at t i) { wants = Some c }) t)
-        (keeps-take_ticket i (λ ticket. WaitingForBits group ticket (call_at u i).deadline) u)))
-        (stays_both begun t v (stays-with_task i t1 begun refl refl) (stays_both t u v (stays-with_task i t2 t refl refl)
-        (stays-take_ticket i (λ ticket. WaitingForBits group ticket (call_at u i).deadline) u)))
-        (rw e (refl, refl))
-        (λ x. let f : ForBits ≡ ToSetBits = ap (λ o. course (Some o)) (sym e) ∙ x in absurd (cc))
+        let called : CallProgress = record (call_at t i) { wants = Some c } in
+        let wanting : Task = record (task_at t i) { progress = record (progress_at t i) { call = called } } in
+        let there : i < length t.tasks = rw (keeps-set_deadline i ticks begun).tasks l in
+        let at : task_at u i ≡ wanting = get_or-set_same t.tasks i wanting no_task there in
+        let still : is_ready u i ≡ true = ap (λ (x : Task). is_some (ticket_if_ready x.status)) at ∙ dated_ready ticks in
+        wait_started u (λ ticket. WaitingForBits group ticket (call_at u i).deadline) (for_bits group (call_at u i).deadline)
+        (wanted app formed holding t i c (dated_sound ticks range))
+        (keeps_both begun t u (keeps-set_deadline i ticks begun) (keeps-with_call i called t))
+        (stays_both begun t u (stays-set_deadline i ticks begun) (stays-with_task i wanting t refl refl))
+        still (rw e refl)
 
     pub begun_held : (group mask : ℕ) → (begin_set i group mask s).call_hold ≡ true
-    unfolding begin_set begun
+    unfolding begin_set
     begun_held group mask = ap (λ (x : Hold). x.held) (keeps-set group mask begun).hold
 
     pub waits_held : (group : ℕ) (c : Condition) (ticks : Option ℕ) → (begin_bits_wait i group c ticks s).call_hold ≡ true

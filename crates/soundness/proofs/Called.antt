@@ -19,9 +19,10 @@ use Rattle.model.specs.declared.call.WaitList.{WaitList}
 use Rattle.model.specs.declared.call.WaitList.TheVariants.{ToReceive, ToSend}
 use Rattle.model.specs.Application.{Application, op_at}
 use Rattle.model.specs.Scripts.{IsWellFormed, fits, fits_object, is_wait}
-use Rattle.model.specs.State.{State, Task, Object, Status, Wait, Ready, Awake, Waiting, Asleep, WaitingForBits, Suspended, Ended}
-use Rattle.model.specs.State.{ticket_if_ready, wait_if_waiting, wait_if_awake, task_at, status_at, progress_at, call_at, object_at}
-use Rattle.model.specs.State.{with_task, with_call, with_object, go_on, for_one, no_task, no_object}
+use Rattle.model.specs.State.{State, Task, Object, Status, Wait, Ready, Awake, Waiting, Asleep, WaitingForBits}
+use Rattle.model.specs.State.{WaitingForNotification, Suspended, Ended, ticket_if_ready, wait_if_waiting, wait_if_awake, task_at}
+use Rattle.model.specs.State.{status_at, progress_at, call_at, object_at, with_task, with_call, with_object, go_on, for_one}
+use Rattle.model.specs.State.{no_task, no_object}
 use Rattle.model.specs.Order.{Key, Entry, first, task_of}
 use Rattle.model.specs.Switching.{is_ready}
 use Rattle.model.specs.Waiting.{same_list, wait_key, waiters, awake_status, awaken, is_locked, wake_one, wake_best, wait_in}
@@ -30,8 +31,8 @@ use Rattle.model.specs.Objects.{allows, object_after, list_woken, list_for, poss
 use Rattle.model.specs.Calls.{do_now}
 use Rattle.model.specs.Ops.{answer}
 use Rattle.model.specs.Suspension.{phase_resumed}
-use Rattle.model.specs.Invariant.{HasTicketBelow, IsReckoned, Hold, Course, InOne, OnObject, ForBits, ToSetBits, course, IsPhaseOf}
-use Rattle.model.specs.Invariant.{list_of_op, IsWaitOf, IsCall, IsObject, IsSound, holds, wait_of}
+use Rattle.model.specs.Invariant.{HasTicketBelow, IsReckoned, Hold, Course, InOne, OnObject, UntilWoken, ToSetBits, course}
+use Rattle.model.specs.Invariant.{IsPhaseOf, list_of_op, IsWaitOf, IsCall, IsObject, IsSound, holds, wait_of}
 use Rattle.model.proofs.Sorting.{by_test}
 use Rattle.model.proofs.Lists.{HasKey, eqb-same, list_has}
 use Rattle.model.proofs.Tables.{ticket_at, table-set, held_after, each-set, each-set_but}
@@ -62,6 +63,7 @@ waits_in list (Waiting w) k e = by_test (same_list w.list list)
     (λ t. let none : None ≡ Some k = rw t at e in absurd (cc))
 waits_in list (Asleep v n) k e = absurd (cc)
 waits_in list (WaitingForBits g m d) k e = absurd (cc)
+waits_in list (WaitingForNotification m d) k e = absurd (cc)
 waits_in list Suspended k e = absurd (cc)
 waits_in list Ended k e = absurd (cc)
 
@@ -361,12 +363,12 @@ phase_apart old new (OnObject o) Decide t p = tt
 phase_apart old new (OnObject o) Place t p = absurd (cc)
 phase_apart old new (OnObject o) Unlock t p = absurd (cc)
 phase_apart old new (OnObject o) Leave t p = absurd (cc)
-phase_apart old new ForBits Start t p = tt
-phase_apart old new ForBits Decide t p = absurd p
-phase_apart old new ForBits Place t p = absurd p
-phase_apart old new ForBits Unlock t p = absurd p
-phase_apart old new ForBits Leave t p = absurd (cc)
-phase_apart old new ForBits Try t p = tt
+phase_apart old new UntilWoken Start t p = tt
+phase_apart old new UntilWoken Decide t p = absurd p
+phase_apart old new UntilWoken Place t p = absurd p
+phase_apart old new UntilWoken Unlock t p = absurd p
+phase_apart old new UntilWoken Leave t p = absurd (cc)
+phase_apart old new UntilWoken Try t p = tt
 phase_apart old new ToSetBits Start t p = tt
 phase_apart old new ToSetBits Try t p = absurd p
 phase_apart old new ToSetBits Decide t p = absurd p
@@ -388,12 +390,12 @@ phase_free hold (OnObject o) Decide t p = refl
 phase_free hold (OnObject o) Place t p = let held = p.0 in absurd (cc)
 phase_free hold (OnObject o) Unlock t p = let held = p.0 in absurd (cc)
 phase_free hold (OnObject o) Leave t p = let held = p.0 in absurd (cc)
-phase_free hold ForBits Start t p = refl
-phase_free hold ForBits Decide t p = absurd p
-phase_free hold ForBits Place t p = absurd p
-phase_free hold ForBits Unlock t p = absurd p
-phase_free hold ForBits Leave t p = let held = p.0 in absurd (cc)
-phase_free hold ForBits Try t p = refl
+phase_free hold UntilWoken Start t p = refl
+phase_free hold UntilWoken Decide t p = absurd p
+phase_free hold UntilWoken Place t p = absurd p
+phase_free hold UntilWoken Unlock t p = absurd p
+phase_free hold UntilWoken Leave t p = let held = p.0 in absurd (cc)
+phase_free hold UntilWoken Try t p = refl
 phase_free hold ToSetBits Start t p = refl
 phase_free hold ToSetBits Try t p = absurd p
 phase_free hold ToSetBits Decide t p = absurd p
@@ -415,12 +417,12 @@ phase_again hold (OnObject o) Decide p = tt
 phase_again hold (OnObject o) Place p = p
 phase_again hold (OnObject o) Unlock p = p
 phase_again hold (OnObject o) Leave p = p
-phase_again hold ForBits Start p = tt
-phase_again hold ForBits Decide p = absurd p
-phase_again hold ForBits Place p = absurd p
-phase_again hold ForBits Unlock p = absurd p
-phase_again hold ForBits Leave p = p
-phase_again hold ForBits Try p = tt
+phase_again hold UntilWoken Start p = tt
+phase_again hold UntilWoken Decide p = absurd p
+phase_again hold UntilWoken Place p = absurd p
+phase_again hold UntilWoken Unlock p = absurd p
+phase_again hold UntilWoken Leave p = p
+phase_again hold UntilWoken Try p = tt
 phase_again hold ToSetBits Start p = tt
 phase_again hold ToSetBits Try p = absurd p
 phase_again hold ToSetBits Decide p = absurd p

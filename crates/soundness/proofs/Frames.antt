@@ -19,13 +19,17 @@ use Rattle.model.specs.declared.op.IsrOp.{IsrOp}
 use Rattle.model.specs.declared.op.IsrOp.TheVariants as isr_op
 use Rattle.model.specs.declared.answer.AnswerCondition.{AnswerCondition}
 use Rattle.model.specs.declared.event.End.{End}
+use Rattle.model.specs.declared.notification.Notification.{Notification}
+use Rattle.model.specs.declared.notification.NotifyAction.{NotifyAction}
+use Rattle.model.specs.declared.notification.NotificationWait.{NotificationWait}
+use Rattle.model.specs.declared.notification.NotificationClear.{NotificationClear}
 use Rattle.model.specs.declared.event.End.TheVariants.{HandlerCheck}
 use Rattle.model.specs.Answers.{holds}
 use Rattle.model.specs.Blocks.{jump_from}
 use Rattle.model.specs.Application.{Application, commands_of, op_count, ops_of, interrupts_at, script_of}
 use Rattle.model.specs.State.{State, Task, Object, Progress, Status, Ready, Asleep, Suspended, task_at, status_at, progress_at}
 use Rattle.model.specs.State.{call_at, object_at, with_task, with_progress, with_call, with_object, bits_at, with_bits, take_ticket}
-use Rattle.model.specs.State.{for_one, for_each}
+use Rattle.model.specs.State.{for_one, for_each, waits_for_notification, notification_at, with_notification}
 use Rattle.model.specs.Order.{tasks_of, task_of, first}
 use Rattle.model.specs.Switching.{make_ready, to_back, dispatch, choose, choice, is_same, is_ready, yield_now, is_outranked}
 use Rattle.model.specs.Switching.{is_sharing, preempt, slice, settle, is_held, is_critical, unless_held, is_off, write}
@@ -39,6 +43,8 @@ use Rattle.model.specs.declared.call.Condition.{Condition}
 use Rattle.model.specs.Groups.{is_met, bits_without, bits_left, keep_answer, met_by, wake_with_bits, bits_set, set, left_by}
 use Rattle.model.specs.Groups.{clear, answer_bits, wake_all}
 use Rattle.model.specs.Suspension.{can_suspend, can_resume, suspend, resumed, resume, call_suspend, call_resume}
+use Rattle.model.specs.Notifications.{notify_with_number, notified, notify_answer, wake_notified, notify, call_notify, wait_answer}
+use Rattle.model.specs.Notifications.{left_by_wait, end_notification_wait, clear_answer, cleared, clear_notification}
 use Rattle.model.specs.Daemon.{item_of, received, take_command, obeyed, clear_by_daemon}
 use Rattle.model.specs.Mutexes.{set_priority, mutexes_held, raise, inherits, inherit_from, inherit, best_priority, fall_back}
 use Rattle.model.specs.Mutexes.{after_timeout, disinherit, give_mutex, note_inherited}
@@ -482,6 +488,49 @@ unfolding call_resume
 keeps-call_resume app i other s =
     keeps-replied app i (one_if (can_resume (status_at s other))) s (resume other s) (keeps-resume other s)
 
+-- ---- notifications
+
+pub keeps-with_notification : (i : ℕ) (n : Notification) (s : State) → Keeps s (with_notification i n s)
+keeps-with_notification i n s =
+    record { time = refl; elapsed = refl; steps = refl; tasks = refl; hold = refl; suspension = refl; sources = refl }
+
+pub keeps-wake_notified : (i : ℕ) (s : State) → Keeps s (wake_notified i s)
+keeps-wake_notified i s = by_test (waits_for_notification (status_at s i))
+    (λ t. rw t (keeps-take_ticket i Ready s))
+    (λ t. rw t (keeps s))
+
+pub keeps-notify : (i : ℕ) (action : NotifyAction ℕ) (s : State) → Keeps s (notify i action s)
+unfolding notify
+keeps-notify i action s =
+    let n : Notification = notified action (notification_at s i) in
+    let t : State = with_notification i n s in
+    keeps_both s t (wake_notified i t) (keeps-with_notification i n s) (keeps-wake_notified i t)
+
+pub keeps-call_notify : (app : Application) (i other : ℕ) (action : NotifyAction ℕ) (s : State)
+    → Keeps s (call_notify app i other action s)
+unfolding call_notify
+keeps-call_notify app i other action s =
+    keeps-replied app i (notify_answer action (notification_at s other)) s (notify other action s) (keeps-notify other action s)
+
+-- the task leaves this of its notification, and answers
+keeps-left : (app : Application) (i : ℕ) (n : Notification) (a : Option ℕ) (s : State)
+    → Keeps s (answer app i a (with_notification i n s))
+keeps-left app i n a s =
+    let t : State = with_notification i n s in
+    keeps_both s t (answer app i a t) (keeps-with_notification i n s) (keeps-answer app i a t)
+
+pub keeps-end_notification_wait : (app : Application) (i : ℕ) (wait : NotificationWait) (s : State)
+    → Keeps s (end_notification_wait app i wait s)
+unfolding end_notification_wait
+keeps-end_notification_wait app i wait s =
+    keeps-left app i (left_by_wait wait (notification_at s i)) (wait_answer wait (notification_at s i)) s
+
+pub keeps-clear_notification : (app : Application) (i : ℕ) (what : NotificationClear) (s : State)
+    → Keeps s (clear_notification app i what s)
+unfolding clear_notification
+keeps-clear_notification app i what s =
+    keeps-left app i (cleared what (notification_at s i)) (clear_answer what (notification_at s i)) s
+
 -- ---- the daemon
 
 pub keeps-received : (app : Application) (i : ℕ) (a : Option ℕ) (s : State) → Keeps s (received app i a s)
@@ -564,6 +613,11 @@ keeps-isr app handler op_index (isr_op.Resume task) last s =
     keeps_both s t (write w t) (keeps-resume task s) (keeps-write w t)
 keeps-isr app handler op_index (isr_op.GetBits group) last s =
     keeps-write (isr_told handler op_index (Some (bits_at s group))) s
+keeps-isr app handler op_index (isr_op.Notify task action) last s =
+    let a : NotifyAction ℕ = notify_with_number s.variables last action in
+    let t : State = notify task a s in
+    let w : What = isr_told handler op_index (notify_answer a (notification_at s task)) in
+    keeps_both s t (write w t) (keeps-notify task a s) (keeps-write w t)
 keeps-isr app handler op_index (isr_op.Value op) last s =
     let a : Option ℕ = answer_of s.variables last op in
     let w : What = isr_told handler op_index a in

@@ -14,15 +14,17 @@ use Rattle.model.specs.declared.op.Op.TheVariants.{Work, Delay, DelayUntil, Yiel
 use Rattle.model.specs.declared.op.Op.TheVariants.{Break, Stamp, Since, Await, Do, GiveMutex, MessagesWaiting, SpacesAvailable}
 use Rattle.model.specs.declared.op.Op.TheVariants.{SetBits, ClearBits, GetBits, WaitBits, Suspend, Resume, SuspendAll, ResumeAll}
 use Rattle.model.specs.declared.op.Op.TheVariants.{EnterCritical, ExitCritical, NextCommand, Obey}
+use Rattle.model.specs.declared.op.Op.TheVariants.{Notify, AwaitNotification, ClearNotification}
 use Rattle.model.specs.declared.loops.Loop.{Loop}
+use Rattle.model.specs.declared.notification.NotificationClear.{NotificationClear}
 use Rattle.model.specs.declared.event.What.TheVariants as what
 use Rattle.model.specs.declared.answer.AnswerCondition.{AnswerCondition}
 use Rattle.model.specs.Answers.{holds}
 use Rattle.model.specs.Blocks.{jump_from}
 use Rattle.model.specs.Application.{Application, script_of, op_at, op_count, interrupts_at}
-use Rattle.model.specs.State.{State, Task, Progress, Status, Ready, Awake, Waiting, Asleep, WaitingForBits, Suspended, Ended}
-use Rattle.model.specs.State.{ticket_if_ready, wake_time_of, task_at, status_at, progress_at, object_at, bits_at, with_bits}
-use Rattle.model.specs.State.{for_each, printed, no_task}
+use Rattle.model.specs.State.{State, Task, Progress, Status, Ready, Awake, Waiting, Asleep, WaitingForBits, WaitingForNotification}
+use Rattle.model.specs.State.{Suspended, Ended, ticket_if_ready, wake_time_of, task_at, status_at, progress_at, object_at, bits_at}
+use Rattle.model.specs.State.{with_bits, for_each, printed, no_task, notification_at, with_notification}
 use Rattle.model.specs.Order.{Entry, tasks_of}
 use Rattle.model.specs.Switching.{make_ready, is_ready, slice, preempt, is_scheduler_suspended, is_critical, is_held}
 use Rattle.model.specs.Switching.{is_held_by_task}
@@ -31,6 +33,7 @@ use Rattle.model.specs.Time.{wake_due, due, is_due, delayed_list, advance, incre
 use Rattle.model.specs.Ops.{go_to, moved_to, answer, use_up, expect, open_loop, next_turn, turn, close_turn, branch, skip_branch}
 use Rattle.model.specs.Ops.{leave_loop, stamp, since, with_sections}
 use Rattle.model.specs.Groups.{bits_without, clear}
+use Rattle.model.specs.Notifications.{clear_answer, cleared, clear_notification}
 use Rattle.model.specs.Suspension.{suspend_all, resume_scheduler, resume_all}
 use Rattle.model.specs.Handlers.{handle, interrupt, tick_interrupt}
 use Rattle.model.specs.Step.{act, may_switch}
@@ -209,6 +212,14 @@ module _ (app : Application) (i : ℕ) where
       let k = answering_on (Some (bits_at s group)) (with_bits group (bits_without (bits_at s group) mask) s) l r in
       record { current = k.current; goes = k.goes }
 
+  unnotified_on : (what : NotificationClear) (s : State) → i < length s.tasks
+      → is_ready s i ≡ true → Continues app i s (clear_notification app i what s)
+  unfolding clear_notification
+  unnotified_on what s l r =
+      let n = notification_at s i in
+      let k = answering_on (clear_answer what n) (with_notification i (cleared what n) s) l r in
+      record { current = k.current; goes = k.goes }
+
   pub suspended_on : (s : State) → i < length s.tasks → is_ready s i ≡ true → Continues app i s (suspend_all app i s)
   unfolding suspend_all
   suspended_on s l r =
@@ -252,6 +263,9 @@ module _ (app : Application) (i : ℕ) where
   acted_on (ClearBits g m) s q t l r = cleared_on g m s l r
   acted_on (GetBits g) s q t l r = answering_on (Some (bits_at s g)) s l r
   acted_on (WaitBits g c ticks) s q t l r = absurd (cc)
+  acted_on (Notify j a) s q t l r = absurd (cc)
+  acted_on (AwaitNotification a ticks) s q t l r = absurd (cc)
+  acted_on (ClearNotification what) s q t l r = unnotified_on what s l r
   acted_on (Suspend j) s q t l r = absurd (cc)
   acted_on (Resume j) s q t l r = absurd (cc)
   acted_on SuspendAll s q t l r = absurd (cc)
@@ -269,6 +283,7 @@ ready_not_due now (Awake w) r t = absurd (cc)
 ready_not_due now (Waiting w) r t = absurd (cc)
 ready_not_due now (Asleep v n) r t = absurd (cc)
 ready_not_due now (WaitingForBits g m d) r t = absurd (cc)
+ready_not_due now (WaitingForNotification m d) r t = absurd (cc)
 ready_not_due now Suspended r t = absurd (cc)
 ready_not_due now Ended r t = absurd (cc)
 

@@ -7,7 +7,7 @@ use Rattle.soundness.proofs.Sound.{revalued}
 use Rattle.soundness.proofs.Frames.{keeps-store}
 use Rattle.model.specs.declared.value.Value as value
 use Rattle.std.proofs.Common.{◌⊎◌, ◌≡◌, ◌<◌, ◌+◌, ◌&&◌, ◌||◌, ℕ, Bool, true, false, ltb, inl, inr, get_or, set, List, [], ◌∷◌}
-use Rattle.std.proofs.Common.{Option, Some, None, refl, ap, sym, subst, ◌∙◌, suc, zero}
+use Rattle.std.proofs.Common.{Option, Some, None, refl, ap, sym, subst, ◌∙◌, suc, zero, ◌≢◌, get_or-set_other}
 use Rattle.std.specs.List.{AllByRecursion, slice_get}
 use Rattle.std.specs.Option.{IfSome, is_some, option_map, unwrap_or}
 use Rattle.model.specs.declared.object.ObjectKind.{ObjectKind}
@@ -17,8 +17,11 @@ use Rattle.model.specs.declared.op.Op.TheVariants.{Work, Delay, DelayUntil, Yiel
 use Rattle.model.specs.declared.op.Op.TheVariants.{Break, Stamp, Since, Await, Do, GiveMutex, MessagesWaiting, SpacesAvailable}
 use Rattle.model.specs.declared.op.Op.TheVariants.{SetBits, ClearBits, GetBits, WaitBits, Suspend, Resume, SuspendAll, ResumeAll}
 use Rattle.model.specs.declared.op.Op.TheVariants.{EnterCritical, ExitCritical, NextCommand, Obey}
+use Rattle.model.specs.declared.op.Op.TheVariants.{Notify, AwaitNotification, ClearNotification}
 use Rattle.model.specs.declared.op.IsrOp.{IsrOp}
 use Rattle.model.specs.declared.op.IsrOp.TheVariants as isr_op
+use Rattle.model.specs.declared.notification.Notification.{Notification}
+use Rattle.model.specs.declared.notification.NotifyAction.{NotifyAction}
 use Rattle.model.specs.declared.op.Access.{Access}
 use Rattle.model.specs.declared.op.Access.TheVariants.{Send, SendFront, Overwrite, Receive, Peek, Take, Give, Lock}
 use Rattle.model.specs.declared.call.Phase.{Phase}
@@ -30,11 +33,13 @@ use Rattle.model.specs.declared.event.What.TheVariants as what
 use Rattle.model.specs.Application.{Application, Limits, commands_of, op_at, ops_of, interrupts_at}
 use Rattle.model.specs.Scripts.{IsDaemon, IsWellFormed, fits, fits_object, has_group, is_mask, knows_isr}
 use Rattle.model.specs.Daemon.{item_of}
-use Rattle.model.specs.State.{State, Task, Progress, Object, Status, Wait, Ready, Awake, Waiting, Asleep, WaitingForBits, Suspended}
-use Rattle.model.specs.State.{Ended, ticket_if_ready, wake_time_of, task_at, status_at, progress_at, call_at, object_at, bits_at}
-use Rattle.model.specs.State.{with_object, with_progress, for_one, for_each, no_task}
+use Rattle.model.specs.State.{State, Task, Progress, Object, Status, Wait, Ready, Awake, Waiting, Asleep, WaitingForBits}
+use Rattle.model.specs.State.{WaitingForNotification, Suspended, Ended, ticket_if_ready, wake_time_of, task_at, status_at}
+use Rattle.model.specs.State.{progress_at, call_at, object_at, bits_at, with_object, with_progress, for_one, for_each, no_task}
+use Rattle.model.specs.State.{waits_for_notification, notification_at, with_notification}
 use Rattle.model.specs.Order.{Entry, first, task_of}
 use Rattle.model.specs.Ops.{one_if, fail}
+use Rattle.model.specs.Notifications.{notify_with_number, notified, notify_answer, wake_notified, notify}
 use Rattle.model.specs.Suspension.{can_resume, phase_resumed, resumed, resume}
 use Rattle.model.specs.Switching.{make_ready, is_ready, is_scheduler_suspended, is_held, is_held_by_task, slice, unless_held, write}
 use Rattle.model.specs.Waiting.{waiters, awake_status, is_locked, wake_one, wake_best}
@@ -53,10 +58,11 @@ use Rattle.model.proofs.Unlocking.{is_locked-own}
 use Rattle.soundness.proofs.Settled.{when_held, when_free, held_as_it_was}
 use Rattle.soundness.proofs.InScripts.{isr_known}
 use Rattle.soundness.proofs.Frames.{Keeps, keeps, keeps_both, keeps-with_task, keeps-take_ticket, keeps-with_object, keeps-wake_one}
-use Rattle.soundness.proofs.Frames.{keeps-fail, keeps-isr, keeps-handle, keeps-write}
+use Rattle.soundness.proofs.Frames.{keeps-fail, keeps-isr, keeps-handle, keeps-write, keeps-with_notification}
 use Rattle.soundness.proofs.Passing.{either_way, hold-increment, hold-jump}
 use Rattle.soundness.proofs.Suspending.{suspended_free, each_resumed, resumed_task}
 use Rattle.soundness.proofs.Sound.{logged, sliced, woken, later, held_up}
+use Rattle.soundness.proofs.Notified.{awaiting_free, awaiting_not_ready, notified_task}
 use Rattle.soundness.proofs.Called.{WaitsIn, waits_in, waits_key, same_list_eq, attempted, spared_one}
 
 pub and_left : (a b : Bool) → (a && b) ≡ true → a ≡ true
@@ -156,6 +162,10 @@ module _ (app : Application) (formed : IsWellFormed app) (hold : Hold) where
       let t : State = resume task s in
       logged app formed hold t _ t.steps t.stopped (resumed_task app formed hold s task h)
   isr_done s handler op_index (isr_op.GetBits group) last known h same = logged app formed hold s _ s.steps s.stopped h
+  isr_done s handler op_index (isr_op.Notify task action) last known h same =
+      let a : NotifyAction ℕ = notify_with_number s.variables last action in
+      let t : State = notify task a s in
+      logged app formed hold t _ t.steps t.stopped (notified_task app formed hold s task a h)
   isr_done s handler op_index (isr_op.Value op) last known h same =
       let a : Option ℕ = answer_of s.variables last op in
       let t : State = store op a s in
@@ -332,6 +342,7 @@ same_wait (Awake w) = refl
 same_wait (Waiting w) = refl
 same_wait (Asleep v n) = refl
 same_wait (WaitingForBits g m d) = refl
+same_wait (WaitingForNotification m d) = refl
 same_wait Suspended = refl
 same_wait Ended = refl
 
@@ -369,6 +380,7 @@ awake_unsuspended (Awake w) e = refl
 awake_unsuspended (Waiting w) e = refl
 awake_unsuspended (Asleep v n) e = refl
 awake_unsuspended (WaitingForBits g m d) e = refl
+awake_unsuspended (WaitingForNotification m d) e = refl
 awake_unsuspended Suspended e = absurd (cc)
 awake_unsuspended Ended e = refl
 
@@ -459,6 +471,7 @@ ready_unsuspended (Awake w) t = absurd (cc)
 ready_unsuspended (Waiting w) t = absurd (cc)
 ready_unsuspended (Asleep v n) t = absurd (cc)
 ready_unsuspended (WaitingForBits g m d) t = absurd (cc)
+ready_unsuspended (WaitingForNotification m d) t = absurd (cc)
 ready_unsuspended Suspended t = absurd (cc)
 ready_unsuspended Ended t = absurd (cc)
 
@@ -499,6 +512,42 @@ spares-resume j s = by_test (can_resume (status_at s j))
     (λ t. rw t (spares-resumed s j t))
     (λ t. rw t (spares s))
 
+-- ---- a notify spares who isn't woken by it
+
+-- A task that isn't Ready, and waits in no list, is Ready.
+pub spares-make_ready : (j : ℕ) (s : State) → is_ready s j ≡ false → wait_of (status_at s j) ≡ None → Spares s (make_ready j s)
+spares-make_ready j s off free =
+    let u : Task = record (task_at s j) { status = Ready s.next_ticket } in
+    spared_by s (make_ready j s) (keeps-take_ticket j Ready s) refl
+    (at_status s j (Ready s.next_ticket))
+    (unsuspended_but s j (Ready s.next_ticket) refl)
+    (λ i r.
+    let apart : i ≢ j = (λ e. let on : is_ready s j ≡ true = subst (λ k. is_ready s k ≡ true) e r in absurd (cc)) in
+    get_or-set_other s.tasks j i u no_task apart)
+    (λ i w e l.
+    each-set no_task (λ k t. wait_of (status_at s k) ≡ Some w → wait_of t.status ≡ Some w)
+    s.tasks j u (λ q. absurd (cc)) (λ k q. q) i e)
+    (λ n.
+    each-set no_task (λ k t. (is_some (ticket_if_ready t.status) ≡ true) ⊎ (wake_time_of t.status ≡ wake_time_of (status_at s k)))
+    s.tasks j u (inl refl) (λ k. inr refl))
+
+spares-with_notification : (j : ℕ) (n : Notification) (s : State) → Spares s (with_notification j n s)
+spares-with_notification j n s =
+    spared_by s (with_notification j n s) (keeps-with_notification j n s) refl
+    (λ i. refl) (λ i e. e) (λ i r. refl) (λ i w e l. e) (λ m i. inr refl)
+
+spares-wake_notified : (j : ℕ) (s : State) → Spares s (wake_notified j s)
+spares-wake_notified j s = by_test (waits_for_notification (status_at s j))
+    (λ t. rw t (spares-make_ready j s (awaiting_not_ready (status_at s j) t) (awaiting_free (status_at s j) t)))
+    (λ t. rw t (spares s))
+
+pub spares-notify : (j : ℕ) (action : NotifyAction ℕ) (s : State) → Spares s (notify j action s)
+unfolding notify
+spares-notify j action s =
+    let n : Notification = notified action (notification_at s j) in
+    let t : State = with_notification j n s in
+    spares_both s t (wake_notified j t) (spares-with_notification j n s) (spares-wake_notified j t)
+
 spares-store : (op : ValueOp) (a : Option ℕ) (s : State) → Spares s (store op a s)
 spares-store op a s =
     let k = spares s in
@@ -533,6 +582,11 @@ spares-isr app handler op_index (isr_op.Resume j) last s =
     spares_both s t (write w t) (spares-resume j s) (spares-write w t)
 spares-isr app handler op_index (isr_op.GetBits group) last s =
     spares-write (isr_told handler op_index (Some (bits_at s group))) s
+spares-isr app handler op_index (isr_op.Notify j action) last s =
+    let a : NotifyAction ℕ = notify_with_number s.variables last action in
+    let t : State = notify j a s in
+    let w : What = isr_told handler op_index (notify_answer a (notification_at s j)) in
+    spares_both s t (write w t) (spares-notify j a s) (spares-write w t)
 spares-isr app handler op_index (isr_op.Value op) last s =
     let a : Option ℕ = answer_of s.variables last op in
     let w : What = isr_told handler op_index a in
@@ -612,6 +666,9 @@ place_locked hold (Some (SetBits g m)) list p e = absurd p
 place_locked hold (Some (ClearBits g m)) list p e = absurd p
 place_locked hold (Some (GetBits g)) list p e = absurd p
 place_locked hold (Some (WaitBits g c ticks)) list p e = absurd p
+place_locked hold (Some (Notify j a)) list p e = absurd p
+place_locked hold (Some (AwaitNotification a ticks)) list p e = absurd p
+place_locked hold (Some (ClearNotification c)) list p e = absurd p
 place_locked hold (Some (Suspend j)) list p e = absurd p
 place_locked hold (Some (Resume j)) list p e = absurd p
 place_locked hold (Some SuspendAll) list p e = absurd p
@@ -641,6 +698,7 @@ module _ (app : Application) (formed : IsWellFormed app) (s t : State)
   waiting_unsuspended (Waiting v) w e = refl
   waiting_unsuspended (Asleep v n) w e = refl
   waiting_unsuspended (WaitingForBits g m d) w e = refl
+  waiting_unsuspended (WaitingForNotification m d) w e = refl
   waiting_unsuspended Suspended w e = absurd (cc)
   waiting_unsuspended Ended w e = refl
 

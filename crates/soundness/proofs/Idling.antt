@@ -4,8 +4,8 @@ use Rattle.std.proofs.Common.{length, Option, Some, None, refl, ap, sym, subst, 
 use Rattle.std.specs.List.{AllByRecursion, list_any}
 use Rattle.std.specs.Option.{is_none, is_some, option_map, option_to_list}
 use Rattle.model.specs.Application.{Application}
-use Rattle.model.specs.State.{State, Task, Status, Ready, Awake, Waiting, Asleep, WaitingForBits, Suspended, Ended, ticket_if_ready}
-use Rattle.model.specs.State.{wake_time_of, task_at, status_at, for_one, for_each, no_task}
+use Rattle.model.specs.State.{State, Task, Status, Ready, Awake, Waiting, Asleep, WaitingForBits, WaitingForNotification, Suspended}
+use Rattle.model.specs.State.{Ended, ticket_if_ready, wake_time_of, task_at, status_at, for_one, for_each, no_task}
 use Rattle.model.specs.Order.{Key, Entry, key, entry, keyed, first, task_of}
 use Rattle.model.specs.Switching.{ready_key, ready_list, is_ready, is_above, is_outranked, is_same, is_held, is_critical, to_back}
 use Rattle.model.specs.Switching.{choice}
@@ -41,6 +41,7 @@ not_keyed priority (Awake w) e = refl
 not_keyed priority (Waiting w) e = refl
 not_keyed priority (Asleep w n) e = refl
 not_keyed priority (WaitingForBits g m d) e = refl
+not_keyed priority (WaitingForNotification m d) e = refl
 not_keyed priority Suspended e = refl
 not_keyed priority Ended e = refl
 

@@ -10,6 +10,7 @@ use Rattle.model.specs.declared.op.Op.TheVariants.{Work, Delay, DelayUntil, Yiel
 use Rattle.model.specs.declared.op.Op.TheVariants.{Break, Stamp, Since, Await, Do, GiveMutex, MessagesWaiting, SpacesAvailable}
 use Rattle.model.specs.declared.op.Op.TheVariants.{SetBits, ClearBits, GetBits, WaitBits, Suspend, Resume, SuspendAll, ResumeAll}
 use Rattle.model.specs.declared.op.Op.TheVariants.{EnterCritical, ExitCritical, NextCommand, Obey}
+use Rattle.model.specs.declared.op.Op.TheVariants.{Notify, AwaitNotification, ClearNotification}
 use Rattle.model.specs.declared.op.Access.TheVariants.{Receive}
 use Rattle.model.specs.declared.op.IsrOp.{IsrOp}
 use Rattle.model.specs.Application.{Application, Handler, Definition, of_file, commands_of, script_of, op_at, ops_of}
@@ -146,6 +147,9 @@ used_none zero ((SetBits g m) ∷ ops) h = tt
 used_none zero ((ClearBits g m) ∷ ops) h = tt
 used_none zero ((GetBits g) ∷ ops) h = tt
 used_none zero ((WaitBits g c w) ∷ ops) h = tt
+used_none zero ((Notify j a) ∷ ops) h = tt
+used_none zero ((AwaitNotification a w) ∷ ops) h = tt
+used_none zero ((ClearNotification c) ∷ ops) h = tt
 used_none zero ((Suspend j) ∷ ops) h = tt
 used_none zero ((Resume j) ∷ ops) h = tt
 used_none zero (SuspendAll ∷ ops) h = tt
@@ -208,6 +212,9 @@ known_if app i p (SetBits g m) e = e
 known_if app i p (ClearBits g m) e = e
 known_if app i p (GetBits g) e = e
 known_if app i p (WaitBits g c w) e = e
+known_if app i p (Notify j a) e = e
+known_if app i p (AwaitNotification a w) e = e
+known_if app i p (ClearNotification c) e = e
 known_if app i p (Suspend j) e = e
 known_if app i p (Resume j) e = e
 known_if app i p SuspendAll e = e

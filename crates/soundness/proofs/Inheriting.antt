@@ -9,8 +9,9 @@ use Rattle.model.specs.declared.call.WaitList.{WaitList}
 use Rattle.model.specs.declared.call.WaitList.TheVariants.{ToReceive}
 use Rattle.model.specs.Application.{Application}
 use Rattle.model.specs.Scripts.{IsWellFormed}
-use Rattle.model.specs.State.{State, Task, Status, Ready, Awake, Waiting, Asleep, WaitingForBits, Suspended, Ended, ticket_if_ready}
-use Rattle.model.specs.State.{wait_if_waiting, task_at, status_at, progress_at, call_at, object_at, with_task, for_one, no_task}
+use Rattle.model.specs.State.{State, Task, Status, Ready, Awake, Waiting, Asleep, WaitingForBits, WaitingForNotification, Suspended}
+use Rattle.model.specs.State.{Ended, ticket_if_ready, wait_if_waiting, task_at, status_at, progress_at, call_at, object_at}
+use Rattle.model.specs.State.{with_task, for_one, no_task}
 use Rattle.model.specs.Order.{Key, Entry, key, first}
 use Rattle.model.specs.Switching.{is_ready, to_back}
 use Rattle.model.specs.Waiting.{waiters, wait_key, same_list}
@@ -151,6 +152,7 @@ key_below list (Waiting w) k h e = by_test (same_list w.list list)
     (λ t. let none : None ≡ Some k = rw t at e in absurd (cc))
 key_below list (Asleep v n) k h e = absurd (cc)
 key_below list (WaitingForBits g m d) k h e = absurd (cc)
+key_below list (WaitingForNotification m d) k h e = absurd (cc)
 key_below list Suspended k h e = absurd (cc)
 key_below list Ended k h e = absurd (cc)
 

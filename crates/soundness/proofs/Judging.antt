@@ -10,6 +10,7 @@ use Rattle.model.specs.declared.op.Op.TheVariants.{Work, Delay, DelayUntil, Yiel
 use Rattle.model.specs.declared.op.Op.TheVariants.{Break, Stamp, Since, Await, Do, GiveMutex, MessagesWaiting, SpacesAvailable}
 use Rattle.model.specs.declared.op.Op.TheVariants.{SetBits, ClearBits, GetBits, WaitBits, Suspend, Resume, SuspendAll, ResumeAll}
 use Rattle.model.specs.declared.op.Op.TheVariants.{EnterCritical, ExitCritical, NextCommand, Obey}
+use Rattle.model.specs.declared.op.Op.TheVariants.{Notify, AwaitNotification, ClearNotification}
 use Rattle.model.specs.declared.event.Misuse.{Misuse}
 use Rattle.model.specs.declared.event.Misuse.TheVariants.{WhileSuspended, NotSuspended, EndedSuspended, WhileCritical, NotCritical}
 use Rattle.model.specs.declared.event.Misuse.TheVariants.{EndedCritical}
@@ -130,6 +131,9 @@ switching_barred (SetBits g m) t = refl
 switching_barred (ClearBits g m) t = absurd (cc)
 switching_barred (GetBits g) t = absurd (cc)
 switching_barred (WaitBits g c ticks) t = refl
+switching_barred (Notify j a) t = refl
+switching_barred (AwaitNotification a ticks) t = refl
+switching_barred (ClearNotification c) t = absurd (cc)
 switching_barred (Suspend j) t = refl
 switching_barred (Resume j) t = refl
 switching_barred SuspendAll t = refl

@@ -14,9 +14,11 @@ pub mod Handled
 pub mod Unlocked
 pub mod Phases
 pub mod Bits
+pub mod Notified
 pub mod Daemon
 pub mod Going
 pub mod Obeyed
+pub mod Acted
 pub mod Stepped
 pub mod Reached
 pub mod Idling

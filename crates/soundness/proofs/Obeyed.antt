@@ -1,7 +1,9 @@
--- What the ops that suspend and resume keep.
-use Rattle.std.proofs.Common.{◌≡◌, ◌<◌, ℕ, true, length, Some, None, refl, ap, sym, subst, ◌∙◌}
+-- What the ops that suspend, resume and notify keep.
+use Rattle.std.proofs.Common.{◌≡◌, ◌<◌, ℕ, true, length, Option, Some, None, refl, ap, sym, subst, ◌∙◌}
 use Rattle.model.specs.declared.op.Op.{Op}
-use Rattle.model.specs.declared.op.Op.TheVariants.{Suspend, Resume, SuspendAll, ResumeAll}
+use Rattle.model.specs.declared.op.Op.TheVariants.{Suspend, Resume, Notify, SuspendAll, ResumeAll}
+use Rattle.model.specs.declared.notification.NotifyAction.{NotifyAction}
+use Rattle.model.specs.declared.value.Value.{Value}
 use Rattle.model.specs.Application.{Application, op_at}
 use Rattle.model.specs.Scripts.{IsWellFormed}
 use Rattle.model.specs.State.{State, Task, Suspended, task_at, status_at, progress_at, no_task}
@@ -9,6 +11,7 @@ use Rattle.model.specs.Switching.{is_ready, preempt, is_held}
 use Rattle.model.specs.Ops.{answer, with_sections}
 use Rattle.model.specs.Suspension.{can_suspend, suspend, resume, call_suspend, call_resume, suspend_all, resume_scheduler}
 use Rattle.model.specs.Suspension.{resume_all}
+use Rattle.model.specs.Notifications.{notify, call_notify}
 use Rattle.model.specs.Invariant.{Hold, IsSound, wait_of}
 use Rattle.model.proofs.Sorting.{by_test}
 use Rattle.model.proofs.Tables.{each-set}
@@ -17,7 +20,8 @@ use Rattle.soundness.proofs.Settled.{when_held, when_free}
 use Rattle.soundness.proofs.InScripts.{nesting_past}
 use Rattle.soundness.proofs.Sound.{preempted, answered, otherwise, plain}
 use Rattle.soundness.proofs.Suspending.{suspended_task, resumed_task, resumed_scheduler}
-use Rattle.soundness.proofs.Handled.{spares-resume}
+use Rattle.soundness.proofs.Notified.{notified_task}
+use Rattle.soundness.proofs.Handled.{Spares, spares-resume, spares-notify}
 use Rattle.soundness.proofs.Going.{resumed_apart}
 
 -- a suspend leaves each task at its op, and nobody begins to wait
@@ -46,13 +50,26 @@ module _ (app : Application) (formed : IsWellFormed app) (hold : Hold) where
         preempted app formed hold _ (answered app formed hold (suspend j s) i (Suspend j) (suspended_task app formed hold s j h)
         (suspended_free s j i (ready_free (status_at s i) r)) (ap (op_at app i) (suspended_at s j i) ∙ is) _ refl)
 
+    -- a call that may make others Ready answers
+    spared_answers : (t : State) (op : Op) (a : Option ℕ) → IsSound app hold t → Spares s t
+        → op_at app i (progress_at s i).op_index ≡ Some op → ((nesting : ℕ) → nesting_past nesting op ≡ nesting)
+        → IsSound app hold (preempt (answer app i a t))
+    spared_answers t op a sound sp is flat =
+        preempted app formed hold _ (answered app formed hold t i op sound
+        (ap (λ (u : Task). wait_of u.status) (sp.ready i r) ∙ ready_free (status_at s i) r)
+        (ap (op_at app i) (sp.op_index i) ∙ is) a (flat _))
+
     pub call_resumed : (j : ℕ) → op_at app i (progress_at s i).op_index ≡ Some (Resume j) → IsSound app hold (call_resume app i j s)
     unfolding call_resume
     call_resumed j is =
-        let sp = spares-resume j s in
-        preempted app formed hold _ (answered app formed hold (resume j s) i (Resume j) (resumed_task app formed hold s j h)
-        (ap (λ (u : Task). wait_of u.status) (sp.ready i r) ∙ ready_free (status_at s i) r)
-        (ap (op_at app i) (sp.op_index i) ∙ is) _ refl)
+        spared_answers (resume j s) (Resume j) _ (resumed_task app formed hold s j h) (spares-resume j s) is (λ n. refl)
+
+    pub call_notified : (j : ℕ) (action : NotifyAction Value) (a : NotifyAction ℕ)
+        → op_at app i (progress_at s i).op_index ≡ Some (Notify j action) → IsSound app hold (call_notify app i j a s)
+    unfolding call_notify
+    call_notified j action a is =
+        spared_answers (notify j a s) (Notify j action) _ (notified_task app formed hold s j a h)
+        (spares-notify j a s) is (λ n. refl)
 
     pub all_suspended : op_at app i (progress_at s i).op_index ≡ Some SuspendAll → IsSound app hold (suspend_all app i s)
     unfolding suspend_all

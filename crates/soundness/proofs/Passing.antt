@@ -2,7 +2,7 @@
 use Rattle.model.specs.declared.op.Op.TheVariants.{Value}
 use Rattle.model.specs.Ops.{fail}
 use Rattle.model.specs.declared.event.End.TheVariants.{Check}
-use Rattle.model.specs.Step.{act_by_value, call_with_number, lacks_value}
+use Rattle.model.specs.Step.{act_by_value, call_with_number, notify_by_number, lacks_value}
 use Rattle.model.specs.Values.{number_of}
 use Rattle.soundness.proofs.Frames.{keeps-calculate}
 use Rattle.std.proofs.Common.{Bool, ap, ◌≡◌, ◌≤◌, ◌+◌, ◌-◌, ◌<◌, ◌||◌, ℕ, zero, suc, true, false, eqb, min}
@@ -14,10 +14,12 @@ use Rattle.model.specs.declared.op.Op.TheVariants.{Work, Delay, DelayUntil, Yiel
 use Rattle.model.specs.declared.op.Op.TheVariants.{Break, Stamp, Since, Await, Do, GiveMutex, MessagesWaiting, SpacesAvailable}
 use Rattle.model.specs.declared.op.Op.TheVariants.{SetBits, ClearBits, GetBits, WaitBits, Suspend, Resume, SuspendAll, ResumeAll}
 use Rattle.model.specs.declared.op.Op.TheVariants.{EnterCritical, ExitCritical, NextCommand, Obey}
+use Rattle.model.specs.declared.op.Op.TheVariants.{Notify, AwaitNotification, ClearNotification}
 use Rattle.model.specs.declared.op.Access.{Access}
 use Rattle.model.specs.declared.op.Access.TheVariants.{Receive}
 use Rattle.model.specs.declared.op.Command.{Command}
 use Rattle.model.specs.declared.call.Condition.{Condition}
+use Rattle.model.specs.declared.notification.NotificationWait.{NotificationWait}
 use Rattle.model.specs.declared.call.Phase.{Phase}
 use Rattle.model.specs.declared.call.Phase.TheVariants.{Start, Try, Decide, Place, Unlock, Leave}
 use Rattle.model.specs.declared.call.WaitList.TheVariants.{ToReceive, ToSend}
@@ -25,7 +27,7 @@ use Rattle.model.specs.declared.event.What.TheVariants as what
 use Rattle.model.specs.declared.answer.AnswerCondition.{AnswerCondition}
 use Rattle.model.specs.Answers.{holds}
 use Rattle.model.specs.Application.{Application, Limits}
-use Rattle.model.specs.State.{State, progress_at, call_at, object_at, bits_at, for_one, printed}
+use Rattle.model.specs.State.{State, progress_at, call_at, object_at, bits_at, notification_at, with_notification, for_one, printed}
 use Rattle.model.specs.Order.{tasks_of}
 use Rattle.model.specs.Switching.{choose, preempt, slice, is_scheduler_suspended, is_held}
 use Rattle.model.specs.Switching.{unless_held, write}
@@ -35,6 +37,8 @@ use Rattle.model.specs.Ops.{answer, use_up, expect, with_sections}
 use Rattle.model.specs.Objects.{possible}
 use Rattle.model.specs.Calls.{decide, leave_call, await}
 use Rattle.model.specs.Groups.{is_met, begin_set, set_bits, wait_for_bits, begin_bits_wait, check, final_bits, wait_bits}
+use Rattle.model.specs.Notifications.{entered, is_there, wait_for_notification, begin_notification_wait, check_notification}
+use Rattle.model.specs.Notifications.{await_notification}
 use Rattle.model.specs.Suspension.{suspend_all, resume_scheduler, resume_all}
 use Rattle.model.specs.Daemon.{next_command, obeyed, end_set_by_daemon, obey, command_at}
 use Rattle.model.specs.Handlers.{interrupt, tick_interrupt, idle, ticks_ahead, ticks_to_wake, ticks_to_interrupt}
@@ -48,7 +52,8 @@ use Rattle.soundness.proofs.Frames.{keeps-use_up, keeps-delay, keeps-delay_until
 use Rattle.soundness.proofs.Frames.{keeps-skip_branch, keeps-leave_loop, keeps-stamp, keeps-since, keeps-set_deadline}
 use Rattle.soundness.proofs.Frames.{keeps-inherit, keeps-give_mutex, keeps-try, keeps-do_now, keeps-set, keeps-clear}
 use Rattle.soundness.proofs.Frames.{keeps-answer_bits, keeps-call_suspend, keeps-call_resume, keeps-take_command, keeps-obeyed}
-use Rattle.soundness.proofs.Frames.{keeps-clear_by_daemon, keeps-interrupt}
+use Rattle.soundness.proofs.Frames.{keeps-clear_by_daemon, keeps-interrupt, keeps-call_notify, keeps-end_notification_wait}
+use Rattle.soundness.proofs.Frames.{keeps-clear_notification}
 
 -- ---- a call in its phases lets no time pass
 
@@ -146,16 +151,38 @@ pub lasts-final_bits : (app : Application) (i group : ℕ) (c : Condition) (kept
 lasts-final_bits app i group c None s = keeps-answer_bits app i group c s
 lasts-final_bits app i group c (Some bits) s = keeps-answer app i (Some bits) s
 
+-- a wait until one is woken goes on
+lasts-held_no_more : (i : ℕ) (s : State) → Lasts s (choose (end_hold i Try s))
+lasts-held_no_more i s =
+    let k = keeps-choose (end_hold i Try s) in
+    record { elapsed = k.elapsed; suspension = k.suspension; sources = k.sources }
+
 lasts-wait_bits : (app : Application) (i group : ℕ) (c : Condition) (ticks : Option ℕ) (phase : Phase) (s : State)
     → Lasts s (wait_bits app i group c ticks phase s)
 lasts-wait_bits app i group c ticks Start s = lasts-check app i group c ticks s
-lasts-wait_bits app i group c ticks Leave s =
-    let k = keeps-choose (end_hold i Try s) in
-    record { elapsed = k.elapsed; suspension = k.suspension; sources = k.sources }
+lasts-wait_bits app i group c ticks Leave s = lasts-held_no_more i s
 lasts-wait_bits app i group c ticks Try s = lasts s _ (lasts-final_bits app i group c (call_at s i).kept s)
 lasts-wait_bits app i group c ticks Decide s = lasts s _ (lasts-final_bits app i group c (call_at s i).kept s)
 lasts-wait_bits app i group c ticks Place s = lasts s _ (lasts-final_bits app i group c (call_at s i).kept s)
 lasts-wait_bits app i group c ticks Unlock s = lasts s _ (lasts-final_bits app i group c (call_at s i).kept s)
+
+pub lasts-check_notification : (app : Application) (i : ℕ) (wait : NotificationWait) (ticks : Option ℕ) (s : State)
+    → Lasts s (check_notification app i wait ticks s)
+unfolding check_notification begin_notification_wait wait_for_notification set_deadline
+lasts-check_notification app i wait ticks s = by_test (is_there wait (notification_at s i) || option_eq eqb ticks (Some 0))
+    (λ t. rw t (lasts s _ (keeps-end_notification_wait app i wait s)))
+    (λ t. rw t (record { elapsed = refl; suspension = refl; sources = refl }))
+
+lasts-await_notification : (app : Application) (i : ℕ) (wait : NotificationWait) (ticks : Option ℕ) (phase : Phase) (s : State)
+    → Lasts s (await_notification app i wait ticks phase s)
+lasts-await_notification app i wait ticks Start s =
+    let k = lasts-check_notification app i wait ticks (with_notification i (entered wait (notification_at s i)) s) in
+    record { elapsed = k.elapsed; suspension = k.suspension; sources = k.sources }
+lasts-await_notification app i wait ticks Leave s = lasts-held_no_more i s
+lasts-await_notification app i wait ticks Try s = lasts s _ (keeps-end_notification_wait app i wait s)
+lasts-await_notification app i wait ticks Decide s = lasts s _ (keeps-end_notification_wait app i wait s)
+lasts-await_notification app i wait ticks Place s = lasts s _ (keeps-end_notification_wait app i wait s)
+lasts-await_notification app i wait ticks Unlock s = lasts s _ (keeps-end_notification_wait app i wait s)
 
 lasts-next_command : (app : Application) (i o : ℕ) (phase : Phase) (s : State) → Lasts s (next_command app i o phase s)
 lasts-next_command app i o Start s = lasts s _ (keeps-take_command app i o s)
@@ -550,6 +577,9 @@ by_op P w s r e x f (SetBits g m) = f (SetBits g m) refl
 by_op P w s r e x f (ClearBits g m) = f (ClearBits g m) refl
 by_op P w s r e x f (GetBits g) = f (GetBits g) refl
 by_op P w s r e x f (WaitBits g c ticks) = f (WaitBits g c ticks) refl
+by_op P w s r e x f (Notify j a) = f (Notify j a) refl
+by_op P w s r e x f (AwaitNotification a ticks) = f (AwaitNotification a ticks) refl
+by_op P w s r e x f (ClearNotification c) = f (ClearNotification c) refl
 by_op P w s r e x f (Suspend j) = f (Suspend j) refl
 by_op P w s r e x f (Resume j) = f (Resume j) refl
 by_op P w s r e x f SuspendAll = s
@@ -591,6 +621,9 @@ ends-act app i (SetBits g m) s t w = absurd (cc)
 ends-act app i (ClearBits g m) s t w = ends s _ (keeps-clear app i g m s)
 ends-act app i (GetBits g) s t w = ends s _ (keeps-answer app i (Some (bits_at s g)) s)
 ends-act app i (WaitBits g c ticks) s t w = absurd (cc)
+ends-act app i (Notify j a) s t w = ends s _ (keeps-call_notify app i j (notify_by_number s i a) s)
+ends-act app i (AwaitNotification a ticks) s t w = absurd (cc)
+ends-act app i (ClearNotification c) s t w = ends s _ (keeps-clear_notification app i c s)
 ends-act app i (Suspend j) s t w = ends s _ (keeps-call_suspend app i j s)
 ends-act app i (Resume j) s t w = ends s _ (keeps-call_resume app i j s)
 ends-act app i SuspendAll s t w = absurd (cc)
@@ -626,6 +659,9 @@ lasts-act app i (SetBits g m) s t = lasts-set_bits app i g m (call_at s i).phase
 lasts-act app i (ClearBits g m) s t = (ends-act app i (ClearBits g m) s refl refl).lasts
 lasts-act app i (GetBits g) s t = (ends-act app i (GetBits g) s refl refl).lasts
 lasts-act app i (WaitBits g c ticks) s t = lasts-wait_bits app i g c ticks (call_at s i).phase s
+lasts-act app i (Notify j a) s t = (ends-act app i (Notify j a) s refl refl).lasts
+lasts-act app i (AwaitNotification a ticks) s t = lasts-await_notification app i a ticks (call_at s i).phase s
+lasts-act app i (ClearNotification c) s t = (ends-act app i (ClearNotification c) s refl refl).lasts
 lasts-act app i (Suspend j) s t = (ends-act app i (Suspend j) s refl refl).lasts
 lasts-act app i (Resume j) s t = (ends-act app i (Resume j) s refl refl).lasts
 lasts-act app i SuspendAll s t = absurd (cc)

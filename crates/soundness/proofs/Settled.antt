@@ -5,8 +5,8 @@ use Rattle.std.specs.List.{AllByRecursion}
 use Rattle.std.specs.Prelude.{Bool, if◌then◌else◌}
 use Rattle.std.specs.Option.{IfSome, is_some, option_map}
 use Rattle.model.specs.Application.{Application, Limits}
-use Rattle.model.specs.State.{State, Status, Ready, Awake, Waiting, Asleep, WaitingForBits, Suspended, Ended, ticket_if_ready}
-use Rattle.model.specs.State.{task_at, for_one}
+use Rattle.model.specs.State.{State, Status, Ready, Awake, Waiting, Asleep, WaitingForBits, WaitingForNotification, Suspended}
+use Rattle.model.specs.State.{Ended, ticket_if_ready, task_at, for_one}
 use Rattle.model.specs.Order.{Key, Entry, key, first, task_of}
 use Rattle.model.specs.Switching.{ready_key, ready_list, is_ready, to_back, choice, is_same, choose, dispatch, yield_now}
 use Rattle.model.specs.Switching.{is_outranked, preempt, is_off, settle, is_held, is_held_by_task, unless_held}
@@ -29,6 +29,7 @@ keyed_ready priority (Awake w) k e = absurd (cc)
 keyed_ready priority (Waiting w) k e = absurd (cc)
 keyed_ready priority (Asleep w n) k e = absurd (cc)
 keyed_ready priority (WaitingForBits g m d) k e = absurd (cc)
+keyed_ready priority (WaitingForNotification m d) k e = absurd (cc)
 keyed_ready priority Suspended k e = absurd (cc)
 keyed_ready priority Ended k e = absurd (cc)
 

@@ -13,14 +13,14 @@ use Rattle.model.specs.declared.call.CallProgress.{CallProgress}
 use Rattle.model.specs.declared.loops.Loop.{Loop}
 use Rattle.model.specs.declared.event.Event.{Event}
 use Rattle.model.specs.declared.event.End as ending
+use Rattle.model.specs.declared.notification.Notification.{Notification}
 use Rattle.model.specs.Application.{Application, script_of, op_at, op_count}
 use Rattle.model.specs.Answers.{holds}
 use Rattle.model.specs.Blocks.{edge_of, jump_from}
 use Rattle.model.specs.Scripts.{IsWellFormed}
-use Rattle.model.specs.State.{State, Task, Source, Progress, Status, Wait, Ready, Awake, Waiting, Asleep, WaitingForBits, Suspended}
-use Rattle.model.specs.State.{Ended}
-use Rattle.model.specs.State.{ticket_if_ready, ticket_of, wake_time_of, no_call, task_at, progress_at, status_at, with_task}
-use Rattle.model.specs.State.{take_ticket, for_one, for_each, no_task}
+use Rattle.model.specs.State.{State, Task, Source, Progress, Status, Wait, Ready, Awake, Waiting, Asleep, WaitingForBits}
+use Rattle.model.specs.State.{WaitingForNotification, Suspended, Ended, ticket_if_ready, ticket_of, wake_time_of, no_call, task_at}
+use Rattle.model.specs.State.{progress_at, status_at, with_task, take_ticket, for_one, for_each, no_task}
 use Rattle.model.specs.Order.{Entry, tasks_of}
 use Rattle.model.specs.Switching.{make_ready, to_back, dispatch, choose, choice, is_same, is_ready, yield_now, is_outranked}
 use Rattle.model.specs.Switching.{is_sharing, preempt, slice, settle, is_off, write}
@@ -48,6 +48,7 @@ later_reckoned n now p (Awake w) h = omega arith
 later_reckoned n now p (Waiting w) h = omega arith
 later_reckoned n now p (Asleep w t) h = h
 later_reckoned n now p (WaitingForBits g m d) h = omega arith
+later_reckoned n now p (WaitingForNotification m d) h = omega arith
 later_reckoned n now p Suspended h = tt
 later_reckoned n now p Ended h = tt
 
@@ -58,6 +59,7 @@ ready_reckoned now p (Awake w) h t = h
 ready_reckoned now p (Waiting w) h t = h
 ready_reckoned now p (Asleep w n) h t = absurd (cc)
 ready_reckoned now p (WaitingForBits g m d) h t = absurd (cc)
+ready_reckoned now p (WaitingForNotification m d) h t = absurd (cc)
 ready_reckoned now p Suspended h t = absurd (cc)
 ready_reckoned now p Ended h t = absurd (cc)
 
@@ -67,6 +69,7 @@ reckoned_now now p (Awake w) h t = h
 reckoned_now now p (Waiting w) h t = h
 reckoned_now now p (Asleep w n) h t = absurd (cc)
 reckoned_now now p (WaitingForBits g m d) h t = h
+reckoned_now now p (WaitingForNotification m d) h t = h
 reckoned_now now p Suspended h t = tt
 reckoned_now now p Ended h t = tt
 
@@ -78,6 +81,7 @@ reckoned_ended now p (Awake w) h t = absurd (cc)
 reckoned_ended now p (Waiting w) h t = absurd (cc)
 reckoned_ended now p (Asleep w n) h t = absurd (cc)
 reckoned_ended now p (WaitingForBits g m d) h t = absurd (cc)
+reckoned_ended now p (WaitingForNotification m d) h t = absurd (cc)
 reckoned_ended now p Suspended h t = tt
 reckoned_ended now p Ended h t = tt
 
@@ -87,6 +91,7 @@ ready_alone (Awake w) t = absurd (cc)
 ready_alone (Waiting w) t = absurd (cc)
 ready_alone (Asleep w n) t = absurd (cc)
 ready_alone (WaitingForBits g m d) t = absurd (cc)
+ready_alone (WaitingForNotification m d) t = absurd (cc)
 ready_alone Suspended t = absurd (cc)
 ready_alone Ended t = absurd (cc)
 
@@ -97,6 +102,7 @@ due_reckoned now p (Awake w) h t = h
 due_reckoned now p (Waiting w) h t = h
 due_reckoned now p (Asleep w n) h t = let e = eqb-same w now t in omega arith
 due_reckoned now p (WaitingForBits g m d) h t = h
+due_reckoned now p (WaitingForNotification m d) h t = h
 due_reckoned now p Suspended h t = absurd (cc)
 due_reckoned now p Ended h t = absurd (cc)
 
@@ -381,6 +387,21 @@ module _ (app : Application) (formed : IsWellFormed app) (hold : Hold) where
     progress = h.progress;
     calls = h.calls;
     contents = h.contents;
+    priorities = h.priorities;
+    time = h.time;
+  }
+
+  -- the notifications, of which nothing else depends
+  pub renotified : (s : State) (notifications : ℕ → Notification) → IsSound app hold s
+      → IsSound app hold (record s { notifications = notifications })
+  renotified s notifications h = record {
+    table = record { tickets = h.table.tickets; few = h.table.few; current = h.table.current; holders = h.table.holders };
+    tasks = h.tasks;
+    objects = h.objects;
+    progress = h.progress;
+    calls = h.calls;
+    contents = h.contents;
+    sources = h.sources;
     priorities = h.priorities;
     time = h.time;
   }

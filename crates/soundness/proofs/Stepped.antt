@@ -1,15 +1,11 @@
 -- What is true of every state that a run comes to is true after a step.
-use Rattle.model.specs.declared.value.ValueOp.{ValueOp}
-use Rattle.model.specs.Ops.{calculate, store}
-use Rattle.model.specs.Values.{answer_of, number_of, stored}
-use Rattle.soundness.proofs.Sound.{revalued}
 use Rattle.model.specs.declared.op.Op.TheVariants.{Value}
 use Rattle.soundness.proofs.Passing.{by_value}
 use Rattle.model.specs.Step.{call_with_number}
 use Rattle.soundness.proofs.Handled.{fits-number, list_for-number}
 use Rattle.model.specs.declared.value.Value as value
-use Rattle.std.proofs.Common.{ap₂, ◌≡◌, ◌≢◌, ◌<◌, ◌+◌, ◌-◌, ◌||◌, ◌⊎◌, inl, inr, ℕ, true, false, eqb, ltb, List, [], ◌∷◌}
-use Rattle.std.proofs.Common.{length, map, slice_set, Option, Some, None, refl, ap, sym, subst, ◌∙◌, arith}
+use Rattle.std.proofs.Common.{ap₂, ◌≡◌, ◌≢◌, ◌<◌, ◌+◌, ◌-◌, ◌||◌, ◌⊎◌, inl, inr, ℕ, true, false, eqb, ltb, List, [], ◌∷◌, length}
+use Rattle.std.proofs.Common.{map, slice_set, Option, Some, None, refl, ap, sym, subst, ◌∙◌, arith}
 use Rattle.std.proofs.Math.ListN.{length-set}
 use Rattle.std.proofs.lemmas.List.{length-map}
 use Rattle.std.specs.Option.{IfSome, option_eq}
@@ -20,33 +16,36 @@ use Rattle.model.specs.declared.event.Misuse.TheVariants.{NotSuspended, NotCriti
 use Rattle.model.specs.declared.op.Op.TheVariants.{Work, Delay, DelayUntil, Yield, Time, Mark, Expect, Repeat, End, If, Else, EndIf}
 use Rattle.model.specs.declared.op.Op.TheVariants.{Break, Stamp, Since, Await, Do, GiveMutex, MessagesWaiting, SpacesAvailable}
 use Rattle.model.specs.declared.op.Op.TheVariants.{SetBits, ClearBits, GetBits, WaitBits, Suspend, Resume, SuspendAll, ResumeAll}
-use Rattle.model.specs.declared.op.Op.TheVariants.{EnterCritical, ExitCritical, NextCommand, Obey}
+use Rattle.model.specs.declared.op.Op.TheVariants.{EnterCritical, ExitCritical, NextCommand, Obey, Notify, AwaitNotification}
+use Rattle.model.specs.declared.op.Op.TheVariants.{ClearNotification}
 use Rattle.model.specs.declared.op.Access.{Access}
 use Rattle.model.specs.declared.op.Access.TheVariants.{Receive}
 use Rattle.model.specs.declared.op.Command.{Command}
 use Rattle.model.specs.declared.call.Condition.{Condition}
+use Rattle.model.specs.declared.notification.NotificationWait.{NotificationWait}
 use Rattle.model.specs.declared.call.Phase.{Phase}
 use Rattle.model.specs.declared.call.Phase.TheVariants.{Start, Try, Decide, Place, Unlock, Leave}
 use Rattle.model.specs.declared.event.Event.{Event}
 use Rattle.model.specs.declared.event.End as ending
-use Rattle.model.specs.declared.event.What.TheVariants as what
 use Rattle.model.specs.Application.{Application, Limits, script_of, op_at}
 use Rattle.model.specs.Scripts.{IsWellFormed, fits_object, is_wait}
 use Rattle.model.specs.State.{State, Source, task_at, progress_at, status_at, call_at, bits_at, source_at, go_on, for_each}
+use Rattle.model.specs.State.{notification_at, with_notification}
 use Rattle.model.specs.Switching.{choose, is_ready, preempt, settle, is_scheduler_suspended, is_critical, is_held, is_held_by_task}
-use Rattle.model.specs.Switching.{unless_held, write}
+use Rattle.model.specs.Switching.{unless_held}
 use Rattle.model.specs.Waiting.{set_deadline, end_hold, unlock}
 use Rattle.model.specs.Ops.{answer, use_up, with_sections}
 use Rattle.model.specs.Objects.{list_for}
 use Rattle.model.specs.Calls.{await, decide, leave_call}
 use Rattle.model.specs.Groups.{is_met, begin_set, set_bits, check, final_bits, wait_bits}
+use Rattle.model.specs.Notifications.{entered, is_there, end_notification_wait, check_notification, await_notification}
 use Rattle.model.specs.Suspension.{suspend_all, resume_all}
 use Rattle.model.specs.Daemon.{take_command, next_command, obeyed, obey, command_at}
 use Rattle.model.specs.Handlers.{handle, serve, inject, pend, pending_of, none_pending, serve_pending}
 use Rattle.model.specs.Step.{is_ended, judge, act, act_by_value, act_unless, may_switch, is_barred, misuse, act_if, act_current}
 use Rattle.model.specs.Step.{before_step, step}
-use Rattle.model.specs.Invariant.{Hold, hold_of, InOne, OnObject, ForBits, ToSetBits, course, list_of_op, IsPhaseOf, IsSound, holds}
-use Rattle.model.specs.Invariant.{IsStranded, IsRunning, RunsIn, Suspension, suspension_of, IsState}
+use Rattle.model.specs.Invariant.{Hold, hold_of, InOne, OnObject, UntilWoken, ToSetBits, course, list_of_op, IsPhaseOf, IsSound}
+use Rattle.model.specs.Invariant.{holds, IsStranded, IsRunning, RunsIn, Suspension, suspension_of, IsState}
 use Rattle.model.proofs.Sorting.{by_test}
 use Rattle.model.proofs.Lists.{eqb-same}
 use Rattle.model.proofs.Statuses.{ready_free}
@@ -55,24 +54,23 @@ use Rattle.soundness.proofs.Settled.{nothing_holds, unlike, held_by_task, held_b
 use Rattle.soundness.proofs.Settled.{section_holds}
 use Rattle.soundness.proofs.InScripts.{script_formed, range_at, known_at}
 use Rattle.soundness.proofs.Frames.{keeps-settle, keeps-choose, keeps-answer, keeps-answer_bits, keeps-try, keeps-set_deadline}
-use Rattle.soundness.proofs.Frames.{keeps-use_up, keeps-preempt, keeps-take_command, keeps-obeyed, keeps-clear_by_daemon}
+use Rattle.soundness.proofs.Frames.{keeps-end_notification_wait, keeps-use_up, keeps-preempt, keeps-take_command, keeps-obeyed}
+use Rattle.soundness.proofs.Frames.{keeps-clear_by_daemon}
 use Rattle.soundness.proofs.Passing.{is_instant, lasts-act, lasts-leave_call, lasts-end_set, lasts-end_command, lasts-final_bits}
 use Rattle.soundness.proofs.Passing.{hold-idle, suspension-idle, hold-act, suspension-tick, suspensions-tick, suspends-all}
 use Rattle.soundness.proofs.Passing.{resumes-all, Opens, opens}
-use Rattle.soundness.proofs.Judging.{judged_held, judged_calm, not_ended, misuse_calm, not_barred}
-use Rattle.soundness.proofs.Judging.{switches_not}
-use Rattle.soundness.proofs.Sound.{logged, settled, preempted, yielded, answered, used_up, expected, opened, closed, branched}
-use Rattle.soundness.proofs.Sound.{resourced, skipped, loop_left, stamped, since_stamped, plain, delayed, delayed_until}
-use Rattle.soundness.proofs.Handled.{and_left, and_right, ticked, idled, handled_between}
-use Rattle.soundness.proofs.Trying.{tried, gave}
-use Rattle.soundness.proofs.Called.{done_now, dated, dated_at, phase_free, course_of_one}
+use Rattle.soundness.proofs.Judging.{judged_held, judged_calm, not_ended, misuse_calm, not_barred, switches_not}
+use Rattle.soundness.proofs.Sound.{logged, settled, preempted, resourced}
+use Rattle.soundness.proofs.Handled.{and_left, and_right, idled, handled_between}
+use Rattle.soundness.proofs.Trying.{tried}
+use Rattle.soundness.proofs.Called.{dated, dated_at, phase_free, course_of_one}
 use Rattle.soundness.proofs.Phases.{free, unsuspended, calm_free, none_above, calm_where, calm_held, decided, decided_held, placed}
 use Rattle.soundness.proofs.Phases.{unlocked, unlocked_held, left, left_hold}
-use Rattle.soundness.proofs.Bits.{cleared, answered_bits, final_done, set_begun, begun_held, wait_begun, waits_held, set_ended}
-use Rattle.soundness.proofs.Bits.{wait_left}
+use Rattle.soundness.proofs.Bits.{answered_bits, final_done, set_begun, begun_held, wait_begun, waits_held, set_ended, wait_left}
+use Rattle.soundness.proofs.Notified.{notification_put, notification_wait_ended, notification_wait_begun, notification_wait_held}
 use Rattle.soundness.proofs.Daemon.{command_taken, cleared_by_daemon, set_ended_by_daemon}
 use Rattle.soundness.proofs.Going.{GoesOn, Continues, suspended_held, suspended_on, worked_on, sectioned_on, acted_on, resumed_on}
-use Rattle.soundness.proofs.Obeyed.{call_suspended, call_resumed, all_suspended, all_resumed, sections_put}
+use Rattle.soundness.proofs.Acted.{acted}
 
 -- ---- a step that holds nothing at its end
 
@@ -193,63 +191,6 @@ module _ (app : Application) (formed : IsWellFormed app) where
 
   -- ---- the ops
 
-  calculated : (s : State) (i : ℕ) (op : ValueOp) → IsSound app free s → is_ready s i ≡ true
-      → op_at app i (progress_at s i).op_index ≡ Some (Value op) → IsSound app free (calculate app i op s)
-  unfolding calculate
-  calculated s i op h r is =
-      let a : Option ℕ = answer_of s.variables (progress_at s i).answer op in
-      answered app formed free (store op a s) i (Value op) (revalued app formed free s (stored op a s.variables) h)
-      (ready_free (status_at s i) r) is a refl
-
-  -- an op of one phase
-  acted : (s : State) (i : ℕ) (op : Op) → IsSound app free s → s.locked ≡ None → i < length s.tasks → is_ready s i ≡ true
-      → op_at app i (progress_at s i).op_index ≡ Some op → course (Some op) ≡ InOne → IsSound app free (act app i op s)
-  acted s i (Work n) h u l r is w =
-      ticked app formed free _ (used_up app formed free s i (Work n) h (ready_free (status_at s i) r) is n refl)
-      (ap (λ (x : Hold). x.locked) (keeps-use_up app i n s).hold ∙ u)
-  acted s i (Delay n) h u l r is w = delayed app formed free s i n h l r is
-  acted s i (DelayUntil n) h u l r is w = delayed_until app formed free s i n h l r is
-  acted s i Yield h u l r is w =
-      yielded app formed free _ (answered app formed free s i Yield h (ready_free (status_at s i) r) is (Some 0) refl)
-  acted s i Time h u l r is w = answered app formed free s i Time h (ready_free (status_at s i) r) is _ refl
-  acted s i (Mark value) h u l r is w =
-      let n : ℕ = number_of s.variables (progress_at s i).answer value in
-      plain app formed free (write (what.Mark i n) s) i (logged app formed free s _ s.steps s.stopped h)
-      (ready_free (status_at s i) r) (Mark value) is (progress_at s i).answer refl
-  acted s i (Expect c) h u l r is w = expected app formed free s i (Expect c) h (ready_free (status_at s i) r) is c refl
-  acted s i (Repeat n) h u l r is w = opened app formed free s i (Repeat n) h (ready_free (status_at s i) r) is n refl
-  acted s i End h u l r is w = closed app formed free s i End h (ready_free (status_at s i) r) is refl
-  acted s i (If c) h u l r is w = branched app formed free s i (If c) h (ready_free (status_at s i) r) is c refl
-  acted s i Else h u l r is w = skipped app formed free s i Else h (ready_free (status_at s i) r) is refl
-  acted s i EndIf h u l r is w = plain app formed free s i h (ready_free (status_at s i) r) EndIf is (progress_at s i).answer refl
-  acted s i Break h u l r is w = loop_left app formed free s i Break h (ready_free (status_at s i) r) is refl
-  acted s i Stamp h u l r is w = stamped app formed free s i Stamp h (ready_free (status_at s i) r) is refl
-  acted s i Since h u l r is w = since_stamped app formed free s i Since h (ready_free (status_at s i) r) is refl
-  acted s i (Await o a ticks) h u l r is w = absurd (cc)
-  acted s i (Value op) h u l r is w = calculated s i op h r is
-  acted s i (Do o v) h u l r is w =
-      done_now app formed free s i o v (call_with_number s i v) h u l r is
-      (fits-number app o s.variables (progress_at s i).answer v
-      ∙ and_left (fits_object app o v) _ (known_at app formed i (progress_at s i).op_index (Do o v) is))
-  acted s i (GiveMutex o) h u l r is w = gave app formed free s i o h u l r is
-  acted s i (MessagesWaiting o) h u l r is w =
-      answered app formed free s i (MessagesWaiting o) h (ready_free (status_at s i) r) is _ refl
-  acted s i (SpacesAvailable o) h u l r is w =
-      answered app formed free s i (SpacesAvailable o) h (ready_free (status_at s i) r) is _ refl
-  acted s i (SetBits g m) h u l r is w = absurd (cc)
-  acted s i (ClearBits g m) h u l r is w =
-      cleared app formed free s i (ClearBits g m) h (ready_free (status_at s i) r) is (λ n. refl) g m
-  acted s i (GetBits g) h u l r is w = answered app formed free s i (GetBits g) h (ready_free (status_at s i) r) is _ refl
-  acted s i (WaitBits g c ticks) h u l r is w = absurd (cc)
-  acted s i (Suspend j) h u l r is w = call_suspended app formed free s i h l r j is
-  acted s i (Resume j) h u l r is w = call_resumed app formed free s i h l r j is
-  acted s i SuspendAll h u l r is w = all_suspended app formed free s i h l r is
-  acted s i ResumeAll h u l r is w = all_resumed app formed free s i h l r is
-  acted s i EnterCritical h u l r is w = sections_put app formed free s i h l r (s.sections + 1) EnterCritical is refl
-  acted s i ExitCritical h u l r is w = sections_put app formed free s i h l r (s.sections - 1) ExitCritical is refl
-  acted s i (NextCommand o) h u l r is w = absurd (cc)
-  acted s i Obey h u l r is w = absurd (cc)
-
   module _ (s : State) (i : ℕ) (h : IsState app s) (on : s.current ≡ Some i) where
     running : IsRunning app s i
     running = subst (RunsIn app s) on h.runs
@@ -272,7 +213,8 @@ module _ (app : Application) (formed : IsWellFormed app) where
       rested : (op : Op) → op_at app i (progress_at s i).op_index ≡ Some op → course (Some op) ≡ InOne
           → suspension_of (act app i op s) ≡ suspension_of s → IsState app (unless_held settle (act app i op s))
       rested op is w kept =
-          settled_at_rest (act app i op s) (acted s i op (sound_free s h none) (h.locked none) there (ready_at op none is) is w)
+          settled_at_rest (act app i op s)
+          (acted app formed s i op (sound_free s h none) (h.locked none) there (ready_at op none is) is w)
           (hold-act app i op s w ∙ hold_none s h none) (kept ∙ calm)
 
       instant : (op : Op) → op_at app i (progress_at s i).op_index ≡ Some op → course (Some op) ≡ InOne
@@ -294,7 +236,7 @@ module _ (app : Application) (formed : IsWellFormed app) where
           let e = (suspends-all app i s).suspensions in
           let more : is_scheduler_suspended (suspend_all app i s) ≡ true =
           lt-ltb 0 (suspend_all app i s).suspensions (omega arith) in
-          held_at_rest _ i (acted s i SuspendAll (sound_free s h none) (h.locked none) there r is refl)
+          held_at_rest _ i (acted app formed s i SuspendAll (sound_free s h none) (h.locked none) there r is refl)
           (hold-act app i SuspendAll s refl ∙ hold_none s h none) (suspended_held (suspend_all app i s) more)
           (λ no. unlike (sym more ∙ no)) (k.current ∙ on) k.goes
 
@@ -304,7 +246,7 @@ module _ (app : Application) (formed : IsWellFormed app) where
           let r : is_ready s i ≡ true = ready_at EnterCritical none is in
           let k = sectioned_on app i (s.sections + 1) s there r in
           let one = opens app i (s.sections + 1) s in
-          held_at_rest _ i (acted s i EnterCritical (sound_free s h none) (h.locked none) there r is refl)
+          held_at_rest _ i (acted app formed s i EnterCritical (sound_free s h none) (h.locked none) there r is refl)
           (hold-act app i EnterCritical s refl ∙ hold_none s h none)
           (section_holds (act app i EnterCritical s)
           (let e = one.sections in lt-ltb 0 (act app i EnterCritical s).sections (omega arith)))
@@ -412,6 +354,43 @@ module _ (app : Application) (formed : IsWellFormed app) where
             (final_done app formed free s i (WaitBits g c ticks) (sound_free s h none)
             (ready_free (status_at s i) waiting_ready) is (λ n. refl) g c (call_at s i).kept)
             (k.hold ∙ hold_none s h none) (k.suspension ∙ calm)
+
+      -- ---- a wait for a notification
+
+      module _ (wait : NotificationWait) (ticks : Option ℕ)
+          (is : op_at app i (progress_at s i).op_index ≡ Some (AwaitNotification wait ticks)) where
+        awaiting_ready : is_ready s i ≡ true
+        awaiting_ready = ready_at (AwaitNotification wait ticks) none is
+
+        await_ended : IsState app (unless_held settle (end_notification_wait app i wait s))
+        await_ended =
+            let k = keeps-end_notification_wait app i wait s in
+            settled_at_rest _
+            (notification_wait_ended app formed free s i (AwaitNotification wait ticks) (sound_free s h none)
+            (ready_free (status_at s i) awaiting_ready) is (λ n. refl) wait)
+            (k.hold ∙ hold_none s h none) (k.suspension ∙ calm)
+
+        await_begun : IsState app (unless_held settle (await_notification app i wait ticks Start s))
+        unfolding check_notification
+        await_begun =
+            let t : State = with_notification i (entered wait (notification_at s i)) s in
+            let k = keeps-end_notification_wait app i wait t in
+            let range : is_wait ticks ≡ true =
+            range_at (progress_at s i).op_index (script_of app i) (AwaitNotification wait ticks)
+            (script_formed app formed i).ranges is in
+            by_test (is_there wait (notification_at t i) || option_eq eqb ticks (Some 0))
+            (λ q.
+            rw q (settled_at_rest _
+            (notification_wait_ended app formed free t i (AwaitNotification wait ticks)
+            (notification_put app formed free s i (entered wait (notification_at s i)) (sound_free s h none))
+            (ready_free (status_at s i) awaiting_ready) is (λ n. refl) wait)
+            (k.hold ∙ hold_none s h none) (k.suspension ∙ calm)))
+            (λ q.
+            rw q (still_held _
+            (notification_wait_begun app formed t i (AwaitNotification wait ticks)
+            (notification_put app formed (hold_of s) s i (entered wait (notification_at s i)) h.sound)
+            none (h.locked none) calm on there awaiting_ready is ticks range refl)
+            (notification_wait_held i ticks t)))
 
     free_in : (phase : Phase) → (call_at s i).phase ≡ phase → holds phase ≡ false → s.call_hold ≡ false
     free_in phase e off = sym running.holding ∙ ap holds e ∙ off
@@ -527,23 +506,40 @@ module _ (app : Application) (formed : IsWellFormed app) where
       next_of_set g m is Place e = absurd (phase_of (SetBits g m) is Place e)
       next_of_set g m is Unlock e = absurd (phase_of (SetBits g m) is Unlock e)
 
+      -- of a wait until the task is woken
+      woken_next : (op : Op) → op_at app i (progress_at s i).op_index ≡ Some op → course (Some op) ≡ UntilWoken
+          → (call_at s i).phase ≡ Leave → IsState app (unless_held settle (choose (end_hold i Try s)))
+      woken_next op is way e =
+          let held = held_in Leave e refl in
+          let at : IsPhaseOf (hold_of s) UntilWoken Leave =
+          subst (λ c. IsPhaseOf (hold_of s) c Leave) way (phase_of op is Leave e) in
+          let ended : State = end_hold i Try s in
+          let same : hold_of ended ≡ free = ap (λ l. record { held = false; locked = l }) at.1 in
+          let fits : IsPhaseOf free (course (op_at app i (progress_at s i).op_index)) Try =
+          subst (λ c. IsPhaseOf free c Try) (sym (ap course is ∙ way)) tt in
+          settled_at_rest (choose ended) (wait_left app formed s i h on there at.1 fits)
+          ((keeps-choose ended).hold ∙ same) ((keeps-choose ended).suspension ∙ calm_held app s h held)
+
       -- of a wait for bits
       next_of_wait : (g : ℕ) (c : Condition) (ticks : Option ℕ) → op_at app i (progress_at s i).op_index ≡ Some (WaitBits g c ticks)
           → (phase : Phase) → (call_at s i).phase ≡ phase → IsState app (unless_held settle (wait_bits app i g c ticks phase s))
       next_of_wait g c ticks is Start e = checked (free_in Start e refl) off g c ticks is
-      next_of_wait g c ticks is Leave e =
-          let held = held_in Leave e refl in
-          let at : IsPhaseOf (hold_of s) ForBits Leave = phase_of (WaitBits g c ticks) is Leave e in
-          let ended : State = end_hold i Try s in
-          let same : hold_of ended ≡ free = ap (λ l. record { held = false; locked = l }) at.1 in
-          let fits : IsPhaseOf free (course (op_at app i (progress_at s i).op_index)) Try =
-          subst (λ o. IsPhaseOf free (course o) Try) (sym is) tt in
-          settled_at_rest (choose ended) (wait_left app formed s i h on there at.1 fits)
-          ((keeps-choose ended).hold ∙ same) ((keeps-choose ended).suspension ∙ calm_held app s h held)
+      next_of_wait g c ticks is Leave e = woken_next (WaitBits g c ticks) is refl e
       next_of_wait g c ticks is Try e = final_next (free_in Try e refl) off g c ticks is
       next_of_wait g c ticks is Decide e = absurd (phase_of (WaitBits g c ticks) is Decide e)
       next_of_wait g c ticks is Place e = absurd (phase_of (WaitBits g c ticks) is Place e)
       next_of_wait g c ticks is Unlock e = absurd (phase_of (WaitBits g c ticks) is Unlock e)
+
+      -- of a wait for a notification
+      next_of_await : (wait : NotificationWait) (ticks : Option ℕ)
+          → op_at app i (progress_at s i).op_index ≡ Some (AwaitNotification wait ticks) → (phase : Phase)
+          → (call_at s i).phase ≡ phase → IsState app (unless_held settle (await_notification app i wait ticks phase s))
+      next_of_await wait ticks is Start e = await_begun (free_in Start e refl) off wait ticks is
+      next_of_await wait ticks is Leave e = woken_next (AwaitNotification wait ticks) is refl e
+      next_of_await wait ticks is Try e = await_ended (free_in Try e refl) off wait ticks is
+      next_of_await wait ticks is Decide e = absurd (phase_of (AwaitNotification wait ticks) is Decide e)
+      next_of_await wait ticks is Place e = absurd (phase_of (AwaitNotification wait ticks) is Place e)
+      next_of_await wait ticks is Unlock e = absurd (phase_of (AwaitNotification wait ticks) is Unlock e)
 
       -- no task holds the scheduler
       calm_done : (op : Op) → op_at app i (progress_at s i).op_index ≡ Some op
@@ -573,6 +569,10 @@ module _ (app : Application) (formed : IsWellFormed app) where
       calm_done (ClearBits g m) is e = instant (start_only (ClearBits g m) refl is) off (ClearBits g m) is refl refl
       calm_done (GetBits g) is e = instant (start_only (GetBits g) refl is) off (GetBits g) is refl refl
       calm_done (WaitBits g c ticks) is e = next_of_wait g c ticks is (call_at s i).phase refl
+      calm_done (Notify j a) is e = instant (start_only (Notify j a) refl is) off (Notify j a) is refl refl
+      calm_done (AwaitNotification a ticks) is e = next_of_await a ticks is (call_at s i).phase refl
+      calm_done (ClearNotification c) is e =
+          instant (start_only (ClearNotification c) refl is) off (ClearNotification c) is refl refl
       calm_done (Suspend j) is e = instant (start_only (Suspend j) refl is) off (Suspend j) is refl refl
       calm_done (Resume j) is e = instant (start_only (Resume j) refl is) off (Resume j) is refl refl
       calm_done SuspendAll is e = suspended_first (start_only SuspendAll refl is) off is
@@ -597,7 +597,7 @@ module _ (app : Application) (formed : IsWellFormed app) where
           → Continues app i s (act app i op s) → IsState app (unless_held settle (act app i op s))
       goes_on op is w still ticks k =
           held_at_rest (act app i op s) i
-          (acted s i op (sound_free s h none_holds) (h.locked none_holds) there (ready_at op none_holds is) is w)
+          (acted app formed s i op (sound_free s h none_holds) (h.locked none_holds) there (ready_at op none_holds is) is w)
           (hold-act app i op s w ∙ hold_none s h none_holds) still ticks (k.current ∙ on) k.goes
 
       -- by a `suspend_all`
@@ -611,7 +611,7 @@ module _ (app : Application) (formed : IsWellFormed app) where
           → suspension_of (act app i op s) ≡ unsuspended → IsState app (unless_held settle (act app i op s))
       lets_go op is w calm =
           settled_at_rest (act app i op s)
-          (acted s i op (sound_free s h none_holds) (h.locked none_holds) there (ready_at op none_holds is) is w)
+          (acted app formed s i op (sound_free s h none_holds) (h.locked none_holds) there (ready_at op none_holds is) is w)
           (hold-act app i op s w ∙ hold_none s h none_holds) calm
 
       still_used : (n : ℕ) → is_scheduler_suspended s ≡ true → is_scheduler_suspended (use_up app i n s) ≡ true
@@ -701,6 +701,9 @@ module _ (app : Application) (formed : IsWellFormed app) where
       held_done (ClearBits g m) is fine q = continued (ClearBits g m) is refl refl refl
       held_done (GetBits g) is fine q = continued (GetBits g) is refl refl refl
       held_done (WaitBits g c ticks) is fine q = absurd (cc)
+      held_done (Notify j a) is fine q = absurd (cc)
+      held_done (AwaitNotification a ticks) is fine q = absurd (cc)
+      held_done (ClearNotification c) is fine q = continued (ClearNotification c) is refl refl refl
       held_done (Suspend j) is fine q = absurd (cc)
       held_done (Resume j) is fine q = absurd (cc)
       held_done SuspendAll is fine q =

@@ -6,8 +6,8 @@ use Rattle.std.proofs.lemmas.Bool.{ltb-true}
 use Rattle.std.proofs.lemmas.List.{get_or_past}
 use Rattle.model.specs.Application.{Application}
 use Rattle.model.specs.Scripts.{IsWellFormed}
-use Rattle.model.specs.State.{State, Task, Progress, Status, Ready, Awake, Waiting, Asleep, WaitingForBits, Suspended, Ended}
-use Rattle.model.specs.State.{task_at, status_at, progress_at, with_task, with_progress, no_task}
+use Rattle.model.specs.State.{State, Task, Progress, Status, Ready, Awake, Waiting, Asleep, WaitingForBits, WaitingForNotification}
+use Rattle.model.specs.State.{Suspended, Ended, task_at, status_at, progress_at, with_task, with_progress, no_task}
 use Rattle.model.specs.Switching.{make_ready}
 use Rattle.model.specs.Time.{advance, apply_one, apply_held}
 use Rattle.model.specs.Suspension.{can_suspend, can_resume, suspend, resumed, resume, resume_scheduler}
@@ -26,6 +26,7 @@ suspended_free (Awake w) t = absurd (cc)
 suspended_free (Waiting w) t = absurd (cc)
 suspended_free (Asleep v n) t = absurd (cc)
 suspended_free (WaitingForBits g m d) t = absurd (cc)
+suspended_free (WaitingForNotification m d) t = absurd (cc)
 suspended_free Suspended t = refl
 suspended_free Ended t = absurd (cc)
 
@@ -36,6 +37,7 @@ suspended_reckoned now p (Awake w) t = absurd (cc)
 suspended_reckoned now p (Waiting w) t = absurd (cc)
 suspended_reckoned now p (Asleep v n) t = absurd (cc)
 suspended_reckoned now p (WaitingForBits g m d) t = absurd (cc)
+suspended_reckoned now p (WaitingForNotification m d) t = absurd (cc)
 suspended_reckoned now p Suspended t = tt
 suspended_reckoned now p Ended t = absurd (cc)
 

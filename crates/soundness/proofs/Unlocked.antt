@@ -4,8 +4,8 @@ use Rattle.std.specs.List.{AllByRecursion}
 use Rattle.std.specs.Option.{option_and_then}
 use Rattle.model.specs.declared.call.WaitList.{WaitList}
 use Rattle.model.specs.declared.call.WaitList.TheVariants.{ToReceive, ToSend}
-use Rattle.model.specs.State.{State, Status, Ready, Awake, Waiting, Asleep, WaitingForBits, Suspended, Ended, wait_if_awake}
-use Rattle.model.specs.State.{status_at, progress_at, for_each}
+use Rattle.model.specs.State.{State, Status, Ready, Awake, Waiting, Asleep, WaitingForBits, WaitingForNotification, Suspended}
+use Rattle.model.specs.State.{Ended, wait_if_awake, status_at, progress_at, for_each}
 use Rattle.model.specs.Order.{Key, Entry, tasks_of}
 use Rattle.model.specs.Switching.{make_ready}
 use Rattle.model.specs.Waiting.{wait_key, awakened, unlock_object}
@@ -21,6 +21,7 @@ awake_reckoned list now p (Awake w) k e h = h
 awake_reckoned list now p (Waiting w) k e h = absurd (cc)
 awake_reckoned list now p (Asleep v n) k e h = absurd (cc)
 awake_reckoned list now p (WaitingForBits g m d) k e h = absurd (cc)
+awake_reckoned list now p (WaitingForNotification m d) k e h = absurd (cc)
 awake_reckoned list now p Suspended k e h = absurd (cc)
 awake_reckoned list now p Ended k e h = absurd (cc)
 

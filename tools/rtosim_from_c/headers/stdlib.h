@@ -1,7 +1,9 @@
-/* Of <stdlib.h> nothing has an op. */
+/* Of <stdlib.h> a script has `abort`, a check that fails. */
 #ifndef RTOSIM_STDLIB_H
 #define RTOSIM_STDLIB_H
 
 #include <stddef.h>
+
+void abort(void);
 
 #endif

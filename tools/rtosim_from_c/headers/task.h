@@ -47,6 +47,16 @@ void vTaskNotifyGiveFromISR(TaskHandle_t task, BaseType_t *woken);
 BaseType_t xTaskNotifyFromISR(TaskHandle_t task, uint32_t value, eNotifyAction action, BaseType_t *woken);
 
 /* refused, each with what to write in its place */
+BaseType_t xTaskNotifyIndexed(TaskHandle_t task, UBaseType_t index, uint32_t value, eNotifyAction action);
+BaseType_t xTaskNotifyIndexedFromISR(TaskHandle_t task, UBaseType_t index, uint32_t value, eNotifyAction action, BaseType_t *woken);
+BaseType_t xTaskNotifyGiveIndexed(TaskHandle_t task, UBaseType_t index);
+void vTaskNotifyGiveIndexedFromISR(TaskHandle_t task, UBaseType_t index, BaseType_t *woken);
+uint32_t ulTaskNotifyTakeIndexed(UBaseType_t index, BaseType_t clears, TickType_t wait);
+BaseType_t xTaskNotifyWaitIndexed(UBaseType_t index, uint32_t clears_before, uint32_t clears_after, uint32_t *value, TickType_t wait);
+BaseType_t xTaskNotifyStateClearIndexed(TaskHandle_t task, UBaseType_t index);
+uint32_t ulTaskNotifyValueClearIndexed(TaskHandle_t task, UBaseType_t index, uint32_t bits);
+BaseType_t xTaskNotifyAndQuery(TaskHandle_t task, uint32_t value, eNotifyAction action, uint32_t *before);
+BaseType_t xTaskNotifyAndQueryFromISR(TaskHandle_t task, uint32_t value, eNotifyAction action, uint32_t *before, BaseType_t *woken);
 void vTaskPrioritySet(TaskHandle_t task, UBaseType_t priority);
 BaseType_t xTaskAbortDelay(TaskHandle_t task);
 

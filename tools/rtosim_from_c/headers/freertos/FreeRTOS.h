@@ -4,6 +4,7 @@
 
 #include "../FreeRTOS.h"
 #include "../task.h"
+#include "../limits.h"
 
 /* critical sections take a spinlock there, which one core doesn't need */
 typedef int portMUX_TYPE;
@@ -12,6 +13,8 @@ typedef int portMUX_TYPE;
 #define portEXIT_CRITICAL(lock) taskEXIT_CRITICAL()
 #define portENTER_CRITICAL_ISR(lock) ((void)taskENTER_CRITICAL_FROM_ISR())
 #define portEXIT_CRITICAL_ISR(lock) taskEXIT_CRITICAL_FROM_ISR(0)
+/* may have no argument there */
+#define portYIELD_FROM_ISR(...) portEND_SWITCHING_ISR((0, ##__VA_ARGS__))
 #define IRAM_ATTR
 #define DRAM_ATTR
 #define portTICK_RATE_MS portTICK_PERIOD_MS

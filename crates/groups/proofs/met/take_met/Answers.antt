@@ -59,7 +59,7 @@ loop-at-preserved-then-is_met c =
     let P : Option ℕ → Type 0 = λ o. Passed c.args.lists.now ls l ws bits o tasks c.loop-at.met.left in
     let met : is_met bits (wanted_by ws n) ≡ true =
     subst (λ (k : ℕ). is_met bits (wanted_by ws k) ≡ true) c.task.view_is (sym c.is_met.ensures.met ∙ c.if-is_met.true) in
-    let sound : IsSound 16 32 (map (without n) ls) = subst (IsSound 16 32) c.remove.ensures.removed c.remove.ensures.sound in
+    let sound : IsSound 17 32 (map (without n) ls) = subst (IsSound 17 32) c.remove.ensures.removed c.remove.ensures.sound in
     let left : c.bits_left-met.result ≡ bits_left c.loop-at.met.left (wanted_by ws n) =
     subst (λ (k : ℕ). c.bits_left-met.result ≡ bits_left c.loop-at.met.left (wanted_by ws k))
     c.task.view_is c.bits_left-met.ensures.left in
@@ -90,7 +90,7 @@ loop-at-smaller-then-is_met c =
     let P : Option ℕ → Type 0 = λ o. Passed c.args.lists.now ls l ws bits o tasks c.loop-at.met.left in
     let met : is_met bits (wanted_by ws n) ≡ true =
     subst (λ (k : ℕ). is_met bits (wanted_by ws k) ≡ true) c.task.view_is (sym c.is_met.ensures.met ∙ c.if-is_met.true) in
-    let sound : IsSound 16 32 (map (without n) ls) = subst (IsSound 16 32) c.remove.ensures.removed c.remove.ensures.sound in
+    let sound : IsSound 17 32 (map (without n) ls) = subst (IsSound 17 32) c.remove.ensures.removed c.remove.ensures.sound in
     let less =
     shorter_met c.args.lists.now ls l ws bits n tasks c.loop-at.met.left c.next_in_list-at.result
     (subst P c.in-Some.is c.loop-at.invariant.0) c.next_in_list-at.ensures.next met sound in

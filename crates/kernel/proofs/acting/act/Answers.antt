@@ -2,7 +2,8 @@ use Rattle.model.specs.declared.op.Op.TheVariants.{Value}
 use Rattle.std.proofs.Common.{arith, refl, subst}
 use Rattle.model.specs.declared.op.Op.TheVariants.{Work, Delay, DelayUntil, Yield, Time, Mark, Expect, Repeat, End as EndLoop, If}
 use Rattle.model.specs.declared.op.Op.TheVariants.{Else, EndIf, Break, Stamp, Since, Await, Do, MessagesWaiting, SpacesAvailable}
-use Rattle.model.specs.declared.op.Op.TheVariants.{SetBits, ClearBits, GetBits, WaitBits, Suspend, Resume, ResumeAll, NextCommand}
+use Rattle.model.specs.declared.op.Op.TheVariants.{SetBits, ClearBits, GetBits, WaitBits, Notify, AwaitNotification}
+use Rattle.model.specs.declared.op.Op.TheVariants.{ClearNotification, Suspend, Resume, ResumeAll, NextCommand}
 use Rattle.model.specs.declared.op.Op.TheVariants.{ExitCritical, Obey}
 use Rattle.model.specs.declared.event.Misuse.TheVariants.{NotSuspended, NotCritical}
 use Rattle.kernel.specs.Bits.Begins.{Sets, Waits}
@@ -188,6 +189,46 @@ returns-in-WaitBits-clause-does g c =
     (g.L.Log.logged c.args.log.now) (g.L.Log.logged c.wait_bits.new.log) c.args.task
     c.args.op.now (WaitBits c.in-WaitBits.group c.in-WaitBits.condition c.in-WaitBits.ticks)
     c.in-WaitBits.is c.requires.awake (λ s. refl) refl 2 two_within c.wait_bits.ensures.does
+
+pub returns-in-Notify-clause-does : goal.returns-in-Notify-clause-does
+returns-in-Notify-clause-does g c =
+    let can = subst (CanOp c.args.app.now c.args.machine.now c.args.task) c.in-Notify.is c.requires.can in
+    does_by_form c.args.app.now c.args.machine.now c.call_notify.new.machine (g.L.Log.logged c.args.log.now)
+    (g.L.Log.logged c.call_notify.new.log) c.args.task c.args.op.now (Notify c.in-Notify.other c.in-Notify.action)
+    c.in-Notify.is c.requires.awake (λ s. refl) refl 2 two_within can.tick.advance.agrees c.call_notify.ensures
+
+pub returns-in-AwaitNotification-clause-does : goal.returns-in-AwaitNotification-clause-does
+returns-in-AwaitNotification-clause-does g c =
+    any_by_form c.args.app.now c.args.machine.now c.await_notification.new.machine
+    (g.L.Log.logged c.args.log.now) (g.L.Log.logged c.await_notification.new.log) c.args.task
+    c.args.op.now (AwaitNotification c.in-AwaitNotification.wait c.in-AwaitNotification.ticks)
+    c.in-AwaitNotification.is c.requires.awake (λ s. refl) refl 2 two_within c.await_notification.ensures
+
+pub returns-in-ClearNotification-clause-does : goal.returns-in-ClearNotification-clause-does
+returns-in-ClearNotification-clause-does g c =
+    let can = subst (CanOp c.args.app.now c.args.machine.now c.args.task) c.in-ClearNotification.is c.requires.can in
+    does_by_form c.args.app.now c.args.machine.now c.clear_notification.new.machine (g.L.Log.logged c.args.log.now)
+    (g.L.Log.logged c.clear_notification.new.log) c.args.task c.args.op.now (ClearNotification c.in-ClearNotification.what)
+    c.in-ClearNotification.is c.requires.awake (λ s. refl) refl 1 one_within can.tick.advance.agrees c.clear_notification.ensures
+
+pub call_notify-requires : goal.call_notify-requires
+call_notify-requires g c =
+    record {
+      room = room_for_two (g.L.Log.logged c.args.log.now).room c.requires.room;
+      can = subst (CanOp c.args.app.now c.args.machine.now c.args.task) c.in-Notify.is c.requires.can;
+    }
+
+pub await_notification-requires : goal.await_notification-requires
+await_notification-requires g c =
+    record {
+      room = room_for_two (g.L.Log.logged c.args.log.now).room c.requires.room;
+      can = subst (CanOp c.args.app.now c.args.machine.now c.args.task) c.in-AwaitNotification.is c.requires.can;
+    }
+
+pub clear_notification-requires : goal.clear_notification-requires
+clear_notification-requires g c =
+    let can = subst (CanOp c.args.app.now c.args.machine.now c.args.task) c.in-ClearNotification.is c.requires.can in
+    record { room = room_for_one (g.L.Log.logged c.args.log.now).room c.requires.room; runs = can.runs }
 
 pub returns-in-Suspend-clause-does : goal.returns-in-Suspend-clause-does
 returns-in-Suspend-clause-does g c =

@@ -8,7 +8,7 @@ use Rattle.model.specs.Handlers.{isr}
 use Rattle.model.specs.Ops.{one_if}
 use Rattle.machine.specs.StandsFor.{At, AtAny, DoesAny}
 use Rattle.machine.specs.StandsFor.Stands.{Placed}
-use Rattle.kernel.proofs.Handling.{did_command, did_op, did_mark, did_value, groups_stand, told_bits, told_resume}
+use Rattle.kernel.proofs.Handling.{did_command, did_op, did_mark, did_notify, did_value, groups_stand, told_bits, told_resume}
 use Rattle.kernel.proofs.handlers.isr.Goals as goal
 
 pub returns-in-Do-clause-does : goal.returns-in-Do-clause-does
@@ -87,6 +87,34 @@ returns-in-GetBits-clause-any g c = record {
   few = c.write-in-GetBits.ensures.any.few;
   before = c.write-in-GetBits.ensures.any.before;
 }
+
+pub returns-in-Notify-clause-does : goal.returns-in-Notify-clause-does
+returns-in-Notify-clause-does g c = record {
+  at = λ s h.
+      did_notify (At c.notify_by_handler.new.machine (g.L.Log.logged c.write-in-Notify.new.log).told) c.args.app.now s
+      c.args.handler
+      c.args.op_index c.args.op.now c.args.last c.in-Notify.task c.in-Notify.action (Some c.notify_by_handler.result)
+      c.isr_told-in-Notify.result c.in-Notify.is c.isr_told-in-Notify.ensures
+      (c.notify_by_handler.ensures.answer s (Placed h.stands))
+      (c.write-in-Notify.ensures.does.at _ (c.notify_by_handler.ensures.does _ s h));
+  few = c.write-in-Notify.ensures.does.few;
+  before = c.write-in-Notify.ensures.does.before;
+}
+
+pub returns-in-Notify-clause-any : goal.returns-in-Notify-clause-any
+returns-in-Notify-clause-any g c = record {
+  at = λ s h.
+      did_notify (AtAny c.notify_by_handler.new.machine (g.L.Log.logged c.write-in-Notify.new.log).told) c.args.app.now s
+      c.args.handler c.args.op_index c.args.op.now c.args.last c.in-Notify.task c.in-Notify.action (Some c.notify_by_handler.result)
+      c.isr_told-in-Notify.result c.in-Notify.is c.isr_told-in-Notify.ensures
+      (c.notify_by_handler.ensures.answer s h.stands)
+      (c.write-in-Notify.ensures.any.at _ (c.notify_by_handler.ensures.any _ s h));
+  few = c.write-in-Notify.ensures.any.few;
+  before = c.write-in-Notify.ensures.any.before;
+}
+
+pub returns-in-Notify-clause-answer : goal.returns-in-Notify-clause-answer
+returns-in-Notify-clause-answer g c = λ s h. rw c.in-Notify.is (c.notify_by_handler.ensures.answer s h)
 
 pub returns-in-Resume-clause-does : goal.returns-in-Resume-clause-does
 returns-in-Resume-clause-does g c = record {

@@ -53,6 +53,9 @@ returns-in-ClearBits g c = rw c.in-ClearBits.is (does_up 1 64 _ _ _ _ _ (omega a
 pub returns-in-GetBits : goal.returns-in-GetBits
 returns-in-GetBits g c = rw c.in-GetBits.is (does_up 1 64 _ _ _ _ _ (omega arith) c.get_bits.ensures.does)
 
+pub returns-in-ClearNotification : goal.returns-in-ClearNotification
+returns-in-ClearNotification g c = rw c.in-ClearNotification.is (does_up 1 64 _ _ _ _ _ (omega arith) c.clear_notification.ensures)
+
 pub returns-in-SuspendAll : goal.returns-in-SuspendAll
 returns-in-SuspendAll g c = rw c.in-SuspendAll.is (does_up 1 64 _ _ _ _ _ (omega arith) c.suspend_all.ensures)
 
@@ -73,4 +76,4 @@ returns-in_default g c =
     not.not-Work not.not-Time not.not-Mark not.not-Expect not.not-Repeat
     not.not-End not.not-If not.not-Else not.not-EndIf not.not-Break not.not-Stamp not.not-Since not.not-MessagesWaiting
     not.not-SpacesAvailable not.not-ClearBits not.not-GetBits not.not-SuspendAll not.not-ResumeAll not.not-EnterCritical
-    not.not-ExitCritical not.not-Value
+    not.not-ExitCritical not.not-Value not.not-ClearNotification

@@ -11,6 +11,7 @@ use Rattle.model.specs.Groups.{set, begin_set, clear, answer_bits, wait_for_bits
 use Rattle.model.specs.Daemon.{received, take_command, obeyed, clear_by_daemon}
 use Rattle.model.specs.Suspension.{suspend, resume, call_suspend, call_resume}
 use Rattle.model.specs.Step.{judge, before_step, step, nobody_ready, ready_at_reset, reset}
+use Rattle.model.specs.Notifications.{wait_for_notification, begin_notification_wait, check_notification}
 use Rattle.laws.proofs.examples.end_states_of_examples.Goals as goal
 
 pub returns : goal.returns
@@ -19,5 +20,5 @@ unfolding to_back dispatch choose yield_now preempt slice settle wait_in set_dea
     delay_until expect open_loop close_turn calculate fulfil attempt set_priority inherit after_timeout disinherit give_mutex try
     decide leave_call do_now set begin_set clear answer_bits wait_for_bits begin_bits_wait check received take_command
     obeyed clear_by_daemon suspend resume call_suspend call_resume judge serve_pending before_step step nobody_ready ready_at_reset
-    reset
-returns c = (refl, (refl, (refl, (refl, (refl, (refl, (refl, (refl, (refl, (refl, (refl, (refl, tt))))))))))))
+    reset wait_for_notification begin_notification_wait check_notification
+returns c = (refl, (refl, (refl, (refl, (refl, (refl, (refl, (refl, (refl, (refl, (refl, (refl, (refl, tt)))))))))))))

@@ -17,12 +17,13 @@ none_set (suc m) (suc n) = none_set m n
 pub returns-clause-stands : goal.returns-clause-stands
 returns-clause-stands c = λ s table clear nobody.
     let empty : (group : ℕ) → entries_of c.new.result group ≡ [] = λ group.
-    ap (λ (ls : List (List (ℕ × ℕ))). entries_of ls group) c.new.ensures.empty ∙ none 16 group in
+    ap (λ (ls : List (List (ℕ × ℕ))). entries_of ls group) c.new.ensures.empty ∙ none 17 group in
     record {
       bits = λ group. none_set 16 group ∙ sym (clear group);
       tasks = λ group. ap tasks_in (empty group) ∙ sym (nobody_listed s nobody group);
-      conditions = λ group task has.
+      conditions = λ group task away has.
           absurd
           (let no : has_node task (entries_of c.new.result group) ≡ false = ap (has_node task) (empty group) in cc (no, has));
+      apart = λ task. let none = nobody task in rw none tt;
       table = table;
     }

@@ -5,7 +5,6 @@ use Rattle.lists.specs.Lists.{entries_of, place_of}
 use Rattle.groups.specs.EventGroups.{EventGroups}
 use Rattle.groups.specs.StandsFor.{StandsFor}
 use Rattle.groups.proofs.Placing.{stands_begun, stands_placed}
-use Rattle.groups.proofs.Standing.{free_waits}
 use Rattle.groups.proofs.groups.Groups.place.Goals as goal
 
 pub returns-clause-stands : goal.returns-clause-stands
@@ -19,7 +18,7 @@ returns-clause-stands c = λ s h l.
     let known : i < 32 = subst (λ (k : ℕ). k < 32) c.task.view_is c.task.invariant in
     let group_known : g < 16 = subst (λ (k : ℕ). k < 16) c.list_id.ensures.number c.list_id.ensures.known in
     let one =
-    stands_placed v s h' i g c.args.condition l c.self.invariant.0.sound free c.self.invariant.0.as_many known group_known in
+    stands_placed v s h' i l c.self.invariant.0.sound free g c.args.condition c.self.invariant.0.as_many known group_known in
     let put : c.push_back.new.self ≡ set q.lists g (entries_of q.lists g ++ (i, 0) ∷ []) =
     c.push_back.ensures.put ∙ ap (λ (k : ℕ). set q.lists k (entries_of q.lists k ++ (i, 0) ∷ [])) c.list_id.ensures.number in
     let t : State = wait_for_bits i g (want i c.args.condition s) in
@@ -32,10 +31,4 @@ returns-clause-stands c = λ s h l.
 
 pub returns-clause-begins : goal.returns-clause-begins
 returns-clause-begins c = λ s ticks h l.
-    let q = c.self.inside in
-    let v : EventGroups = record { bits = q.bits; waiting = q.lists; wants = q.wants } in
-    let h' : StandsFor v s = subst (λ (w : EventGroups). StandsFor w s) (sym c.self.view_is) h in
-    let free : place_of q.lists c.args.task ≡ None =
-    ap (λ (w : EventGroups). place_of w.waiting c.args.task) c.self.view_is ∙ c.requires.free in
-    stands_begun c.args.self.now s c.args.task c.args.group c.args.condition ticks _ h
-    (free_waits v s h' c.args.task c.self.invariant.0.sound free) l (returns-clause-stands c)
+    stands_begun c.args.self.now s c.args.task c.args.group c.args.condition ticks _ h l (returns-clause-stands c)

@@ -7,6 +7,7 @@ use Rattle.model.specs.Groups as definitions
 use Rattle.lists.specs.Lists.{entries_of}
 use Rattle.groups.specs.EventGroups.{EventGroups, left_by, met_of, waiting_in}
 use Rattle.groups.specs.StandsFor.{StandsFor}
+use Rattle.groups.proofs.Keys.{below_apart}
 use Rattle.groups.proofs.Meeting.{left_is, met_is, set_is, stands_set}
 use Rattle.groups.proofs.groups.Groups.set.Goals as goal
 
@@ -26,7 +27,8 @@ returns-clause-met c = λ s h.
     wants
     ∙ ap (met_of v.wants (bit_or c.bits.result c.args.mask)) lists
     ∙ ap (λ (b : ℕ). met_of v.wants b (waiting_in v g)) bits
-    ∙ met_is v s h g (bits_set g c.args.mask s)
+    ∙ met_is v s h g (below_apart g (subst (λ (k : ℕ). k < 16) c.list_id.ensures.number c.list_id.ensures.known))
+    (bits_set g c.args.mask s)
 
 pub returns-clause-after : goal.returns-clause-after
 returns-clause-after c = λ s h.
@@ -35,12 +37,14 @@ returns-clause-after c = λ s h.
     let bits : bit_or c.bits.result c.args.mask ≡ bits_set g c.args.mask s =
     ap (λ (b : ℕ). bit_or b c.args.mask) c.bits.ensures.bits ∙ set_is v s h g c.args.mask in
     let wants : c.self.inside.wants ≡ v.wants = ap (λ (w : EventGroups). w.wants) c.self.view_is in
-    let met = returns-clause-met c s h ∙ sym (met_is v s h g (bits_set g c.args.mask s)) in
+    let met = returns-clause-met c s h ∙ sym (met_is v s h g
+    (below_apart g (subst (λ (k : ℕ). k < 16) c.list_id.ensures.number c.list_id.ensures.known)) (bits_set g c.args.mask s)) in
     c.take_met.ensures.left
     ∙ ap (λ (ws : List Condition). left_by ws (bit_or c.bits.result c.args.mask) c.take_met.new.met.tasks.items) wants
     ∙ ap (λ (b : ℕ). left_by v.wants b c.take_met.new.met.tasks.items) bits
     ∙ ap (left_by v.wants (bits_set g c.args.mask s)) met
-    ∙ left_is v s h g (bits_set g c.args.mask s)
+    ∙ left_is v s h g (below_apart g (subst (λ (k : ℕ). k < 16) c.list_id.ensures.number c.list_id.ensures.known))
+    (bits_set g c.args.mask s)
 
 pub returns-clause-stands : goal.returns-clause-stands
 returns-clause-stands c = λ s h.

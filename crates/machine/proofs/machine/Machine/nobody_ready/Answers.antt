@@ -6,7 +6,7 @@ use Rattle.soundness.proofs.Reached.{reached_nobody}
 use Rattle.machine.proofs.Booting.{none_ready, none_due, priority_at, base_priority_at, objects_at_reset, nobody_awake-reset}
 use Rattle.machine.proofs.Booting.{none_placing, ended_reset, nobody_suspended, sources_at_reset}
 use Rattle.model.specs.Suspension.{can_resume}
-use Rattle.groups.specs.StandsFor.{bits_wait}
+use Rattle.groups.specs.StandsFor.{event_wait}
 use Rattle.machine.proofs.machine.Machine.nobody_ready.Goals as goal
 
 pub returns-clause-stands : goal.returns-clause-stands
@@ -43,10 +43,11 @@ returns-clause-stands c =
           table = table;
         };
         sources =
-            sources_at_reset c.args.app.now c.well_formed-2.ensures.few_handlers c.new-6.result
-            (c.new-6.ensures.number ∙ ap (λ hs. length hs + 1) c.handlers.ensures) c.new-6.ensures.none
-            c.new-6.ensures.full;
-        variables = c.new-5.ensures ∙ c.variables.ensures;
+            sources_at_reset c.args.app.now c.well_formed-2.ensures.few_handlers c.new-7.result
+            (c.new-7.ensures.number ∙ ap (λ hs. length hs + 1) c.handlers.ensures) c.new-7.ensures.none
+            c.new-7.ensures.full;
+        notifications = record { same = c.new-5.ensures.none; full = c.new-5.ensures.full };
+        variables = c.new-6.ensures ∙ c.variables.ensures;
         sections = refl;
         steps = refl;
         stopped = refl;
@@ -55,7 +56,7 @@ returns-clause-stands c =
             (c.new-3.ensures.stands c.args.app.now (sym c.objects.ensures) c.well_formed-2.ensures.few) table;
         groups =
             c.new-4.ensures.stands _ table (λ group. refl)
-            (λ i. ap bits_wait (ended_reset c.args.app.now.start i c.args.app.now.tasks));
+            (λ i. ap event_wait (ended_reset c.args.app.now.start i c.args.app.now.tasks));
         awake = nobody_awake-reset c.args.app.now;
         placed =
             none_placing c.args.app.now c.progress_of.result

@@ -1,0 +1,227 @@
+"""Structures that are locals: their integer members are followed one by one, as locals are. A queue passes one member of a structure."""
+from dataclasses import replace
+from typing import Dict, Iterator, List, Optional, Tuple, Union
+
+from . import trees
+from .addresses import Escaped
+from .calls import Argument, Call
+from .constants import Type
+from .expressions import not_set
+from .frames import Continuation
+from .integers import Integer
+from .memory import Memory
+from .paths import Path
+from .refusals import Lost, LostUse
+from .values import Address, Handle, Known, Reference, constant, lost
+
+STRUCTURE = "a structure"
+
+
+class Structures(Memory):
+    """Where a local structure is named its address has the key of the local."""
+
+    # The type of the member that is received, if that is smaller than the item.
+    received: Optional[Integer] = None
+
+    def opaque(self, name: str) -> Optional[Address]:
+        found, key = super().opaque(name), self.frame.local(name)
+        if found is None or key is None or self.types.get(key) != STRUCTURE or "static" in getattr(self.declarations[key], "storage", []):
+            return found
+        return Address(name, key)
+
+    def member(self, inner: Union[Address, Reference], node: object) -> Address:
+        found = super().member(inner, node)
+        return replace(found, key=inner.key) if isinstance(inner, Address) else found
+
+    def whole(self, node: object, path: Path) -> Union[Address, Reference]:
+        found = super().whole(node, path)
+        return Address(found.name) if trees.kind(node) == "ArrayRef" and isinstance(found, Address) else found
+
+    def pointer_arithmetic(self, node: object, left: Known, right: Known, path: Path) -> Known:
+        found = super().pointer_arithmetic(node, left, right, path)
+        return Address(found.name) if isinstance(found, Address) else found
+
+    # -- members
+
+    def declaration(self, where: Address) -> Optional[object]:
+        """The declaration of what is there, in a local structure."""
+        found = self.declarations.get(where.key)
+        for it in where.name.split(".")[1:]:
+            found = self.unit.constants.members(found).get(it)
+        return found
+
+    def field(self, where: Known) -> Optional[str]:
+        """The key of an integer that is a member of a local structure; None if it isn't followed."""
+        declaration = self.declaration(where) if isinstance(where, Address) and where.key is not None and "." in where.name else None
+        if declaration is None or getattr(declaration, "bitsize", None) is not None:
+            return None
+        type_, key = self.unit.constants.type_of(declaration), f"{where.name}@{where.key}"
+        if not isinstance(type_, Integer) or self.may_be_changed(where):
+            return None
+        self.types[key] = type_
+        return key
+
+    def may_be_changed(self, where: Address) -> bool:
+        """Whether the address of what is there goes where it isn't followed."""
+        names = where.name.split(".")
+        return any(f"{'.'.join(names[:at])}@{where.key}" in self.escaped for at in range(1, len(names) + 1))
+
+    def inner(self, where: Address) -> Iterator[Address]:
+        """Each member of a structure."""
+        for name in self.unit.constants.members(self.declaration(where)):
+            if name:
+                yield replace(where, name=f"{where.name}.{name}")
+
+    def fields(self, where: Address) -> Iterator[Tuple[str, str]]:
+        """The path and the key of each integer in a structure."""
+        for it in self.inner(where):
+            key = self.field(it)
+            found = [("", key)] if key is not None else self.fields(it)
+            yield from ((it.name[len(where.name):] + rest, key) for rest, key in found)
+
+    def content(self, where: Union[Address, Reference], node: object, path: Path) -> Known:
+        key = self.field(where)
+        return super().content(where, node, path) if key is None or key not in path.state.locals else self.read_local(key, node, path)
+
+    def write_there(self, where: Union[Address, Reference], value: Known, node: object, path: Path) -> Known:
+        key = self.field(where)
+        if key is not None and not isinstance(value, (Address, Reference, Handle)):
+            return self.write_local(key, value, node, path)
+        if isinstance(where, Address) and where.key is not None and list(self.inner(where)):
+            return self.copy(where, value, node, path)
+        return super().write_there(where, value, node, path)
+
+    def write_local(self, key: str, value: Known, node: object, path: Path) -> Known:
+        if self.types[key] != STRUCTURE:
+            return super().write_local(key, value, node, path)
+        return self.copy(Address(key.split("@")[0], key), value, node, path)
+
+    def copy(self, where: Address, value: Known, node: object, path: Path) -> Known:
+        """Gives each integer of a structure the value that it has in another one."""
+        for rest, key in list(self.fields(where)):
+            source = replace(value, name=value.name + rest) if isinstance(value, Address) else None
+            found = self.unknown(f"`{where.name}{rest}` isn't known here") if source is None else self.content(source, node, path)
+            self.write_local(key, self.integer(found, node), node, path)
+        return value
+
+    def returned(self, value: Known, definition: object, node: object, path: Path) -> Known:
+        """A structure that a function returns is kept by itself, since another call of the function uses the same locals."""
+        if self.unit.constants.type_of(definition.decl.type.type) != STRUCTURE:
+            return super().returned(value, definition, node, path)
+        where = Address("returned", f"returned@{self.spot(node)}")
+        self.declarations[where.key], self.types[where.key] = definition.decl.type.type, STRUCTURE
+        self.copy(where, value, node, path)
+        return where
+
+    # -- declarations
+
+    def initial(self, node: object, type_: Type, path: Path) -> Optional[Known]:
+        return None if type_ == STRUCTURE and "static" not in node.storage else super().initial(node, type_, path)
+
+    def do_Decl(self, node: object, path: Path, rest: Optional[Continuation]) -> None:
+        super().do_Decl(node, path, rest)
+        where = self.opaque(node.name) if node.name is not None else None
+        if where is None or where.key is None:
+            return
+        for _, key in self.fields(where):
+            path.state = path.state.without(key)
+        if trees.kind(node.init) == "InitList":
+            self.begin(where, node.init.exprs, path)
+        elif node.init is not None:
+            self.copy(where, self.evaluate(node.init, path), node, path)
+
+    def begin(self, where: Address, given: List[object], path: Path) -> None:
+        """A structure that begins with these values, and otherwise with 0."""
+        members = list(self.inner(where))
+        of_members = in_order(given, [it.name.split(".")[-1] for it in members])
+        for it in members:
+            node, key = of_members.get(it.name.split(".")[-1]), self.field(it)
+            if key is None and list(self.inner(it)):
+                self.begin(it, node.exprs if trees.kind(node) == "InitList" else [], path)
+            elif key is None and node is not None:
+                self.let_addresses_go(node, path)
+            elif key is not None:
+                self.write_local(key, constant(0) if node is None else self.evaluate(node, path), node or self.declaration(it), path)
+
+    # -- calls that are left out
+
+    def left_out(self, name: str, node: object, path: Path) -> Known:
+        words = trees.arguments(node)
+        is_all = name == "memset" and len(words) == 3 and trees.kind(words[2]) == "UnaryOp" and words[2].op == "sizeof"
+        where = self.evaluate(words[0], path) if is_all and not trees.calls_in(words[0]) else None
+        value = self.unit.constants.value(words[1]) if is_all else None
+        if not isinstance(where, Address) or where.key is None or value is None or value.constant() != 0:
+            return super().left_out(name, node, path)
+        self.begin(where, [], path)
+        return self.unknown("what memset returns isn't known")
+
+    def let_go(self, value: Known) -> None:
+        if isinstance(value, Address) and value.key is not None and not self.may_be_changed(value):
+            self.escaped.add(f"{value.name}@{value.key}")
+            raise Escaped()
+        super().let_go(value)
+
+    def let_addresses_go(self, node: object, path: Path) -> None:
+        for it in trees.walk(node):
+            name = trees.dotted(it.expr) if trees.kind(it) == "UnaryOp" and it.op == "&" else None
+            where = self.opaque(name.split(".")[0]) if name else None
+            self.let_go(replace(where, name=name) if where is not None else None)
+        super().let_addresses_go(node, path)
+
+    # -- items
+
+    def carried(self, where: Known) -> Optional[Address]:
+        """The integer of a structure that a queue passes: the one that a comment names, or else the first one."""
+        if self.field(where) is not None:
+            return where
+        members = [it for it in self.inner(where) if self.field(it)] if isinstance(where, Address) and where.key is not None else []
+        named = [it for it in members if it.name.split(".")[-1] in self.unit.directives.items]
+        return (named or members or [None])[0]
+
+    def item(self, value: Known, queue: Handle, node: object, path: Path) -> str:
+        member = self.carried(value)
+        if member is None:
+            return super().item(value, queue, node, path)
+        key = self.field(member)
+        if key not in path.state.locals:
+            raise LostUse(self.place(node), Lost(f"`{member.name}` isn't known here", instead="a value for it before"))
+        self.note(node, f"of `{value.name}` the queue has `{member.name.split('.')[-1]}`")
+        return super().item(Reference(key), queue, node, path)
+
+    def answered(self, call: Call, values: Dict[Argument, Known], texts: Dict[str, str], node: object, path: Path) -> Known:
+        storage = values.get(Argument.STORAGE, values.get(Argument.VALUE_STORAGE))
+        member = self.carried(storage)
+        if member is None:
+            return super().answered(call, values, texts, node, path)
+        taken, name = self.field(member), member.name.split(".")[-1]
+        for rest, key in self.fields(storage):
+            why = Lost(f"`{storage.name}{rest}` isn't known: of a structure a queue has one number, here `{name}`",
+                       instead="/* rtosim: item NAME */ for another member, outside of functions, or a queue of numbers")
+            if key != taken:
+                path.state = path.state.with_local(key, lost(self.types[key], why))
+        if taken not in path.state.locals:
+            path.state = path.state.with_local(taken, not_set(self.types[taken]))
+        which = Argument.STORAGE if Argument.STORAGE in values else Argument.VALUE_STORAGE
+        self.received = None if self.types[taken].is_signed else self.types[taken]
+        try:
+            return super().answered(call, {**values, which: Reference(taken)}, texts, node, path)
+        finally:
+            self.received = None
+
+    def item_type(self, queue: Handle) -> Integer:
+        return self.received or super().item_type(queue)
+
+
+def in_order(given: List[object], names: List[str]) -> Dict[str, object]:
+    """The expressions of an initializer by the members that they are of."""
+    found: Dict[str, object] = {}
+    at = 0
+    for it in given:
+        if trees.kind(it) == "NamedInitializer":
+            name = getattr(it.name[0], "name", "")
+            at = names.index(name) if name in names else at
+            it = it.expr
+        if at < len(names):
+            found[names[at]] = it
+        at += 1
+    return found
