@@ -18,13 +18,13 @@ use Rattle.machine.specs.StandsFor.{AtAny, Stands, progress_in}
 use Rattle.machine.proofs.Either.{all_placed, any, current_is, either, progress_is, steps_are, not_by_task}
 use Rattle.machine.proofs.Switches.{settled_before, settled_held}
 use Rattle.ops.specs.InCall.{Remains}
-use Rattle.kernel.specs.Bits.{Begins, HasTakenHold, IsLettingGo, is_for_bits}
-use Rattle.kernel.specs.Bits.Begins.{Sets, Waits}
+use Rattle.kernel.specs.Bits.{Begins, HasTakenHold, IsLettingGo, is_for_event}
+use Rattle.kernel.specs.Bits.Begins.{Sets, Waits, Notices}
 use Rattle.kernel.specs.InScript.{IsAt}
 use Rattle.kernel.specs.Over.{is_over}
 use Rattle.kernel.proofs.Counting.{steps_still}
 use Rattle.kernel.proofs.Ending.{begun, begun_with_none, stepped}
-use Rattle.kernel.proofs.Silent.{not_over_set, not_over_wait}
+use Rattle.kernel.proofs.Silent.{not_over_notice, not_over_set, not_over_wait}
 use Rattle.machine.proofs.Pending.{none_by}
 use Rattle.machine.specs.Can.{NonePends}
 
@@ -57,13 +57,13 @@ module _ (app : Application) (limits : Limits) (k new : Machine) (calm : NonePen
 -- ---- a call on an event group
 
 pub letting : (app : Application) (k new : Machine) (task : ℕ) (op : Op) → k.sched.current ≡ Some task
-    → op_at app task (progress_in k.progress task).op_index ≡ Some op → k.sched.suspensions ≡ 0 → is_for_bits op ≡ true
+    → op_at app task (progress_in k.progress task).op_index ≡ Some op → k.sched.suspensions ≡ 0 → is_for_event op ≡ true
     → Remains k new task → (progress_in new.progress task).call.phase ≡ Leave → (n : ℕ)
     → IsLettingGo app (record new { steps = n }) task op
-letting app k new task op runs at awake bits r reached n = record {
+letting app k new task op runs at awake event r reached n = record {
   current = r.current ∙ runs;
   at = ap (λ (i : ℕ). op_at app task i) r.op_index ∙ at;
-  bits = bits;
+  event = event;
   reached = reached;
   awake = r.suspensions ∙ awake;
 }
@@ -71,13 +71,14 @@ letting app k new task op runs at awake bits r reached n = record {
 -- It has begun.
 module _ (app : Application) (limits : Limits) (k new : Machine) (task : ℕ) (op : Op) (at : IsAt app k task op)
     (w : HasTakenHold k new task op) where
-  for_bits : Begins k op → is_for_bits op ≡ true
-  for_bits (Sets group mask same) = ap is_for_bits same
-  for_bits (Waits group condition ticks same unmet) = ap is_for_bits same
+  for_event : Begins k task op → is_for_event op ≡ true
+  for_event (Sets group mask same) = ap is_for_event same
+  for_event (Waits group condition ticks same unmet) = ap is_for_event same
+  for_event (Notices wait ticks same unmet) = ap is_for_event same
 
   pub letting_begun : (n : ℕ) → IsLettingGo app (record new { steps = n }) task op
   letting_begun n =
-      letting app k new task op at.current at.at at.awake (for_bits w.begins) w.takes.remains w.takes.reached n
+      letting app k new task op at.current at.at at.awake (for_event w.begins) w.takes.remains w.takes.reached n
 
   -- It ends no run.
   pub on_begun : NonePends k → (after : Machine) (s : State) → Stands k s → after.sched ≡ new.sched → Stands after
@@ -106,9 +107,12 @@ module _ (app : Application) (limits : Limits) (k new : Machine) (task : ℕ) (o
         ∙ w.takes.remains.current
         ∙ at.current
 
-    by_form : Begins k op → is_over app limits s ≡ false → is_over app limits (step app limits [] s) ≡ false
+    by_form : Begins k task op → is_over app limits s ≡ false → is_over app limits (step app limits [] s) ≡ false
     by_form (Sets group mask same) = not_over_set app limits task op s (none_by k s calm h) runs is reached none group mask same
         still
     by_form (Waits group condition ticks same unmet) =
         not_over_wait app limits task op s (none_by k s calm h) runs is reached none group condition ticks same
+        (unmet (record s { log = [] }) (all_placed k w.takes.agrees [] _ (begun k [] s h refl)).stands) still
+    by_form (Notices wait ticks same unmet) =
+        not_over_notice app limits task op s (none_by k s calm h) runs is reached none wait ticks same
         (unmet (record s { log = [] }) (all_placed k w.takes.agrees [] _ (begun k [] s h refl)).stands) still

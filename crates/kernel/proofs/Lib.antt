@@ -23,3 +23,4 @@ pub mod Ahead
 pub mod Amid
 pub mod EndStates
 pub mod Valued
+pub mod Frequent

@@ -9,7 +9,8 @@ use Rattle.model.specs.declared.op.Access.{Access}
 use Rattle.std.specs.Prelude.{Bool, if◌then◌else◌}
 use Rattle.model.specs.declared.op.Command.{Command}
 use Rattle.model.specs.declared.op.Op.{Op}
-use Rattle.model.specs.declared.op.Op.TheVariants.{Obey, SetBits, WaitBits}
+use Rattle.model.specs.declared.notification.NotificationWait.{NotificationWait}
+use Rattle.model.specs.declared.op.Op.TheVariants.{AwaitNotification, Obey, SetBits, WaitBits}
 use Rattle.model.specs.declared.call.CallProgress.{CallProgress}
 use Rattle.model.specs.declared.call.Condition.{Condition}
 use Rattle.model.specs.declared.call.Phase.{Phase}
@@ -17,7 +18,7 @@ use Rattle.model.specs.declared.call.Phase.TheVariants.{Start, Try, Decide, Plac
 use Rattle.model.specs.declared.call.WaitList.TheVariants.{ToReceive, ToSend}
 use Rattle.model.specs.Application.{Application, Limits, is_any_awaited, op_at}
 use Rattle.model.specs.State.{State, Task, Waiting, task_at, status_at, progress_at, call_at, object_at, bits_at, with_task}
-use Rattle.model.specs.State.{with_call, for_one, for_each, no_task}
+use Rattle.model.specs.State.{with_call, for_one, for_each, no_task, notification_at}
 use Rattle.model.specs.Order.{tasks_of}
 use Rattle.model.specs.Switching.{is_ready, is_same, is_off, choice, make_ready, to_back, dispatch, choose, settle, is_held}
 use Rattle.model.specs.Switching.{is_held_by_task, unless_held}
@@ -26,6 +27,8 @@ use Rattle.model.specs.Objects.{list_for, possible}
 use Rattle.model.specs.Mutexes.{set_priority, raise, inherits, inherit_from, inherit}
 use Rattle.model.specs.Groups.{keep_answer, wake_with_bits, bits_set, met_by, set, begin_set, wake_all, wait_bits, wait_for_bits}
 use Rattle.model.specs.Groups.{answer_bits, begin_bits_wait, check, is_met, set_bits, want}
+use Rattle.model.specs.Notifications.{await_notification, begin_notification_wait, check_notification, end_notification_wait}
+use Rattle.model.specs.Notifications.{is_there, wait_for_notification}
 use Rattle.model.specs.Daemon.{clear_by_daemon, command_at, next_command, obey}
 use Rattle.model.specs.Calls.{decide, await}
 use Rattle.model.specs.Invariant.{IsNonePending}
@@ -36,7 +39,7 @@ use Rattle.model.proofs.Tables.{each-set}
 use Rattle.soundness.proofs.Frames.{keeps-settle, keeps-unless_held}
 use Rattle.soundness.proofs.Passing.{lasts-await, lasts-begin_set}
 use Rattle.soundness.proofs.Judging.{acts_calm, takes_hold}
-use Rattle.ops.specs.InCall.{IsSilent}
+use Rattle.ops.specs.InCall.{IsSilent, when_entered}
 use Rattle.ops.proofs.Commanding.{same_after}
 use Rattle.kernel.specs.InCall.{IsCallOn}
 use Rattle.kernel.specs.InCall.IsCallOn.{Awaits, Receives}
@@ -199,6 +202,16 @@ on-begin_bits_wait s i group c ticks j on =
     let waits : State = wait_for_bits i group wanting in
     on-with_call waits i _ j (on-with_task wanting i _ (λ o. refl) j (on-with_call due i _ j (on-with_call held i _ j on)))
 
+-- ---- the begin of a wait for a notification
+
+on-begin_notification_wait : (s : State) (i : ℕ) (ticks : Option ℕ) → EndsNobody s (begin_notification_wait i ticks s)
+unfolding begin_notification_wait wait_for_notification set_deadline
+on-begin_notification_wait s i ticks j on =
+    let held : State = record s { call_hold = true } in
+    let due : State = set_deadline i ticks held in
+    let waits : State = wait_for_notification i due in
+    on-with_call waits i _ j (on-with_task due i _ (λ o. refl) j (on-with_call held i _ j on))
+
 -- ---- the step
 
 -- Where what is done in a step ends nobody and stops nothing, and lets no tick pass,
@@ -311,7 +324,7 @@ module _ (app : Application) (limits : Limits) (task : ℕ) (s : State) (plain :
       (lasts-begin_set task command.group command.mask begun).elapsed
       still going
 
--- So it is where a call of a task on an event group begins.
+-- So it is where a call of a task on an event group begins, or one that waits for a notification.
 module _ (app : Application) (limits : Limits) (task : ℕ) (op : Op) (s : State) (plain : IsNonePending s)
     (runs : s.current ≡ Some task)
     (is : op_at app task (progress_at s task).op_index ≡ Some op) (reached : (call_at s task).phase ≡ Start)
@@ -359,3 +372,23 @@ module _ (app : Application) (limits : Limits) (task : ℕ) (op : Op) (s : State
     not_over_wait =
         not_over_by app limits task s plain (begin_bits_wait task group condition ticks anew) waits
         (on-begin_bits_wait anew task group condition ticks) refl refl
+
+  module _ (wait : NotificationWait) (ticks : Option ℕ) (same : op ≡ AwaitNotification wait ticks)
+      (unmet : is_there wait (notification_at (when_entered task wait (record s { log = [] })) task) || option_eq eqb ticks (Some 0)
+      ≡ false) where
+    notices : act_current app limits s.current anew ≡ begin_notification_wait task ticks (when_entered task wait anew)
+    unfolding anew check_notification
+    notices =
+        acts_as (AwaitNotification wait ticks) same refl refl
+        ∙ ap (λ p. await_notification app task wait ticks p anew) reached
+        ∙ ap (λ (b : Bool).
+        if b then end_notification_wait app task wait (when_entered task wait anew)
+        else begin_notification_wait task ticks (when_entered task wait anew))
+        unmet
+
+    pub not_over_notice : (step app limits [] s).current ≡ Some task
+        → is_over app limits s ≡ false → is_over app limits (step app limits [] s) ≡ false
+    unfolding anew begin_notification_wait wait_for_notification set_deadline
+    not_over_notice =
+        not_over_by app limits task s plain (begin_notification_wait task ticks (when_entered task wait anew)) notices
+        (on-begin_notification_wait (when_entered task wait anew) task ticks) refl refl

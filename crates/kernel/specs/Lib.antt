@@ -9,6 +9,7 @@ pub mod Over
 pub mod InCall
 pub mod InScript
 pub mod Bits
+pub mod Frequent
 pub mod Commands
 pub mod Left
 pub mod EndStates

@@ -6,6 +6,7 @@ ghost use Rattle.kernel.specs.declared.acting.Following.TheVariants as following
 ghost use Rattle.kernel.specs.InScript.{is_amid, may_stay_amid};
 ghost use Rattle.kernel.specs.Bits.{HasTakenHold};
 ghost use Rattle.kernel.specs.Can.{CanOp};
+ghost use Rattle.kernel.specs.Frequent.{is_frequent};
 ghost use Rattle.model.specs.declared.op.Op.TheVariants as op;
 ghost use Rattle.model.specs.Ops.{use_up};
 ghost use Rattle.machine.specs.Can.{Runs};
@@ -40,7 +41,7 @@ pub(crate) enum Following {
     NextOp,
     /// The same behind a call that has answered, or a mark.
     Answered,
-    /// The one in which its call on an event group, which has taken hold of the scheduler, lets go of it.
+    /// The one in which its call on an event group, or for a notification, which has taken hold of the scheduler, lets go of it.
     LettingGo,
     /// Those that come while a `suspend_all` is in force that has just begun.
     Suspended,
@@ -93,7 +94,7 @@ impl Following {
         }
     }
 
-    /// What may come behind a call that sets bits.
+    /// What may come behind a call that sets bits, or waits for a notification.
     #[inline]
     fn letting_go_if(begun: bool) -> Following
         ensures amid { is_amid result ≡ false }
@@ -157,8 +158,8 @@ fn work<L: Log>(
     Following::steps_if(left > 2)
 }
 
-/// What the running task's op does, if no task holds the scheduler; a misuse ends the run, and does nothing else. It answers what
-/// may come behind it.
+/// What the running task's op does, if no task holds the scheduler; a misuse ends the run, and does nothing else. It returns what
+/// may come behind it. The ops that most steps do are done here, in the code of the step itself; a call does the others.
 #[inline(always)]
 pub(crate) fn act<L: Log>(
     machine: &mut Machine,
@@ -193,10 +194,46 @@ pub(crate) fn act<L: Log>(
                 machine, app, task, group, condition, ticks, log,
             ));
         }
-        Op::Expect(ref condition) => return Following::op_if(expect(machine, app, task, condition)),
-        Op::Repeat(turns) => return Following::op_if(open_loop(machine, app, task, turns)),
         Op::End => return Following::op_if(close_turn(machine, app, task)),
         Op::If(condition) => return Following::op_if(branch(machine, app, task, condition)),
+        Op::Value(op) => return Following::answered_if(calculate(machine, app, task, op, log)),
+        Op::Do(object, access) => do_by_value(machine, app, task, object, access, log),
+        Op::Notify(other, action) => call_notify(machine, app, task, other, action, log),
+        Op::AwaitNotification(wait, ticks) => {
+            return Following::letting_go_if(await_notification(
+                machine, app, task, wait, ticks, log,
+            ));
+        }
+        _ => return act_seldom(machine, app, task, op, log),
+    }
+    Following::Nothing
+}
+
+/// The same for the ops that `act` doesn't do itself.
+#[inline(never)]
+fn act_seldom<L: Log>(
+    machine: &mut Machine,
+    app: &App,
+    task: TaskId,
+    op: &Op,
+    log: &mut L,
+) -> Following
+    requires room { 65 ≤ (L.logged log.old).room }
+    requires can { CanOp app.now machine.old task op.now }
+    requires seldom { is_frequent op.now ≡ false }
+    requires awake { machine.old.sched.suspensions ≡ 0 }
+    ensures does { DoesAny 65 machine.old (L.logged log.old) machine.new (L.logged log.new)
+        (λ s. act_unless app.now task (misuse s task op.now) op.now s) }
+    ensures amid { is_amid result ≡ true → IsPlaced machine.old machine.new task }
+    ensures runs { is_amid result ≡ true → Runs machine.old task }
+    ensures plain { is_amid result ≡ true → may_stay_amid op.now ≡ true }
+    ensures silent { result ≡ following.NextOp → L.logged log.new ≡ L.logged log.old }
+    ensures letting { result ≡ following.LettingGo
+        → HasTakenHold machine.old machine.new task op.now × (L.logged log.new ≡ L.logged log.old) }
+{
+    match *op {
+        Op::Expect(ref condition) => return Following::op_if(expect(machine, app, task, condition)),
+        Op::Repeat(turns) => return Following::op_if(open_loop(machine, app, task, turns)),
         Op::Else => return Following::op_if(skip_branch(machine, app, task)),
         Op::EndIf => return Following::op_if(end_if(machine, app, task)),
         Op::Break => return Following::op_if(leave_loop(machine, app, task)),
@@ -205,10 +242,8 @@ pub(crate) fn act<L: Log>(
         Op::Yield => call_yield(machine, app, task, log),
         Op::Time => return Following::answered_if(time(machine, app, task, log)),
         Op::Mark(value) => return Following::answered_if(mark(machine, app, task, value, log)),
-        Op::Value(op) => return Following::answered_if(calculate(machine, app, task, op, log)),
         Op::Stamp => return Following::op_if(stamp(machine, app, task)),
         Op::Since => return Following::answered_if(since(machine, app, task, log)),
-        Op::Do(object, access) => do_by_value(machine, app, task, object, access, log),
         Op::GiveMutex(object) => give_mutex(machine, app, task, object, log),
         Op::MessagesWaiting(object) => {
             return Following::answered_if(messages_waiting(machine, app, task, object, log));
@@ -219,10 +254,6 @@ pub(crate) fn act<L: Log>(
         Op::ClearBits(group, mask) => clear_bits(machine, app, task, group, mask, log),
         Op::GetBits(group) => {
             return Following::answered_if(get_bits(machine, app, task, group, log));
-        }
-        Op::Notify(other, action) => call_notify(machine, app, task, other, action, log),
-        Op::AwaitNotification(wait, ticks) => {
-            await_notification(machine, app, task, wait, ticks, log);
         }
         Op::ClearNotification(what) => clear_notification(machine, app, task, what, log),
         Op::Suspend(other) => call_suspend(machine, app, task, other, log),
@@ -238,6 +269,16 @@ pub(crate) fn act<L: Log>(
             return Following::command_if(next_command(machine, app, task, queue, log));
         }
         Op::Obey => obey(machine, app, task, log),
+        Op::Work(_)
+        | Op::Await(_, _, _)
+        | Op::Do(_, _)
+        | Op::SetBits(_, _)
+        | Op::WaitBits(_, _, _)
+        | Op::Notify(_, _)
+        | Op::AwaitNotification(_, _)
+        | Op::End
+        | Op::If(_)
+        | Op::Value(_) => unreachable!(),
     }
     Following::Nothing
 }

@@ -1,5 +1,5 @@
-//! The steps in which a call on an event group lets go of the scheduler. Each comes after a step that reported nothing, in which the call
-//! has taken hold of it, and is done with the call in hand.
+//! The steps in which a call on an event group, or a wait for a notification, lets go of the scheduler. Each comes after a step that
+//! reported nothing, in which the call has taken hold of it, and is done with the call in hand.
 ghost use Rattle.std.specs.Prelude.{◌≡◌, ◌<◌, ◌≤◌, ◌+◌, []};
 ghost use Rattle.model.specs.Application.{Limits};
 ghost use Rattle.model.specs.State.{State};
@@ -32,11 +32,12 @@ fn let_go<L: Log>(machine: &mut Machine, app: &App, task: TaskId, op: &Op, log: 
     }
     match *op {
         Op::SetBits(_, _) => end_set(machine, app, task, log),
+        Op::AwaitNotification(_, _) => leave_bits_wait(machine, task, log),
         Op::Obey => {
             let group = command_of(machine, task).group;
             end_set_by_daemon(machine, app, task, group, log);
         }
-        // No other op is for bits.
+        // No other op takes hold of it so.
         _ => {}
     }
 }

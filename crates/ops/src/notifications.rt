@@ -10,6 +10,7 @@ ghost use Rattle.model.specs.Step.{act, act_by_value};
 ghost use Rattle.machine.specs.StandsFor.{Does, DoesAny, Moves, MovesAny, Stands, StandsFor, progress_in};
 ghost use Rattle.machine.specs.Can.{Leaves, Runs, StandsForSome};
 ghost use Rattle.ops.specs.Can.{Can, CanAwaitEvent, CanDecide, IsShort};
+ghost use Rattle.ops.specs.InCall.{IsUnnotified, Remains, TakesHold};
 
 use crate::event_groups::leave_bits_wait;
 use crate::values::fail_check;
@@ -120,7 +121,10 @@ fn begin_notification_wait(machine: &mut Machine, task: TaskId, ticks: Option<u3
     requires short { IsShort ticks }
     requires some { ticks ≢ Some 0 }
     requires time { machine.old.clock.now + 2 ^ 32 < 2 ^ 63 }
-    ensures { Moves machine.old machine.new (definitions.begin_notification_wait task ticks) }
+    ensures does { Moves machine.old machine.new (definitions.begin_notification_wait task ticks) }
+    ensures remains { Remains machine.old machine.new task }
+    ensures held { machine.new.sched.depth ≡ 1 }
+    ensures reached { (progress_in machine.new.progress task).call.phase ≡ phase.Leave }
 {
     machine.sched.hold();
     machine.set_deadline(task, ticks);
@@ -144,7 +148,7 @@ fn need_not_wait(
     wait.is_there(machine.notification(task)) || ticks == Some(0)
 }
 
-/// A call that finds what it waits for, or that has no ticks to wait, is over. Otherwise the task waits.
+/// A call that finds what it waits for, or that has no ticks to wait, is over. Otherwise the task waits, and the function returns `true`.
 fn check_notification<L: Log>(
     machine: &mut Machine,
     app: &App,
@@ -152,22 +156,28 @@ fn check_notification<L: Log>(
     wait: NotificationWait,
     ticks: Option<u32>,
     log: &mut L,
-)
+) -> bool
     requires room { 1 ≤ (L.logged log.old).room }
     requires can { CanDecide machine.old task }
     requires short { IsShort ticks }
     requires time { machine.old.clock.now + 2 ^ 32 < 2 ^ 63 }
-    ensures { Does 1 machine.old (L.logged log.old) machine.new (L.logged log.new)
+    ensures does { Does 1 machine.old (L.logged log.old) machine.new (L.logged log.new)
         (definitions.check_notification app.now task wait ticks) }
+    ensures takes { result ≡ true → TakesHold machine.old machine.new task }
+    ensures unmet { result ≡ true → (s : State) → StandsFor machine.old s
+        → (definitions.is_there wait (notification_at s task) || option_eq nat_eq ticks (Some 0)) ≡ false }
+    ensures silent { result ≡ true → L.logged log.new ≡ L.logged log.old }
 {
     if need_not_wait(machine, task, wait, ticks) {
         end_notification_wait(machine, app, task, wait, log);
-        return;
+        return false;
     }
     begin_notification_wait(machine, task, ticks);
+    true
 }
 
-/// The next phase of `notify_take` or `notify_wait`.
+/// The next phase of `notify_take` or `notify_wait`. It returns whether the wait has begun: then nothing was reported, its call holds the
+/// scheduler, and lets go of it next.
 #[inline(never)]
 pub fn await_notification<L: Log>(
     machine: &mut Machine,
@@ -176,20 +186,30 @@ pub fn await_notification<L: Log>(
     wait: NotificationWait,
     ticks: Option<u32>,
     log: &mut L,
-)
+) -> bool
     requires room { 2 ≤ (L.logged log.old).room }
     requires can { CanAwaitEvent machine.old task ticks (progress_in machine.old.progress task).call.phase }
-    ensures { DoesAny 2 machine.old (L.logged log.old) machine.new (L.logged log.new)
+    ensures does { DoesAny 2 machine.old (L.logged log.old) machine.new (L.logged log.new)
         (act app.now task (op.AwaitNotification wait ticks)) }
+    ensures start { result ≡ true → (progress_in machine.old.progress task).call.phase ≡ phase.Start }
+    ensures takes { result ≡ true → TakesHold machine.old machine.new task }
+    ensures unmet { result ≡ true → IsUnnotified machine.old task wait ticks }
+    ensures silent { result ≡ true → L.logged log.new ≡ L.logged log.old }
 {
     match machine.progress(task).call.phase {
         Phase::Start => {
             let notification = machine.notification(task);
             machine.set_notification(task, wait.entered(notification));
-            check_notification(machine, app, task, wait, ticks, log);
+            check_notification(machine, app, task, wait, ticks, log)
         }
-        Phase::Leave => leave_bits_wait(machine, task, log),
-        _ => end_notification_wait(machine, app, task, wait, log),
+        Phase::Leave => {
+            leave_bits_wait(machine, task, log);
+            false
+        }
+        _ => {
+            end_notification_wait(machine, app, task, wait, log);
+            false
+        }
     }
 }
 

@@ -1,5 +1,6 @@
 use Rattle.kernel.proofs.Acted.{room_for_one, room_for_two}
-use Rattle.kernel.proofs.LettingGo.{can_end_command, can_end_set, can_leave_wait, ends_command, ends_set, leaves_wait, no_other}
+use Rattle.kernel.proofs.LettingGo.{can_end_command, can_end_set, can_leave_wait, ends_command, ends_set}
+use Rattle.kernel.proofs.LettingGo.{leaves_notice, leaves_wait, no_other}
 use Rattle.kernel.proofs.bits.let_go.Goals as goal
 
 pub leave_bits_wait-requires : goal.leave_bits_wait-requires
@@ -42,5 +43,12 @@ returns-in-SetBits g c = λ limits.
 
 pub returns-in_default-op : goal.returns-in_default-op
 returns-in_default-op g c =
-    absurd (no_other c.args.op.now c.requires.going.bits c.in_default-op.not-SetBits c.in_default.not-WaitBits
-    c.in_default-op.not-Obey)
+    absurd (no_other c.args.op.now c.requires.going.event c.in_default-op.not-SetBits c.in_default.not-WaitBits
+    c.in_default-op.not-AwaitNotification c.in_default-op.not-Obey)
+
+pub returns-in-AwaitNotification : goal.returns-in-AwaitNotification
+returns-in-AwaitNotification g c = λ limits.
+    leaves_notice c.args.app.now c.args.machine.now c.args.task c.args.op.now c.requires.going
+    c.requires.can c.in-AwaitNotification.field-0 c.in-AwaitNotification.field-1
+    c.in-AwaitNotification.is limits c.leave_bits_wait-in-AwaitNotification.new.machine _ _
+    c.leave_bits_wait-in-AwaitNotification.ensures

@@ -1,11 +1,12 @@
-use Rattle.std.proofs.Common.{◌≡◌, ap, refl, sym, subst, ◌∙◌, arith}
+use Rattle.std.proofs.Common.{◌≡◌, ◌||◌, eqb, false, Some, ap, refl, sym, subst, ◌∙◌, arith}
+use Rattle.std.specs.Option.{option_eq}
 use Rattle.model.specs.declared.call.Phase.TheVariants.{Start, Leave}
 use Rattle.model.specs.declared.notification.Notification.{Notification}
 use Rattle.model.specs.State.{Progress, notification_at, with_notification}
-use Rattle.model.specs.Notifications.{check_notification, entered}
+use Rattle.model.specs.Notifications.{check_notification, entered, is_there}
 use Rattle.machine.specs.declared.machine.Machine.{Machine}
 use Rattle.machine.specs.Can.{Runs}
-use Rattle.machine.specs.StandsFor.{At}
+use Rattle.machine.specs.StandsFor.{At, progress_in}
 use Rattle.machine.specs.StandsFor.Stands.{Placed}
 use Rattle.machine.proofs.Either.{does_any, does_more}
 use Rattle.ops.specs.Can.{CanAwaitEvent}
@@ -30,8 +31,8 @@ check_notification-requires-clause-can g c =
       depth = ap (λ (x : Machine). x.sched.depth) rest ∙ can.depth;
     }
 
-pub returns-in-Start : goal.returns-in-Start
-returns-in-Start g c =
+pub returns-in-Start-clause-does : goal.returns-in-Start-clause-does
+returns-in-Start-clause-does g c =
     let i = c.args.task in
     let e = ap (λ (p : Progress). p.call.phase) (sym (c.behind-machine.view_is ∙ c.progress.ensures)) ∙ c.in-Start.is in
     let can = (subst (CanAwaitEvent c.args.machine.now i c.args.ticks) e c.requires.can).0 in
@@ -46,9 +47,9 @@ returns-in-Start g c =
           c.entered.ensures ∙ ap (entered c.args.wait) (c.notification-notification.ensures.state s (Placed h.stands)) in
           subst (λ (n : Notification).
           At new after.told (check_notification c.args.app.now i c.args.wait c.args.ticks (with_notification i n s))) same
-          (c.check_notification.ensures.at _ (c.set_notification.ensures.does _ s h));
-      few = c.check_notification.ensures.few;
-      before = c.check_notification.ensures.before;
+          (c.check_notification.ensures.does.at _ (c.set_notification.ensures.does _ s h));
+      few = c.check_notification.ensures.does.few;
+      before = c.check_notification.ensures.does.before;
     })))
 
 pub leave_bits_wait-requires : goal.leave_bits_wait-requires
@@ -59,8 +60,8 @@ leave_bits_wait-requires g c =
       can = subst (CanAwaitEvent c.args.machine.now c.args.task c.args.ticks) e c.requires.can;
     }
 
-pub returns-in-Leave : goal.returns-in-Leave
-returns-in-Leave g c =
+pub returns-in-Leave-clause-does : goal.returns-in-Leave-clause-does
+returns-in-Leave-clause-does g c =
     let e = ap (λ (p : Progress). p.call.phase) (sym (c.behind-machine.view_is ∙ c.progress.ensures)) ∙ c.in-Leave.is in
     let can = subst (CanAwaitEvent c.args.machine.now c.args.task c.args.ticks) e c.requires.can in
     let old = c.args.machine.now in
@@ -79,8 +80,8 @@ end_notification_wait-requires g c =
       runs = (decides_at_last c.args.machine.now c.args.task c.args.ticks _ c.in_default.not-Start c.in_default.not-Leave can).runs;
     }
 
-pub returns-in_default : goal.returns-in_default
-returns-in_default g c =
+pub returns-in_default-clause-does : goal.returns-in_default-clause-does
+returns-in_default-clause-does g c =
     let e = ap (λ (p : Progress). p.call.phase) (sym (c.behind-machine.view_is ∙ c.progress.ensures)) in
     let can = subst (CanAwaitEvent c.args.machine.now c.args.task c.args.ticks) e c.requires.can in
     let agrees =
@@ -92,3 +93,31 @@ returns-in_default g c =
     notice_at_last c.args.app.now old new log after c.args.task c.args.wait c.args.ticks _ e
     c.in_default.not-Start c.in_default.not-Leave
     (does_more 1 2 old new log after _ (omega arith) (does_any 1 old new log after _ agrees c.end_notification_wait.ensures))
+
+pub returns-in-Start-clause-takes : goal.returns-in-Start-clause-takes
+returns-in-Start-clause-takes g c = λ waits.
+    let i = c.args.task in
+    let e = ap (λ (p : Progress). p.call.phase) (sym (c.behind-machine.view_is ∙ c.progress.ensures)) ∙ c.in-Start.is in
+    let can = (subst (CanAwaitEvent c.args.machine.now i c.args.ticks) e c.requires.can).0 in
+    let took = c.check_notification.ensures.takes waits in
+    let rest = c.set_notification.ensures.rest in
+    record {
+      agrees = can.agrees;
+      remains = record {
+        current = took.remains.current ∙ ap (λ (k : Machine). k.sched.current) rest;
+        op_index = took.remains.op_index ∙ ap (λ (k : Machine). (progress_in k.progress i).op_index) rest;
+        suspensions = took.remains.suspensions ∙ ap (λ (k : Machine). k.sched.suspensions) rest;
+      };
+      held = took.held;
+      reached = took.reached;
+    }
+
+pub returns-in-Start-clause-unmet : goal.returns-in-Start-clause-unmet
+returns-in-Start-clause-unmet g c = λ waits s h.
+    let i = c.args.task in
+    let same : c.entered.result ≡ entered c.args.wait (notification_at s i) =
+    c.entered.ensures ∙ ap (entered c.args.wait) (c.notification-notification.ensures.state s (Placed h)) in
+    let there = (c.set_notification.ensures.does _ s (record { stands = h; log = refl })).stands in
+    subst (λ (n : Notification).
+    (is_there c.args.wait (notification_at (with_notification i n s) i) || option_eq eqb c.args.ticks (Some 0)) ≡ false) same
+    (c.check_notification.ensures.unmet waits _ there)

@@ -1,9 +1,13 @@
-use Rattle.std.proofs.Common.{ℕ, ◌+◌, Some, ap, refl, sym, ◌∙◌}
+use Rattle.std.proofs.Common.{ℕ, ◌+◌, ◌<◌, Some, length, get_or-set_same, ap, refl, sym, ◌∙◌, arith}
 use Rattle.std.specs.Option.{option_map}
 use Rattle.model.specs.declared.call.Phase.TheVariants.{Leave}
 use Rattle.model.specs.Notifications as definitions
+use Rattle.model.specs.State.{Progress}
 use Rattle.sched.specs.Schedule.{Schedule}
 use Rattle.clock.specs.Timeline.{Timeline}
+use Rattle.machine.specs.declared.machine.Machine.{Machine}
+use Rattle.machine.specs.StandsFor.{progress_in}
+use Rattle.machine.proofs.Acting.{within}
 use Rattle.machine.proofs.Continuing.{gone_on}
 use Rattle.ops.proofs.Notifying.{timed_from, unasleep, unlisted, waits_notified}
 use Rattle.ops.proofs.notifications.begin_notification_wait.Goals as goal
@@ -28,9 +32,9 @@ place_sleeper_for-requires-clause-awake c =
     c.args.ticks c.set_deadline.ensures.does c.set_deadline.ensures.parts.0 in
     unasleep c.set_deadline.new.self s.log _ w.at c.args.task w.runs w.ready
 
-pub returns : goal.returns
+pub returns-clause-does : goal.returns-clause-does
 unfolding definitions.begin_notification_wait
-returns c = λ log s h.
+returns-clause-does c = λ log s h.
     let i = c.args.task in
     let timed = c.set_deadline.new.self in
     let w =
@@ -46,3 +50,19 @@ returns c = λ log s h.
     (c.place_for_notification.ensures.stands _ w.at.stands.rest.groups w.within) in
     gone_on _ c.set_phase.new.self log _ waits i (ap (λ (v : Schedule). v.current) c.block.ensures.schedule ∙ w.runs)
     Leave c.set_phase.ensures (λ e. absurd (cc))
+
+pub returns-clause-reached : goal.returns-clause-reached
+returns-clause-reached c =
+    let i : ℕ = c.args.task in
+    let s = c.requires.can.agrees.0 in
+    let h = c.requires.can.agrees.1 in
+    let timed = c.set_deadline.new.self in
+    let w =
+    timed_from c.args.machine.now s.log s (record { stands = h; log = refl }) i c.requires.can c.hold.new.self
+    c.hold.ensures.calm c.hold.ensures.schedule (λ free. c.hold.ensures.stands s h.sched free) timed
+    c.args.ticks c.set_deadline.ensures.does c.set_deadline.ensures.parts.0 in
+    let there : i < length timed.progress =
+    (let n = w.at.stands.rest.full in let few = w.at.stands.sched.table.few in
+    let m = within timed s.log _ w.at i w.runs in omega arith) in
+    ap (λ (x : Machine). (progress_in x.progress i).call.phase) c.set_phase.ensures
+    ∙ ap (λ (p : Progress). p.call.phase) (get_or-set_same timed.progress i _ _ there)

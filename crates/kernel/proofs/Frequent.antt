@@ -1,0 +1,71 @@
+-- An op that is none of the frequent ones.
+use Rattle.std.proofs.Common.{◌≡◌, ◌≢◌, ℕ, false, Option, refl}
+use Rattle.model.specs.declared.call.Condition.{Condition}
+use Rattle.model.specs.declared.answer.AnswerCondition.{AnswerCondition}
+use Rattle.model.specs.declared.notification.NotificationWait.{NotificationWait}
+use Rattle.model.specs.declared.notification.NotifyAction.{NotifyAction}
+use Rattle.model.specs.declared.op.Access.{Access}
+use Rattle.model.specs.declared.op.Op.{Op}
+use Rattle.model.specs.declared.op.Op.TheVariants.{Work, Delay, DelayUntil, Yield, Time, Mark, Expect, Repeat, End as EndLoop, If}
+use Rattle.model.specs.declared.op.Op.TheVariants.{Else, EndIf, Break, Stamp, Since, Await, Do, GiveMutex, MessagesWaiting}
+use Rattle.model.specs.declared.op.Op.TheVariants.{SpacesAvailable, SetBits, ClearBits, GetBits, WaitBits, Notify}
+use Rattle.model.specs.declared.op.Op.TheVariants.{AwaitNotification, ClearNotification, Suspend, Resume, SuspendAll}
+use Rattle.model.specs.declared.op.Op.TheVariants.{ResumeAll, EnterCritical, ExitCritical, NextCommand, Obey, Value as Calculate}
+use Rattle.model.specs.declared.value.Value.{Value}
+use Rattle.model.specs.declared.value.ValueOp.{ValueOp}
+use Rattle.kernel.specs.Frequent.{is_frequent}
+
+pub seldom : (op : Op)
+    → ((ticks : ℕ) → op ≢ Work ticks)
+    → ((object : ℕ) (access : Access Value) (ticks : Option ℕ) → op ≢ Await object access ticks)
+    → ((object : ℕ) (access : Access Value) → op ≢ Do object access)
+    → ((group : ℕ) (mask : ℕ) → op ≢ SetBits group mask)
+    → ((group : ℕ) (condition : Condition) (ticks : Option ℕ) → op ≢ WaitBits group condition ticks)
+    → ((other : ℕ) (action : NotifyAction Value) → op ≢ Notify other action)
+    → ((wait : NotificationWait) (ticks : Option ℕ) → op ≢ AwaitNotification wait ticks)
+    → (op ≢ EndLoop)
+    → ((condition : AnswerCondition) → op ≢ If condition)
+    → ((o : ValueOp) → op ≢ Calculate o)
+    → is_frequent op ≡ false
+seldom (Delay ticks) works awaits does sets waits notifies notices ends asks values = refl
+seldom (DelayUntil ticks) works awaits does sets waits notifies notices ends asks values = refl
+seldom Yield works awaits does sets waits notifies notices ends asks values = refl
+seldom Time works awaits does sets waits notifies notices ends asks values = refl
+seldom (Mark value) works awaits does sets waits notifies notices ends asks values = refl
+seldom (Expect condition) works awaits does sets waits notifies notices ends asks values = refl
+seldom (Repeat turns) works awaits does sets waits notifies notices ends asks values = refl
+seldom Else works awaits does sets waits notifies notices ends asks values = refl
+seldom EndIf works awaits does sets waits notifies notices ends asks values = refl
+seldom Break works awaits does sets waits notifies notices ends asks values = refl
+seldom Stamp works awaits does sets waits notifies notices ends asks values = refl
+seldom Since works awaits does sets waits notifies notices ends asks values = refl
+seldom (GiveMutex object) works awaits does sets waits notifies notices ends asks values = refl
+seldom (MessagesWaiting object) works awaits does sets waits notifies notices ends asks values = refl
+seldom (SpacesAvailable object) works awaits does sets waits notifies notices ends asks values = refl
+seldom (ClearBits group mask) works awaits does sets waits notifies notices ends asks values = refl
+seldom (GetBits group) works awaits does sets waits notifies notices ends asks values = refl
+seldom (ClearNotification what) works awaits does sets waits notifies notices ends asks values = refl
+seldom (Suspend other) works awaits does sets waits notifies notices ends asks values = refl
+seldom (Resume other) works awaits does sets waits notifies notices ends asks values = refl
+seldom SuspendAll works awaits does sets waits notifies notices ends asks values = refl
+seldom ResumeAll works awaits does sets waits notifies notices ends asks values = refl
+seldom EnterCritical works awaits does sets waits notifies notices ends asks values = refl
+seldom ExitCritical works awaits does sets waits notifies notices ends asks values = refl
+seldom (NextCommand queue) works awaits does sets waits notifies notices ends asks values = refl
+seldom Obey works awaits does sets waits notifies notices ends asks values = refl
+seldom (Work ticks) works awaits does sets waits notifies notices ends asks values = absurd (works ticks refl)
+seldom (Await object access ticks) works awaits does sets waits notifies notices ends asks values =
+    absurd (awaits object access ticks refl)
+seldom (Do object access) works awaits does sets waits notifies notices ends asks values =
+    absurd (does object access refl)
+seldom (SetBits group mask) works awaits does sets waits notifies notices ends asks values =
+    absurd (sets group mask refl)
+seldom (WaitBits group condition ticks) works awaits does sets waits notifies notices ends asks values =
+    absurd (waits group condition ticks refl)
+seldom (Notify other action) works awaits does sets waits notifies notices ends asks values =
+    absurd (notifies other action refl)
+seldom (AwaitNotification wait ticks) works awaits does sets waits notifies notices ends asks values =
+    absurd (notices wait ticks refl)
+seldom EndLoop works awaits does sets waits notifies notices ends asks values = absurd (ends refl)
+seldom (If condition) works awaits does sets waits notifies notices ends asks values = absurd (asks condition refl)
+seldom (Calculate op) works awaits does sets waits notifies notices ends asks values = absurd (values op refl)

@@ -1,0 +1,18 @@
+-- The ops that most steps do.
+use Rattle.std.specs.Prelude.{Bool, true, false}
+use Rattle.model.specs.declared.op.Op.{Op}
+use Rattle.model.specs.declared.op.Op.TheVariants.{Work, Await, Do, SetBits, WaitBits, Notify, AwaitNotification, End, If, Value}
+
+-- an op whose code stands in the step itself
+abbrev pub is_frequent : Op → Bool
+is_frequent (Work ticks) = true
+is_frequent (Await object access ticks) = true
+is_frequent (Do object access) = true
+is_frequent (SetBits group mask) = true
+is_frequent (WaitBits group condition ticks) = true
+is_frequent (Notify other action) = true
+is_frequent (AwaitNotification wait ticks) = true
+is_frequent End = true
+is_frequent (If condition) = true
+is_frequent (Value op) = true
+is_frequent _ = false
