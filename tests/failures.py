@@ -3,10 +3,8 @@ import contextlib
 import itertools
 import json
 import os
-import pty
 import re
 import resource
-import select
 import shutil
 import signal
 import socket
@@ -15,7 +13,7 @@ import threading
 import time
 
 from cases import case, equal, long_case
-from running import (HANDLER, PATIENCE, PROGRAM, ROOT, TASK, TASK_RUNS, is_refused, points, run, run_text,
+from running import (HANDLER, PATIENCE, PROGRAM, ROOT, TASK, TASK_RUNS, is_refused, points, run, run_text, shown_on_a_terminal,
                      started_with_small_pipe, stored, write)
 
 EXAMPLES = sorted(it[:-5] for it in os.listdir(f"{ROOT}/examples") if it.endswith(".toml"))
@@ -456,27 +454,11 @@ def a_million_points_in_512_megabytes():
 # What is shown
 
 
-def shown_on_a_terminal(seconds, *words):
-    """What the program shows there first of this long campaign. Nothing, where it ends or this time passes before that."""
-    write("application.toml", LONG_CAMPAIGN)
-    ours, its = pty.openpty()
-    with subprocess.Popen([PROGRAM, "campaign", "application.toml", *words], stdout=subprocess.DEVNULL, stderr=its) as started:
-        os.close(its)
-        shown = b""
-        if select.select([ours], [], [], seconds)[0]:
-            # A terminal that nobody has open any more answers an error.
-            with contextlib.suppress(OSError):
-                shown = os.read(ours, 100)
-        started.kill()
-    os.close(ours)
-    return shown
-
-
 @case
 def a_campaign_shows_on_a_terminal_how_far_it_is_unless_it_is_quiet():
-    shown = shown_on_a_terminal(PATIENCE)
+    shown = shown_on_a_terminal(LONG_CAMPAIGN, PATIENCE, "campaign")
     assert re.fullmatch(rb"\rrtosim: [1-9]\d* of 901002 rows", shown), shown
-    equal(shown_on_a_terminal(1.5, "--quiet"), b"")
+    equal(shown_on_a_terminal(LONG_CAMPAIGN, 1.5, "campaign", "--quiet"), b"")
 
 
 def quota():

@@ -3,9 +3,10 @@ import re
 
 from applications import Applications
 from cases import case, equal
-from running import campaign_text, run, run_text, stored, write
+from running import PATIENCE, campaign_text, run, run_text, shown_on_a_terminal, stored, write
 
 HEAD = re.compile(r"(?:base|row [0-9]+ at [^:]*): (.*) in ([0-9]+) steps, ([0-9]+) ticks")
+TWO_HANDLERS = "tests/runs/placements/two_handlers_for_ten_thousand_steps.toml"
 CAMPAIGN = re.compile(r"\[campaign\]\npoints = .*\n")
 
 
@@ -100,6 +101,14 @@ def one_handler_of_two_of_random_applications():
 @case
 def long_runs_beside_campaigns():
     # (several blocks of steps, of each length)
-    text = stored("tests/runs/placements/two_handlers_for_ten_thousand_steps.toml").decode()
+    text = stored(TWO_HANDLERS).decode()
     is_found(text.replace("steps = 10000", "steps = 3000"), ["uart", "late"], 1)
     is_found(text.replace("steps = 10000", "steps = 150"), ["uart", "late"], 2)
+
+
+@case
+def exploring_shows_on_a_terminal_how_far_it_is():
+    text = stored(TWO_HANDLERS).decode().replace("steps = 10000", "steps = 1000000")
+    shown = shown_on_a_terminal(text, PATIENCE, "explore", "--injections", "3")
+    assert re.fullmatch(rb"\r\x1b\[Krtosim: [1-9]\d* steps done, states kept: [1-9]\d*", shown), shown
+    equal(shown_on_a_terminal(text.replace("steps = 1000000", "steps = 100"), PATIENCE, "explore"), b"")

@@ -1,10 +1,13 @@
 """Runs the built program on small files, for the cases of tests/program.
 
 The program is crates/rtosim/out/rtosim, or the one that is named as the argument."""
+import contextlib
 import fcntl
 import json
 import os
+import pty
 import re
+import select
 import shlex
 import subprocess
 import sys
@@ -89,3 +92,19 @@ def started_with_small_pipe(*words, **how):
     os.close(writer)
     started.stdout = os.fdopen(reader, "rb", buffering=0)
     return started
+
+
+def shown_on_a_terminal(text, seconds, command, *words):
+    """What this command shows there first of a file with this text. Nothing, if it ends or this time passes before that."""
+    write("application.toml", text)
+    ours, its = pty.openpty()
+    with subprocess.Popen([PROGRAM, command, "application.toml", *words], stdout=subprocess.DEVNULL, stderr=its) as started:
+        os.close(its)
+        shown = b""
+        if select.select([ours], [], [], seconds)[0]:
+            # A terminal that nobody has open any more answers an error.
+            with contextlib.suppress(OSError):
+                shown = os.read(ours, 100)
+        started.kill()
+    os.close(ours)
+    return shown

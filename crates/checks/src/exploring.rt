@@ -1,6 +1,6 @@
 //! All placements of interrupts in a run.
 use crate::loading::loaded;
-use explorer::explore;
+use explorer::{NoWatch, explore};
 use model::{End, HandlerId};
 
 /// A run of two steps, and a handler that changes nothing.
@@ -24,7 +24,9 @@ fn placements_in_a_run_of_two_steps(rt: HostRuntime) {
     let handlers = [HandlerId { number: 0 }];
     let numbers: [u128; 4] = [1, 3, 6, 10];
     for most in 0..4_usize {
-        let found = explore(rt.alloc(), &app, &app.limits(), &handlers, most).expect(&rt, "memory");
+        let found = explore(rt.alloc(), &app, &app.limits(), &handlers, most, &NoWatch).expect(
+            &rt, "memory",
+        );
         assert!(rt; found.len() == 1, "at most {most}");
         for one in found.iter() {
             assert!(rt; one.end == End::Pass, "at most {most}");
@@ -39,7 +41,9 @@ fn placements_in_a_run_of_two_steps(rt: HostRuntime) {
 fn placements_of_an_interrupt_that_finds_a_full_queue(rt: HostRuntime) {
     let app = loaded(&rt, rt.alloc(), FULL_QUEUE);
     let handlers = [HandlerId { number: 0 }];
-    let found = explore(rt.alloc(), &app, &app.limits(), &handlers, 2).expect(&rt, "memory");
+    let found = explore(rt.alloc(), &app, &app.limits(), &handlers, 2, &NoWatch).expect(
+        &rt, "memory",
+    );
     let (numbers, steps): ([u128; 2], [u32; 2]) = ([10, 41], [10, 7]);
     assert!(rt; found.len() == 2);
     for (index, one) in found.iter().enumerate() {

@@ -18,6 +18,8 @@ mod sinks;
 #[cfg(test)]
 mod streams;
 #[cfg(test)]
+mod unwatched;
+#[cfg(test)]
 mod values;
 #[cfg(test)]
 mod words;

@@ -1,7 +1,8 @@
 //! Jobs over readers and writers that are narrow, or fail at once or in mid-stream.
 
 use crate::sinks::{Breaking, Holder, check_text};
-use campaign::{NoGate, Options};
+use crate::unwatched::Unwatched;
+use campaign::Options;
 use jobs::{Job, MostInjections, act};
 use report::{Shard, View};
 use std::alloc::Global;
@@ -75,7 +76,7 @@ fn check_byte_by_byte<R: Abort + Threads + Wait + Sync>(
         &mut reader,
         &mut written,
         &mut told,
-        &NoGate,
+        &Unwatched,
     );
     assert!(rt; found == status);
     check_text(rt, alloc, "written", written.bytes(), texts.0);
@@ -138,7 +139,7 @@ fn check_full_writer<R: Abort + Threads + Wait + Sync>(
         &mut reader,
         &mut written,
         &mut told,
-        &NoGate,
+        &Unwatched,
     );
     assert!(rt; status == 5, "with room for {room}");
     let line = "rtosim: cannot write\n";
@@ -183,7 +184,7 @@ fn check_broken_reader<R: Abort + Threads + Wait + Sync>(
         &mut reader,
         &mut written,
         &mut told,
-        &NoGate,
+        &Unwatched,
     );
     let line = b"rtosim: cannot read a folder\n".as_slice();
     assert!(rt; status == 3);

@@ -2,7 +2,7 @@
 
 use crate::loading::loaded;
 use crate::sinks::{Holder, check_text};
-use campaign::NoGate;
+use crate::unwatched::Unwatched;
 use jobs::{Job, act};
 use model::{End, Memory, Meter, Plan, Run};
 use std::alloc::Global;
@@ -92,7 +92,7 @@ fn a_value_that_was_received_is_passed_on(rt: HostRuntime) {
         &mut reader,
         &mut written,
         &mut told,
-        &NoGate,
+        &Unwatched,
     );
     assert!(rt; status == 0);
     check_text(&rt, alloc, "written", written.bytes(), PASSED_ON_REPORT);

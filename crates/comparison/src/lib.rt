@@ -5,6 +5,8 @@
 #[cfg(test)]
 mod campaigns;
 #[cfg(test)]
+mod explored;
+#[cfg(test)]
 mod file;
 #[cfg(test)]
 mod gates;

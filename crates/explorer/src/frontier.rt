@@ -43,6 +43,11 @@ impl Frontier {
         self.live.is_empty() && self.spent.is_empty()
     }
 
+    /// From how many kernels the runs go on.
+    pub(crate) fn states(&self) -> usize {
+        self.live.nodes.len().saturating_add(self.spent.nodes.len())
+    }
+
     /// Takes the live kernels, into a layer whose own are of no more use.
     pub(crate) fn take_live(&mut self, alloc: Global, layer: &mut Layer)
         ensures taken { layer.new.nodes ≡ self.old.live.nodes }

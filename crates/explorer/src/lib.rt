@@ -10,7 +10,9 @@ mod layer;
 mod order;
 mod placement;
 mod settling;
+mod watch;
 
 pub use exploring::explore;
 pub use findings::{Found, placements_in};
 pub use placement::Placement;
+pub use watch::{NoWatch, Watch};

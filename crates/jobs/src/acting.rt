@@ -18,6 +18,7 @@ use crate::exploring::serve_exploration;
 use crate::fault_line::tell;
 use byte_io::{FromReader, ReadFault, Sink, Source, read_all, read_at_most};
 use campaign::{Gate, NoGate, ServeFault, serve_of, serve_run_of};
+use explorer::Watch;
 use model::End;
 use report::{Shard, View};
 use requests::{Job, NamedPoint, Options};
@@ -146,7 +147,7 @@ fn serve_campaign<T: Threads + Wait + Sync, W: Sink, G: Gate + Sync>(
 }
 
 // Writes to `writer` what the job asks for of the file of these bytes.
-fn serve_job<T: Threads + Wait + Sync, W: Sink, G: Gate + Sync>(
+fn serve_job<T: Threads + Wait + Sync, W: Sink, G: Gate + Watch + Sync>(
     rt: &T,
     alloc: Global,
     job: &Job<'_>,
@@ -183,13 +184,13 @@ fn serve_job<T: Threads + Wait + Sync, W: Sink, G: Gate + Sync>(
             injections,
             handlers,
             ..
-        } => serve_exploration(alloc, *injections, *handlers, bytes, writer),
+        } => serve_exploration(alloc, *injections, *handlers, bytes, writer, gate),
     };
     Ok(served?)
 }
 
 // Does the job over the file of these bytes, and ends it.
-fn act_on<T: Threads + Wait + Sync, W: Sink, F: Sink, G: Gate + Sync>(
+fn act_on<T: Threads + Wait + Sync, W: Sink, F: Sink, G: Gate + Watch + Sync>(
     rt: &T,
     alloc: Global,
     job: &Job<'_>,
@@ -232,8 +233,8 @@ fn all_for<R: Source>(alloc: Global, job: &Job<'_>, reader: &mut R) -> Result<Ve
 /// program ends with, and puts the line of a fault, if any, to `faults`; that this fails changes nothing.
 ///
 /// Where the job's step and its handler don't go together, nothing is read. The gate learns how far a campaign has come, unless it is
-/// quiet; no clause speaks of that. It waits for the workers of a campaign, whose threads are this runtime's.
-pub fn act<T: Threads + Wait + Sync, R: Source, W: Sink, F: Sink, G: Gate + Sync>(
+/// quiet, or how far exploring has; no clause speaks of that. It waits for the workers of a campaign, whose threads are this runtime's.
+pub fn act<T: Threads + Wait + Sync, R: Source, W: Sink, F: Sink, G: Gate + Watch + Sync>(
     rt: &T,
     alloc: Global,
     job: &Job<'_>,
@@ -282,7 +283,7 @@ fn bytes_for<R: Source>(alloc: Global, job: &Job<'_>, reader: &mut R) -> Result<
 }
 
 // Does the job over its file, which `reader` gives. Nothing is read where its step and its handler don't go together.
-fn act_over_file<T: Threads + Wait + Sync, R: Source, W: Sink, F: Sink, G: Gate + Sync>(
+fn act_over_file<T: Threads + Wait + Sync, R: Source, W: Sink, F: Sink, G: Gate + Watch + Sync>(
     rt: &T,
     alloc: Global,
     job: &Job<'_>,
@@ -324,7 +325,7 @@ fn fault_of(error: &io::Error) -> ServeFault
 /// of a device that has no end, this is the fault. A file that can't be opened is one that can't be
 /// read, also where the job's step and handler don't go together. The contract says of the file's bytes that there are such;
 /// that they are those of the file, the tests show.
-pub fn open_and_act<T: Threads + Wait + Files + Sync, W: Sink, F: Sink, G: Gate + Sync>(
+pub fn open_and_act<T: Threads + Wait + Files + Sync, W: Sink, F: Sink, G: Gate + Watch + Sync>(
     rt: &T,
     alloc: Global,
     job: &Job<'_>,

@@ -14,7 +14,7 @@ ghost use Rattle.jobs.specs.Explorations.{AreAsked, IsExploringFault, IsFoundIn,
 
 use byte_io::{Page, Sink, WriteFault, flush};
 use campaign::{ServeFault, app_in};
-use explorer::{Found, explore, placements_in};
+use explorer::{Found, Watch, explore, placements_in};
 use model::{App, End, Ending, HandlerId, Memory};
 use report::{add_found, add_placements_total};
 use requests::MostInjections;
@@ -79,18 +79,26 @@ fn handlers_asked(
 }
 
 // What is found of an application, under its own limits.
-fn found_in(
+fn found_in<G: Watch>(
     alloc: Global,
     app: &App,
     most: MostInjections,
     list: Option<&str>,
+    gate: &G,
 ) -> Result<Vec<Found>, ServeFault>
     ensures found { MatchResult result (λ found. IsFoundIn most (option_map (λ list. list.now) list.entry) app.now found.items)
         (IsExploringFault (option_map (λ list. list.now) list.entry) app.now) }
     ensures few { IfOk result (λ found. placements_in found.items < 2 ^ 128) }
 {
     let handlers = handlers_asked(alloc, app, list)?;
-    let found = explore(alloc, app, &app.limits(), handlers.as_slice(), most.count())?;
+    let found = explore(
+        alloc,
+        app,
+        &app.limits(),
+        handlers.as_slice(),
+        most.count(),
+        gate,
+    )?;
     Ok(found)
 }
 
@@ -138,19 +146,20 @@ fn all_pass(found: &[Found]) -> bool
 }
 
 // Explores an application, and writes the report of what is found, as its last deed. Answers whether each placement passes.
-fn serve_app<W: Sink>(
+fn serve_app<W: Sink, G: Watch>(
     alloc: Global,
     app: &App,
     writer: &mut W,
     most: MostInjections,
     list: Option<&str>,
+    gate: &G,
 ) -> Result<bool, ServeFault>
     requires { W.has_failed writer.old ≡ false }
     ensures { (bytes : List ℕ) → IsFileOf bytes app.now
         → ServesExploration most (option_map (λ list. list.now) list.entry) (streams_of (Some bytes) false
         (W.held writer.old) (W.held writer.new) (W.has_failed writer.new)) result }
 {
-    let found = found_in(alloc, app, most, list)?;
+    let found = found_in(alloc, app, most, list, gate)?;
     write_found(writer, app, found.as_slice())?;
     Ok(all_pass(found.as_slice()))
 }
@@ -160,17 +169,18 @@ fn serve_app<W: Sink>(
 ///
 /// It is out of line, since other jobs are to take no stack for its kernel.
 #[inline(never)]
-pub(crate) fn serve_exploration<W: Sink>(
+pub(crate) fn serve_exploration<W: Sink, G: Watch>(
     alloc: Global,
     most: MostInjections,
     list: Option<&str>,
     bytes: &[u8],
     writer: &mut W,
+    gate: &G,
 ) -> Result<bool, ServeFault>
     requires { W.has_failed writer.old ≡ false }
     ensures { ServesExploration most (option_map (λ list. list.now) list.entry) (streams_of (Some bytes.now) false
         (W.held writer.old) (W.held writer.new) (W.has_failed writer.new)) result }
 {
     let app = app_in(alloc, bytes)?;
-    serve_app(alloc, &app, writer, most, list)
+    serve_app(alloc, &app, writer, most, list, gate)
 }

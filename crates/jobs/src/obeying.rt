@@ -13,6 +13,7 @@ use byte_io::{Sink, WriteFault, put_all, put_lines};
 use campaign::{Gate, ServeFault};
 use clap::Error;
 use clap::error::ErrorKind;
+use explorer::Watch;
 use requests::{job_named, meant};
 use std::alloc::{AllocError, Global};
 use std::num::NonZeroUsize;
@@ -96,7 +97,7 @@ pub fn conclude_error<W: Sink, F: Sink>(
 }
 
 // Does what these words ask for, in which `auto` means nothing.
-fn obey_meant<T: Threads + Wait + Files + Sync, W: Sink, F: Sink, G: Gate + Sync>(
+fn obey_meant<T: Threads + Wait + Files + Sync, W: Sink, F: Sink, G: Gate + Watch + Sync>(
     rt: &T,
     alloc: Global,
     words: &[String],
@@ -119,8 +120,8 @@ fn obey_meant<T: Threads + Wait + Files + Sync, W: Sink, F: Sink, G: Gate + Sync
 /// Does what the words ask for: a job over the two sinks, or to show help or the version, or to say why they are refused. The first of
 /// them is the name of the program. `auto` as the value of `--workers` means as many workers as there are processors that the
 /// program may use, 64 at most, and 1 where the system doesn't say how many. The gate learns how far a campaign has come, unless
-/// the words ask for quiet. It waits for the workers of a campaign, whose threads are this runtime's, as the files are.
-pub fn obey<T: Threads + Wait + Files + Sync, W: Sink, F: Sink, G: Gate + Sync>(
+/// the words ask for quiet, or how far exploring has. It waits for the workers of a campaign, whose threads are this runtime's, as the files are.
+pub fn obey<T: Threads + Wait + Files + Sync, W: Sink, F: Sink, G: Gate + Watch + Sync>(
     rt: &T,
     alloc: Global,
     words: &[String],

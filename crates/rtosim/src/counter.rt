@@ -1,11 +1,12 @@
-//! How far a campaign has come, on a terminal.
+//! How far a campaign has come, or exploring, on a terminal.
 use campaign::Gate;
 use deal::Counts;
+use explorer::Watch;
 use std::io::IsTerminal;
 use std::sync::atomic::{AtomicU64, Ordering};
 use std::time::Instant;
 
-// How many milliseconds a campaign takes before it is shown.
+// How many milliseconds a job takes before it is shown.
 const FIRST: u64 = 1_000;
 
 // How many milliseconds each showing stays at least.
@@ -14,8 +15,8 @@ const NEXT: u64 = 100;
 // How many of the kinds are ends.
 const ENDS: usize = 6;
 
-/// A line on standard error that says how many rows are made of how many, where that is a terminal. Nothing of it stays when the
-/// campaign ends. The first worker shows it, before a block.
+/// A line on standard error, if that is a terminal: how many rows of a campaign are made, of how many; or how many steps the explored runs
+/// have done, and how many states are kept. Nothing of it stays when the job ends. The first worker of a campaign shows it, before a block.
 #[derive(Drop)]
 pub(crate) struct Counter<'a> {
     rt: &'a HostRuntime,
@@ -42,7 +43,7 @@ impl<'a> Counter<'a> {
         }
     }
 
-    // The milliseconds since the start; `None` where nothing is to be shown.
+    // The milliseconds since the start; `None` if nothing must be shown.
     fn elapsed(&self) -> Option<u64> {
         let start = self.start?;
         let now = Instant::now(self.rt).ok()?;
@@ -53,6 +54,29 @@ impl<'a> Counter<'a> {
                 .saturating_mul(1_000)
                 .saturating_add(elapsed.subsec_millis() as u64),
         )
+    }
+
+    // The milliseconds since the start, if it is time to show something.
+    fn due(&self) -> Option<u64> {
+        let now = self.elapsed()?;
+        let shown = self.shown.load(Ordering::SeqCst);
+        let due = if shown == 0 {
+            FIRST
+        } else {
+            shown.saturating_add(NEXT)
+        };
+        if now < due {
+            return None;
+        }
+        Some(now)
+    }
+
+    // Nothing of the line stays.
+    fn clear(&self) {
+        if self.shown.load(Ordering::SeqCst) > 0 {
+            let _ = eprint!(self.rt; "\r\x1b[K");
+            self.shown.store(0, Ordering::SeqCst);
+        }
     }
 }
 
@@ -74,18 +98,9 @@ impl Gate for Counter<'_> {
         if worker > 0 {
             return;
         }
-        let Some(now) = self.elapsed() else {
+        let Some(now) = self.due() else {
             return;
         };
-        let shown = self.shown.load(Ordering::SeqCst);
-        let due = if shown == 0 {
-            FIRST
-        } else {
-            shown.saturating_add(NEXT)
-        };
-        if now < due {
-            return;
-        }
         let rows = rows_in(seen);
         let all = self.all.load(Ordering::SeqCst);
         let _ = eprint!(self.rt; "\rrtosim: {rows} of {all} rows");
@@ -93,9 +108,20 @@ impl Gate for Counter<'_> {
     }
 
     fn ended(&self) {
-        if self.shown.load(Ordering::SeqCst) > 0 {
-            let _ = eprint!(self.rt; "\r\x1b[K");
-            self.shown.store(0, Ordering::SeqCst);
-        }
+        self.clear();
+    }
+}
+
+impl Watch for Counter<'_> {
+    fn passed(&self, steps: u32, states: usize) {
+        let Some(now) = self.due() else {
+            return;
+        };
+        let _ = eprint!(self.rt; "\r\x1b[Krtosim: {steps} steps done, states kept: {states}");
+        self.shown.store(now, Ordering::SeqCst);
+    }
+
+    fn finished(&self) {
+        self.clear();
     }
 }

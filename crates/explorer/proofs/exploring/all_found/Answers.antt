@@ -8,7 +8,7 @@ use Rattle.explorer.proofs.FirstAndLast.{first_holds, tallied_at_last, tallied_i
 use Rattle.explorer.proofs.exploring.all_found.Goals as goal
 
 pub begin_block-requires : goal.begin_block-requires
-begin_block-requires c =
+begin_block-requires g c =
     let handlers = c.args.choices.now.handlers.items in
     let levels = length c.args.choices.now.levels.items in
     let seen : c.limits.inside.steps ≡ c.args.limits.now.steps = ap (λ (l : Limits). l.steps) c.limits.view_is in
@@ -31,7 +31,7 @@ begin_block-requires c =
     }
 
 pub advance-requires-clause-ready : goal.advance-requires-clause-ready
-advance-requires-clause-ready c =
+advance-requires-clause-ready g c =
     let handlers = c.args.choices.now.handlers.items in
     let levels = length c.args.choices.now.levels.items in
     let are = c.well_formed-3.ensures in
@@ -48,7 +48,7 @@ advance-requires-clause-ready c =
     }
 
 pub steps-init : goal.steps-init
-steps-init c = record {
+steps-init g c = record {
   holds =
       first_holds c.args.app.now c.args.limits.now c.args.choices.now.handlers.items (length c.args.choices.now.levels.items)
       c.boot-first.result c.new-frontier.result _ c.boot-first.ensures.steps (c.boot-first.ensures.way [] c.args.limits.now)
@@ -61,7 +61,7 @@ steps-init c = record {
 }
 
 pub steps-preserved : goal.steps-preserved
-steps-preserved c =
+steps-preserved g c =
     let handlers = c.args.choices.now.handlers.items in
     let levels = length c.args.choices.now.levels.items in
     let ahead = c.in_ok-until.ensures.ahead in
@@ -74,7 +74,7 @@ steps-preserved c =
     }
 
 pub returns-then-is_over : goal.returns-then-is_over
-returns-then-is_over c =
+returns-then-is_over g c =
     let are = c.well_formed-3.ensures in
     let most = are.3 in
     tallied_if_over c.args.app.now c.args.limits.now c.args.choices.now.handlers.items (length c.args.choices.now.levels.items)
@@ -82,7 +82,7 @@ returns-then-is_over c =
     (c.is_over.ensures.live c.if-is_over.true) (c.is_over.ensures.spent c.if-is_over.true) c.steps.invariant.holds
 
 pub returns : goal.returns
-returns c =
+returns g c =
     let seen : c.limits.inside.steps ≡ c.args.limits.now.steps = ap (λ (l : Limits). l.steps) c.limits.view_is in
     let test = c.steps-test.false in
     let are = c.well_formed-3.ensures in

@@ -10,7 +10,7 @@ use Rattle.explorer.proofs.Totals.{all_counted}
 use Rattle.explorer.proofs.exploring.explore.Goals as goal
 
 pub returns : goal.returns
-returns c =
+returns g c =
     let choices = c.in_ok-choices.choices in
     let found = c.in_ok-found.found.items in
     let long = c.in_ok-choices.ensures.long in
