@@ -39,12 +39,12 @@ def script_of(unit: Unit, task: Task) -> Optional[Script]:
     """The script of a task that is alone; None if it is refused."""
     unit.with_large_items.clear()
     while True:
-        known = set(unit.with_large_items)
+        known = unit.learned()
         try:
             script = Translation(unit, PROGRAM, task).script()
         except Refusal:
             return None
-        if unit.with_large_items == known:
+        if unit.learned() == known:
             return script
 
 

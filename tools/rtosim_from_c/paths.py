@@ -20,17 +20,17 @@ class State:
     sections: int = 0
 
     def with_local(self, name: str, value: Known) -> "State":
-        return replace(self, locals={**self.locals, name: value})
+        return State(self.answers, {**self.locals, name: value}, self.stamp, self.sections)
 
     def among(self, known: Answers) -> "State":
-        return replace(self, answers=self.answers & known)
+        return State(self.answers & known, self.locals, self.stamp, self.sections)
 
     def answered(self, answers: Answers, by: str, at: Place) -> "State":
         """After a call at this place that answers one of these; what is never reached stays so."""
         if not self.answers:
             return self
         kept = {name: after_an_answer(it, self.answers, name, by, at) for name, it in self.locals.items()}
-        return replace(self, answers=answers, locals=kept)
+        return State(answers, kept, self.stamp, self.sections)
 
     def stamped(self, number: int) -> "State":
         """After the `stamp` of this number; one of the turn before isn't the last any more."""
@@ -42,7 +42,7 @@ class State:
         return self if self.sections < 0 else replace(self, sections=max(0, self.sections + more))
 
     def without(self, name: str) -> "State":
-        return replace(self, locals={key: it for key, it in self.locals.items() if key != name})
+        return State(self.answers, {key: it for key, it in self.locals.items() if key != name}, self.stamp, self.sections)
 
 
 def merged(states: Iterable[State]) -> Optional[State]:

@@ -4,15 +4,13 @@ from typing import Optional, Union
 from . import trees
 from .addresses import SOMEWHERE
 from .integers import Integer
-from .memory import GLOBAL
 from .paths import Path
-from .structures import Structures
+from .shared import Shared
+from .unit import GLOBAL, STUB
 from .values import Address, Known, Reference, Stored, the_answer
 
-STUB = "rtosim_"
 
-
-class Registers(Structures):
+class Registers(Shared):
     """Such a member is a variable, as a global is."""
 
     def register(self, where: Union[Address, Reference]) -> Optional[Stored]:

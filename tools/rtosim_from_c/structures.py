@@ -133,7 +133,7 @@ class Structures(Memory):
     def begin(self, where: Address, given: List[object], path: Path) -> None:
         """A structure that begins with these values, and otherwise with 0."""
         members = list(self.inner(where))
-        of_members = in_order(given, [it.name.split(".")[-1] for it in members])
+        of_members = trees.in_order(given, [it.name.split(".")[-1] for it in members])
         for it in members:
             node, key = of_members.get(it.name.split(".")[-1]), self.field(it)
             if key is None and list(self.inner(it)):
@@ -210,18 +210,3 @@ class Structures(Memory):
 
     def item_type(self, queue: Handle) -> Integer:
         return self.received or super().item_type(queue)
-
-
-def in_order(given: List[object], names: List[str]) -> Dict[str, object]:
-    """The expressions of an initializer by the members that they are of."""
-    found: Dict[str, object] = {}
-    at = 0
-    for it in given:
-        if trees.kind(it) == "NamedInitializer":
-            name = getattr(it.name[0], "name", "")
-            at = names.index(name) if name in names else at
-            it = it.expr
-        if at < len(names):
-            found[names[at]] = it
-        at += 1
-    return found

@@ -1,5 +1,5 @@
 """Questions about trees of pycparser, which name their nodes by class."""
-from typing import Callable, Iterable, Iterator, List, Optional, Sequence, Set
+from typing import Callable, Dict, Iterable, Iterator, List, Optional, Sequence, Set
 
 
 def kind(node: object) -> str:
@@ -116,3 +116,18 @@ def assigned(node: object) -> Optional[str]:
 
 def find(node: object, wanted: Callable[[object], bool]) -> Optional[object]:
     return next((it for it in walk(node) if wanted(it)), None)
+
+
+def in_order(given: List[object], names: List[str]) -> Dict[str, object]:
+    """The expressions of an initializer by the members that they are of."""
+    found: Dict[str, object] = {}
+    at = 0
+    for it in given:
+        if kind(it) == "NamedInitializer":
+            name = getattr(it.name[0], "name", "")
+            at = names.index(name) if name in names else at
+            it = it.expr
+        if at < len(names):
+            found[names[at]] = it
+        at += 1
+    return found
