@@ -354,7 +354,11 @@ class Expressions(Addresses):
             return self.followed(node, path)
         try:
             with self.attempt(path):
-                return self.followed(node, path)
+                found = self.followed(node, path)
+            why = found.lost() if isinstance(found, Value) and all(it.kind == LOST for it in found.pieces) else None
+            if why is None or why.local is not None:
+                return found
+            return self.unknown(f"what {name} returns isn't known: {why.why}", f"--ignore {name}=NUMBER, or {A_CONSTANT}")
         except LostUse:
             self.let_arguments_go(node, path)
             self.keep_all(trees.arguments(node), path)

@@ -14,6 +14,7 @@ from .values import Address, Handle, Value
 if TYPE_CHECKING:
     from .unit import Unit
 
+ONE_TARGET = "a pointer that has the address of one structure wherever it is used"
 CALLER = "xTaskGetCurrentTaskHandle"
 STEPS = ("++", "--", "p++", "p--")
 BLOCKS = ("Compound", "Case", "Default", "Label", "If", "While", "DoWhile", "For", "ExprList")
@@ -151,10 +152,11 @@ class Fields:
         self.version += 1
         return True
 
-    def lose_members(self, names: Set[str], why: Lost) -> bool:
-        """Doesn't follow any member of these names."""
+    def lose_members(self, names: Set[str], line: int) -> bool:
+        """Doesn't follow any member of these names; false if there is none that was followed."""
         new = (names & self.of_globals) - self.lost_members.keys()
-        self.lost_members.update({it: why for it in new})
+        for it in new:
+            self.lost_members[it] = Lost(f"`{it}` isn't followed: line {line} writes a member of this name by a pointer that isn't known", instead=ONE_TARGET)
         self.version += bool(new)
         return bool(new)
 

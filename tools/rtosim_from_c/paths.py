@@ -6,7 +6,7 @@ from .answers import Answers, only, NONE, NOTHING
 from .integers import UNSIGNED
 from .items import Item
 from .refusals import Lost, Place
-from .values import Known, Stamp, after_an_answer, either, lost
+from .values import Known, Stamp, after_an_answer, either, lost, meeting
 
 
 @dataclass(frozen=True)
@@ -55,18 +55,16 @@ def merged(states: Iterable[State]) -> Optional[State]:
 
 def merged_two(first: State, second: State) -> State:
     names = [name for name in first.locals if name in second.locals]
-    stamp = max(first.stamp, second.stamp)
+    stamp, of = max(first.stamp, second.stamp), meeting(first.answers, second.answers)
     locals_ = {
         name: Stamp(stamp) if is_last_stamp(first, name) and is_last_stamp(second, name) else
-        either(first.locals[name], first.answers, second.locals[name], second.answers,
-               Lost(f"`{name.split('@')[0]}` has different values on two ways to this place", name))
-        for name in names
+        either(first.locals[name], second.locals[name], of, name) for name in names
     }
     for name, it in locals_.items():
         if isinstance(it, Stamp) and is_last_stamp(first, name) != is_last_stamp(second, name):
             locals_[name] = earlier_time(name)
     sections = first.sections if first.sections == second.sections else -1
-    return State(first.answers | second.answers, locals_, stamp, sections)
+    return State(of.all, locals_, stamp, sections)
 
 
 def earlier_time(name: str) -> Known:

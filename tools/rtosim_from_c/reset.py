@@ -1,7 +1,7 @@
 """What globals have when the scheduler starts. `main`, and what it calls, is followed as far as it gives globals, members of structures,
 handles and pointers a value. What depends on a condition that isn't known isn't known then."""
 from dataclasses import dataclass, field
-from typing import TYPE_CHECKING, Dict, Iterator, List, Optional, Union
+from typing import TYPE_CHECKING, Dict, Iterator, List, Optional, Tuple, Union
 
 from . import trees
 from .answers import ALL
@@ -62,6 +62,8 @@ class Reset:
         self.unit = unit
         self.cells: Dict[str, Cell] = {}
         self.steps = self.calls = self.depth = 0
+        # what was created last: the call, and its arguments
+        self.created: Tuple[str, List[Optional[Content]]] = ("", [])
         self.declared: Dict[str, object] = {}
 
     def run(self) -> None:
@@ -96,16 +98,22 @@ class Reset:
 
     def declaration(self, name: str) -> Optional[object]:
         """The declaration of a global or a local, or of a member of one."""
-        root, *members = name.split(".")
-        found = self.declared.get(root) or self.unit.globals.get(root)
-        for it in members:
-            found = self.unit.constants.members(found).get(it)
+        found: Optional[object] = None
+        for at, it in enumerate(name.split(".")):
+            member, *indices = it.split("[")
+            found = self.unit.constants.members(found).get(member) if at else self.declared.get(member) or self.unit.globals.get(member)
+            for _ in indices:
+                found = trees.element(found)
         return found
 
     def initial(self, name: str) -> Optional[Content]:
         """What a global is declared with."""
         root, *members = name.split(".")
         declaration = self.unit.globals.get(root)
+        if "[" in name:
+            declaration = self.unit.globals.get(trees.root(name))
+            is_empty = declaration is not None and declaration.init is None and "extern" not in (declaration.storage or [])
+            return constant(0) if is_empty else None
         if declaration is None or "extern" in (declaration.storage or []) and declaration.init is None:
             return None
         node = declaration.init
@@ -161,9 +169,10 @@ class Reset:
         found = trees.in_order(given, names)
         for it in names:
             inner, value = f"{name}.{it}", found.get(it)
-            if self.unit.constants.members(self.declaration(inner)):
-                self.fill(inner, value.exprs if trees.kind(value) == "InitList" else [], node, called)
-            elif trees.kind(value) != "InitList":
+            is_structure = bool(self.unit.constants.members(self.declaration(inner)))
+            if is_structure and (value is None or trees.kind(value) == "InitList"):
+                self.fill(inner, value.exprs if value is not None else [], node, called)
+            elif is_structure or trees.kind(value) != "InitList":
                 self.write(inner, constant(0) if value is None else self.evaluate(value, called), node, called)
 
     # -- statements
@@ -370,8 +379,7 @@ class Reset:
         return Address(name) if name is not None and type_ in ("a structure", "an array") else self.read(name, called)
 
     def of_ArrayRef(self, node: object, called: Called) -> Optional[Content]:
-        self.evaluate(node.subscript, called)
-        return None
+        return self.read(self.place(node, called), called)
 
     def of_Assignment(self, node: object, called: Called) -> Optional[Content]:
         name = self.place(node.lvalue, called)
@@ -389,8 +397,10 @@ class Reset:
     def assign(self, name: Optional[str], value: object, node: object, called: Called) -> Optional[Content]:
         """Gives a cell a value; if that is created here, it is the object of that name."""
         found = self.evaluate(value, called)
-        if trees.called(trees.plain(value)) in CREATORS and name is not None:
-            found = self.unit.handles.get(("", name)) or self.unit.handles.get((called.function, name.split("@")[0])) or found
+        creates = trees.called(trees.plain(value)) in CREATORS or found is None and trees.called(trees.plain(value)) in self.unit.functions
+        if creates and name is not None:
+            handle = self.unit.handles.get(("", name)) or self.unit.handles.get((called.function, name.split("@")[0]))
+            found = self.describe(handle) if handle is not None and found is None else found
         self.write(name, found, node, called)
         return found
 
@@ -402,6 +412,10 @@ class Reset:
         if name == "StructRef" and node.type == ".":
             inner = self.place(node.name, called)
             return f"{inner}.{node.field.name}" if inner is not None else None
+        if name == "ArrayRef":
+            array, index = self.evaluate(node.name, called), self.evaluate(node.subscript, called)
+            is_array = isinstance(array, Address) and trees.element(self.declaration(array.name)) is not None
+            return f"{array.name}[{index.constant()}]" if is_array and isinstance(index, Value) else None
         pointer = node.name if name == "StructRef" else node.expr if name == "UnaryOp" and node.op == "*" else None
         found = self.evaluate(pointer, called) if pointer is not None else None
         if not isinstance(found, Address):
@@ -416,8 +430,9 @@ class Reset:
             raise Started()
         values = [self.evaluate(it, called) for it in words]
         if name in CREATORS:
+            self.created = name, values
             found = self.unit.created_by.get(id(node), [])
-            return found[0] if len(found) == 1 else None
+            return self.describe(found[0]) if len(found) == 1 else None
         if name in TASK_CREATORS:
             return self.create_task(node, values, called)
         if name in self.unit.functions and name not in self.unit.directives.ignored:
@@ -430,6 +445,14 @@ class Reset:
                 self.give_away(it.name, name, node)
         given = self.unit.directives.ignored.returns(name) if name is not None and name in self.unit.directives.ignored else ""
         return (self.unit.constants.numbers.get(given) or numeral(given)) if given else None
+
+    def describe(self, handle: Handle) -> Handle:
+        """Gives an object the numbers with which it was created, if those aren't constants in the text."""
+        name, values = self.created
+        for key, value in zip(CREATORS[name][1:] if name else (), values):
+            if isinstance(value, Value) and self.unit.not_constant.pop((handle.name, key), None) is not None:
+                self.unit.object(handle.name).numbers[key] = value.constant() or 0
+        return handle
 
     def create_task(self, node: object, values: List[Optional[Content]], called: Called) -> Optional[Content]:
         task = self.unit.task_of.get(id(node))

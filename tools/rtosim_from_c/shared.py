@@ -7,12 +7,10 @@ from .addresses import SOMEWHERE, Escaped, shown
 from .fields import Member
 from .integers import INT
 from .paths import Path
-from .refusals import Lost, Refusal
+from .refusals import Lost, LostUse, Refusal
 from .structures import Structures
 from .unit import GLOBAL
 from .values import Address, Handle, Known, Reference, Stored, Value, constant, lost, the_answer
-
-ONE_TARGET = "a pointer that has the address of one structure wherever it is used"
 
 
 class Shared(Structures):
@@ -32,6 +30,18 @@ class Shared(Structures):
     def is_first(self, node: object) -> bool:
         index = self.unit.constants.value(node.subscript)
         return index is not None and index.constant() == 0
+
+    def of_ArrayRef(self, node: object, path: Path) -> Known:
+        """A handle in an array, at an index that is known."""
+        array = self.evaluate(node.name, path) if trees.kind(node.name) in ("ID", "StructRef") else None
+        if not isinstance(array, Address) or not any(it.startswith(f"{array.name}[") for _, it in self.unit.handles):
+            return super().of_ArrayRef(node, path)
+        index = self.operand(node.subscript, path)
+        number = self.number(index, node.subscript, path) if isinstance(index, Value) else None
+        if number is None:
+            why = f"which handle of `{array.name}` this is isn't known"
+            raise LostUse(self.place(node.subscript), Lost(why, instead="an index that is a constant, or a `switch`"))
+        return self.handle_named(f"{array.name}[{number}]") or self.unknown(f"`{array.name}[{number}]` isn't known here")
 
     # -- what is there
 
@@ -119,9 +129,7 @@ class Shared(Structures):
         if target is None or is_beside:
             return
         names = {target.field.name} if trees.kind(target) == "StructRef" else self.unit.fields.addressed
-        line = self.place(node).line
-        why = Lost(f"a member of this name isn't followed: line {line} writes one by a pointer that isn't known", instead=ONE_TARGET)
-        if self.unit.fields.lose_members(names, why):
+        if self.unit.fields.lose_members(names, self.place(node).line):
             raise Escaped()
 
     def operand(self, node: object, path: Path) -> Known:

@@ -136,12 +136,21 @@ class Structures(Memory):
         of_members = trees.in_order(given, [it.name.split(".")[-1] for it in members])
         for it in members:
             node, key = of_members.get(it.name.split(".")[-1]), self.field(it)
-            if key is None and list(self.inner(it)):
-                self.begin(it, node.exprs if trees.kind(node) == "InitList" else [], path)
+            if key is None and list(self.inner(it)) and node is not None and trees.kind(node) != "InitList":
+                self.begin_with(it, node, path)
+            elif key is None and list(self.inner(it)):
+                self.begin(it, node.exprs if node is not None else [], path)
             elif key is None and node is not None:
                 self.let_addresses_go(node, path)
             elif key is not None:
                 self.write_local(key, constant(0) if node is None else self.evaluate(node, path), node or self.declaration(it), path)
+
+    def begin_with(self, where: Address, node: object, path: Path) -> None:
+        """A structure in another one that begins as a third one."""
+        value = self.evaluate(node, path)
+        if not isinstance(value, Address):
+            raise self.refuse(node, f"the values of `{where.name}` have no braces around them", "braces")
+        self.copy(where, value, node, path)
 
     # -- calls that are left out
 

@@ -1,4 +1,6 @@
 """Questions about trees of pycparser, which name their nodes by class."""
+import re
+import sys
 from typing import Callable, Dict, Iterable, Iterator, List, Optional, Sequence, Set
 
 
@@ -103,6 +105,18 @@ def dotted(node: object) -> Optional[str]:
     return node.name if kind(node) == "ID" else None
 
 
+def root(name: str) -> str:
+    """The variable of which this is a member or an element, as `uart` of `uart.lines[0].rx`."""
+    return re.split(r"[.\[]", name, maxsplit=1)[0]
+
+
+def element(declaration: Optional[object]) -> Optional[object]:
+    """The type of the elements of an array, by its declaration; None for anything else."""
+    while kind(declaration) in ("Decl", "TypeDecl"):
+        declaration = declaration.type
+    return declaration.type if kind(declaration) == "ArrayDecl" else None
+
+
 def assigned(node: object) -> Optional[str]:
     """The name that this node gives a new value; None if it gives none."""
     name = kind(node)
@@ -123,11 +137,15 @@ def in_order(given: List[object], names: List[str]) -> Dict[str, object]:
     found: Dict[str, object] = {}
     at = 0
     for it in given:
+        is_inner = kind(it) == "NamedInitializer" and len(it.name) > 1
         if kind(it) == "NamedInitializer":
             name = getattr(it.name[0], "name", "")
             at = names.index(name) if name in names else at
-            it = it.expr
-        if at < len(names):
-            found[names[at]] = it
+        if is_inner and at < len(names):
+            before, nodes = found.get(names[at]), sys.modules[type(it).__module__]
+            exprs = [*(before.exprs if kind(before) == "InitList" else []), nodes.NamedInitializer(it.name[1:], it.expr, it.coord)]
+            found[names[at]] = nodes.InitList(exprs, it.coord)
+        elif at < len(names):
+            found[names[at]] = it.expr if kind(it) == "NamedInitializer" else it
         at += 1
     return found

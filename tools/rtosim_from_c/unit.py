@@ -82,6 +82,7 @@ class Unit:
         self.created_as: Dict[str, str] = {}
         # what each call creates, by its id
         self.created_by: Dict[int, List[Handle]] = {}
+        self.not_constant: Dict[Tuple[str, str], Refusal] = {}
         self.task_of: Dict[int, Task] = {}
         self.jumps: Dict[object, FrozenSet[str]] = {}
         self.called_lines: Dict[object, FrozenSet[int]] = {}
@@ -124,7 +125,7 @@ class Unit:
         self.assigned = {trees.assigned(it) for function in self.functions.values() for it in trees.walk(function)}
         for name, it in list(self.globals.items()):
             self.declare_constant(name, it)
-        self.given = Given(self.functions, frozenset(self.globals))
+        self.given = Given(self.functions, frozenset(self.globals), self.constants)
 
     def declare_global(self, declaration: object) -> None:
         name = declaration.name
@@ -158,17 +159,30 @@ class Unit:
                 target, call = created(node)
                 named.add(id(call))
                 if call is not None and trees.called(call) in CREATORS:
-                    for it in self.targets(function, node, target):
-                        self.create(function, it, call)
+                    for scope, it in self.targets(function, node, target):
+                        self.create(scope, it, call)
                 elif call is not None and trees.called(call) == "xTaskGetCurrentTaskHandle":
-                    self.named_by_callers += [(function, it) for it in self.targets(function, node, target)]
+                    self.named_by_callers += self.targets(function, node, target)
                 elif trees.called(node) in CREATORS and id(node) not in named:
                     self.create(function, None, node)
 
-    def targets(self, function: str, node: object, target: Optional[str]) -> Sequence[Optional[str]]:
-        """The names that are given what a call creates: several if a function does so with what it is given."""
+    def targets(self, function: str, node: object, target: Optional[str]) -> List[Tuple[str, Optional[str]]]:
+        """The names that are given what a call creates, each with its function: several if a function does so with what it is given."""
+        if trees.kind(node) == "Return":
+            return list(self.given_by_calls(function)) or [(function, None)]
         found = self.given.names(function, node.lvalue) if target is None and trees.kind(node) == "Assignment" else [target]
-        return found or [None]
+        return [(function, it) for it in found] or [(function, None)]
+
+    def given_by_calls(self, function: str) -> Iterator[Tuple[str, Optional[str]]]:
+        """The names that are given what a function returns."""
+        for caller, definition in self.functions.items():
+            for node in trees.walk(definition.body):
+                target, call = created(node)
+                if call is not None and trees.called(call) == function:
+                    names: Sequence[Optional[str]] = [target]
+                    if target is None and trees.kind(node) == "Assignment":
+                        names = self.given.names(caller, node.lvalue)
+                    yield from ((caller, it) for it in names)
 
     def create(self, function: str, target: Optional[str], call: object) -> None:
         place = self.place(call)
@@ -180,16 +194,15 @@ class Unit:
             self.refusals.append(Refusal(place, f"`{target}` is created twice", "a variable for each object"))
             return
         kind, *keys = CREATORS[trees.called(call)]
-        handle = Handle(kind, self.names.name(f"object of {scope}", target))
+        handle = Handle(kind, self.names.name(f"object of {scope}", target, target.replace("]", "")))
         self.handles[scope, target] = handle
         self.created_by.setdefault(id(call), []).append(handle)
         numbers = {}
         for key, argument in zip(keys, trees.arguments(call)):
             value = self.constants.value(argument)
             if value is None and key != "size":
-                self.refusals.append(Refusal(self.place(argument), f"the {key} is no constant", "a number"))
-                value = constant(1)
-            numbers[key] = (value.constant() or 0) if value is not None else 4
+                self.not_constant[handle.name, key] = Refusal(self.place(argument), f"the {key} is no constant", "a number")
+            numbers[key] = (value.constant() or 0) if value is not None else 4 if key == "size" else 1
         self.objects.append(Object(kind, handle.name, place, numbers))
 
     def escapes(self, node: object) -> FrozenSet[str]:
@@ -252,7 +265,7 @@ class Unit:
 
     def scope_of(self, target: str, function: str) -> str:
         """Where a name belongs: to the file, or to a function."""
-        return "" if target.split(".")[0] in self.globals else function
+        return "" if trees.root(target) in self.globals else function
 
     def handle(self, function: str, node: object) -> Optional[Handle]:
         """The handle that a variable, or a member of one, has."""
@@ -367,6 +380,7 @@ class Unit:
     def find_kept(self) -> None:
         """What `main` gives globals: handles, pointers, numbers, and the parameters of tasks."""
         self.reset.run()
+        self.refusals += self.not_constant.values()
         for name, it in self.reset.cells.items():
             if isinstance(it, Handle) and "@" not in name:
                 self.handles.setdefault(("", name), it)
@@ -399,7 +413,7 @@ class Unit:
 
     def followed(self, where: Address) -> Address:
         """The same address; with a key if its members may be variables."""
-        root = where.name.split(".")[0]
+        root = trees.root(where.name)
         return replace(where, key=GLOBAL + root) if self.is_followed(root) else where
 
     def keeps(self, call: object, at: int) -> bool:
@@ -552,7 +566,8 @@ def created(node: object) -> Tuple[Optional[str], Optional[object]]:
         call = trees.plain(node.rvalue)
         target = trees.dotted(node.lvalue)
         return (target, call) if trees.called(call) else (None, None)
-    return None, None
+    call = trees.plain(node.expr) if name == "Return" and node.expr is not None else None
+    return (None, call) if call is not None and trees.called(call) in CREATORS else (None, None)
 
 
 def text_of(node: object) -> Optional[str]:

@@ -160,24 +160,43 @@ def is_received() -> Value:
     return Value(INT, (Piece(NONE, NONE, NUMBER, 0), Piece(0, GREATEST, NUMBER, 1)))
 
 
-def either(first: Known, of_first: Answers, second: Known, of_second: Answers, why: Lost) -> Known:
-    """The value of which one way says the first, for these answers, and another way the second: lost where both may be and differ."""
+@dataclass(frozen=True)
+class Meeting:
+    """The last answers of two ways that meet: those of both, and those of one of them alone."""
+
+    first: Answers
+    second: Answers
+    both: Answers
+    only_first: Answers
+    only_second: Answers
+    all: Answers
+
+
+def meeting(first: Answers, second: Answers) -> Meeting:
+    return Meeting(first, second, first & second, first - second, second - first, first | second)
+
+
+def either(first: Known, second: Known, of: Meeting, local: str) -> Known:
+    """The value of a local of which one way says the first and another way the second: lost where both may be and differ."""
     if isinstance(first, Stored) and isinstance(second, Stored) and first.name == second.name:
-        return replace(first, missing=first.among(of_first).missing or second.among(of_second).missing)
+        return replace(first, missing=first.among(of.first).missing or second.among(of.second).missing)
     if not isinstance(first, Value) or not isinstance(second, Value):
-        return first if first == second else lost(INT, why)
+        return first if first == second else lost(INT, differs(local))
     if first == second and len(first.pieces) == 1 and first.pieces[0].kind == NUMBER:
-        return first.among(of_first | of_second)
-    both = of_first & of_second
-    pieces = [*first.among(of_first - of_second).pieces, *second.among(of_second - of_first).pieces]
-    for it, other in overlaid(first.among(both), second.among(both)):
+        return first.among(of.all)
+    pieces = [*first.among(of.only_first).pieces, *second.among(of.only_second).pieces]
+    for it, other in overlaid(first.among(of.both), second.among(of.both)):
         is_same = (it.kind, it.number) == (other.kind, other.number)
         if LOST in (it.kind, other.kind) or not is_same:
-            reason = it.lost if it.kind == LOST else other.lost if other.kind == LOST else why
+            reason = it.lost if it.kind == LOST else other.lost if other.kind == LOST else differs(local)
             pieces.append(Piece(it.low, it.high, LOST, 0, reason))
         else:
             pieces.append(it)
     return Value(first.type, joined(pieces))
+
+
+def differs(local: str) -> Lost:
+    return Lost(f"`{local.split('@')[0]}` has different values on two ways to this place", local)
 
 
 def overlaid(left: Value, right: Value) -> Iterator[Tuple[Piece, Piece]]:
