@@ -7,7 +7,7 @@ from .integers import Integer
 from .paths import Path
 from .shared import Shared
 from .unit import GLOBAL, STUB
-from .values import Address, Known, Reference, Stored, the_answer
+from .values import Address, Known, Reference, Stored, Value, the_answer
 
 
 class Registers(Shared):
@@ -22,7 +22,10 @@ class Registers(Shared):
         for it in members:
             declaration = self.unit.constants.members(declaration).get(it)
         type_ = self.unit.constants.type_of(declaration) if declaration is not None else None
-        return self.variable(GLOBAL + where.name[len(STUB):], type_) if members and isinstance(type_, Integer) else None
+        if not members or not isinstance(type_, Integer):
+            return None
+        initial = self.unit.reset.value(where.name)
+        return self.variable(GLOBAL + where.name[len(STUB):], type_, (initial.constant() or 0) if isinstance(initial, Value) else 0)
 
     def whole(self, node: object, path: Path) -> Union[Address, Reference]:
         found = super().whole(node, path)

@@ -122,7 +122,10 @@ class Reset:
             if it not in names or node is not None and trees.kind(node) != "InitList":
                 return None
             declaration = self.unit.constants.members(declaration)[it]
-            node = trees.in_order(node.exprs, names).get(it) if node is not None else None
+            given = node.exprs if node is not None else []
+            node = trees.in_order(given, names).get(it)
+            is_structure = bool(self.unit.constants.members(declaration))
+            node = None if is_structure and node is not None and self.unit.is_zero(node, given) else node
         type_ = self.unit.constants.type_of(declaration)
         is_pointer = type_ == "a pointer" or isinstance(type_, str) and type_.startswith("handle")
         if not isinstance(type_, Integer) and not is_pointer:
@@ -170,8 +173,8 @@ class Reset:
         for it in names:
             inner, value = f"{name}.{it}", found.get(it)
             is_structure = bool(self.unit.constants.members(self.declaration(inner)))
-            if is_structure and (value is None or trees.kind(value) == "InitList"):
-                self.fill(inner, value.exprs if value is not None else [], node, called)
+            if is_structure and (value is None or trees.kind(value) == "InitList" or self.unit.is_zero(value, given)):
+                self.fill(inner, value.exprs if trees.kind(value) == "InitList" else [], node, called)
             elif is_structure or trees.kind(value) != "InitList":
                 self.write(inner, constant(0) if value is None else self.evaluate(value, called), node, called)
 

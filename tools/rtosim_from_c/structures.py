@@ -136,10 +136,10 @@ class Structures(Memory):
         of_members = trees.in_order(given, [it.name.split(".")[-1] for it in members])
         for it in members:
             node, key = of_members.get(it.name.split(".")[-1]), self.field(it)
-            if key is None and list(self.inner(it)) and node is not None and trees.kind(node) != "InitList":
+            if key is None and list(self.inner(it)) and node is not None and trees.kind(node) != "InitList" and not self.unit.is_zero(node, given):
                 self.begin_with(it, node, path)
             elif key is None and list(self.inner(it)):
-                self.begin(it, node.exprs if node is not None else [], path)
+                self.begin(it, node.exprs if trees.kind(node) == "InitList" else [], path)
             elif key is None and node is not None:
                 self.let_addresses_go(node, path)
             elif key is not None:

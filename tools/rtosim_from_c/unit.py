@@ -430,6 +430,11 @@ class Unit:
         pointed = getattr(found[0], "type", None) if found else None
         return trees.kind(pointed) == "PtrDecl" and "const" in (getattr(pointed.type, "quals", None) or [])
 
+    def is_zero(self, node: object, given: Sequence[object]) -> bool:
+        """Whether a value of an initializer is the 0 of `{ 0 }`, which stands for all that there is."""
+        value = self.constants.value(node) if len(given) == 1 else None
+        return value is not None and value.constant() == 0
+
     def is_local(self, function: str, name: str) -> bool:
         """Whether a function has a local or a parameter of this name."""
         if function not in self.names_of_locals:
