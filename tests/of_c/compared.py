@@ -39,12 +39,12 @@ def script_of(unit: Unit, task: Task) -> Optional[Script]:
     """The script of a task that is alone; None if it is refused."""
     unit.with_large_items.clear()
     while True:
-        known = set(unit.with_large_items)
+        known = unit.learned()
         try:
             script = Translation(unit, PROGRAM, task).script()
         except Refusal:
             return None
-        if unit.with_large_items == known:
+        if unit.learned() == known:
             return script
 
 
@@ -52,19 +52,23 @@ def trace_of_machine(unit: Unit, script: Script) -> List[str]:
     return Machine(unit.objects, [it.text for it in script.lines], unit.variables).run()
 
 
-def trace_of_program(program: str) -> Callable[[Unit, Script], List[str]]:
+class ProgramTrace:
     """What rtosim writes of a task that is alone, in the words of the C."""
-    def trace(unit: Unit, script: Script) -> List[str]:
+
+    def __init__(self, program: str):
+        self.program = program
+
+    def __call__(self, unit: Unit, script: Script) -> List[str]:
         text = application_text(Application(unit, [script]), "random.c") + "\n[limits]\nsteps = 20000\n"
-        with open(f"{script.owner.name}.toml", "w") as file:
+        name = f"random_{os.getpid()}.toml"
+        with open(name, "w") as file:
             file.write(text)
-        ran = subprocess.run([program, "run", file.name], stdout=subprocess.PIPE, timeout=60)
+        ran = subprocess.run([self.program, "run", name], stdout=subprocess.PIPE, timeout=60)
         assert ran.returncode in (0, 1), (ran, text)
         head, *lines = ran.stdout.decode().splitlines()
         found = [in_words_of_c(it.split()) for it in lines]
         end = head.split()[1]
         return [*(it for it in found if it), ENOUGH if end == "steps" else end]
-    return trace
 
 
 def in_words_of_c(words: List[str]) -> str:
@@ -100,14 +104,14 @@ def compare_file(seed: int, trace: Callable[[Unit, Script], List[str]] = trace_o
     return same, refused
 
 
-def compare_programs(count: int) -> None:
+def compare_programs(count: int, first: int = 0, trace: Callable[[Unit, Script], List[str]] = trace_of_machine) -> None:
     """Compares so many programs that aren't refused."""
-    same = refused = seed = 0
-    workers = max(1, min(4, os.cpu_count() or 1))
+    same = refused = 0
+    seed, workers = first, max(1, min(4, os.cpu_count() or 1))
     with ProcessPoolExecutor(workers) as pool:
         while same < count:
-            for more, others in pool.map(compare_file, range(seed, seed + 2 * workers)):
+            for more, others in pool.map(compare_file, range(seed, seed + workers), [trace] * workers):
                 same, refused = same + more, refused + others
-            seed += 2 * workers
+            seed += workers
     print(f"   ({same:,} programs are the same, {refused:,} are refused)")
     assert refused < same, (same, refused)

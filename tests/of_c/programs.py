@@ -18,6 +18,12 @@ struct context { int total; uint8_t last; };
 static struct context context;
 struct pair { int x; uint8_t y; };
 static uint8_t buffer[8];
+struct fields { uint8_t c; volatile int d; unsigned e; struct pair in; };
+
+static void fields_init(struct fields *f, int d) { f->d = d; f->c = 3; f->in.y = (uint8_t)d; }
+static void bump(struct fields *f, int by) { f->d += by; f->c++; }
+static int total(const struct fields *f) { return f->c + f->in.x; }
+static struct fields *same(struct fields *f) { return f; }
 
 /* rtosim: ignore board_* */
 void board_fill(void *to, unsigned size);
@@ -50,8 +56,11 @@ class Programs:
         self.dice = random.Random(seed)
         self.helpers: List[str] = []
         self.depth = 0
-        # The globals and static locals of the task that is made.
+        # The globals and static locals of the task that is made, and its global structure, if it has one.
         self.shared: List[str] = []
+        self.structure = ""
+        # What main gives them.
+        self.given: List[str] = []
 
     def names(self) -> List[str]:
         """What a statement may name: locals, and more often than not what outlasts them."""
@@ -69,7 +78,8 @@ class Programs:
             functions.append(self.task(f"task_{at}"))
             creates.append(f'    xTaskCreate(task_{at}, "task_{at}", 128, NULL, 1, NULL);\n')
         helpers = "".join(self.helpers)
-        return f"{HEAD}{helpers}{''.join(functions)}\nint main(void)\n{{{CREATES}{''.join(creates)}    vTaskStartScheduler();\n}}\n"
+        given = "".join(f"    {it}\n" for it in self.given)
+        return f"{HEAD}{helpers}{''.join(functions)}\nint main(void)\n{{{CREATES}{given}{''.join(creates)}    vTaskStartScheduler();\n}}\n"
 
     def task(self, name: str) -> str:
         globals_, statics = self.lasting(name.replace("task_", "of_"))
@@ -78,13 +88,25 @@ class Programs:
 
     def lasting(self, end: str) -> List[str]:
         """The declarations of globals and of static locals, of half of the tasks."""
-        self.shared = []
+        self.shared, self.structure = [], ""
         declared = ["", ""]
         for type_, at in (("uint8_t", 0), ("unsigned", 0), ("int", 0), ("int16_t", 1), ("bool", 1)):
             if self.has_lasting(end) and self.dice.random() < 0.5:
                 self.shared.append(f"{'gs'[at]}{len(self.shared)}_{end}")
                 declared[at] += f"{'    ' * at}static {self.one_of('', 'volatile ')}{type_} {self.shared[-1]} = {self.one_of('0', '1', '3', '250')};\n"
+        if self.has_lasting(end) and self.dice.random() < 0.6:
+            declared[0] += self.lasting_structure(end)
+        if self.shared and self.shared[0].startswith("g") and self.dice.random() < 0.4:
+            self.given.append(f"{self.shared[0]} {self.one_of('=', '+=')} {self.number()};")
         return declared
+
+    def lasting_structure(self, end: str) -> str:
+        """The declaration of a global structure, whose members may be named then; some of them `main` gives a value."""
+        name = self.structure = f"f_{end}"
+        self.shared += [self.one_of(f"{name}.c", f"(&{name})->c"), f"{name}.d", self.one_of(f"{name}.e", f"same(&{name})->e"), f"{name}.in.y"]
+        self.given += self.one_of("", f"{name}.d = {self.number()};", f"fields_init(&{name}, {self.number()});", f"if (limit == 3) {name}.e -= 2;",
+                                  f"for (int i = 0; i < 3; i++) {name}.c += 100;").splitlines()
+        return f"static struct fields {name}{self.one_of('', ' = { 1, 2 }', ' = { .d = -1, .in = { 4 } }', ' = { .in.y = 250 }')};\n"
 
     def has_lasting(self, end: str) -> bool:
         return int(end.partition("_")[2]) % 2 == 1
@@ -211,7 +233,14 @@ class Programs:
 
     def apart(self) -> str:
         """A statement about memory that isn't followed, or about a local by its address."""
-        local = self.one_of("a", "b", "item")
+        local, whole = self.one_of("a", "b", "item"), self.structure
+        if whole and self.dice.random() < 0.5:
+            return self.one_of(
+                f"bump(&{whole}, {self.number()});", f"{local} = total(&{whole});", f"{{ struct fields copy = {whole}; copy.d++; {whole} = copy; }}",
+                f"{{ struct fields *f = &{whole}; f->{self.one_of('c', 'd', 'e', 'in.x')} {self.one_of('=', '+=', '^=')} {local}; }}", f"pair = {whole}.in;",
+                f"memset(&{whole}, 0, sizeof({whole}));", f"{whole}.in = pair;", f"xQueueSend(pairs, &{whole}.in, 0);", f"{{ uint8_t *c = &{whole}.c; *c += 2; }}",
+                f"if ({whole}.c == {whole}.e) rtosim_mark(3);", f"ok = &{whole} == same(&{whole});",
+            )
         return self.one_of(
             f"buffer[n & 7] = {local};", f"context.total += {local};", "{ struct context *c = &context; c->last = v; }", f"{local} = sum(buffer, 4);",
             f"{{ int *to = &{local}; *to = {self.number()}; }}", "{ uint8_t *to = &v; to[0] = 7; }", "memset(buffer, 0, sizeof(buffer));",

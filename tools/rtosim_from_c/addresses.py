@@ -13,6 +13,9 @@ from .values import Address, Handle, Known, Reference, Value, constant, lost
 OPAQUE = ("an array", "a structure", "a union")
 A_CONSTANT = "a constant in its place, by `#ifdef RTOSIM`; or, as the first in the branch of an `if`, /* rtosim: holds */"
 SOMEWHERE = "what a pointer leads to"
+REGISTER = "a register of the hardware"
+NOWHERE = (SOMEWHERE, REGISTER)
+A_STUB = "a stub of it, as `static TIM_TypeDef rtosim_TIM2;` and `#define TIM2 (&rtosim_TIM2)`; or " + A_CONSTANT
 
 
 class Escaped(Exception):
@@ -67,27 +70,31 @@ class Addresses(Core):
     def member(self, inner: Union[Address, Reference], node: object) -> Address:
         if isinstance(inner, Reference):
             raise self.refuse(node, "a part of a local has no op", "a local of its own")
-        return inner if inner.name == SOMEWHERE else Address(f"{inner.name}.{node.field.name}")
+        return inner if inner.name in NOWHERE else Address(f"{inner.name}.{node.field.name}")
 
     def led_to(self, value: Known, node: object, path: Path) -> Union[Address, Reference]:
         if isinstance(value, (Address, Reference)):
             return value
         if isinstance(value, Value) and value.among(path.state.answers).constant() == 0:
             raise self.refuse(node, "this pointer is NULL")
-        return Address(SOMEWHERE)
+        return Address(REGISTER if isinstance(value, Value) and value.constant() is not None else SOMEWHERE)
 
     def content(self, where: Union[Address, Reference], node: object, path: Path) -> Known:
         """What is read there."""
         if isinstance(where, Reference):
             return self.read_local(where.local, node, path)
-        found = self.unit.handles.get(("", where.name)) or self.unit.handles.get((self.frame.function, where.name))
-        return found or self.unknown(f"{shown(where)} isn't known here")
+        return self.handle_named(where.name) or self.unknown(f"{shown(where)} isn't known here", A_STUB if where.name == REGISTER else A_CONSTANT)
 
-    def unknown(self, why: str) -> Value:
-        return lost(INT, Lost(why, instead=A_CONSTANT))
+    def handle_named(self, name: str) -> Optional[Known]:
+        """The handle that a global, or a member of one, has from reset on."""
+        return self.unit.handles.get(("", name)) or self.unit.handles.get((self.frame.function, name))
+
+    def unknown(self, why: str, instead: str = A_CONSTANT) -> Value:
+        return lost(INT, Lost(why, instead=instead))
 
     def of_StructRef(self, node: object, path: Path) -> Known:
-        found = self.unit.handle(self.frame.function, node)
+        name = trees.dotted(node)
+        found = self.handle_named(name) if name is not None else None
         return self.content(self.whole(node, path), node, path) if found is None else found
 
     def of_ArrayRef(self, node: object, path: Path) -> Known:
@@ -140,7 +147,7 @@ class Addresses(Core):
 
 
 def shown(where: Address) -> str:
-    return where.name if where.name == SOMEWHERE else f"`{where.name}`"
+    return where.name if where.name in NOWHERE else f"`{where.name}`"
 
 
 def is_address(value: Known) -> bool:

@@ -1,5 +1,5 @@
 """Calls of FreeRTOS: by the table, each with its arguments, its op and what it returns."""
-from typing import Dict, Optional
+from typing import Dict, List, Optional, Tuple
 
 from . import trees
 from .answers import NUMBERS, NONE, Answers, answers, failing, condition_for, only
@@ -20,6 +20,9 @@ KINDS = {
     Argument.QUEUE: ("queue",), Argument.SEMAPHORE: ("binary", "counting", "mutex"), Argument.GROUP: ("group",), Argument.TASK: ("task",),
     Argument.TASK_OR_CALLER: ("task",),
 }
+# Arguments that a script has as numbers. One that depends on the last answer makes an op for each number, if these are few.
+CONSTANTS = (Argument.NUMBER, Argument.TICKS, Argument.MASK, Argument.BITS, Argument.BITS_AFTER, Argument.WAIT)
+MOST_NUMBERS = 4
 # The actions of eNotifyAction, in its order; those that take a value have a place for it.
 ACTIONS = ("none", "bits {}", "increment", "overwrite {}", "keep {}")
 BY_HANDLER = Lost("whether a handler has woken a task isn't known here", instead="portYIELD_FROM_ISR with it, or nothing")
@@ -93,7 +96,10 @@ class Api(Expressions):
 
     def creation(self, name: str, node: object) -> Known:
         self.note(node, f"{name}: what it creates is there from reset on", name in TASK_CREATORS)
-        return constant(1)
+        made, task = self.unit.created_by.get(id(node), []), self.unit.task_of.get(id(node))
+        if task is not None and name != "xTaskCreate":
+            return Handle("task", task.name)
+        return made[0] if len(made) == 1 else constant(1)
 
     # -- calls of the table
 
@@ -107,6 +113,30 @@ class Api(Expressions):
             raise self.refuse(node, f"{call.function} has {len(call.arguments)} arguments, and here {len(words)}")
         values = dict(zip(call.arguments, self.evaluate_all(words, path)))
         nodes = dict(zip(call.arguments, words))
+        parts = self.parts_by_numbers(values, path)
+        if not parts:
+            return self.made(call, values, nodes, node, path)
+        key = f"call@{self.spot(node)}"
+
+        def of_part(fork: Path) -> None:
+            self.put(key, self.made(call, values, nodes, node, fork), node, fork)
+        self.meet(path, lambda end: self.split(path, parts, lambda fork: (of_part(fork), end(fork)), node))
+        return self.taken(key, path, node)
+
+    def parts_by_numbers(self, values: Dict[Argument, Known], path: Path) -> List[Answers]:
+        """The last answers apart by an argument that must be a constant, if it is one of a few."""
+        for argument, value in values.items():
+            now = value.among(path.state.answers) if argument in CONSTANTS and isinstance(value, Value) else None
+            if now is None or now.constant() is not None or any(it.kind != NUMBER for it in now.pieces):
+                continue
+            parts: Dict[int, List[Tuple[int, int]]] = {}
+            for it in now.pieces:
+                parts.setdefault(it.number, []).append((it.low, it.high))
+            return [answers(*it) for it in parts.values()] if len(parts) <= MOST_NUMBERS else []
+        return []
+
+    def made(self, call: Call, values: Dict[Argument, Known], nodes: Dict[Argument, object], node: object, path: Path) -> Known:
+        """The op of a call, and what the function returns."""
         texts = {it.word: self.text(it, values, nodes[it], path) for it in call.arguments}
         op = call.op
         if call.of_mutex and self.handle(values[Argument.SEMAPHORE], Argument.SEMAPHORE, node).kind == "mutex":
@@ -180,6 +210,9 @@ class Api(Expressions):
             return Handle("task", self.owner.name)
         if is_null and argument is Argument.TASK:
             raise self.refuse(node, "NULL is no task here", "the handle of a task; xTaskGetCurrentTaskHandle() for the caller's own")
+        why = value.lost() if isinstance(value, Value) else None
+        if why is not None:
+            raise LostUse(self.place(node), why)
         if not isinstance(value, Handle) or value.kind not in KINDS[argument]:
             raise self.refuse(node, f"this must be {argument.value}", "the handle that it was created with")
         return value
@@ -190,7 +223,11 @@ class Api(Expressions):
             raise self.refuse(node, "a structure or an array as an item has no op", "an integer that says what it is")
         if not isinstance(value, Reference):
             raise self.refuse(node, "an item is read at the address of a local", "a local that has it, and `&` with its name")
-        kept = self.fitted(self.integer(self.read_local(value.local, node, path), node), self.item_type(queue), node, path)
+        return self.item_of(self.read_local(value.local, node, path), queue, node, path)
+
+    def item_of(self, value: Known, queue: Handle, node: object, path: Path) -> str:
+        """A value as an item."""
+        kept = self.fitted(self.integer(value, node), self.item_type(queue), node, path)
         found = self.number(converted(kept, UNSIGNED), node, path)
         if found is None:
             return self.item_of_answer(kept, queue, node, path)
@@ -303,10 +340,12 @@ class Api(Expressions):
         found = self.unit.constants.value(value)
         if found is None or found.constant() != 0 or name is None or path.state.stamp or self.unit.directives.start or self.is_handler:
             return False
-        measures = [it for it in self.unit.below(body) if is_measure_of(it, name)]
-        given = [it for it in self.unit.below(body) if trees.kind(it) == "Assignment" and getattr(it.lvalue, "name", None) == name
-                 and trees.called(trees.plain(it.rvalue)) == "xTaskGetTickCount"]
-        return bool(measures) and self.unit.mentions(body, name) == len(measures) + len(given)
+        if (body, name) not in self.only_measured:
+            measures = [it for it in self.unit.below(body) if is_measure_of(it, name)]
+            given = [it for it in self.unit.below(body) if trees.kind(it) == "Assignment" and getattr(it.lvalue, "name", None) == name
+                     and trees.called(trees.plain(it.rvalue)) == "xTaskGetTickCount"]
+            self.only_measured[body, name] = bool(measures) and self.unit.mentions(body, name) == len(measures) + len(given)
+        return self.only_measured[body, name]
 
     def measured(self, node: object, path: Path) -> Value:
         self.op("since", node, path)

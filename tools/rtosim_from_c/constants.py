@@ -1,4 +1,5 @@
 """Types of declarations, and expressions that are constant wherever they are."""
+import functools
 import re
 from typing import Dict, List, Optional, Union
 
@@ -53,16 +54,34 @@ class Constants:
         if node.name and node.decls:
             self.structures[node.name] = node
 
-    def members(self, node: object) -> Dict[str, object]:
-        """The declarations of the members of a structure by their names; none for any other type."""
+    def structure(self, node: object) -> Optional[object]:
+        """The structure of a type, with its members; None for any other type."""
         while trees.kind(node) in ("Decl", "Typename", "TypeDecl", "Typedef"):
             node = node.type
         if trees.kind(node) == "IdentifierType" and node.names[0] in self.typedefs:
-            return self.members(self.typedefs[node.names[0]])
+            return self.structure(self.typedefs[node.names[0]])
         if trees.kind(node) != "Struct":
-            return {}
-        whole = node if node.decls else self.structures.get(node.name)
+            return None
+        return node if node.decls else self.structures.get(node.name)
+
+    def members(self, node: object) -> Dict[str, object]:
+        """The declarations of the members of a structure by their names; none for any other type."""
+        whole = self.structure(node)
         return {it.name: it for it in (whole.decls if whole is not None else [])}
+
+    def instances(self, whole: object, declarations: Dict[str, object], before: str = "") -> List[str]:
+        """The names of all that is of this structure, among declarations and what is in them; twice for an array."""
+        found: List[str] = []
+        for name, it in declarations.items():
+            type_, times = it.type, 1
+            while trees.kind(type_) == "ArrayDecl":
+                type_, times = type_.type, 2
+            inner = self.structure(type_)
+            if inner is whole:
+                found += [f"{before}{name}"] * times
+            elif inner is not None:
+                found += self.instances(whole, self.members(type_), f"{before}{name}.") * times
+        return found
 
     def value(self, node: object) -> Optional[Value]:
         """The value of a constant expression; None if it is none, or none of integers."""
@@ -154,14 +173,20 @@ def numeral(text: str) -> Optional[Value]:
 
 def literal(node: object) -> Optional[Value]:
     """A number or a character as it is written."""
-    if node.type in ("char", "signed char", "unsigned char") or node.value.startswith("'"):
-        return constant(character(node.value[1:-1]))
-    if "float" in node.type or "double" in node.type or node.value.startswith('"'):
+    return written(node.type, node.value)
+
+
+@functools.lru_cache(maxsize=None)
+def written(type_: str, value: str) -> Optional[Value]:
+    """A number or a character of this type, as it is written."""
+    if type_ in ("char", "signed char", "unsigned char") or value.startswith("'"):
+        return constant(character(value[1:-1]))
+    if "float" in type_ or "double" in type_ or value.startswith('"'):
         return None
-    digits = SUFFIX.sub("", node.value)
+    digits = SUFFIX.sub("", value)
     is_decimal = not digits.startswith("0") or digits == "0"
     number = int(digits, 10) if is_decimal else int(digits, 0) if digits[1:2] in "xXbB" else int(digits, 8)
-    suffix = node.value[len(digits):].lower()
+    suffix = value[len(digits):].lower()
     return constant(number, type_of_literal(number, "u" in suffix, "ll" in suffix, is_decimal))
 
 

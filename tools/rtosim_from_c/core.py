@@ -16,7 +16,9 @@ from .unit import Handler, Task, Unit
 from .integers import BOOL
 from .values import Address, Handle, Known, Nothing, Reference, Stored, Text, Value, constant, converted, truth
 
+# How many statements are followed at a time, and in all tries of one task.
 MOST_STATEMENTS = 20_000
+MOST_IN_ALL = 40_000
 
 
 @dataclass(frozen=True)
@@ -47,7 +49,9 @@ class Core:
         self.in_memory: Set[str] = set()
         self.is_flat = False
         self.stamps: Dict[Place, int] = {}
-        self.statements_done = 0
+        # by a function's body and the name of a local: whether it is only measured from
+        self.only_measured: Dict[Tuple[object, str], bool] = {}
+        self.statements_done = self.statements_in_all = 0
         self.frame: Optional[Frame] = None
         self.jump: Optional[object] = None
 
@@ -76,7 +80,8 @@ class Core:
 
     def count(self, node: object) -> None:
         self.statements_done += 1
-        if self.statements_done > MOST_STATEMENTS:
+        self.statements_in_all += 1
+        if self.statements_done > MOST_STATEMENTS or self.statements_in_all > MOST_IN_ALL:
             raise self.refuse(node, "this is too much to follow", "fewer turns of loops around it, or `repeat forever` by `for (;;)`")
 
     # -- frames
@@ -233,7 +238,7 @@ class Core:
     def condition_of_call(self, node: object, path: Path, yes: Continuation, no: Continuation) -> None:
         """A condition with one call, of a function of the file: each of the ways through that goes on by itself."""
         call = self.only_call(node)
-        if call is None or self.result_key(call) in path.state.locals:
+        if call is None or self.result_key(call) in path.state.locals or self.unit.has_no_op(trees.called(call) or ""):
             self.truth(self.evaluate(node, path), node, path)
         self.ways_of(call, path, lambda fork: self.condition(node, fork, yes, no))
 

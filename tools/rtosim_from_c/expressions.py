@@ -4,11 +4,11 @@ from typing import Callable, List, Optional, Sequence
 
 from . import trees
 from .answers import NONE, answers
-from .addresses import OPAQUE, Addresses, is_address, never_null
+from .addresses import A_CONSTANT, OPAQUE, Addresses, is_address, never_null
 from .constants import POINTER, literal
 from .families import Family
 from .frames import Frame, Jumps
-from .integers import BOOL, INT, Integer
+from .integers import BOOL, INT, WRITTEN, Integer
 from .paths import Path
 from .refusals import Lost, LostUse, Refusal
 from .values import (GREATEST, LOST, Address, Handle, Known, Nothing, Piece, Stamp, Text, Value, binary, constant, converted, lost, unary)
@@ -17,7 +17,6 @@ IN_PLACE = {
     "CompoundLiteral": ("a value without a name", "a local"),
     "InitList": ("a list of values", "a local for each of them"),
 }
-WRITTEN = {"=": None, "+=": "+", "-=": "-", "*=": "*", "/=": "/", "%=": "%", "&=": "&", "|=": "|", "^=": "^", "<<=": "<<", ">>=": ">>"}
 NOT_SET = Lost("this local has no value yet")
 # The size of a structure: a number that isn't 0.
 SOME_SIZE = Value(POINTER, (Piece(NONE, GREATEST, LOST, 0, Lost("the size of this isn't known", instead="a number"), answers((1, GREATEST))),))
@@ -52,7 +51,7 @@ class Expressions(Addresses):
             return self.read_local(key, node, path)
         if node.name in self.unit.constants.numbers:
             return self.unit.constants.numbers[node.name]
-        handle = self.unit.handles.get(("", node.name)) or self.unit.handles.get((self.frame.function, node.name))
+        handle = self.handle_named(node.name)
         if handle is not None:
             return handle
         if node.name in self.unit.globals:
@@ -257,7 +256,7 @@ class Expressions(Addresses):
         if trees.kind(target) != "ID":
             return self.write_there(self.whole(target, path), value, node, path)
         if self.unit.constants.type_of(self.unit.globals.get(target.name)) in (*OPAQUE, "a pointer"):
-            return self.write_there(Address(target.name), value, node, path)
+            return self.write_there(self.opaque(target.name) or Address(target.name), value, node, path)
         return self.write_global(target, self.integer(value, node), node, path)
 
     def step(self, node: object, path: Path) -> Known:
@@ -355,12 +354,16 @@ class Expressions(Addresses):
             return self.followed(node, path)
         try:
             with self.attempt(path):
-                return self.followed(node, path)
+                found = self.followed(node, path)
+            why = found.lost() if isinstance(found, Value) and all(it.kind == LOST for it in found.pieces) else None
+            if why is None or why.local is not None:
+                return found
+            return self.unknown(f"what {name} returns isn't known: {why.why}", f"--ignore {name}=NUMBER, or {A_CONSTANT}")
         except LostUse:
             self.let_arguments_go(node, path)
             self.keep_all(trees.arguments(node), path)
             self.note(node, f"`{name}` has no op: left out")
-            return self.unknown(f"what {name} returns isn't known")
+            return self.unknown(f"what {name} returns isn't known", f"--ignore {name}=NUMBER, or {A_CONSTANT}")
 
     def followed(self, node: object, path: Path) -> Known:
         """What a call of a function of the file returns."""

@@ -4,13 +4,14 @@ from typing import Dict, FrozenSet, List, Tuple
 
 from . import trees
 from .calls import TASK_CREATORS
+from .constants import Constants
 
 
 class Given:
     """What the parameters of the functions of a file lead to, by all calls of each function."""
 
-    def __init__(self, functions: Dict[str, object], names_of_globals: FrozenSet[str]):
-        self.functions, self.globals = functions, names_of_globals
+    def __init__(self, functions: Dict[str, object], names_of_globals: FrozenSet[str], constants: Constants):
+        self.functions, self.globals, self.constants = functions, names_of_globals, constants
         self.calls: Dict[str, List[Tuple[str, List[object]]]] = {}
         self.tasks: Dict[str, List[Tuple[str, List[object]]]] = {}
         for name, it in functions.items():
@@ -30,13 +31,16 @@ class Given:
         if name == "StructRef":
             inner = self.names(function, node.name) if node.type == "." else self.leads_to(function, node.name)
             return [f"{it}.{node.field.name}" for it in inner]
-        return []
+        if name == "UnaryOp" and node.op == "*":
+            return self.leads_to(function, node.expr)
+        index = self.constants.value(node.subscript) if name == "ArrayRef" else None
+        return [f"{it}[{index.constant()}]" for it in self.names(function, node.name)] if index is not None else []
 
     def leads_to(self, function: str, pointer: object, seen: FrozenSet[str] = frozenset()) -> List[str]:
         """The globals to which a pointer leads: that of which it is the address, or what the local or the parameter of this name is given."""
         pointer = trees.plain(pointer)
         if trees.kind(pointer) == "UnaryOp" and pointer.op == "&":
-            return [it for it in self.names(function, pointer.expr) if it.split(".")[0] in self.globals]
+            return [it for it in self.names(function, pointer.expr) if trees.root(it) in self.globals]
         if trees.kind(pointer) != "ID" or function in seen:
             return []
         local = trees.find(self.functions[function].body, lambda it: trees.kind(it) == "Decl" and it.name == pointer.name)

@@ -6,13 +6,13 @@ from typing import Dict, FrozenSet, Iterator, List, Optional, Set, Tuple, Union
 
 from . import trees
 from .answers import Answers, only
-from .calls import SETUP, TASK_CREATORS, Argument, Call
+from .calls import TASK_CREATORS, Argument, Call
 from .families import Target
 from .integers import UNSIGNED
-from .memory import GLOBAL
 from .paths import Path
 from .registers import Registers
-from .unit import Handler, Task, Unit
+from .shared import is_shared
+from .unit import GLOBAL, Handler, Task, Unit
 from .values import Address, Handle, Known, Reference, Stored, Value, binary, constant, truth
 
 CALLER = "xTaskGetCurrentTaskHandle"
@@ -42,7 +42,8 @@ class Handles(Registers):
         if trees.kind(node) != "StructRef" or not any("." in it for it in self.changing):
             return None
         where = self.whole(node, path)
-        return where.name if isinstance(where, Address) and where.key is None and where.name in self.changing else None
+        is_global = isinstance(where, Address) and (where.key is None or is_shared(where))
+        return where.name if is_global and where.name in self.changing else None
 
     # -- reads and writes
 
@@ -132,7 +133,6 @@ class Handles(Registers):
 
 def changing_handles(unit: Unit) -> Dict[str, FrozenSet[str]]:
     """The handles of tasks that a task or a handler gives another value, each with the tasks that it may be of."""
-    running = running_functions(unit)
     tasks: Dict[str, Set[str]] = {name: {it.name} for (scope, name), it in unit.handles.items() if it.kind == "task" and not scope}
     with_null: Set[str] = set()
     of_any: Set[str] = set()
@@ -143,7 +143,7 @@ def changing_handles(unit: Unit) -> Dict[str, FrozenSet[str]]:
         if given is not None:
             tasks.setdefault(name, set()).update(given)
         elif is_null(unit, value):
-            with_null |= {name} if function in running else set()
+            with_null |= {name} if function in unit.fields.running else set()
         elif trees.called(value) not in TASK_CREATORS:
             of_any.add(name)
     for name in of_any & tasks.keys():
@@ -151,11 +151,6 @@ def changing_handles(unit: Unit) -> Dict[str, FrozenSet[str]]:
     for _ in copies:
         with_null |= {name for name, source in copies if source in with_null}
     return {name: frozenset(it) for name, it in tasks.items() if it and (name in with_null or len(it) > 1)}
-
-
-def running_functions(unit: Unit) -> Set[str]:
-    """What runs after the scheduler has started."""
-    return set(unit.reached([it.function for it in (*unit.tasks, *unit.handlers)])) - set(SETUP)
 
 
 def assignments(unit: Unit) -> Iterator[Tuple[str, str, object]]:
@@ -172,8 +167,7 @@ def tasks_given(unit: Unit, function: str, value: object) -> Optional[List[str]]
     """The tasks whose handle a value is; None if it is no such handle."""
     if trees.called(value) == CALLER:
         return [it.name for it in unit.tasks if function in unit.reached([it.function])]
-    handle = unit.handle(function, value)
-    return [handle.name] if handle is not None and handle.kind == "task" else None
+    return unit.fields.tasks_given(function, value)
 
 
 def is_null(unit: Unit, value: object) -> bool:

@@ -29,6 +29,11 @@ BOOL = Integer(1, False)
 INT, UNSIGNED = Integer(32, True), Integer(32, False)
 LONG_LONG = Integer(64, True)
 
+# The operators of assignments, each with that of the arithmetic that it does.
+WRITTEN: Dict[str, Optional[str]] = {
+    "=": None, "+=": "+", "-=": "-", "*=": "*", "/=": "/", "%=": "%", "&=": "&", "|=": "|", "^=": "^", "<<=": "<<", ">>=": ">>",
+}
+
 # The names in a declaration, sorted, without `int` where another name is there.
 NAMED: Dict[str, Integer] = {
     "_Bool": BOOL, "bool": BOOL,

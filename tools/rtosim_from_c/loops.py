@@ -55,17 +55,29 @@ class Loops(Statements):
 
     def loop(self, node: object, path: Path, rest: Optional[Continuation]) -> None:
         """The first of these forms in which every value that decides something is known."""
-        turns = said_turns(node)
-        if turns is not None and getattr(node, "cond", None) is not None and self.is_lost(node.cond, path):
-            self.note(node, f"a comment says that this loop has {turns} turn{'s' * (turns != 1)}")
-            self.turns_left[node] = turns - (trees.kind(node) == "DoWhile")
-        try:
-            is_counted = self.is_handler or node in self.turns_left
-            items, ways = self.counted(node, path.state) if is_counted else self.first_form(node, path.state)
-        finally:
-            self.turns_left.pop(node, None)
+        turns = said_turns(node) if getattr(node, "cond", None) is not None else None
+        if turns is not None and self.is_lost(node.cond, path):
+            items, ways = self.said(node, path.state, turns)
+        else:
+            notes = dict(self.notes)
+            try:
+                items, ways = self.counted(node, path.state) if self.is_handler else self.first_form(node, path.state)
+            except LostUse:
+                if turns is None:
+                    raise
+                self.notes = notes
+                items, ways = self.said(node, path.state, turns)
         path.items += items
         self.after_loop(node, path, ways, rest)
+
+    def said(self, node: object, state: State, turns: int) -> Turn:
+        """As many turns as a comment says."""
+        self.note(node, f"a comment says that this loop has {turns} turn{'s' * (turns != 1)}")
+        self.turns_left[node] = turns - (trees.kind(node) == "DoWhile")
+        try:
+            return self.counted(node, state)
+        finally:
+            self.turns_left.pop(node, None)
 
     def first_form(self, node: object, state: State) -> Turn:
         forms: List[Callable[[object, State], Turn]] = [self.all_alike, self.asked_before, self.counted]

@@ -16,7 +16,7 @@ from .loops import Loops
 from .paths import Path
 from .refusals import Lost, LostUse
 from .statements import MIRRORED
-from .unit import Handler, Task, Unit
+from .unit import GLOBAL, Handler, Task, Unit
 from .values import ANSWER, LOST, NUMBER, Handle, Known, Piece, Stored, Value, binary, constant, converted, lost, the_answer
 
 SIZE = 1 << 32
@@ -26,7 +26,6 @@ COMMUTATIVE = "+*&|^"
 # The condition of the last answer and a variable, and whether the comparison holds where that condition does.
 CONDITIONS = {"==": ("{}", True), "!=": ("{}", False), "<": ("below {}", True), ">=": ("below {}", False), ">": ("above {}", True),
               "<=": ("above {}", False)}
-GLOBAL = "global "
 
 
 class Memory(Loops):
@@ -153,8 +152,11 @@ class Memory(Loops):
         type_ = self.unit.constants.type_of(declaration) if declaration is not None else None
         if not isinstance(type_, Integer) or self.is_ignored(node):
             return None
-        initial = self.unit.constants.value(declaration.init) if declaration.init is not None else None
-        return self.variable(GLOBAL + node.name, type_, (initial.constant() or 0) if initial is not None else 0)
+        initial = self.unit.reset.value(node.name)
+        why = self.unit.reset.why(node.name)
+        if why is not None:
+            self.note(node, f"`{node.name}` isn't known at reset, where it is 0 here: in line {why.place.line} {why.why}", True)
+        return self.variable(GLOBAL + node.name, type_, (initial.constant() or 0) if isinstance(initial, Value) else 0)
 
     def write_global(self, target: object, value: Value, node: object, path: Path) -> Known:
         stored = self.stored_global(target)
@@ -203,7 +205,9 @@ class Memory(Loops):
         """A static local is a variable of its function."""
         if not self.has_variables:
             return super().static(node, type_, path)
-        initial = self.unit.constants.value(node.init) if node.init is not None else None
+        before = self.unit.reset.cells.get(f"{node.name}@{self.frame.function}")
+        declared = self.unit.constants.value(node.init) if node.init is not None else None
+        initial = before if isinstance(before, Value) else declared
         key = f"{GLOBAL}{node.name}@{self.frame.function}"
         self.frame.scopes[-1][node.name] = key
         self.types[key] = type_

@@ -6,7 +6,7 @@ from .answers import Answers, only, NONE, NOTHING
 from .integers import UNSIGNED
 from .items import Item
 from .refusals import Lost, Place
-from .values import Known, Stamp, after_an_answer, either, lost
+from .values import Known, Stamp, after_an_answer, either, lost, meeting
 
 
 @dataclass(frozen=True)
@@ -20,17 +20,17 @@ class State:
     sections: int = 0
 
     def with_local(self, name: str, value: Known) -> "State":
-        return replace(self, locals={**self.locals, name: value})
+        return State(self.answers, {**self.locals, name: value}, self.stamp, self.sections)
 
     def among(self, known: Answers) -> "State":
-        return replace(self, answers=self.answers & known)
+        return State(self.answers & known, self.locals, self.stamp, self.sections)
 
     def answered(self, answers: Answers, by: str, at: Place) -> "State":
         """After a call at this place that answers one of these; what is never reached stays so."""
         if not self.answers:
             return self
         kept = {name: after_an_answer(it, self.answers, name, by, at) for name, it in self.locals.items()}
-        return replace(self, answers=answers, locals=kept)
+        return State(answers, kept, self.stamp, self.sections)
 
     def stamped(self, number: int) -> "State":
         """After the `stamp` of this number; one of the turn before isn't the last any more."""
@@ -42,7 +42,7 @@ class State:
         return self if self.sections < 0 else replace(self, sections=max(0, self.sections + more))
 
     def without(self, name: str) -> "State":
-        return replace(self, locals={key: it for key, it in self.locals.items() if key != name})
+        return State(self.answers, {key: it for key, it in self.locals.items() if key != name}, self.stamp, self.sections)
 
 
 def merged(states: Iterable[State]) -> Optional[State]:
@@ -55,18 +55,16 @@ def merged(states: Iterable[State]) -> Optional[State]:
 
 def merged_two(first: State, second: State) -> State:
     names = [name for name in first.locals if name in second.locals]
-    stamp = max(first.stamp, second.stamp)
+    stamp, of = max(first.stamp, second.stamp), meeting(first.answers, second.answers)
     locals_ = {
         name: Stamp(stamp) if is_last_stamp(first, name) and is_last_stamp(second, name) else
-        either(first.locals[name], first.answers, second.locals[name], second.answers,
-               Lost(f"`{name.split('@')[0]}` has different values on two ways to this place", name))
-        for name in names
+        either(first.locals[name], second.locals[name], of, name) for name in names
     }
     for name, it in locals_.items():
         if isinstance(it, Stamp) and is_last_stamp(first, name) != is_last_stamp(second, name):
             locals_[name] = earlier_time(name)
     sections = first.sections if first.sections == second.sections else -1
-    return State(first.answers | second.answers, locals_, stamp, sections)
+    return State(of.all, locals_, stamp, sections)
 
 
 def earlier_time(name: str) -> Known:

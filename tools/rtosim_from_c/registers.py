@@ -4,15 +4,13 @@ from typing import Optional, Union
 from . import trees
 from .addresses import SOMEWHERE
 from .integers import Integer
-from .memory import GLOBAL
 from .paths import Path
-from .structures import Structures
-from .values import Address, Known, Reference, Stored, the_answer
+from .shared import Shared
+from .unit import GLOBAL, STUB
+from .values import Address, Known, Reference, Stored, Value, the_answer
 
-STUB = "rtosim_"
 
-
-class Registers(Structures):
+class Registers(Shared):
     """Such a member is a variable, as a global is."""
 
     def register(self, where: Union[Address, Reference]) -> Optional[Stored]:
@@ -24,7 +22,10 @@ class Registers(Structures):
         for it in members:
             declaration = self.unit.constants.members(declaration).get(it)
         type_ = self.unit.constants.type_of(declaration) if declaration is not None else None
-        return self.variable(GLOBAL + where.name[len(STUB):], type_) if members and isinstance(type_, Integer) else None
+        if not members or not isinstance(type_, Integer):
+            return None
+        initial = self.unit.reset.value(where.name)
+        return self.variable(GLOBAL + where.name[len(STUB):], type_, (initial.constant() or 0) if isinstance(initial, Value) else 0)
 
     def whole(self, node: object, path: Path) -> Union[Address, Reference]:
         found = super().whole(node, path)

@@ -133,15 +133,24 @@ class Structures(Memory):
     def begin(self, where: Address, given: List[object], path: Path) -> None:
         """A structure that begins with these values, and otherwise with 0."""
         members = list(self.inner(where))
-        of_members = in_order(given, [it.name.split(".")[-1] for it in members])
+        of_members = trees.in_order(given, [it.name.split(".")[-1] for it in members])
         for it in members:
             node, key = of_members.get(it.name.split(".")[-1]), self.field(it)
-            if key is None and list(self.inner(it)):
+            if key is None and list(self.inner(it)) and node is not None and trees.kind(node) != "InitList" and not self.unit.is_zero(node, given):
+                self.begin_with(it, node, path)
+            elif key is None and list(self.inner(it)):
                 self.begin(it, node.exprs if trees.kind(node) == "InitList" else [], path)
             elif key is None and node is not None:
                 self.let_addresses_go(node, path)
             elif key is not None:
                 self.write_local(key, constant(0) if node is None else self.evaluate(node, path), node or self.declaration(it), path)
+
+    def begin_with(self, where: Address, node: object, path: Path) -> None:
+        """A structure in another one that begins as a third one."""
+        value = self.evaluate(node, path)
+        if not isinstance(value, Address):
+            raise self.refuse(node, f"the values of `{where.name}` have no braces around them", "braces")
+        self.copy(where, value, node, path)
 
     # -- calls that are left out
 
@@ -210,18 +219,3 @@ class Structures(Memory):
 
     def item_type(self, queue: Handle) -> Integer:
         return self.received or super().item_type(queue)
-
-
-def in_order(given: List[object], names: List[str]) -> Dict[str, object]:
-    """The expressions of an initializer by the members that they are of."""
-    found: Dict[str, object] = {}
-    at = 0
-    for it in given:
-        if trees.kind(it) == "NamedInitializer":
-            name = getattr(it.name[0], "name", "")
-            at = names.index(name) if name in names else at
-            it = it.expr
-        if at < len(names):
-            found[names[at]] = it
-        at += 1
-    return found

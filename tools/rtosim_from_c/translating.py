@@ -68,7 +68,11 @@ class Translation(Handles):
         except Refusal as first:
             if not self.has_variables:
                 raise
+            is_alike = not self.splits and not self.parted and not self.is_flat
             self.splits, self.parted, self.is_flat, self.uses_memory = set(), set(), False, True
+            if isinstance(first, LostUse) and is_alike:
+                # followed anew with as little in variables as before it would be the same that isn't known
+                self.learns(first.lost)
             try:
                 return self.with_retries()
             except Refusal as second:
@@ -102,8 +106,8 @@ class Translation(Handles):
             fork.end()
         self.frame = Frame(self.owner.function, Jumps(end), ({},))
         keys = [f"parameter {at}" for at in range(len(trees.parameters_of(definition)))]
-        for it in keys[:1 + (len(keys) - 1) * self.is_handler]:
-            path.state = path.state.with_local(it, (self.owner.parameter or OF_HANDLER) if self.is_handler else self.owner.parameter)
+        for at, it in enumerate(keys[:1 + (len(keys) - 1) * self.is_handler]):
+            path.state = path.state.with_local(it, self.owner.parameter if at == 0 and self.owner.parameter is not None else OF_HANDLER)
         self.bind(definition, keys, definition, path)
         with self.using(self.frame.inner()):
             self.statements(definition.body.block_items or [], path, end)
@@ -143,9 +147,9 @@ class Translation(Handles):
 def translated(unit: Unit, target: Target = PROGRAM) -> Application:
     """The application; all refusals at once, where there are some."""
     while True:
-        known = set(unit.with_large_items)
+        known = unit.learned()
         found, refusals = translated_once(unit, target)
-        if unit.with_large_items == known:
+        if unit.learned() == known:
             break
     if len(found.variables()) > MOST_VARIABLES:
         refusals.append(Refusal(None, f"{len(found.variables())} variables, and {MOST_VARIABLES} are the most",

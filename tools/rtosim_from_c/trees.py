@@ -1,5 +1,7 @@
 """Questions about trees of pycparser, which name their nodes by class."""
-from typing import Callable, Iterable, Iterator, List, Optional, Sequence, Set
+import re
+import sys
+from typing import Callable, Dict, Iterable, Iterator, List, Optional, Sequence, Set
 
 
 def kind(node: object) -> str:
@@ -103,6 +105,18 @@ def dotted(node: object) -> Optional[str]:
     return node.name if kind(node) == "ID" else None
 
 
+def root(name: str) -> str:
+    """The variable of which this is a member or an element, as `uart` of `uart.lines[0].rx`."""
+    return re.split(r"[.\[]", name, maxsplit=1)[0]
+
+
+def element(declaration: Optional[object]) -> Optional[object]:
+    """The type of the elements of an array, by its declaration; None for anything else."""
+    while kind(declaration) in ("Decl", "TypeDecl"):
+        declaration = declaration.type
+    return declaration.type if kind(declaration) == "ArrayDecl" else None
+
+
 def assigned(node: object) -> Optional[str]:
     """The name that this node gives a new value; None if it gives none."""
     name = kind(node)
@@ -116,3 +130,22 @@ def assigned(node: object) -> Optional[str]:
 
 def find(node: object, wanted: Callable[[object], bool]) -> Optional[object]:
     return next((it for it in walk(node) if wanted(it)), None)
+
+
+def in_order(given: List[object], names: List[str]) -> Dict[str, object]:
+    """The expressions of an initializer by the members that they are of."""
+    found: Dict[str, object] = {}
+    at = 0
+    for it in given:
+        is_inner = kind(it) == "NamedInitializer" and len(it.name) > 1
+        if kind(it) == "NamedInitializer":
+            name = getattr(it.name[0], "name", "")
+            at = names.index(name) if name in names else at
+        if is_inner and at < len(names):
+            before, nodes = found.get(names[at]), sys.modules[type(it).__module__]
+            exprs = [*(before.exprs if kind(before) == "InitList" else []), nodes.NamedInitializer(it.name[1:], it.expr, it.coord)]
+            found[names[at]] = nodes.InitList(exprs, it.coord)
+        elif at < len(names):
+            found[names[at]] = it.expr if kind(it) == "NamedInitializer" else it
+        at += 1
+    return found

@@ -1,17 +1,19 @@
 """What a file declares: its functions, constants and globals; the objects and tasks that it creates; its handlers."""
 import os
-from dataclasses import dataclass, field
+from dataclasses import dataclass, field, replace
 from typing import Dict, FrozenSet, Iterator, List, Mapping, Optional, Sequence, Set, Tuple, Union
 
 from . import trees
 from .answers import Answers, answers, only
-from .calls import ABORT, CALLS, CREATORS, KNOWN, SETUP, TASK_CREATORS, WITHOUT_OP
+from .calls import ABORT, CALLS, CREATORS, KNOWN, SETUP, SILENT, TASK_CREATORS, WITHOUT_OP
 from .constants import Constants, numeral
 from .directives import Directives, Ignored
+from .fields import Fields
 from .given import Given
 from .integers import Integer
 from .naming import MOST, Names, fitting, of_handler
 from .refusals import Note, Place, Refusal
+from .reset import Reset
 from .source import HEADERS, Lines, place_of
 from .values import Address, Handle, Known, Value, constant
 
@@ -20,6 +22,9 @@ ALL_BITS = (1 << 24) - 1
 MOST_BITS_APART = 6
 HANDLER_ENDINGS = ("_IRQHandler", "_ISR")
 MOST_PRIORITY = 31
+# How the key of a global structure begins, and the name of one that has registers.
+GLOBAL = "global "
+STUB = "rtosim_"
 
 
 @dataclass
@@ -37,7 +42,7 @@ class Task:
     function: str
     name: str
     priority: int
-    parameter: Known
+    parameter: Optional[Known]
     place: Place
 
 
@@ -48,7 +53,7 @@ class Handler:
     function: str
     name: str
     place: Place
-    parameter: Optional[Value] = None
+    parameter: Optional[Known] = None
 
 
 class Unit:
@@ -59,6 +64,7 @@ class Unit:
         self.directives = Directives(handlers=set(handlers), ignored=Ignored(ignored), failing=Ignored(failing))
         self.functions: Dict[str, object] = {}
         self.globals: Dict[str, object] = {}
+        self.prototypes: Dict[str, object] = {}
         self.objects: List[Object] = []
         self.handles: Dict[Tuple[str, str], Handle] = {}
         self.tasks: List[Task] = []
@@ -74,6 +80,10 @@ class Unit:
         self.named_by_callers: List[Tuple[str, Optional[str]]] = []
         # the tasks whose handles globals have from their creation on
         self.created_as: Dict[str, str] = {}
+        # what each call creates, by its id
+        self.created_by: Dict[int, List[Handle]] = {}
+        self.not_constant: Dict[Tuple[str, str], Refusal] = {}
+        self.task_of: Dict[int, Task] = {}
         self.jumps: Dict[object, FrozenSet[str]] = {}
         self.called_lines: Dict[object, FrozenSet[int]] = {}
         self.tests: Dict[object, FrozenSet[str]] = {}
@@ -81,9 +91,13 @@ class Unit:
         self.trees: Dict[object, List[object]] = {}
         self.bits: Optional[Answers] = None
         self.silent: Dict[str, bool] = {}
+        self.names_of_locals: Dict[str, Set[str]] = {}
         self.declare(tree)
-        for find in (self.find_objects, self.find_handlers, self.find_tasks, self.find_gives):
+        self.reset = Reset(self)
+        for find in (self.find_objects, self.find_handlers, self.find_tasks, self.find_gives, self.find_kept):
             find()
+        self.fields = Fields(self)
+        self.name_tasks()
 
     def place(self, node: object) -> Place:
         return place_of(node, self.lines) or Place("", 0, 0)
@@ -104,12 +118,14 @@ class Unit:
                 self.functions[it.decl.name] = it
             elif name == "Decl" and it.name and trees.kind(it.type) != "FuncDecl":
                 self.declare_global(it)
+            elif name == "Decl" and it.name:
+                self.prototypes[it.name] = it
             elif name == "Pragma":
                 self.take_comment(it)
         self.assigned = {trees.assigned(it) for function in self.functions.values() for it in trees.walk(function)}
         for name, it in list(self.globals.items()):
             self.declare_constant(name, it)
-        self.given = Given(self.functions, frozenset(self.globals))
+        self.given = Given(self.functions, frozenset(self.globals), self.constants)
 
     def declare_global(self, declaration: object) -> None:
         name = declaration.name
@@ -143,17 +159,30 @@ class Unit:
                 target, call = created(node)
                 named.add(id(call))
                 if call is not None and trees.called(call) in CREATORS:
-                    for it in self.targets(function, node, target):
-                        self.create(function, it, call)
+                    for scope, it in self.targets(function, node, target):
+                        self.create(scope, it, call)
                 elif call is not None and trees.called(call) == "xTaskGetCurrentTaskHandle":
-                    self.named_by_callers += [(function, it) for it in self.targets(function, node, target)]
+                    self.named_by_callers += self.targets(function, node, target)
                 elif trees.called(node) in CREATORS and id(node) not in named:
                     self.create(function, None, node)
 
-    def targets(self, function: str, node: object, target: Optional[str]) -> Sequence[Optional[str]]:
-        """The names that are given what a call creates: several if a function does so with what it is given."""
+    def targets(self, function: str, node: object, target: Optional[str]) -> List[Tuple[str, Optional[str]]]:
+        """The names that are given what a call creates, each with its function: several if a function does so with what it is given."""
+        if trees.kind(node) == "Return":
+            return list(self.given_by_calls(function)) or [(function, None)]
         found = self.given.names(function, node.lvalue) if target is None and trees.kind(node) == "Assignment" else [target]
-        return found or [None]
+        return [(function, it) for it in found] or [(function, None)]
+
+    def given_by_calls(self, function: str) -> Iterator[Tuple[str, Optional[str]]]:
+        """The names that are given what a function returns."""
+        for caller, definition in self.functions.items():
+            for node in trees.walk(definition.body):
+                target, call = created(node)
+                if call is not None and trees.called(call) == function:
+                    names: Sequence[Optional[str]] = [target]
+                    if target is None and trees.kind(node) == "Assignment":
+                        names = self.given.names(caller, node.lvalue)
+                    yield from ((caller, it) for it in names)
 
     def create(self, function: str, target: Optional[str], call: object) -> None:
         place = self.place(call)
@@ -165,15 +194,15 @@ class Unit:
             self.refusals.append(Refusal(place, f"`{target}` is created twice", "a variable for each object"))
             return
         kind, *keys = CREATORS[trees.called(call)]
-        handle = Handle(kind, self.names.name(f"object of {scope}", target))
+        handle = Handle(kind, self.names.name(f"object of {scope}", target, target.replace("]", "")))
         self.handles[scope, target] = handle
+        self.created_by.setdefault(id(call), []).append(handle)
         numbers = {}
         for key, argument in zip(keys, trees.arguments(call)):
             value = self.constants.value(argument)
             if value is None and key != "size":
-                self.refusals.append(Refusal(self.place(argument), f"the {key} is no constant", "a number"))
-                value = constant(1)
-            numbers[key] = (value.constant() or 0) if value is not None else 4
+                self.not_constant[handle.name, key] = Refusal(self.place(argument), f"the {key} is no constant", "a number")
+            numbers[key] = (value.constant() or 0) if value is not None else 4 if key == "size" else 1
         self.objects.append(Object(kind, handle.name, place, numbers))
 
     def escapes(self, node: object) -> FrozenSet[str]:
@@ -236,7 +265,7 @@ class Unit:
 
     def scope_of(self, target: str, function: str) -> str:
         """Where a name belongs: to the file, or to a function."""
-        return "" if target.split(".")[0] in self.globals else function
+        return "" if trees.root(target) in self.globals else function
 
     def handle(self, function: str, node: object) -> Optional[Handle]:
         """The handle that a variable, or a member of one, has."""
@@ -263,14 +292,27 @@ class Unit:
         """The handler of a function; if it is given several numbers, one for each."""
         shown = of_handler(function)
         for text in given:
-            found = self.constants.numbers.get(text) or numeral(text)
+            found: Optional[Known] = self.constants.numbers.get(text) or numeral(text)
+            if text.startswith("&") and text[1:].split(".")[0] in self.globals:
+                found, text = self.followed(Address(text[1:])), text[1:]
             if found is None:
                 self.refusals.append(Refusal(place, f"`{text}`, which {function} is given, is no number", f"--handler '{function}(NUMBER)'"))
                 continue
             name = f"{shown[:MOST - len(text) - 1]}_{text}" if len(given) > 1 else shown
             self.handlers.append(Handler(function, self.names.name("handler", f"{function} {text}", name), place, found))
         if not given:
-            self.handlers.append(Handler(function, self.names.name("handler", shown), place))
+            self.handlers.append(Handler(function, self.names.name("handler", shown), place, self.only_global(function)))
+
+    def only_global(self, function: str) -> Optional[Known]:
+        """What a handler's first parameter leads to, if the file has one structure of that type alone."""
+        parameters = trees.parameters_of(self.functions[function])
+        type_ = parameters[0].type if parameters else None
+        whole = self.constants.structure(type_.type) if trees.kind(type_) == "PtrDecl" else None
+        found = self.constants.instances(whole, self.globals) if whole is not None else []
+        if len(found) != 1:
+            return None
+        self.notes.append(Note(self.place(parameters[0]), f"`{parameters[0].name}` is `&{found[0]}`: no other structure has this type"))
+        return self.followed(Address(found[0]))
 
     def find_tasks(self) -> None:
         for function in self.ordered_functions():
@@ -306,6 +348,7 @@ class Unit:
         task = Task(function.name, self.names.of["task", key], priority.constant() or 0, self.parameter(scope, words[3]), place)
         self.names.taken.add(task.name)
         self.tasks.append(task)
+        self.task_of[id(call)] = task
         self.name_task(scope, call, words, task)
 
     def name_task(self, scope: str, call: object, words: List[object], task: Task) -> None:
@@ -323,7 +366,8 @@ class Unit:
             self.handles[self.scope_of(target, scope), target] = Handle("task", task.name)
             self.created_as[target] = task.name
 
-    def parameter(self, scope: str, node: object) -> Known:
+    def parameter(self, scope: str, node: object) -> Optional[Known]:
+        """What a task is given; None if only what is done before the scheduler starts may say so."""
         found = self.handle(scope, trees.plain(node))
         if found is not None:
             return found
@@ -331,9 +375,73 @@ class Unit:
         if value is not None:
             return value
         found = self.given.leads_to(scope, node)
-        if len(found) == 1:
-            return Address(found[0])
-        raise Refusal(self.place(node), "this parameter of a task isn't known", "a number, NULL, a handle, or the address of a structure of the file")
+        return self.followed(Address(found[0])) if len(found) == 1 else None
+
+    def find_kept(self) -> None:
+        """What `main` gives globals: handles, pointers, numbers, and the parameters of tasks."""
+        self.reset.run()
+        self.refusals += self.not_constant.values()
+        for name, it in self.reset.cells.items():
+            if isinstance(it, Handle) and "@" not in name:
+                self.handles.setdefault(("", name), it)
+        for function in self.functions.values():
+            for node in trees.walk(function.body):
+                task = self.task_of.get(id(node))
+                if task is not None and task.parameter is None:
+                    self.refusals.append(Refusal(self.place(trees.arguments(node)[3]), "this parameter of a task isn't known",
+                                                 "a number, NULL, a handle, or the address of a structure of the file"))
+                    task.parameter = constant(0)
+
+    def learned(self) -> Tuple[FrozenSet[str], int]:
+        """What is known of the whole file by functions that were followed: if it changes, all are followed anew."""
+        return frozenset(self.with_large_items), self.fields.version
+
+    def name_tasks(self) -> None:
+        """Globals to which a task gives its own handle by a function that it calls with it."""
+        for name, given in self.fields.assigned.items():
+            tasks = {one for it in given for one in self.fields.tasks_given(it.function, it.value) or []}
+            if len(tasks) == 1:
+                self.handles.setdefault(("", name), Handle("task", tasks.pop()))
+
+    # -- global structures
+
+    def is_followed(self, name: str) -> bool:
+        """Whether a global is a structure whose members may be variables."""
+        declaration = self.globals.get(name)
+        is_structure = declaration is not None and self.constants.type_of(declaration) == "a structure"
+        return is_structure and not name.startswith(STUB) and name not in self.directives.ignored
+
+    def followed(self, where: Address) -> Address:
+        """The same address; with a key if its members may be variables."""
+        root = trees.root(where.name)
+        return replace(where, key=GLOBAL + root) if self.is_followed(root) else where
+
+    def keeps(self, call: object, at: int) -> bool:
+        """Whether a call leaves as it is what its argument at this place leads to: it says so by `const`, it is followed, or it is given
+        a function of the file too, for which it keeps the argument."""
+        name, words = trees.called(call), trees.arguments(call)
+        if name in self.functions and name not in self.directives.ignored or name in SILENT or name in CALLS:
+            return True
+        names = [getattr(it.expr if trees.kind(it) == "UnaryOp" else trees.plain(it), "name", None) for it in words]
+        if any(isinstance(it, str) and it in self.functions for it in names):
+            return True
+        declared = self.prototypes.get(name or "")
+        found = (declared.type.args.params if declared is not None and declared.type.args else [])[at:at + 1]
+        pointed = getattr(found[0], "type", None) if found else None
+        return trees.kind(pointed) == "PtrDecl" and "const" in (getattr(pointed.type, "quals", None) or [])
+
+    def is_zero(self, node: object, given: Sequence[object]) -> bool:
+        """Whether a value of an initializer is the 0 of `{ 0 }`, which stands for all that there is."""
+        value = self.constants.value(node) if len(given) == 1 else None
+        return value is not None and value.constant() == 0
+
+    def is_local(self, function: str, name: str) -> bool:
+        """Whether a function has a local or a parameter of this name."""
+        if function not in self.names_of_locals:
+            definition = self.functions[function]
+            found = {it.name for it in trees.walk(definition.body) if trees.kind(it) == "Decl"}
+            self.names_of_locals[function] = found | {it.name for it in trees.parameters_of(definition)}
+        return name in self.names_of_locals[function]
 
     def name_caller(self, function: str, target: Optional[str]) -> None:
         """A global that a task gives its own handle, itself or in a function that it calls."""
@@ -432,6 +540,7 @@ class Unit:
             called = {it for it in map(trees.called, nodes) if it}
             is_alone = all(it in self.functions or it in self.directives.ignored or it in WITHOUT_OP for it in called)
             named = {it.name for it in nodes if trees.kind(it) == "ID"}
+            is_alone = is_alone and not any(trees.kind(it) == "StructRef" and it.field.name in self.fields.of_globals for it in nodes)
             shared = [it for it in named if it in self.globals and isinstance(self.constants.type_of(self.globals[it]), Integer)]
             has_comment = any(trees.kind(it) == "Pragma" for it in nodes)
             is_own = all(it in self.constants.numbers or it in self.directives.ignored for it in shared)
@@ -462,7 +571,8 @@ def created(node: object) -> Tuple[Optional[str], Optional[object]]:
         call = trees.plain(node.rvalue)
         target = trees.dotted(node.lvalue)
         return (target, call) if trees.called(call) else (None, None)
-    return None, None
+    call = trees.plain(node.expr) if name == "Return" and node.expr is not None else None
+    return (None, call) if call is not None and trees.called(call) in CREATORS else (None, None)
 
 
 def text_of(node: object) -> Optional[str]:

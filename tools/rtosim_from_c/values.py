@@ -45,9 +45,12 @@ class Value:
 
     def among(self, known: Answers) -> "Value":
         """What is left of it where the last answer is one of these."""
-        if len(self.pieces) == 1 and len(known.ranges) == 1:
-            low, high = max(self.pieces[0].low, known.ranges[0][0]), min(self.pieces[0].high, known.ranges[0][1])
-            return Value(self.type, (self.pieces[0].between(low, high),) if low <= high else ())
+        if len(self.pieces) == 1:
+            only_one = self.pieces[0]
+            if len(known.ranges) == 1 and known.ranges[0] == (only_one.low, only_one.high):
+                return self
+            parts = ((max(only_one.low, low), min(only_one.high, high)) for low, high in known.ranges)
+            return Value(self.type, tuple(only_one.between(low, high) for low, high in parts if low <= high))
         return Value(self.type, joined(
             it.between(max(it.low, low), min(it.high, high))
             for it in self.pieces for low, high in known.ranges if max(it.low, low) <= min(it.high, high)
@@ -60,6 +63,11 @@ class Value:
         if first and first.kind == ANSWER and len(self.pieces) == 1 and first.low == first.high:
             return first.at(first.low)
         return first.number if is_one and first.kind == NUMBER else None
+
+    def is_one_piece(self) -> bool:
+        """Whether it is the same number, or lost in the same way, whatever the answer is: another answer changes nothing of it."""
+        first = self.pieces[0] if len(self.pieces) == 1 else None
+        return first is not None and first.kind != ANSWER and first.low == NONE and first.high == GREATEST
 
     def lost(self) -> Optional[Lost]:
         return next((it.lost for it in self.pieces if it.kind == LOST), None)
@@ -152,22 +160,43 @@ def is_received() -> Value:
     return Value(INT, (Piece(NONE, NONE, NUMBER, 0), Piece(0, GREATEST, NUMBER, 1)))
 
 
-def either(first: Known, of_first: Answers, second: Known, of_second: Answers, why: Lost) -> Known:
-    """The value of which one way says the first, for these answers, and another way the second: lost where both may be and differ."""
+@dataclass(frozen=True)
+class Meeting:
+    """The last answers of two ways that meet: those of both, and those of one of them alone."""
+
+    first: Answers
+    second: Answers
+    both: Answers
+    only_first: Answers
+    only_second: Answers
+    all: Answers
+
+
+def meeting(first: Answers, second: Answers) -> Meeting:
+    return Meeting(first, second, first & second, first - second, second - first, first | second)
+
+
+def either(first: Known, second: Known, of: Meeting, local: str) -> Known:
+    """The value of a local of which one way says the first and another way the second: lost where both may be and differ."""
     if isinstance(first, Stored) and isinstance(second, Stored) and first.name == second.name:
-        return replace(first, missing=first.among(of_first).missing or second.among(of_second).missing)
+        return replace(first, missing=first.among(of.first).missing or second.among(of.second).missing)
     if not isinstance(first, Value) or not isinstance(second, Value):
-        return first if first == second else lost(INT, why)
-    both = of_first & of_second
-    pieces = [*first.among(of_first - of_second).pieces, *second.among(of_second - of_first).pieces]
-    for it, other in overlaid(first.among(both), second.among(both)):
+        return first if first == second else lost(INT, differs(local))
+    if first == second and len(first.pieces) == 1 and first.pieces[0].kind == NUMBER:
+        return first.among(of.all)
+    pieces = [*first.among(of.only_first).pieces, *second.among(of.only_second).pieces]
+    for it, other in overlaid(first.among(of.both), second.among(of.both)):
         is_same = (it.kind, it.number) == (other.kind, other.number)
         if LOST in (it.kind, other.kind) or not is_same:
-            reason = it.lost if it.kind == LOST else other.lost if other.kind == LOST else why
+            reason = it.lost if it.kind == LOST else other.lost if other.kind == LOST else differs(local)
             pieces.append(Piece(it.low, it.high, LOST, 0, reason))
         else:
             pieces.append(it)
     return Value(first.type, joined(pieces))
+
+
+def differs(local: str) -> Lost:
+    return Lost(f"`{local.split('@')[0]}` has different values on two ways to this place", local)
 
 
 def overlaid(left: Value, right: Value) -> Iterator[Tuple[Piece, Piece]]:
@@ -302,7 +331,7 @@ def after_an_answer(known: Known, before: Answers, local: str, by: str, at: Plac
     if isinstance(known, Stored):
         missing = known.among(before).missing
         return replace(known, missing=None) if missing is None else lost(known.type, missing)
-    if not isinstance(known, Value):
+    if not isinstance(known, Value) or known.is_one_piece():
         return known
     now = known.among(before)
     number = now.constant()

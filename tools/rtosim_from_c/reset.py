@@ -1,0 +1,488 @@
+"""What globals have when the scheduler starts. `main`, and what it calls, is followed as far as it gives globals, members of structures,
+handles and pointers a value. What depends on a condition that isn't known isn't known then."""
+from dataclasses import dataclass, field
+from typing import TYPE_CHECKING, Dict, Iterator, List, Optional, Tuple, Union
+
+from . import trees
+from .answers import ALL
+from .calls import CREATORS, SETUP, TASK_CREATORS
+from .constants import POINTER, literal, numeral
+from .integers import WRITTEN, Integer
+from .refusals import Place
+from .values import Address, Handle, Value, binary, constant, converted, unary
+
+if TYPE_CHECKING:
+    from .unit import Unit
+
+STARTS = ("vTaskStartScheduler", "osKernelStart")
+MOST_STEPS = 20_000
+MOST_DEPTH = 30
+MOST_TURNS = 64
+
+
+@dataclass(frozen=True)
+class NotKnown:
+    """Why a global isn't known when the scheduler starts."""
+
+    why: str
+    place: Place
+
+
+# A constant, a handle, or the address of a global.
+Content = Union[Value, Handle, Address]
+Cell = Union[Content, NotKnown]
+
+
+class Started(Exception):
+    """The scheduler has started."""
+
+
+class Returned(Exception):
+    """A function has returned this."""
+
+    def __init__(self, value: Optional[Content]):
+        super().__init__()
+        self.value = value
+
+
+@dataclass
+class Called:
+    """A call that is followed: the function, the cells of its locals by their names, and whether it is surely made."""
+
+    function: str
+    number: int
+    is_sure: bool = True
+    names: Dict[str, str] = field(default_factory=dict)
+
+
+class Reset:
+    """The cells of a file, each a global or a member of one, by its name with dots; those of locals have `@`."""
+
+    def __init__(self, unit: "Unit"):
+        self.unit = unit
+        self.cells: Dict[str, Cell] = {}
+        self.steps = self.calls = self.depth = 0
+        # what was created last: the call, and its arguments
+        self.created: Tuple[str, List[Optional[Content]]] = ("", [])
+        self.declared: Dict[str, object] = {}
+
+    def run(self) -> None:
+        """Follows what is called before the scheduler starts."""
+        try:
+            for it in self.roots():
+                self.follow(it, [], Called("", 0))
+        except Started:
+            pass
+
+    def roots(self) -> List[str]:
+        """`main`, and what creates something and is called by no function of the file."""
+        found = [it for it in SETUP if it in self.unit.functions]
+        running = {it.function for it in (*self.unit.tasks, *self.unit.handlers)}
+        for name, it in self.unit.functions.items():
+            creates = any(one in CREATORS or one in TASK_CREATORS for one in trees.calls_in(it))
+            if creates and name not in self.unit.given.calls and name not in running and name not in found:
+                found.append(name)
+        return found
+
+    # -- what is there
+
+    def value(self, name: str) -> Optional[Content]:
+        """What a global has when the scheduler starts; None if that isn't known."""
+        found = self.cells[name] if name in self.cells else self.initial(name)
+        return None if isinstance(found, NotKnown) else found
+
+    def why(self, name: str) -> Optional[NotKnown]:
+        """Why a global isn't known when the scheduler starts."""
+        found = self.cells.get(name)
+        return found if isinstance(found, NotKnown) else None
+
+    def declaration(self, name: str) -> Optional[object]:
+        """The declaration of a global or a local, or of a member of one."""
+        found: Optional[object] = None
+        for at, it in enumerate(name.split(".")):
+            member, *indices = it.split("[")
+            found = self.unit.constants.members(found).get(member) if at else self.declared.get(member) or self.unit.globals.get(member)
+            for _ in indices:
+                found = trees.element(found)
+        return found
+
+    def initial(self, name: str) -> Optional[Content]:
+        """What a global is declared with."""
+        root, *members = name.split(".")
+        declaration = self.unit.globals.get(root)
+        if "[" in name:
+            declaration = self.unit.globals.get(trees.root(name))
+            is_empty = declaration is not None and declaration.init is None and "extern" not in (declaration.storage or [])
+            return constant(0) if is_empty else None
+        if declaration is None or "extern" in (declaration.storage or []) and declaration.init is None:
+            return None
+        node = declaration.init
+        for it in members:
+            names = [one for one in self.unit.constants.members(declaration) if one]
+            if it not in names or node is not None and trees.kind(node) != "InitList":
+                return None
+            declaration = self.unit.constants.members(declaration)[it]
+            given = node.exprs if node is not None else []
+            node = trees.in_order(given, names).get(it)
+            is_structure = bool(self.unit.constants.members(declaration))
+            node = None if is_structure and node is not None and self.unit.is_zero(node, given) else node
+        type_ = self.unit.constants.type_of(declaration)
+        is_pointer = type_ == "a pointer" or isinstance(type_, str) and type_.startswith("handle")
+        if not isinstance(type_, Integer) and not is_pointer:
+            return None
+        if node is None:
+            return constant(0, POINTER if is_pointer else type_)
+        found = self.evaluate(node, Called("", 0)) if is_pointer else self.unit.constants.value(node)
+        return converted(found, type_) if isinstance(type_, Integer) and isinstance(found, Value) else found
+
+    def leaves(self, name: str) -> Iterator[str]:
+        """The members of a structure that are no structures; a name of something else itself."""
+        members = self.unit.constants.members(self.declaration(name))
+        for it in members:
+            if it:
+                yield from self.leaves(f"{name}.{it}")
+        if not members:
+            yield name
+
+    def write(self, name: Optional[str], value: Optional[Content], node: object, called: Called) -> None:
+        if name is None:
+            return
+        if self.unit.constants.members(self.declaration(name)):
+            self.copy(name, value, node, called)
+            return
+        type_ = self.unit.constants.type_of(self.declaration(name)) if self.declaration(name) is not None else ""
+        if isinstance(type_, Integer) and isinstance(value, Value):
+            value = converted(value, type_)
+        place = self.unit.place(node)
+        if value is None:
+            self.cells[name] = NotKnown("it is given what isn't known, before the scheduler starts", place)
+        elif called.is_sure or self.value(name) == value:
+            self.cells[name] = value
+        else:
+            self.cells[name] = NotKnown("it is given a value that depends on what isn't known, before the scheduler starts", place)
+
+    def copy(self, name: str, value: Optional[Content], node: object, called: Called) -> None:
+        for it in self.leaves(name):
+            source = f"{value.name}{it[len(name):]}" if isinstance(value, Address) else None
+            self.write(it, self.value(source) if source is not None else None, node, called)
+
+    def fill(self, name: str, given: List[object], node: object, called: Called) -> None:
+        """Gives a structure the values of a list, and 0 where that has none."""
+        names = [it for it in self.unit.constants.members(self.declaration(name)) if it]
+        found = trees.in_order(given, names)
+        for it in names:
+            inner, value = f"{name}.{it}", found.get(it)
+            is_structure = bool(self.unit.constants.members(self.declaration(inner)))
+            if is_structure and (value is None or trees.kind(value) == "InitList" or self.unit.is_zero(value, given)):
+                self.fill(inner, value.exprs if trees.kind(value) == "InitList" else [], node, called)
+            elif is_structure or trees.kind(value) != "InitList":
+                self.write(inner, constant(0) if value is None else self.evaluate(value, called), node, called)
+
+    # -- statements
+
+    def follow(self, function: str, values: List[Optional[Content]], caller: Called, arguments: Optional[List[object]] = None) -> Optional[Content]:
+        """Follows a call, and returns what the function does."""
+        definition = self.unit.functions[function]
+        if self.depth >= MOST_DEPTH:
+            return None
+        self.calls += 1
+        self.depth += 1
+        called = Called(function, self.calls, caller.is_sure)
+        try:
+            for at, it in enumerate(trees.parameters_of(definition)):
+                name = self.declare(it, called)
+                self.write(name, values[at] if at < len(values) else None, (arguments or [definition] * (at + 1))[at], called)
+            self.execute(definition.body, called)
+        except Returned as found:
+            return found.value
+        finally:
+            self.depth -= 1
+        return None
+
+    def declare(self, node: object, called: Called) -> str:
+        name = f"{node.name}@{called.function}" if "static" in (node.storage or []) else f"{node.name}@{called.number}"
+        called.names[node.name] = name
+        self.declared[name] = node
+        return name
+
+    def execute(self, node: object, called: Called) -> None:
+        """One statement."""
+        self.steps += 1
+        if node is None:
+            return
+        if self.steps > MOST_STEPS:
+            called.is_sure = False
+        method = getattr(self, f"do_{trees.kind(node)}", None)
+        if method is not None:
+            method(node, called)
+        elif trees.kind(node) not in ("Pragma", "EmptyStatement", "Break", "Continue", "Goto", "Typedef"):
+            self.evaluate(node, called)
+
+    def perhaps(self, nodes: List[object], called: Called) -> None:
+        """Statements of which isn't known whether they are reached."""
+        before, called.is_sure = called.is_sure, False
+        for it in nodes:
+            self.execute(it, called)
+        called.is_sure = before
+
+    def do_Compound(self, node: object, called: Called) -> None:
+        names = dict(called.names)
+        for it in node.block_items or []:
+            self.execute(it, called)
+        called.names = names
+
+    def do_DeclList(self, node: object, called: Called) -> None:
+        for it in node.decls:
+            self.do_Decl(it, called)
+
+    def do_Decl(self, node: object, called: Called) -> None:
+        if node.name is None or trees.kind(node.type) == "FuncDecl":
+            return
+        name = self.declare(node, called)
+        if node.init is None or "static" in (node.storage or []) and name in self.cells:
+            return
+        if trees.kind(node.init) == "InitList":
+            self.fill(name, node.init.exprs, node, called)
+        else:
+            self.assign(name, node.init, node, called)
+
+    def do_If(self, node: object, called: Called) -> None:
+        which = self.truth(node.cond, called)
+        if which is None:
+            self.perhaps([node.iftrue, node.iffalse], called)
+        else:
+            self.execute(node.iftrue if which else node.iffalse, called)
+
+    def do_While(self, node: object, called: Called) -> None:
+        self.loop(node, called)
+
+    def do_DoWhile(self, node: object, called: Called) -> None:
+        self.execute(node.stmt, called)
+        self.loop(node, called)
+
+    def do_For(self, node: object, called: Called) -> None:
+        names = dict(called.names)
+        self.execute(node.init, called)
+        self.loop(node, called)
+        called.names = names
+
+    def loop(self, node: object, called: Called) -> None:
+        """The turns of a loop, if its condition says how many they are."""
+        is_plain = not trees.escapes(node.stmt) if node.stmt is not None else True
+        for _ in range(MOST_TURNS):
+            which = self.truth(node.cond, called) if is_plain and getattr(node, "cond", None) is not None else None
+            if which is False:
+                return
+            if which is None:
+                break
+            self.execute(node.stmt, called)
+            self.execute(getattr(node, "next", None), called)
+        self.perhaps([node.stmt, getattr(node, "next", None)], called)
+
+    def do_Switch(self, node: object, called: Called) -> None:
+        self.evaluate(node.cond, called)
+        self.perhaps([node.stmt], called)
+
+    def do_Case(self, node: object, called: Called) -> None:
+        for it in node.stmts or []:
+            self.execute(it, called)
+
+    do_Default = do_Case
+
+    def do_Label(self, node: object, called: Called) -> None:
+        self.execute(node.stmt, called)
+
+    def do_Return(self, node: object, called: Called) -> None:
+        value = self.evaluate(node.expr, called) if node.expr is not None else None
+        if called.is_sure:
+            raise Returned(value)
+
+    # -- expressions
+
+    def truth(self, node: object, called: Called) -> Optional[bool]:
+        found = self.evaluate(node, called)
+        if isinstance(found, (Handle, Address)):
+            return True
+        return None if found is None else bool(found.constant())
+
+    def evaluate(self, node: object, called: Called) -> Optional[Content]:
+        """What an expression is; None if that isn't known."""
+        method = getattr(self, f"of_{trees.kind(node)}", None)
+        return method(node, called) if method is not None else None
+
+    def of_Constant(self, node: object, _: Called) -> Optional[Content]:
+        return None if node.value.startswith('"') else literal(node)
+
+    def of_ID(self, node: object, called: Called) -> Optional[Content]:
+        if node.name not in called.names and node.name in self.unit.constants.numbers:
+            return self.unit.constants.numbers[node.name]
+        name = self.place(node, called)
+        type_ = self.unit.constants.type_of(self.declaration(name)) if name is not None else ""
+        return Address(name) if name is not None and type_ in ("a structure", "an array") else self.read(name, called)
+
+    def read(self, name: Optional[str], called: Called) -> Optional[Content]:
+        if name is None:
+            return None
+        return self.value(name) if name in self.cells else self.unit.handles.get((called.function, name.split("@")[0])) or self.value(name)
+
+    def of_Cast(self, node: object, called: Called) -> Optional[Content]:
+        found, type_ = self.evaluate(node.expr, called), self.unit.constants.type_of(node.to_type)
+        if not isinstance(found, Value):
+            return found
+        return converted(found, type_ if isinstance(type_, Integer) else POINTER)
+
+    def of_UnaryOp(self, node: object, called: Called) -> Optional[Content]:
+        if node.op == "&":
+            name = self.place(node.expr, called)
+            return Address(name) if name is not None else None
+        if node.op == "sizeof":
+            return self.unit.constants.value(node)
+        if node.op == "*":
+            return self.read(self.place(node, called), called)
+        inner = self.evaluate(node.expr, called)
+        if node.op in ("++", "--", "p++", "p--"):
+            after = binary(node.op.strip("p")[0], inner, constant(1), ALL) if isinstance(inner, Value) else None
+            self.write(self.place(node.expr, called), after, node, called)
+            return inner if node.op.startswith("p") else after
+        if isinstance(inner, (Handle, Address)):
+            return constant(0) if node.op == "!" else None
+        return known(unary(node.op, inner, ALL)) if inner is not None else None
+
+    def of_BinaryOp(self, node: object, called: Called) -> Optional[Content]:
+        if node.op in ("&&", "||"):
+            return self.logical(node, called)
+        left, right = self.evaluate(node.left, called), self.evaluate(node.right, called)
+        if left is None or right is None:
+            return None
+        if isinstance(left, Value) and isinstance(right, Value):
+            return known(binary(node.op, left, right, ALL))
+        if node.op not in ("==", "!="):
+            return None
+        return constant(int((left == right) == (node.op == "==")))
+
+    def logical(self, node: object, called: Called) -> Optional[Content]:
+        first = self.truth(node.left, called)
+        if first is not None and first == (node.op == "||"):
+            return constant(int(first))
+        before, called.is_sure = called.is_sure, called.is_sure and first is not None
+        second = self.truth(node.right, called)
+        called.is_sure = before
+        return None if first is None or second is None else constant(int(second))
+
+    def of_TernaryOp(self, node: object, called: Called) -> Optional[Content]:
+        which = self.truth(node.cond, called)
+        return None if which is None else self.evaluate(node.iftrue if which else node.iffalse, called)
+
+    def of_ExprList(self, node: object, called: Called) -> Optional[Content]:
+        return [self.evaluate(it, called) for it in node.exprs][-1]
+
+    def of_StructRef(self, node: object, called: Called) -> Optional[Content]:
+        name = self.place(node, called)
+        type_ = self.unit.constants.type_of(self.declaration(name)) if name is not None and self.declaration(name) is not None else ""
+        return Address(name) if name is not None and type_ in ("a structure", "an array") else self.read(name, called)
+
+    def of_ArrayRef(self, node: object, called: Called) -> Optional[Content]:
+        return self.read(self.place(node, called), called)
+
+    def of_Assignment(self, node: object, called: Called) -> Optional[Content]:
+        name = self.place(node.lvalue, called)
+        if node.op == "=":
+            if trees.kind(node.rvalue) == "CompoundLiteral" and name is not None and trees.kind(node.rvalue.init) == "InitList":
+                self.fill(name, node.rvalue.init.exprs, node, called)
+                return None
+            return self.assign(name, node.rvalue, node, called)
+        left, right = self.read(name, called), self.evaluate(node.rvalue, called)
+        is_number = isinstance(left, Value) and isinstance(right, Value)
+        value = known(binary(WRITTEN[node.op] or "+", left, right, ALL)) if is_number else None
+        self.write(name, value, node, called)
+        return value
+
+    def assign(self, name: Optional[str], value: object, node: object, called: Called) -> Optional[Content]:
+        """Gives a cell a value; if that is created here, it is the object of that name."""
+        found = self.evaluate(value, called)
+        creates = trees.called(trees.plain(value)) in CREATORS or found is None and trees.called(trees.plain(value)) in self.unit.functions
+        if creates and name is not None:
+            handle = self.unit.handles.get(("", name)) or self.unit.handles.get((called.function, name.split("@")[0]))
+            found = self.describe(handle) if handle is not None and found is None else found
+        self.write(name, found, node, called)
+        return found
+
+    def place(self, node: object, called: Called) -> Optional[str]:
+        """The cell that is named; None if that isn't known."""
+        name = trees.kind(node)
+        if name == "ID":
+            return called.names.get(node.name) or (node.name if node.name in self.unit.globals else None)
+        if name == "StructRef" and node.type == ".":
+            inner = self.place(node.name, called)
+            return f"{inner}.{node.field.name}" if inner is not None else None
+        if name == "ArrayRef":
+            array, index = self.evaluate(node.name, called), self.evaluate(node.subscript, called)
+            is_array = isinstance(array, Address) and trees.element(self.declaration(array.name)) is not None
+            return f"{array.name}[{index.constant()}]" if is_array and isinstance(index, Value) else None
+        pointer = node.name if name == "StructRef" else node.expr if name == "UnaryOp" and node.op == "*" else None
+        found = self.evaluate(pointer, called) if pointer is not None else None
+        if not isinstance(found, Address):
+            return None
+        return f"{found.name}.{node.field.name}" if name == "StructRef" else found.name
+
+    # -- calls
+
+    def of_FuncCall(self, node: object, called: Called) -> Optional[Content]:
+        name, words = trees.called(node), trees.arguments(node)
+        if name in STARTS and called.is_sure:
+            raise Started()
+        values = [self.evaluate(it, called) for it in words]
+        if name in CREATORS:
+            self.created = name, values
+            found = self.unit.created_by.get(id(node), [])
+            return self.describe(found[0]) if len(found) == 1 else None
+        if name in TASK_CREATORS:
+            return self.create_task(node, values, called)
+        if name in self.unit.functions and name not in self.unit.directives.ignored:
+            return self.follow(name, values, called, words)
+        if name == "memset" and len(values) == 3 and isinstance(values[0], Address) and values[1] == constant(0):
+            self.clear(values[0].name, node, called)
+            return values[0]
+        for at, it in enumerate(values):
+            if isinstance(it, Address) and not self.unit.keeps(node, at):
+                self.give_away(it.name, name, node)
+        given = self.unit.directives.ignored.returns(name) if name is not None and name in self.unit.directives.ignored else ""
+        return (self.unit.constants.numbers.get(given) or numeral(given)) if given else None
+
+    def describe(self, handle: Handle) -> Handle:
+        """Gives an object the numbers with which it was created, if those aren't constants in the text."""
+        name, values = self.created
+        for key, value in zip(CREATORS[name][1:] if name else (), values):
+            if isinstance(value, Value) and self.unit.not_constant.pop((handle.name, key), None) is not None:
+                self.unit.object(handle.name).numbers[key] = value.constant() or 0
+        return handle
+
+    def create_task(self, node: object, values: List[Optional[Content]], called: Called) -> Optional[Content]:
+        task = self.unit.task_of.get(id(node))
+        if task is None:
+            return None
+        if called.is_sure and values[3] is not None and "@" not in getattr(values[3], "name", ""):
+            task.parameter = self.unit.followed(values[3]) if isinstance(values[3], Address) else values[3]
+        found = Handle("task", task.name)
+        if trees.called(node) != "xTaskCreate":
+            return found
+        if isinstance(values[5], Address):
+            self.write(values[5].name, found, node, called)
+        return constant(1)
+
+    def clear(self, name: str, node: object, called: Called) -> None:
+        for it in self.leaves(name):
+            type_ = self.unit.constants.type_of(self.declaration(it)) if self.declaration(it) is not None else ""
+            if type_ != "an array":
+                self.write(it, constant(0), node, called)
+
+    def give_away(self, name: str, function: Optional[str], node: object) -> None:
+        """A function that isn't followed may change the numbers that are there."""
+        for it in self.leaves(name):
+            declaration = self.declaration(it)
+            if declaration is not None and isinstance(self.unit.constants.type_of(declaration), Integer):
+                self.cells[it] = NotKnown(f"{function or 'a function'} is given its address before the scheduler starts", self.unit.place(node))
+
+
+def known(value: Value) -> Optional[Value]:
+    return value if value.constant() is not None else None
