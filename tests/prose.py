@@ -25,25 +25,42 @@ PATTERNS = {name: re.compile(rf"(?i)\b(?:{form})\b") for name, form in (
     ("of which", "of which|of whom"), ("so it is", "so (?:it )?(?:is|does) (?:it|with|in|of)"), ("in force", "in force"), ("for ever", "for ever"),
     ("whom", "whom(?:ever)?"), ("amid", "amid|in vain|mostly"), ("instead", "instead of .{0,200}because"),
 )}
-# How often a page that was rewritten in plain English has a pattern; one that isn't named here it never has.
+# How often a page has a pattern; what isn't named here it never has.
 REACHED = {
     "README.md": {"where": 1},
     "CHANGELOG.md": {"where": 1},
     "docs/ADDING_AN_OP.md": {"where": 2},
-    "docs/ARCHITECTURE.md": {"where": 4, "answers": 3},
+    "docs/ARCHITECTURE.md": {"where": 1, "answers": 2},
+    "docs/CHECKING.md": {"where": 1},
     "docs/CI.md": {"where": 1},
-    "docs/DECISIONS.md": {"where": 10, "behind": 2},
+    "docs/DRIVERS.md": {"where": 1, "answers": 1},
     "docs/EXPLORING.md": {"where": 1},
     "docs/FORMATS.md": {"where": 3, "answers": 1},
     "docs/FROM_C.md": {"where": 2},
     "docs/GLOSSARY.md": {"where": 8},
     "docs/KERNEL.md": {"where": 10},
     "docs/PACKAGE.md": {"where": 2},
-    "docs/PROOFS.md": {"where": 10, "answers": 4},
-    "docs/RELIABILITY.md": {},
+    "docs/PROOFS.md": {"where": 3},
     "docs/REPORTS.md": {"where": 3},
-    "docs/SCALING.md": {},
     "docs/USING.md": {"where": 1},
+    "docs/architecture/campaigns.md": {"where": 1},
+    "docs/architecture/contracts.md": {"where": 1},
+    "docs/architecture/kernel.md": {"where": 1},
+    "docs/architecture/slow_program.md": {"answers": 1},
+    "docs/decisions/campaigns.md": {"where": 2},
+    "docs/decisions/fast_steps.md": {"where": 2},
+    "docs/decisions/file_check.md": {"where": 1},
+    "docs/decisions/files.md": {"where": 1},
+    "docs/decisions/kernel_code.md": {"where": 1},
+    "docs/decisions/kernel_rules.md": {"where": 1},
+    "docs/decisions/launcher.md": {"where": 1, "behind": 1},
+    "docs/decisions/reports.md": {"where": 1},
+    "docs/decisions/text_of_lines.md": {"where": 1},
+    "docs/decisions/translator.md": {"behind": 1},
+    "docs/proofs/definitions.md": {"where": 5, "answers": 1},
+    "docs/proofs/promises.md": {"where": 1, "answers": 1},
+    "docs/proofs/reading.md": {"where": 1, "answers": 1},
+    "docs/proofs/wrong_bodies.md": {"answers": 1},
 }
 STRING = re.compile(r'"(?:[^"\\]|\\.)*"')
 LINK = re.compile(r"\[[^]]*\]\(([^)\s]+)\)")
@@ -52,7 +69,7 @@ BETWEEN_SENTENCES = re.compile(r"(?<=[.?!])[)\"*]*\s+(?=[\"(*`\[A-Z0-9])")
 
 
 def documents():
-    return ["README.md", "CHANGELOG.md", *sorted(os.path.relpath(it, ROOT) for it in glob.glob(f"{ROOT}/docs/*.md"))]
+    return ["README.md", "CHANGELOG.md", *sorted(os.path.relpath(it, ROOT) for it in glob.glob(f"{ROOT}/docs/**/*.md", recursive=True))]
 
 
 def text_of(name):
@@ -152,6 +169,11 @@ def no_sentence_of_a_document_has_more_than_40_words():
 
 
 @case
+def each_row_of_what_was_reached_is_of_a_document():
+    equal(sorted(set(REACHED) - set(documents())), [])
+
+
+@case
 def sentences_are_counted_by_their_words():
     is_long = "word " * 40 + "word."
     equal([line for line, _ in long_sentences(f"A\n\n{is_long}\n")], [3])
@@ -165,8 +187,9 @@ def documents_and_comments_have_plain_words():
 
 
 @case
-def pages_in_plain_english_stay_so():
-    for name, reached in REACHED.items():
+def documents_in_plain_english_stay_so():
+    for name in documents():
+        reached = REACHED.get(name, {})
         more = {it: number for it, number in patterns_in(text_of(name)).items() if number > reached.get(it, 0)}
         equal((name, more), (name, {}))
 
