@@ -74,8 +74,9 @@ impl From<LoadError> for ServeFault {
 // Of a file of so many bytes at most the document stays in memory to the end of the program.
 const FEW: usize = 65_536;
 
-// Lets go of the document of a file of so many bytes. One of few bytes stays in memory: it takes 10 MB at most, mostly far less, and to
-// give back a thousand of its tables takes as long as ten thousand steps.
+// Lets go of the document of a file of so many bytes. One of few bytes stays in memory: it takes 10
+// MB at most, usually far less, and to give back a thousand of its tables takes as long as ten
+// thousand steps.
 fn let_go(document: Table, bytes: usize) {
     if bytes <= FEW {
         forget(document);

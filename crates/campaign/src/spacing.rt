@@ -1,7 +1,9 @@
-//! How far behind its last injection a row looks for marks first, and how many steps are between two marks near it.
+//! How far after its last injection a row looks for marks first, and how many steps are between two
+//! marks near it.
 use crate::mark_steps::spacing_of;
 
-/// Where rows look: how often the widest spacing is halved, and how many eighths of it they do behind their last injection first.
+/// Where rows look: how often the widest spacing is halved, and after how many eighths of it,
+/// counted from their last injection, they look first.
 #[derive(Clone, Copy)]
 struct Plan {
     halvings: u32,
@@ -12,7 +14,8 @@ struct Plan {
 const PLANS: usize = 8;
 
 impl Plan {
-    // What is tried. What a handler has brought about mostly fades after some steps, and a row that looks sooner finds no mark.
+    // What is tried. What a handler has brought about usually fades after some steps, and a row
+    // that looks sooner finds no mark.
     fn numbered(number: usize) -> Plan {
         let (halvings, eighths) = match number {
             0 => (0, 0),
@@ -52,8 +55,9 @@ const MOST_MARKS: u32 = 8192;
 // One more is kept for so much that `ROWS` rows cost.
 const COST_OF_A_MARK: u32 = 16;
 
-/// How many steps are between two marks near an injection, and how far behind it a row looks for one first. Each way to look is tried with
-/// many rows. The one with which they cost least is kept for long, and then all are tried again.
+/// How many steps are between two marks near an injection, and how far after it a row looks for one
+/// first. Each way to look is tried with many rows. The one with which they cost least is kept for
+/// long, and then all are tried again.
 #[derive(Drop)]
 pub(crate) struct Spacing {
     widest: u32,
@@ -72,7 +76,8 @@ pub(crate) struct Spacing {
 }
 
 impl Spacing {
-    /// The first way that is tried: marks are widest apart, where the base run has a stop before each `stride`-th step.
+    /// The first way that is tried: marks are widest apart, if the base run has a stop before each
+    /// `stride`-th step.
     pub(crate) fn new(stride: u32) -> Spacing {
         let widest = spacing_of(stride);
         Spacing {
@@ -89,7 +94,7 @@ impl Spacing {
         }
     }
 
-    /// How many steps are between two marks near an injection, where these are closest together.
+    /// How many steps are between two marks near an injection, if these are closest together.
     pub(crate) fn closest(&self) -> u32 {
         self.widest >> MOST_HALVINGS
     }
@@ -99,18 +104,20 @@ impl Spacing {
         self.steps
     }
 
-    /// How many steps a row now does behind its last injection before it looks.
+    /// How many steps a row now does after its last injection before it looks.
     pub(crate) fn delay(&self) -> u32 {
         self.delay
     }
 
-    /// How many marks are kept at most. Where rows cost little, they come to marks that were left a moment ago, and a mark that was left long
-    /// ago is only in the way of these in a processor's cache. Where rows are run far, each mark that is found saves many steps.
+    /// How many marks are kept at most. If rows cost little, they reach marks that were left a
+    /// moment ago, and a mark that was left long ago is only in the way of these in a processor's
+    /// cache. If rows are run far, each mark that is found saves many steps.
     pub(crate) fn room(&self) -> usize {
         self.room as usize
     }
 
-    /// A row did so many steps behind its last injection, and left so many marks. After many rows it is judged what they cost.
+    /// A row did so many steps after its last injection, and left so many marks. After many rows it
+    /// is judged what they cost.
     pub(crate) fn count_row(&mut self, steps: u32, marks: usize) {
         let marks = (marks.min(MOST as usize) as u32).saturating_mul(MARK);
         let cost = steps.saturating_add(marks).min(MOST);

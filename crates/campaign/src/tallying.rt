@@ -58,7 +58,7 @@ impl RowCounts {
         self.kinds[kind] += 1;
     }
 
-    /// Counts a row: to the kind of its end, and where its point is not reached, to that kind too.
+    /// Counts a row: to the kind of its end, and if its point is not reached, to that kind too.
     pub(crate) fn count(&mut self, reached: bool, end: End)
         requires room { (kind : ℕ) → kind < 7 → slice_index self.old.kinds kind + 1 ≤ 2 ^ 40 }
         ensures { (row : Row) (tally : Sheet) → row.reached ≡ reached → row.run.end ≡ end

@@ -1,4 +1,4 @@
--- Which plans come to which kernels before a step.
+-- Which plans reach which kernels before a step.
 use Rattle.std.specs.Prelude.{◌≡◌, ◌<◌, ◌-◌, ℕ, false, List, ◌++◌, None, Contains, length, map, sum_by}
 use Rattle.std.specs.List.{AllByRecursion, AllZip, flat_map}
 use Rattle.model.specs.declared.plan.Injection.{Injection}

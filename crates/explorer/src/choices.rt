@@ -122,7 +122,7 @@ impl Choices {
     }
 }
 
-// Puts the handler followed by each of these choices behind the others.
+// Puts the handler followed by each of these choices after the others.
 fn push_all(
     alloc: Global,
     handler: HandlerId,

@@ -99,7 +99,7 @@ fn all_found(
 /// these limits: of each end that some placement has how many have it, and the least of them. In which order the handlers are named, and
 /// whether twice, makes no difference. There are fewer than 2^128 placements in all.
 ///
-/// `Memory` is answered only where a growth was refused.
+/// `Memory` is returned only if a growth was refused.
 pub fn explore(
     alloc: Global,
     app: &App,

@@ -43,7 +43,7 @@ impl Frontier {
         self.live.is_empty() && self.spent.is_empty()
     }
 
-    /// Takes the live kernels, into a layer whose own are of no more use.
+    /// Takes the live kernels, into a layer whose own kernels aren't needed any more.
     pub(crate) fn take_live(&mut self, alloc: Global, layer: &mut Layer)
         ensures taken { layer.new.nodes ≡ self.old.live.nodes }
         ensures none { self.new.live.nodes.items ≡ [] }

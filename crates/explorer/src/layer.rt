@@ -1,4 +1,4 @@
-//! The kernels that runs have come to before a step.
+//! The kernels that runs have reached before a step.
 ghost use Rattle.std.specs.Prelude.{◌≡◌, ◌<◌, ◌+◌, ◌^◌, [], true, length, IfOk, IfSome, OnOk};
 ghost use Rattle.explorer.specs.Layers.{Gains, count_of};
 ghost use Rattle.explorer.specs.Nodes.{IsAlike, IsJoined, IsPut};
@@ -8,10 +8,11 @@ use kernel::{Kernel, Snapshot};
 use model::{App, Memory};
 use std::alloc::Global;
 
-// The number that a place has where no node is.
+// The number in a place that has no node.
 const NO_NODE: u32 = u32::MAX;
 
-/// A kernel that runs have come to before a step, with plans of as many injections: how many they are, and the least of them.
+/// A kernel that runs have reached before a step, with plans of equally many injections: how many
+/// they are, and the least of them.
 #[derive(Drop)]
 pub(crate) struct Node {
     pub(crate) kernel: Box<Snapshot>,
@@ -22,8 +23,8 @@ pub(crate) struct Node {
     after: u32,
 }
 
-/// All kernels that runs have come to before a step, and a table of guesses at where to look for one. A wrong guess costs time and memory
-/// alone.
+/// All kernels that runs have reached before a step, and a table of guesses at where to look for
+/// one. A wrong guess costs time and memory alone.
 #[derive(Drop)]
 pub(crate) struct Layer {
     pub(crate) nodes: Vec<Node>,
@@ -98,7 +99,7 @@ impl Layer {
         None
     }
 
-    // To the plans of this node come others, so many, of which this is the least.
+    // Adds this many plans to those of this node; this is the least of them.
     fn join(&mut self, number: usize, count: u128, least: Placement)
         requires within { number < length self.old.nodes.items }
         requires room { count_of self.old.nodes.items + count < 2 ^ 128 }
@@ -152,7 +153,8 @@ impl Layer {
         Ok(())
     }
 
-    /// So many plans more come to this kernel, all of as many injections, of which this is the least.
+    /// This many more plans reach this kernel, all with equally many injections; this is the least
+    /// of them.
     pub(crate) fn add(
         &mut self,
         alloc: Global,

@@ -57,9 +57,11 @@ fn name_told<'a>(job: &Job<'a>, fault: JobFault) -> &'a str
     }
 }
 
-/// The status of a job. It is 0 where its run passes, or all rows of its part of a campaign do, written or not, or the runs of all
-/// placements, and 1 where it or some of them don't. It is 2 where a step and a handler don't go together, or the handler is unknown; and 3 where the file has a fault or too
-/// many points, or can't be read. It is 4 for want of memory, and 5 where the report can't be written.
+/// The status of a job. It is 0 if its run passes, or all rows of its part of a campaign do,
+/// written or not, or the runs of all placements, and 1 if it or some of them don't. It is 2 if a
+/// step and a handler don't go together, or the handler is unknown; and 3 if the file has a fault
+/// or too many points, or can't be read. It is 4 for want of memory, and 5 if the report can't be
+/// written.
 pub fn status_of(outcome: Result<bool, JobFault>) -> u8
     ensures { result ≡ status_of outcome }
 {
@@ -81,7 +83,7 @@ pub fn status_of(outcome: Result<bool, JobFault>) -> u8
     }
 }
 
-/// Prints a fault of words that name no job. Answers its status.
+/// Prints a fault of words that name no job. Returns its status.
 pub fn refuse<F: Sink>(faults: &mut F, fault: ServeFault) -> u8
     requires { F.has_failed faults.old ≡ false }
     ensures told { Tells (F.held faults.old) (F.held faults.new) (F.has_failed faults.new)
@@ -92,8 +94,8 @@ pub fn refuse<F: Sink>(faults: &mut F, fault: ServeFault) -> u8
     status_of(Err(JobFault::Serve(fault)))
 }
 
-/// Ends a job of this outcome: prints its fault, if it has one, and answers its status. That the line can't be put
-/// changes nothing of the status.
+/// Ends a job of this outcome: prints its fault, if it has one, and returns its status. That the
+/// line can't be put changes nothing of the status.
 pub fn conclude<F: Sink>(job: &Job<'_>, faults: &mut F, outcome: Result<bool, JobFault>) -> u8
     requires { F.has_failed faults.old ≡ false }
     ensures told { Tells (F.held faults.old) (F.held faults.new) (F.has_failed faults.new)
@@ -106,7 +108,7 @@ pub fn conclude<F: Sink>(job: &Job<'_>, faults: &mut F, outcome: Result<bool, Jo
     status_of(outcome)
 }
 
-// Serves a run. Answers whether it passes.
+// Serves a run. Returns whether it passes.
 fn serve_run_at<W: Sink>(
     alloc: Global,
     point: Option<NamedPoint<'_>>,
@@ -121,7 +123,7 @@ fn serve_run_at<W: Sink>(
     Ok(matches!(end, End::Pass))
 }
 
-// Serves a part of a campaign. Answers whether all its rows pass.
+// Serves a part of a campaign. Returns whether all its rows pass.
 fn serve_campaign<T: Threads + Wait + Sync, W: Sink, G: Gate + Sync>(
     rt: &T,
     alloc: Global,
@@ -210,7 +212,7 @@ fn act_on<T: Threads + Wait + Sync, W: Sink, F: Sink, G: Gate + Sync>(
     conclude(job, faults, outcome)
 }
 
-// All bytes of the job's file. None are read where its step and its handler don't go together.
+// All bytes of the job's file. None are read if its step and its handler don't go together.
 fn all_for<R: Source>(alloc: Global, job: &Job<'_>, reader: &mut R) -> Result<Vec<u8>, ServeFault>
     requires { R.has_failed reader.old ≡ false }
     ensures read { MatchResult result
@@ -228,11 +230,13 @@ fn all_for<R: Source>(alloc: Global, job: &Job<'_>, reader: &mut R) -> Result<Ve
     }
 }
 
-/// Does the job: reads its file from `reader`, and writes to `writer` what the job asks for. Answers the status that the
-/// program ends with, and puts the line of a fault, if any, to `faults`; that this fails changes nothing.
+/// Does the job: reads its file from `reader`, and writes to `writer` what the job asks for.
+/// Returns the status that the program ends with, and puts the line of a fault, if any, to
+/// `faults`; that this fails changes nothing.
 ///
-/// Where the job's step and its handler don't go together, nothing is read. The gate learns how far a campaign has come, unless it is
-/// quiet; no clause speaks of that. It waits for the workers of a campaign, whose threads are this runtime's.
+/// If the job's step and its handler don't go together, nothing is read. The gate learns how far a
+/// campaign has come, unless it is quiet; no clause speaks of that. It waits for the workers of a
+/// campaign, whose threads are this runtime's.
 pub fn act<T: Threads + Wait + Sync, R: Source, W: Sink, F: Sink, G: Gate + Sync>(
     rt: &T,
     alloc: Global,
@@ -261,7 +265,7 @@ pub fn act<T: Threads + Wait + Sync, R: Source, W: Sink, F: Sink, G: Gate + Sync
 // 64 MiB (profile).
 const MOST: usize = 67_108_864;
 
-// The same bytes as `all_for`, where they are 64 MiB at most.
+// The same bytes as `all_for`, if they are 64 MiB at most.
 fn bytes_for<R: Source>(alloc: Global, job: &Job<'_>, reader: &mut R) -> Result<Vec<u8>, JobFault>
     requires { R.has_failed reader.old ≡ false }
     ensures read { MatchResult result
@@ -281,7 +285,8 @@ fn bytes_for<R: Source>(alloc: Global, job: &Job<'_>, reader: &mut R) -> Result<
     }
 }
 
-// Does the job over its file, which `reader` gives. Nothing is read where its step and its handler don't go together.
+// Does the job over its file, which `reader` gives. Nothing is read if its step and its handler
+// don't go together.
 fn act_over_file<T: Threads + Wait + Sync, R: Source, W: Sink, F: Sink, G: Gate + Sync>(
     rt: &T,
     alloc: Global,
@@ -320,10 +325,11 @@ fn fault_of(error: &io::Error) -> ServeFault
     }
 }
 
-/// Opens the file of the job, and does the job over it and the two sinks. At most 64 MiB of it are read (profile): of a larger file, or
-/// of a device that has no end, this is the fault. A file that can't be opened is one that can't be
-/// read, also where the job's step and handler don't go together. The contract says of the file's bytes that there are such;
-/// that they are those of the file, the tests show.
+/// Opens the file of the job, and does the job over it and the two sinks. At most 64 MiB of it are
+/// read (profile): of a larger file, or of a device that has no end, this is the fault. A file that
+/// can't be opened is one that can't be read, also if the job's step and handler don't go together.
+/// The contract says of the file's bytes that there are such; that they are those of the file, the
+/// tests show.
 pub fn open_and_act<T: Threads + Wait + Files + Sync, W: Sink, F: Sink, G: Gate + Sync>(
     rt: &T,
     alloc: Global,

@@ -63,7 +63,7 @@ fn handlers_named(alloc: Global, app: &App, list: &str) -> Result<Vec<HandlerId>
     Ok(handlers)
 }
 
-// The handlers of these names, where a list of them is named, otherwise all of an application.
+// The handlers of these names, if a list of them is named, otherwise all of an application.
 fn handlers_asked(
     alloc: Global,
     app: &App,
@@ -137,7 +137,8 @@ fn all_pass(found: &[Found]) -> bool
     found.iter().all(|one| matches!(one.end, End::Pass))
 }
 
-// Explores an application, and writes the report of what is found, as its last deed. Answers whether each placement passes.
+// Explores an application, and writes the report of what is found, as its last deed. Returns
+// whether each placement passes.
 fn serve_app<W: Sink>(
     alloc: Global,
     app: &App,
@@ -155,8 +156,9 @@ fn serve_app<W: Sink>(
     Ok(all_pass(found.as_slice()))
 }
 
-/// Explores the application of the file of these bytes: finds how the runs with all placements of at most so many injections of these
-/// handlers end, and writes the report. Answers whether each placement passes.
+/// Explores the application of the file of these bytes: finds how the runs with all placements of
+/// at most so many injections of these handlers end, and writes the report. Returns whether each
+/// placement passes.
 ///
 /// It is out of line, since other jobs are to take no stack for its kernel.
 #[inline(never)]

@@ -36,8 +36,8 @@ fn show<W: Sink, F: Sink>(text: &str, writer: &mut W, faults: &mut F) -> u8
     }
 }
 
-// Prints why the words are refused: the text of `clap`, which may contain the words. The status is the same where it can't
-// be put.
+// Prints why the words are refused: the text of `clap`, which may contain the words. The status is
+// the same if it can't be put.
 fn refuse_words<F: Sink>(text: &str, faults: &mut F) -> u8
     requires { F.has_failed faults.old ≡ false }
     ensures tells { Tells (F.held faults.old) (F.held faults.new) (F.has_failed faults.new)
@@ -116,10 +116,12 @@ fn obey_meant<T: Threads + Wait + Files + Sync, W: Sink, F: Sink, G: Gate + Sync
     }
 }
 
-/// Does what the words ask for: a job over the two sinks, or to show help or the version, or to say why they are refused. The first of
-/// them is the name of the program. `auto` as the value of `--workers` means as many workers as there are processors that the
-/// program may use, 64 at most, and 1 where the system doesn't say how many. The gate learns how far a campaign has come, unless
-/// the words ask for quiet. It waits for the workers of a campaign, whose threads are this runtime's, as the files are.
+/// Does what the words ask for: a job over the two sinks, or to show help or the version, or to say
+/// why they are refused. The first of them is the name of the program. `auto` as the value of
+/// `--workers` means as many workers as there are processors that the program may use, 64 at most,
+/// and 1 if the system doesn't say how many. The gate learns how far a campaign has come, unless
+/// the words ask for quiet. It waits for the workers of a campaign, whose threads are this
+/// runtime's, as the files are.
 pub fn obey<T: Threads + Wait + Files + Sync, W: Sink, F: Sink, G: Gate + Sync>(
     rt: &T,
     alloc: Global,

@@ -81,7 +81,8 @@ fn add_events<W: Sink>(
     Ok(())
 }
 
-// Adds the lines of a base run's first events, this many, of which those that are spelled are sent as they are.
+// Adds the lines of a base run's first events, this many; those that are spelled are sent as they
+// are.
 fn add_shared<W: Sink>(
     writer: &mut W,
     page: &mut Page,
@@ -102,7 +103,8 @@ fn add_shared<W: Sink>(
     add_events(writer, page, lines, &base.events()[count..shared])
 }
 
-// Adds the lines of a base run's events from this one on, of which those that are spelled are sent as they stand.
+// Adds the lines of a base run's events from this one on; those that are spelled are sent as they
+// are.
 fn add_base_from<W: Sink>(
     writer: &mut W,
     page: &mut Page,
@@ -133,7 +135,7 @@ fn add_row_number<W: Sink>(writer: &mut W, page: &mut Page, number: u32) -> Resu
     Ok(())
 }
 
-// Adds the number of a row, and what comes behind it.
+// Adds the number of a row, and what comes after it.
 fn add_numbered<W: Sink>(
     writer: &mut W,
     page: &mut Page,
@@ -163,7 +165,7 @@ fn add_total_line<W: Sink>(
 }
 
 impl<'a> ReportWriter<'a> {
-    /// A report of runs of this application, of which nothing is written yet.
+    /// A report of runs of this application; nothing is written yet.
     pub fn new(app: &'a App) -> ReportWriter<'a>
         ensures app { result.app ≡ app.now }
         ensures page { result.page ≡ [] }

@@ -13,7 +13,7 @@ use Rattle.rows.specs.declared.rows.Place.{Place}
 use Rattle.rows.specs.declared.campaign_report.Rows.{Rows}
 use Rattle.rows.specs.Links.{Store, told_at, AreLegs, IsLink}
 
--- A row that is kept begins as the base run does, with so many of its events, and goes on with those behind its link.
+-- A row that is kept begins as the base run does, with so many of its events, and goes on with those that follow its link.
 abbrev pub row_of : (base : Run) → Store → KeptRow → Row
 row_of base store kept = record {
   point = kept.point;

@@ -14,16 +14,16 @@ const NEXT: u64 = 100;
 // How many of the kinds are ends.
 const ENDS: usize = 6;
 
-/// A line on standard error that says how many rows are made of how many, where that is a terminal. Nothing of it stays when the
-/// campaign ends. The first worker shows it, before a block.
+/// A line on standard error that says how many rows are made of how many, if that is a terminal.
+/// Nothing of it stays when the campaign ends. The first worker shows it, before a block.
 #[derive(Drop)]
 pub(crate) struct Counter<'a> {
     rt: &'a HostRuntime,
-    /// When it was made; `None` where standard error is no terminal, or there is no clock.
+    /// When it was made; `None` if standard error is no terminal, or there is no clock.
     start: Option<Instant>,
     /// How many rows there will be.
     all: AtomicU64,
-    /// How many milliseconds after the start it was shown last; 0 where it isn't shown.
+    /// How many milliseconds after the start it was shown last; 0 if it isn't shown.
     shown: AtomicU64,
 }
 
@@ -42,7 +42,7 @@ impl<'a> Counter<'a> {
         }
     }
 
-    // The milliseconds since the start; `None` where nothing is to be shown.
+    // The milliseconds since the start; `None` if nothing is to be shown.
     fn elapsed(&self) -> Option<u64> {
         let start = self.start?;
         let now = Instant::now(self.rt).ok()?;

@@ -2,13 +2,13 @@
 use arrayvec::ArrayVec;
 use model::App;
 
-/// An event group, of which the file has only the name.
+/// An event group. The file has only its name.
 #[derive(Drop)]
 pub(crate) struct NamedGroup<'a> {
     pub(crate) name: &'a str,
 }
 
-// What is in an array of event groups where none has been put yet.
+// What is in an array of event groups if none has been put yet.
 impl Default for NamedGroup<'_> {
     fn default() -> Self {
         NamedGroup { name: "" }

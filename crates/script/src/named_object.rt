@@ -13,7 +13,7 @@ pub(crate) struct NamedObject<'a> {
     pub(crate) ghost formed: { IsObjectKind kind } by { IsObjectKind-prop kind },
 }
 
-// What is in an array of objects where none has been put yet.
+// What is in an array of objects if none has been put yet.
 impl Default for NamedObject<'_> {
     fn default() -> Self {
         NamedObject {

@@ -13,7 +13,7 @@ pub(crate) struct NamedVariable<'a> {
     pub(crate) initial: u32,
 }
 
-// What is in an array of variables where none has been put yet.
+// What is in an array of variables if none has been put yet.
 impl Default for NamedVariable<'_> {
     fn default() -> Self {
         NamedVariable {
