@@ -147,7 +147,7 @@ def readme_counts_what_a_reader_believes():
         "of definitions": kernel.definitions.lines,
         "besides": report.definitions.lines,
         "of types": report.types.lines,
-        "of the kit's definition of TOML": report.kit.lines,
+        "of the toolchain's definition of TOML": report.kit.lines,
     }
     text = text_of(README).replace("lines, besides", "lines besides")
     said = {words: re.search(rf"([\d,]*\d)(?: lines)? {words}", " ".join(text.split())).group(1) for words in wanted}
