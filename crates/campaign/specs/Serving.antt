@@ -73,7 +73,7 @@ Answers {A} IsReport HasFault streams (Err Write) =
 Answers IsReport HasFault streams (Err fault) =
     ((bytes : List ℕ) × Known streams.input bytes × HasFault bytes fault) × Keeps streams.old streams.new
 
--- A call of this outcome, which failed to read or to write where, and only where, its fault says so.
+-- A call with this outcome. It failed to read or to write exactly if its fault says so.
 pub record Serves (A : Type 0) (IsReport : (bytes report : List ℕ) → A → Type 0) (HasFault : (bytes : List ℕ) → ServeFault → Type 0)
     (streams : Streams) (outcome : Result A ServeFault) : Type 0 where
   pub answers : Answers IsReport HasFault streams outcome

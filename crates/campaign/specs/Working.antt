@@ -32,8 +32,8 @@ use Rattle.rows.specs.Report.{row_of, rows_of, store_of, IsKept, AreKept}
 use Rattle.rows.specs.Placing.{numbers_of}
 use Rattle.campaign.specs.Seen.{AreSeen, IsSeen}
 
--- What there is to be done: rows of the application under these limits, for this view, with this base run, at these points, which
--- are cut into blocks of these lengths.
+-- The work: rows of the application under these limits, for this view, with this base run, at these points, which are cut into
+-- blocks of these lengths.
 pub record Work : Type 0 where
   pub app : Application
   pub limits : Limits
@@ -126,7 +126,7 @@ pub record Gained (counts : ℕ → ℕ) (old new : Tallied) : Type 0 where
   pub same : new.sheet ≡ old.sheet
   pub rises : (kind : ℕ) → kind < 7 → slice_index new.added kind ≡ slice_index old.added kind + counts kind
 
--- a seat of this tally that has added so many, kind by kind
+-- a seat of this tally that has added this many, kind by kind
 abbrev pub counted : Sheet → List ℕ → Tallied
 counted tally kinds = record { sheet = tally; added = kinds; seen = zeros }
 

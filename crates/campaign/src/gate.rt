@@ -1,8 +1,8 @@
 //! An observer of what the workers of a campaign do.
 use deal::Counts;
 
-/// Learns what the workers of a campaign do. No contract speaks of it. It is called by the workers, each in its own thread, and
-/// a worker goes on when it returns.
+/// Learns what the workers of a campaign do. No contract mentions it. It is called by the workers,
+/// each in its own thread, and a worker goes on when it returns.
 pub trait Gate {
     /// The campaign begins, and has this many points.
     fn begun(&self, _points: usize) {}

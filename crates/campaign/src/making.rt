@@ -29,7 +29,8 @@ use std::sync::atomic::AtomicU64;
 use std::thread;
 use std::thread::Threads;
 
-/// The rows of a campaign, with which one its base run is still to come, and the seats that counted them.
+/// The rows of a campaign, to which its base run has yet to be added, and the seats that counted
+/// them.
 #[derive(Drop)]
 pub(crate) struct Made {
     pub(crate) parts: Vec<Part>,
@@ -38,7 +39,7 @@ pub(crate) struct Made {
     pub(crate) seats: Vec<TallySeat>,
 }
 
-// What the workers brought, and the deal that they worked off.
+// What the workers brought, and the deal that they worked through.
 #[derive(Drop)]
 struct Brought {
     deal: Deal,
@@ -73,7 +74,8 @@ fn run_all<R: Threads + Wait + Sync, G: Gate + Sync>(
     }
 }
 
-// Lets this many workers, each with one of these lanes and a seat, work off what was dealt, and takes apart what they bring.
+// Lets this many workers, each with one of these lanes and a seat, work through what was dealt, and
+// takes apart what they bring.
 fn work_off<R: Threads + Wait + Sync, G: Gate + Sync>(
     rt: &R,
     alloc: Global,
@@ -135,7 +137,7 @@ fn bring_all<R: Threads + Wait + Sync, G: Gate + Sync>(
     Ok(Brought { deal, apart })
 }
 
-// Gathers the rows, so many, by the numbers of their blocks. All lanes came back, and all blocks
+// Gathers the rows, this many, by the numbers of their blocks. All lanes came back, and all blocks
 // were returned to them, so none is left over. The seats had added so much before.
 fn gather_rows(
     alloc: Global,

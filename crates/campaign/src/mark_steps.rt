@@ -1,7 +1,7 @@
 //! At which steps a row looks for marks, and leaves them.
 ghost use Rattle.std.specs.Prelude.{◌<◌, ◌^◌};
 
-// So many steps are between two marks near an injection, or a few more, if they are widest apart
+// This many steps are between two marks near an injection, or a few more, if they are widest apart
 // (`Spacing`).
 const WIDE: u32 = 64;
 
@@ -29,8 +29,8 @@ fn spacing_at(spacing: u32, way: u32) -> u32 {
     }
 }
 
-/// Whether a row whose last injection comes before this step may look for a mark at that one, if so
-/// many steps are between two marks that are closest together. If it doesn't, no row with an
+/// Whether a row whose last injection comes before this step may look for a mark at that one, if
+/// this many steps are between two marks that are closest together. If it doesn't, no row with an
 /// earlier last injection does.
 pub(crate) fn may_look(closest: u32, last: u32, mark: u32) -> bool {
     last < mark && mark % spacing_at(closest, mark - last).max(1) == 0

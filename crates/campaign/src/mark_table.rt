@@ -8,10 +8,10 @@ use crate::mark_steps::may_look;
 use kernel::{Kernel, Snapshot};
 use std::alloc::Global;
 
-// So many marks are kept before any is replaced.
+// This many marks are kept before any is replaced.
 const LEAST_ROOM: usize = 256;
 
-// So many marks are looked at for one that may be replaced.
+// This many marks are looked at for one that may be replaced.
 const TRIES: usize = 4;
 
 // How many places of the table there are.
@@ -40,7 +40,7 @@ fn place(hint: u64, probe: usize) -> usize {
 }
 
 impl MarkTable {
-    /// No marks. So many steps are between two of a row if they are closest together. If there is
+    /// No marks. This many steps are between two of a row if they are closest together. If there is
     /// no memory for the table none will be found.
     pub(crate) fn new(alloc: Global, closest: u32) -> MarkTable
         ensures { result.marks.items ≡ [] }
@@ -68,9 +68,9 @@ impl MarkTable {
     }
 
     /// Puts a mark, if there is memory for it, of a row whose last injection comes before this
-    /// step. If there are many, it takes the place of one at which no row looks that was injected
-    /// no later, if such a one is found soon; if there are so many as `room`, that of any. The
-    /// snapshot of that one is then among the spent ones.
+    /// step. If there are many, it takes the place of one that is of no use to this row or to rows
+    /// that were injected before it, if such a one is found soon. If there are as many as `room`,
+    /// it takes the place of any. The snapshot of the replaced one is then among the spent ones.
     pub(crate) fn put(&mut self, mark: Mark, step: u32, room: usize, spent: &mut Vec<Box<Snapshot>>)
         ensures { IsPutAt self.old.marks.items self.new.marks.items mark }
     {
@@ -89,7 +89,8 @@ impl MarkTable {
         let _ = spent.push(old.kernel);
     }
 
-    // Whether no row looks at this mark whose last injection comes before this step, or earlier.
+    // Whether this mark is of no use to rows whose last injection comes before this step, or
+    // earlier.
     fn is_spent(&self, number: usize, step: u32) -> bool {
         let Some(mark) = self.marks.get(number) else {
             return false;
@@ -131,7 +132,8 @@ impl MarkTable {
         Some(self.turn.min(self.marks.len() - 1))
     }
 
-    // Of the places to which this hint leads, gives the first that has this number another. Whether one had it.
+    // Of the places to which this hint leads, the first that has this number gets another one.
+    // Returns whether one had it.
     fn change(&mut self, hint: u64, number: u32, new: u32) -> bool
         ensures { self.new.marks ≡ self.old.marks }
     {

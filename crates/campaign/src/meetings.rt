@@ -1,10 +1,10 @@
-//! Whether it pays that a row looks for marks far after its last injection.
+//! Whether it pays off for a row to look for marks long after its last injection.
 
-// So many more rows than those that reach a mark may go on looking for one before that is taken not
-// to pay.
+// This many more rows than those that reach a mark may go on looking for one before that is taken
+// not to pay off.
 const PATIENCE: u32 = 32;
 
-// If it doesn't pay, one row in so many looks on.
+// If it doesn't pay off, one row in this many looks on.
 const SELDOM: u32 = 128;
 
 // If more rows than these looked on, the earlier ones count half.

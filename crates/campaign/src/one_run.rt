@@ -57,7 +57,8 @@ fn asked_run(
     Ok((title, run))
 }
 
-// Runs an application as it is asked for, and writes the report of the run, as its last deed.
+// Runs an application as it is asked for, and writes the report of the run, as the last thing it
+// does.
 fn serve_app<W: Sink>(
     alloc: Global,
     app: &App,
@@ -75,8 +76,8 @@ fn serve_app<W: Sink>(
 }
 
 /// Reads a file, runs the application that it names under its own limits, and writes the report of
-/// the run, as its last deed: the base run, or if a point is asked for, row 0. Returns how the run
-/// that it wrote ends.
+/// the run, as the last thing it does: the base run, or if a point is asked for, row 0. Returns how
+/// the run that it wrote ends.
 ///
 /// At `Write` a beginning of the report is written. At every other error nothing is. `UnknownHandler` comes after every
 /// fault of the file, and before any run.

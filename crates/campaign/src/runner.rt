@@ -55,7 +55,7 @@ fn first_mark(spacing: &Spacing, last: u32) -> u32
     next_mark(spacing.steps(), last, last + delay)
 }
 
-// How many of the base run's events a row has that is the base run, as far as the view shows it.
+// How many events a row has that is the base run, as far as the view shows it.
 fn shared_by(base: &Run, view: View) -> usize
     ensures { result ≡ (if shows_events view base.now.end then length base.now.events else 0) }
 {
@@ -66,7 +66,7 @@ fn shared_by(base: &Run, view: View) -> usize
     }
 }
 
-// How a row goes on that ended so: no more.
+// The rest of a row that ended in this way: nothing more.
 fn ahead_of(ending: RestEnding, base: &Run) -> Ahead
     ensures { result ≡ record { told = links.Base (length base.now.events); steps = ending.steps; ticks = ending.ticks; end = ending.end } }
 {
@@ -131,7 +131,7 @@ impl Runner {
         (self.trail, self.legs)
     }
 
-    // How a row goes on that has reached its end: no more.
+    // The rest of a row that has reached its end: nothing more.
     fn no_rest(
         &self,
         app: &App,
@@ -189,7 +189,7 @@ impl Runner {
         }
     }
 
-    // Runs a row on to its end, whose last injection comes before the step at which it is.
+    // Runs a row to its end. Its last injection comes before the step that it has reached.
     fn run_out(
         &mut self,
         app: &App,
@@ -222,13 +222,14 @@ impl Runner {
         )?;
         match ending {
             Some(ending) => Ok(ahead_of(ending, shelf.base())),
-            // No run comes so far (profile).
+            // No run gets this far (profile).
             None => unreachable!(),
         }
     }
 
-    // Runs a row on, whose last injection comes before the step at which it is, to a kernel from which it is known how each row goes on,
-    // or to its end. At each mark step on its way it looks for marks, and notes the kernel.
+    // Runs a row to a kernel from which the rest of each row is known, or to its end. Its last
+    // injection comes before the step that it has reached. At each mark step on its way it looks
+    // for marks, and notes the kernel.
     fn run_on(
         &mut self,
         app: &App,
@@ -310,7 +311,7 @@ impl Runner {
         }
     }
 
-    // How the row of a point goes on, which has come so far, or to this end.
+    // The rest of the row of a point that has come this far, or reached this end.
     fn rest(
         &mut self,
         app: &App,
@@ -363,7 +364,8 @@ impl Runner {
         }
     }
 
-    // The row on its way is over, went on so, and has the leg of this number: the kernels to which it came are marks now.
+    // The row on its way is over, with this rest and the leg of this number. The kernels that it
+    // reached are marks now.
     fn put_marks(&mut self, number: usize, rest: &Ahead, last: u32)
         ensures trail { self.new.trail ≡ self.old.trail }
         ensures legs { self.new.legs ≡ self.old.legs }
@@ -385,7 +387,7 @@ impl Runner {
         }
     }
 
-    // The row on its way is over, which goes on so after the trail: it gets a leg of its own, from
+    // The row on its way is over, with this rest after the trail. It gets a leg of its own, from
     // this place on.
     fn close(&mut self, rest: &Ahead, from: usize, last: u32) -> Result<Link, Memory>
         ensures link { IfOk result (λ link. link ≡ links.Leg (length self.old.legs.items) from) }
@@ -407,8 +409,8 @@ impl Runner {
         Ok(Link::Leg { number, from })
     }
 
-    // The row on its way is over, which goes on so, without its events. They leave the trail, and it gets no leg: nobody will follow the
-    // link of a mark that is put here.
+    // The row on its way is over, with this rest, and its events aren't kept. They leave the trail,
+    // and it gets no leg: nothing follows the link of a mark that is put here.
     fn close_without_events(&mut self, rest: &Ahead, from: usize, last: u32)
         ensures trail { all_of self.new.trail ≡ take from (all_of self.old.trail) }
         ensures legs { self.new.legs ≡ self.old.legs }
@@ -484,7 +486,7 @@ impl Runner {
 
     /// The row of a point, as far as the view shows it. If it shows events, the row's own go to the
     /// trail. The walk goes along the base run to the first injection. At `Err(Memory)` the runner
-    /// and the walk are of no more use.
+    /// and the walk can't be used any more.
     pub(crate) fn run(
         &mut self,
         app: &App,

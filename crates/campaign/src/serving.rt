@@ -36,11 +36,12 @@ impl From<ExpandFault> for ServeFault {
     }
 }
 
-// So many blocks there are for each worker at least, if there are points enough: then none waits
-// long for the others at the end.
+// Each worker has at least this many blocks, if there are points enough: then none waits long for
+// the others at the end.
 const LEAST_BLOCKS: usize = 8;
 
-// How many points a block has: as many as are asked for, or fewer, so that there are some blocks for each of so many workers.
+// How many points a block has: as many as are asked for, or fewer, so that there are some blocks
+// for each of this many workers.
 fn points_of_a_block(options: Options, points: usize, workers: usize) -> usize
     requires { 0 < workers }
     ensures { 0 < result }
@@ -118,7 +119,7 @@ fn report_of<R: Threads + Wait + Sync, G: Gate + Sync>(
     Ok(report)
 }
 
-// Makes the rows of an application, and writes the report of them, as its last deed.
+// Makes the rows of an application, and writes the report of them, as the last thing it does.
 fn serve_app<T: Threads + Wait + Sync, W: Sink, G: Gate + Sync>(
     rt: &T,
     alloc: Global,
@@ -143,9 +144,9 @@ fn serve_app<T: Threads + Wait + Sync, W: Sink, G: Gate + Sync>(
 }
 
 /// Reads a file, runs the application that it names once for each of its points in this part of
-/// them, under its own limits, and writes what the view shows of the rows, and their totals, as its
-/// last deed: so all rows are made before the first byte goes out. Returns the totals that it
-/// wrote: they count all rows of the part, written or not. The report doesn't depend on the
+/// them, under its own limits, and writes what the view shows of the rows, and their totals, as the
+/// last thing it does: so all rows are made before the first byte goes out. Returns the totals that
+/// it wrote: they count all rows of the part, written or not. The report doesn't depend on the
 /// options. It waits for its workers.
 ///
 /// At `Write` a beginning of the report is written. At every other error nothing is. `TooManyPoints` comes after every fault of

@@ -10,7 +10,7 @@ struct Plan {
     eighths: u32,
 }
 
-// So many are tried.
+// This many are tried.
 const PLANS: usize = 8;
 
 impl Plan {
@@ -31,25 +31,26 @@ impl Plan {
     }
 }
 
-// So often the widest spacing is halved at most.
+// The widest spacing is halved at most this often.
 const MOST_HALVINGS: u32 = 3;
 
-// After so many rows it is judged what they cost.
+// After this many rows, their cost is judged.
 const ROWS: u32 = 256;
 
-// So often as many rows look in the best way, before all are tried anew.
+// This often as many rows look in the best way, before all are tried again.
 const TURNS: u32 = 256;
 
-// So many steps cost as much as a look that finds no mark, and the one that it leaves.
+// This many steps cost as much as a look that finds no mark, and the one that it leaves.
 const MARK: u32 = 20;
 
-// Of a row no more counts than so many: few rows of a worker are run far, and it doesn't matter where these look first.
+// Of a row at most this many count: few rows of a worker are run far, and it doesn't matter where
+// these look first.
 const MOST: u32 = 512;
 
-// So many marks are kept at least: they stay in the cache that a processor has for itself.
+// This many marks are kept at least: they stay in the cache that a processor has for itself.
 const FEWEST_MARKS: u32 = 384;
 
-// So many at most: of few tasks they take some 30 MB, of 32 some 55 MB.
+// At most this many: with few tasks they take some 30 MB, with 32 some 55 MB.
 const MOST_MARKS: u32 = 8192;
 
 // One more is kept for so much that `ROWS` rows cost.
@@ -116,8 +117,8 @@ impl Spacing {
         self.room as usize
     }
 
-    /// A row did so many steps after its last injection, and left so many marks. After many rows it
-    /// is judged what they cost.
+    /// A row did this many steps after its last injection, and left this many marks. After many
+    /// rows their cost is judged.
     pub(crate) fn count_row(&mut self, steps: u32, marks: usize) {
         let marks = (marks.min(MOST as usize) as u32).saturating_mul(MARK);
         let cost = steps.saturating_add(marks).min(MOST);

@@ -123,7 +123,8 @@ impl Worker {
         Ok(end)
     }
 
-    // Makes the row of a point, and then counts it. At `Err(Memory)` the worker is of no more use.
+    // Makes the row of a point, and then counts it. At `Err(Memory)` the worker can't be used any
+    // more.
     fn add_row(
         &mut self,
         setup: &Setup<'_>,

@@ -98,7 +98,7 @@ fn step_by(
     )
 }
 
-// From the kernel of a node its plans go on with each of these choices, of so many handlers.
+// From the kernel of a node its plans go on with each of these choices, of this many handlers.
 fn step_by_each(
     alloc: Global,
     app: &App,

@@ -18,7 +18,8 @@ use kernel::Kernel;
 use model::{App, HandlerId, Limits, Memory};
 use std::alloc::Global;
 
-// If a block of steps ends before this step, another one begins, with so many handlers. The step up to which it goes is returned.
+// If a block of steps ends before this step, another one begins, with this many handlers. The step
+// up to which it goes is returned.
 fn begin_block(
     alloc: Global,
     app: &App,
@@ -95,9 +96,10 @@ fn all_found(
     Ok(frontier.findings)
 }
 
-/// What is found among all placements of at most so many injections (three at most) of these handlers, in the run of an application under
-/// these limits: of each end that some placement has how many have it, and the least of them. In which order the handlers are named, and
-/// whether twice, makes no difference. There are fewer than 2^128 placements in all.
+/// What is found among all placements of at most this many injections (three at most) of these
+/// handlers, in the run of an application under these limits: of each end that some placement has
+/// how many have it, and the least of them. In which order the handlers are named, and whether
+/// twice, makes no difference. There are fewer than 2^128 placements in all.
 ///
 /// `Memory` is returned only if a growth was refused.
 pub fn explore(

@@ -29,11 +29,12 @@ pub(crate) struct Node {
 pub(crate) struct Layer {
     pub(crate) nodes: Vec<Node>,
     heads: Vec<u32>,
-    // The memory of kernels that are of no more use.
+    // The memory of kernels that can't be used any more.
     spare: Vec<Box<Snapshot>>,
 }
 
-// A table for about so many kernels, in the memory that it has, if that suffices. If there is no memory for it, none will be found.
+// A table for about this many kernels, in the memory that it has, if that suffices. If there is no
+// memory for it, none will be found.
 fn clear_table(alloc: Global, heads: &mut Vec<u32>, about: usize) {
     let places = about.saturating_mul(2).saturating_add(8);
     if heads.len() < places {
@@ -57,7 +58,7 @@ impl Layer {
         }
     }
 
-    /// Drops its kernels, and keeps their memory for about so many others.
+    /// Drops its kernels, and keeps their memory for about this many others.
     pub(crate) fn clear(&mut self, alloc: Global, about: usize)
         ensures { self.new.nodes.items ≡ [] }
     {
@@ -84,7 +85,8 @@ impl Layer {
         }
     }
 
-    // The number of a node of this kernel, of this hint, with plans of so many injections, if one is found.
+    // The number of a node of this kernel, of this hint, with plans of this many injections, if one
+    // is found.
     fn find(&self, kernel: &Kernel, hint: u64, length: usize) -> Option<usize>
         ensures { IfSome result (IsAlike self.now.nodes.items kernel.now length) }
     {

@@ -22,8 +22,8 @@ abbrev pub NamesUnknown : Option (List ℕ) → Application → (place : ℕ) �
 NamesUnknown None app place = ⊥
 NamesUnknown (Some list) app place = IsFirstUnknown app (names_of list) place
 
--- The bytes are a file. This is the report of what is found among all placements of at most so many injections of these handlers in
--- its application's run, under its own limits; and whether each placement passes.
+-- The bytes are a file. This is the report of what is found among all placements of at most this many injections of these
+-- handlers in its application's run, under its own limits; and whether each placement passes.
 pub record IsExplorationOf (most : ℕ) (list : Option (List ℕ)) (bytes report : List ℕ) (passes : Bool) : Type 0 where
   pub app : Application
   pub file : IsFileOf bytes app

@@ -60,7 +60,7 @@ fn name_told<'a>(job: &Job<'a>, fault: JobFault) -> &'a str
 /// The status of a job. It is 0 if its run passes, or all rows of its part of a campaign do,
 /// written or not, or the runs of all placements, and 1 if it or some of them don't. It is 2 if a
 /// step and a handler don't go together, or the handler is unknown; and 3 if the file has a fault
-/// or too many points, or can't be read. It is 4 for want of memory, and 5 if the report can't be
+/// or too many points, or can't be read. It is 4 if memory ran out, and 5 if the report can't be
 /// written.
 pub fn status_of(outcome: Result<bool, JobFault>) -> u8
     ensures { result ≡ status_of outcome }
@@ -235,7 +235,7 @@ fn all_for<R: Source>(alloc: Global, job: &Job<'_>, reader: &mut R) -> Result<Ve
 /// `faults`; that this fails changes nothing.
 ///
 /// If the job's step and its handler don't go together, nothing is read. The gate learns how far a
-/// campaign has come, unless it is quiet; no clause speaks of that. It waits for the workers of a
+/// campaign has come, unless it is quiet; no clause mentions that. It waits for the workers of a
 /// campaign, whose threads are this runtime's.
 pub fn act<T: Threads + Wait + Sync, R: Source, W: Sink, F: Sink, G: Gate + Sync>(
     rt: &T,

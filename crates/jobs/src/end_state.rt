@@ -68,7 +68,8 @@ fn asked_run(
     Ok((title, run, end_state))
 }
 
-// Runs an application as it is asked for, and writes the report of the run and its end state, as its last deed.
+// Runs an application as it is asked for, and writes the report of the run and its end state, as
+// the last thing it does.
 fn serve_app<W: Sink>(
     alloc: Global,
     app: &App,

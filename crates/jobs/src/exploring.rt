@@ -137,8 +137,8 @@ fn all_pass(found: &[Found]) -> bool
     found.iter().all(|one| matches!(one.end, End::Pass))
 }
 
-// Explores an application, and writes the report of what is found, as its last deed. Returns
-// whether each placement passes.
+// Explores an application, and writes the report of what is found, as the last thing it does.
+// Returns whether each placement passes.
 fn serve_app<W: Sink>(
     alloc: Global,
     app: &App,
@@ -157,7 +157,7 @@ fn serve_app<W: Sink>(
 }
 
 /// Explores the application of the file of these bytes: finds how the runs with all placements of
-/// at most so many injections of these handlers end, and writes the report. Returns whether each
+/// at most this many injections of these handlers end, and writes the report. Returns whether each
 /// placement passes.
 ///
 /// It is out of line, since other jobs are to take no stack for its kernel.

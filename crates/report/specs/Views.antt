@@ -24,7 +24,7 @@ has_end ends end = by_end ends.pass ends.check ends.misuse ends.ticks ends.steps
 abbrev pub plain : View
 plain = record { ends = every_end; heads = false }
 
--- a row that ends so is written
+-- a row that ends in this way is written
 abbrev pub shows : View → End → Bool
 shows view end = has_end view.ends end
 

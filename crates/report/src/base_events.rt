@@ -78,7 +78,7 @@ impl Spelled {
         Ok(())
     }
 
-    // Where the text of the first so many events ends.
+    // Where the text of this many first events ends.
     fn end_of(&self, count: usize) -> usize
         requires { count ≤ length self.now.ends.items }
         ensures { result ≡ slice_index_or (0 ∷ self.now.ends.items) count 0 }

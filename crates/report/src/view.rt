@@ -76,7 +76,7 @@ impl View {
         }
     }
 
-    /// Whether a row that ends so is written.
+    /// Whether a row that ends in this way is written.
     pub fn shows(&self, end: End) -> bool
         ensures { result ≡ shows self.now end }
     {

@@ -22,9 +22,10 @@ const FIRST: usize = b"row 0".len();
 
 /// The report of a campaign or of one run, as it is being written: what is still to go out, and what lines have in common.
 ///
-/// It takes no memory, and is some 75 kB large: make it once for a report. Each call on a writer requires that this has not
-/// failed. At `Err` the writer failed or took none of some bytes, it has taken a beginning of what was still to go out and of
-/// what was added, and the report is of no more use.
+/// It takes no memory, and is some 75 kB large: make it once for a report. Each call on a writer
+/// requires that this has not failed. At `Err` the writer failed or took none of some bytes, it has
+/// taken a beginning of what was still to go out and of what was added, and the report can't be
+/// used any more.
 #[derive(Drop)]
 pub struct ReportWriter<'a> {
     page: Page,
@@ -212,8 +213,8 @@ impl<'a> ReportWriter<'a> {
         add_head(writer, &mut self.page, self.lines.app(), title, ending)
     }
 
-    /// Begins the report of a row: adds its head line, which begins with the title, and the lines of the first so many events of
-    /// this base run, which is of the same application.
+    /// Begins the report of a row: adds its head line, which begins with the title, and the lines
+    /// of this many first events of this base run, which is of the same application.
     pub fn begin_row<W: Sink>(
         &mut self,
         writer: &mut W,
@@ -297,7 +298,7 @@ impl<'a> ReportWriter<'a> {
         add_total_line(writer, &mut self.page, totals)
     }
 
-    /// Forgets what is still to go out. A report that is of no more use begins anew by it.
+    /// Forgets what is still to go out. A report that can't be used any more begins anew by it.
     pub fn clear(&mut self)
         ensures app { self.new.app ≡ self.old.app }
         ensures empty { self.new.page ≡ [] }

@@ -31,8 +31,8 @@ pub enum Job<'a> {
         options: Options,
         quiet: bool,
     },
-    /// Write what is found among all placements of at most so many injections of these handlers, whose names are joined by commas, or of
-    /// all handlers, in the run of this file's application.
+    /// Write what is found among all placements of at most this many injections of these handlers,
+    /// whose names are joined by commas, or of all handlers, in the run of this file's application.
     Explore {
         file: &'a str,
         injections: MostInjections,

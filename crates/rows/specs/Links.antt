@@ -11,7 +11,7 @@ pub record Store : Type 0 where
   pub trail : List Event
   pub legs : List Leg
 
--- the events that follow a link, over so many legs at most; those of the base run are everyone's
+-- the events that follow a link, over this many legs at most; those of the base run are everyone's
 abbrev pub told_by : (base : List Event) → Store → ℕ → Link → List Event
 told_by base store n (link.Base from) = drop from base
 told_by base store zero (link.Leg number from) = []

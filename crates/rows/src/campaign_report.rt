@@ -11,7 +11,8 @@ use std::mem::forget;
 use std::thread;
 use std::thread::Threads;
 
-// Rows that take so many bytes at most stay in memory to the end of the program, which comes soon.
+// Rows that take this many bytes at most stay in memory to the end of the program, which comes
+// soon.
 const FEW: usize = 1 << 24;
 
 // How many bytes a row that is kept takes, and an event, or some more.

@@ -15,7 +15,7 @@ use std::thread::Threads;
 // A leg of fewer events than this many is spelled for each row that goes over it. Few others go over most of those.
 const LEAST_EVENTS: usize = 64;
 
-// So many events of a part are spelled at most, which are some 100 MB of text.
+// This many events of a part are spelled at most, which are some 100 MB of text.
 const MOST_EVENTS: usize = 1 << 22;
 
 // The number of a leg whose stretch is not spelled.
@@ -29,7 +29,7 @@ pub(crate) struct Stretch<'a> {
     events: BaseEvents<'a>,
 }
 
-/// What is found of a trail up to some place: events; so many of them come before those that are
+/// What is found of a trail up to some place: events; this many of them come before those that are
 /// looked for.
 #[derive(Clone, Copy)]
 pub(crate) struct Found<'s, 'a> {

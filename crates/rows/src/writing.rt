@@ -159,7 +159,7 @@ fn add_told<W: Sink>(
     }
 }
 
-/// Adds a row of this number to a report: its events are the first so many of the base run's, and
+/// Adds a row of this number to a report: its events are this many first ones of the base run, and
 /// those that follow its link.
 pub(crate) fn add_row<W: Sink>(
     writer: &mut W,

@@ -41,7 +41,7 @@ pub(crate) trait TextOp: Copy {
     fn is_command(&self) -> bool
         ensures { result ≡ ops.is_command self.now };
 
-    /// Whether the object of which it speaks allows it.
+    /// Whether the object that it names allows it.
     fn is_allowed(&self, objects: &[NamedObject<'_>]) -> bool
         ensures { result ≡ ops.is_allowed (map object_view objects.now) self.now };
 

@@ -6,8 +6,8 @@ use Rattle.machine.specs.declared.machine.Machine.{Machine}
 use Rattle.kernel.specs.Rests.{IsRest}
 use Rattle.shelf.specs.declared.stops.Stop.{Stop}
 
--- Each run that reaches this kernel, and into which nothing is injected from there on, goes on as the base run does after so many
--- of its events.
+-- Each run that reaches this kernel, and into which nothing is injected from there on, goes on as the base run does after this
+-- many of its events.
 pub record JoinsBase (app : Application) (limits : Limits) (base : Run) (k : Machine) (before : ℕ) : Type 0 where
   pub within : before ≤ length base.events
   pub rest : IsRest app limits k (record base { events = drop before base.events })

@@ -196,9 +196,10 @@ impl Shelf {
     /// nearer. So most points that come in order take few steps that aren't their rows' own. The meter, which is below 2^62, rises by the
     /// steps on that way and those of the row from the injection on.
     ///
-    /// `Err(Memory)` is returned only if a growth was refused, so never if the row reports nothing. The meter has then risen by no more
-    /// than the way and the row's steps from that injection on. The trail then has those events that it had, and some more after them, and
-    /// the walk is of no more use.
+    /// `Err(Memory)` is returned only if a growth was refused, so never if the row reports nothing.
+    /// The meter has then risen by no more than the way and the row's steps from that injection on.
+    /// The trail then has those events that it had, and some more after them, and the walk can't be
+    /// used any more.
     pub fn begin_row_after(
         &self,
         app: &App,
