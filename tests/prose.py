@@ -62,6 +62,12 @@ REACHED = {
     "docs/proofs/reading.md": {"where": 1, "answers": 1},
     "docs/proofs/wrong_bodies.md": {"answers": 1},
 }
+# The same of the comments of each crate from byte_io and shelf upwards.
+REACHED_BY_COMMENTS = {
+    "byte_io": {"where": 4, "of which": 1}, "shelf": {"where": 4}, "explorer": {"where": 4}, "rows": {"where": 12, "behind": 1, "of which": 1},
+    "report": {"where": 3, "of which": 4}, "grammar": {"where": 1}, "script": {"where": 6}, "requests": {"of which": 1},
+    "deal": {"of which": 2}, "campaign": {"where": 6, "of which": 1}, "jobs": {}, "rtosim": {"is to be": 1},
+}
 STRING = re.compile(r'"(?:[^"\\]|\\.)*"')
 LINK = re.compile(r"\[[^]]*\]\(([^)\s]+)\)")
 # A stop, perhaps with what closes a bracket, a quotation or an emphasis, and a word that may begin a sentence.
@@ -146,9 +152,18 @@ def places_not_plain():
     return [f"{name}:{line}: {word}" for name, lines in texts for line, word in words_not_plain(lines)]
 
 
+def comments_of(crate):
+    """All comments of a crate's code and definitions."""
+    return "\n".join(line for name, lines in commented() if name.startswith(f"crates/{crate}/") for _, line in lines)
+
+
 def patterns_in(text):
     """How often prose has each pattern that it has; code and the addresses of links don't count."""
-    plain = re.sub(r"`[^`]*`|\]\([^)]*\)", "", "\n".join(line for _, line in prose_lines(text)))
+    return patterns_of("\n".join(line for _, line in prose_lines(text)))
+
+
+def patterns_of(lines):
+    plain = re.sub(r"`[^`]*`|\]\([^)]*\)", "", lines)
     counted = {name: len(form.findall(plain)) for name, form in PATTERNS.items()}
     return {name: number for name, number in counted.items() if number}
 
@@ -192,6 +207,14 @@ def documents_in_plain_english_stay_so():
         reached = REACHED.get(name, {})
         more = {it: number for it, number in patterns_in(text_of(name)).items() if number > reached.get(it, 0)}
         equal((name, more), (name, {}))
+
+
+@case
+def comments_in_plain_english_stay_so():
+    for crate, reached in REACHED_BY_COMMENTS.items():
+        assert os.path.isdir(f"{ROOT}/crates/{crate}/src"), crate
+        more = {it: number for it, number in patterns_of(comments_of(crate)).items() if number > reached.get(it, 0)}
+        equal((crate, more), (crate, {}))
 
 
 @case
