@@ -14,6 +14,9 @@ from running import ROOT, stored
 MOST_WORDS = 40
 MOST_COLUMNS = 132
 README_LINES = 130
+MOST_LINES = 600
+# Longer documents, and how long they may be.
+LONGER = {"docs/KERNEL.md": 800}
 BEGINS_A_BLOCK = re.compile(r"^\s*(#+|[-*]|\d+\.)\s")
 # Words that stop a reader: a program or a value prints, reports, says or shows; it is, lies or holds, and represents or means.
 NOT_PLAIN = re.compile(r"(?i)\b(tell|tells|telling|told|stands|stood|but for)\b")
@@ -254,6 +257,12 @@ def readme_is_short_and_says_the_kits_logic_once():
     readme = text_of("README.md")
     assert readme.count("\n") <= README_LINES, readme.count("\n")
     equal([name for name in documents() for _ in re.findall(r"logic [0-9a-f]{16}\b|rattle-kit-", text_of(name))], ["README.md"])
+
+
+@case
+def no_document_has_more_than_600_lines():
+    lines = {name: text_of(name).count("\n") for name in documents()}
+    equal({name: number for name, number in lines.items() if number > LONGER.get(name, MOST_LINES)}, {})
 
 
 @case
