@@ -33,7 +33,7 @@ IsPutAt old new mark = (app : Application) (limits : Limits) (view : View) (base
     → AreMarked app limits view base store old → IsRestIn app limits view base store mark.kernel.value mark.rest
     → AreMarked app limits view base store new
 
--- If the marks are right, each row that reaches the kernel goes on so.
+-- If the marks are right, each row that reaches the kernel goes on in this way.
 abbrev pub IsAhead : Application → Limits → Run → List Mark → Machine → Ahead → Type 0
 IsAhead app limits base marks k rest = (view : View) (store : Store)
     → AreMarked app limits view base store marks → IsRestIn app limits view base store k rest
@@ -53,11 +53,12 @@ abbrev pub IsNoted : (trail : List Event) → (now : Machine) → (old new : Lis
 IsNoted trail now old new =
     (app : Application) (limits : Limits) → AreBehind app limits trail now old → AreBehind app limits trail now new
 
--- how each row that reaches the kernel that was passed goes on, if that is by the leg of this number and then so
+-- how each row that reaches the kernel that was passed goes on, if that is by the leg of this number and then in this way
 abbrev pub rest_from : (number : ℕ) → Ahead → Passed → Ahead
 rest_from number rest passed = record rest { told = link.Leg number passed.from }
 
--- If the old marks are right, and each row that reaches one of the kernels that were passed goes on so, the new marks are right.
+-- If the old marks are right, and each row that reaches one of the kernels that were passed goes on in this way, the new marks
+-- are right.
 abbrev pub ArePut : (number : ℕ) → Ahead → List Passed → (old new : List Mark) → Type 0
 ArePut number rest passed old new = (app : Application) (limits : Limits) (view : View) (base : Run) (store : Store)
     → AreMarked app limits view base store old

@@ -33,7 +33,7 @@ HasFault asked bytes (UnknownHandler place) =
     (app : Application) × IsFileOf bytes app × IsFirstUnknown app (names_asked asked) place
 HasFault asked bytes fault = HasFileFault bytes fault
 
--- the bytes are a file if the run that is asked for has this report and this end
+-- the bytes are a file whose run, as it is asked for, has this report and this end
 pub record IsReportOf (asked : Option NamedPoint) (bytes report : List ℕ) (end : End) : Type 0 where
   pub app : Application
   pub file : IsFileOf bytes app

@@ -68,7 +68,7 @@ pub record IsAmong (rows : List KeptRow) (point : List Injection) (number : ℕ)
   pub is : slice_get rows number ≡ Some row
   pub at_point : row.point ≡ point
 
--- After these rows comes that of this point, with what the store gains, and ends so.
+-- After these rows comes that of this point, with what the store gains, and ends in this way.
 pub record KeepsRow (app : Application) (limits : Limits) (view : View)
     (base : Run) (point : List Injection) (kept kept' : List KeptRow)
     (old new : Store) (end : End) : Type 0 where
@@ -83,19 +83,19 @@ pub record KeepsRow (app : Application) (limits : Limits) (view : View)
 abbrev pub store_in : Runner → Store
 store_in runner = record { trail = all_of runner.trail; legs = runner.legs.items }
 
--- These events follow the link, if the view shows those of a row that ends so.
+-- These events follow the link, if the view shows those of a row that ends in this way.
 abbrev pub IsTold : View → (base : List Event) → Store → Link → End → List Event → Type 0
 IsTold view base store link end events = shows_events view end ≡ true → Tells base store link events
 
--- Each row that reaches the kernel goes on so, and what it reports is there, if the view shows it.
+-- Each row that reaches the kernel goes on in this way, and what it reports is there, if the view shows it.
 pub record IsRestIn (app : Application) (limits : Limits) (view : View)
     (base : Run) (store : Store) (k : Machine) (rest : Ahead) : Type 0 where
   pub events : List Event
   pub told : IsTold view base.events store rest.told rest.end events
   pub is_rest : IsRest app limits k (record { events = events; steps = rest.steps; ticks = rest.ticks; end = rest.end })
 
--- The row of this point, which has reached the kernel, goes on by what the trail gained, and then so; and what it reports then is
--- there, if the view shows it.
+-- The row of this point, which has reached the kernel, goes on by what the trail gained, and then in this way; and what it
+-- reports then is there, if the view shows it.
 pub record IsRestOf (app : Application) (limits : Limits) (view : View) (base : Run)
     (old new : Store) (point : List Injection) (k : Machine) (rest : Ahead) : Type 0 where
   pub own : List Event
@@ -109,8 +109,8 @@ pub record IsRestOf (app : Application) (limits : Limits) (view : View) (base : 
     end = rest.end;
   })
 
--- Each row that reaches the kernel that was passed goes on by the trail from there on, and then so; and what it reports then is
--- there, if the view shows it.
+-- Each row that reaches the kernel that was passed goes on by the trail from there on, and then in this way; and what it reports
+-- then is there, if the view shows it.
 pub record IsPassed (app : Application) (limits : Limits) (view : View)
     (base : Run) (store : Store) (rest : Ahead) (passed : Passed) : Type 0 where
   pub within : passed.from ≤ length store.trail

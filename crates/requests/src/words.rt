@@ -321,8 +321,7 @@ fn step_of(matches: &ArgMatches<'_>) -> Option<Option<u32>>
     }
 }
 
-// The point that these words name; neither a point nor a handler has to be named. `None`: it is
-// none, or one of the others is named too.
+// The point that this text spells. `None` if it spells none, or if a step or a handler is named too.
 fn point_among<'a>(
     point: &'a str,
     step: Option<u32>,
@@ -411,7 +410,8 @@ fn options_of(matches: &ArgMatches<'_>) -> Option<Options>
     Options::new(workers, stride, block).ok()
 }
 
-// The ends of the rows that are written, by the list of them, if one is named.
+// The ends of the rows that are written: those of the list, or every end if no list is named. `None`
+// if a word of it is no end.
 fn ends_in(list: Option<&str>) -> Option<Ends>
     ensures { result ≡ ends_in (option_map (λ list. list.now) list.entry) }
 {
@@ -430,7 +430,7 @@ fn view_of(matches: &ArgMatches<'_>) -> Option<View>
     Some(View { ends, heads })
 }
 
-// The shard that is named; without one, all rows.
+// The shard that is named, or all rows if none is. `None` if there is no such shard.
 fn shard_in(word: Option<&str>) -> Option<Shard>
     ensures { result ≡ shard_of_words (option_map (λ word. word.now) word.entry) }
 {
@@ -477,7 +477,7 @@ fn injections_of(matches: &ArgMatches<'_>) -> Option<MostInjections>
     }
 }
 
-// The handlers of the list, if one is named.
+// The list of handlers, if one is named. `None` if it isn't a list of names.
 fn handlers_in<'a>(list: Option<&'a str>) -> Option<Option<&'a str>>
     ensures { option_map (λ list. option_map (λ list. list.now) list) result ≡ handlers_in (option_map (λ list. list.now) list.entry) }
 {

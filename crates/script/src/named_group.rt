@@ -8,7 +8,7 @@ pub(crate) struct NamedGroup<'a> {
     pub(crate) name: &'a str,
 }
 
-// What is in an array of event groups if none has been put yet.
+// What an array of event groups has in a place that is still free.
 impl Default for NamedGroup<'_> {
     fn default() -> Self {
         NamedGroup { name: "" }
