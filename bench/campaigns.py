@@ -1,8 +1,6 @@
 #!/usr/bin/env python3
 """Times campaigns of the built program with 1, 2 and 4 workers, their output going to /dev/null.
 
-    campaigns.py [PROGRAM [OTHER]]
-
 Prints for each campaign and number of workers the best and the median wall time of nine runs, the processor time of the
 best, and the peak memory. The runs take turns. The program is crates/rtosim/out/rtosim, or PROGRAM; large pages are asked for,
 as bin/rtosim does. With OTHER, the same of that program with one worker, where it takes the file.
@@ -14,36 +12,37 @@ hours in a tickless application, which a handler wakes at any time; `masked`, 5,
 each turn, so that the handlers of many rows are pending first; `counter`, 5,000 rows of a task that counts in each turn and stores the
 count in another variable too, which a handler writes before; `notified`, 5,000 rows of a task that takes its notifications, which a
 task and a handler send; `million`, 1,000,000 single points of a short application, each of which ends after some ten steps."""
-import ctypes
+from __future__ import annotations
+
 import os
 import random
 import statistics
-import subprocess
 import sys
 import tempfile
-import time
+from typing import Iterable, List, Optional, Sequence
 
-HERE = os.path.dirname(os.path.abspath(__file__))
-PROGRAM = os.path.join(HERE, "..", "crates", "rtosim", "out", "rtosim")
+sys.dont_write_bytecode = True
+sys.path.insert(0, os.path.dirname(os.path.abspath(__file__)))
+from programs import add_programs, parser_of, prepare, programs_of, takes, timed, write
+
 WORKERS = (1, 2, 4)
 RUNS = 9
-PR_SET_CHILD_SUBREAPER = 36
 
 
-def array(words):
+def array(words: Iterable[str]) -> str:
     return "[" + ", ".join(f'"{it}"' for it in words) + "]"
 
 
-def task(name, priority, script):
+def task(name: str, priority: int, script: Iterable[str]) -> str:
     return f'[[task]]\nname = "{name}"\npriority = {priority}\nscript = {array(script)}\n'
 
 
-def turns(*ops):
+def turns(*ops: str) -> List[str]:
     """A million turns of these ops."""
     return ["repeat 1000", "repeat 1000", *ops, "end", "end"]
 
 
-def producer_and_consumer(steps, work):
+def producer_and_consumer(steps: int, work: int) -> str:
     """A producer, a consumer and a third task, with a mutex between them, and a handler before each step."""
     return (
         f"[limits]\nsteps = {steps}\n"
@@ -56,7 +55,7 @@ def producer_and_consumer(steps, work):
     )
 
 
-def sensor_and_daemon(steps):
+def sensor_and_daemon(steps: int) -> str:
     """A task that waits for bits, one that computes below the daemon, and commands to the daemon before each step."""
     return (
         f"[limits]\nsteps = {steps}\n"
@@ -68,7 +67,7 @@ def sensor_and_daemon(steps):
     )
 
 
-def asleep(steps):
+def asleep(steps: int) -> str:
     """Tasks that sleep and wait for long, and an alarm before each step. From where it wakes a task a row has other steps than its
     neighbours."""
     return (
@@ -80,7 +79,7 @@ def asleep(steps):
     )
 
 
-def masked(steps):
+def masked(steps: int) -> str:
     """A driver that looks in a critical section in each turn, a task that sends to it, and a handler before each step."""
     return (
         f"[limits]\nsteps = {steps}\n"
@@ -91,7 +90,7 @@ def masked(steps):
     )
 
 
-def counter(steps):
+def counter(steps: int) -> str:
     """A task that counts, stores the count once more and compares the two, and a handler before each step that changes the copy. The task
     writes over it in its next turn."""
     return (
@@ -104,7 +103,7 @@ def counter(steps):
     )
 
 
-def notified(steps):
+def notified(steps: int) -> str:
     """A task that takes its notifications, a task that notifies it at each tick, and a handler before each step that does too."""
     return (
         f"[limits]\nsteps = {steps}\n"
@@ -115,7 +114,7 @@ def notified(steps):
     )
 
 
-def million_points():
+def million_points() -> str:
     """A million points over an application that ends after some ten steps."""
     dice = random.Random(5)
     points = (f"{dice.randrange(11)} {dice.choice('hk')}" for _ in range(1000000))
@@ -127,45 +126,31 @@ def million_points():
     )
 
 
-def takes(program, path):
-    """Whether the program takes this file, which an older one may refuse."""
-    return subprocess.run([program, "run", path], stdout=subprocess.DEVNULL, stderr=subprocess.DEVNULL).returncode < 3
-
-
-def timed(words):
-    """The wall time and the processor time of one run in seconds, and its peak memory in MiB.
-
-    A shell, which is small, starts the program and ends, so that the memory is the program's own."""
-    begin = time.perf_counter()
-    subprocess.run(["sh", "-c", '"$@" >/dev/null &', "sh", *words])
-    usage = os.wait4(-1, 0)[2]
-    return time.perf_counter() - begin, usage.ru_utime + usage.ru_stime, usage.ru_maxrss / 1024
-
-
-def measure(name, path, programs):
+def measure(name: str, path: str, programs: Sequence[str]) -> None:
     """Runs a campaign with each number of workers, and prints what that took."""
     calls = {f"{it} workers": [programs[0], "campaign", path, "--workers", str(it)] for it in WORKERS}
     if len(programs) == 2 and takes(programs[1], path):
         calls[os.path.relpath(programs[1])] = [programs[1], "campaign", path]
     runs = [[timed(words) for words in calls.values()] for _ in range(RUNS)]
     for call, taken in zip(calls, zip(*runs)):
-        (wall, processors, _), peak = min(taken), max(it[2] for it in taken)
-        median = statistics.median(it[0] for it in taken)
-        print(f"{name}, {call}: best {wall:.3f} s, median {median:.3f} s, processors {processors:.3f} s, peak {peak:.1f} MiB", flush=True)
+        best, peak = min(taken), max(it.peak for it in taken)
+        median = statistics.median(it.wall for it in taken)
+        times = f"best {best.wall:.3f} s, median {median:.3f} s, processors {best.processors:.3f} s"
+        print(f"{name}, {call}: {times}, peak {peak:.1f} MiB", flush=True)
 
 
-def main():
-    os.environ["GLIBC_TUNABLES"] = "glibc.malloc.hugetlb=1:glibc.malloc.arena_max=8:glibc.malloc.top_pad=4194304"
-    ctypes.CDLL(None).prctl(PR_SET_CHILD_SUBREAPER, 1, 0, 0, 0)
-    programs = sys.argv[1:3] or [PROGRAM]
+def main(words: Optional[Sequence[str]] = None) -> None:
+    parser = parser_of(__doc__)
+    add_programs(parser)
+    programs = programs_of(parser.parse_args(words))
+    prepare()
     texts = {"dense": producer_and_consumer(5000, 2), "computing": producer_and_consumer(2000, 200),
              "commands": sensor_and_daemon(3000), "asleep": asleep(3000), "masked": masked(5000), "counter": counter(5000),
              "notified": notified(5000), "million": million_points()}
     with tempfile.TemporaryDirectory() as folder:
         for name, text in texts.items():
             path = os.path.join(folder, f"{name}.toml")
-            with open(path, "w") as file:
-                file.write(text)
+            write(path, text)
             measure(name, path, programs)
 
 

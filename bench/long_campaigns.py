@@ -1,10 +1,8 @@
 #!/usr/bin/env python3
 """Times campaigns over each step of long runs, of which only some text is written, their output going to /dev/null.
 
-    long_campaigns.py [--steps N,..] [--view WORDS] [--workers N] [--runs N] [--only CASE,..] [PROGRAM [OTHER]]
-
 Prints for each case and number of steps the best wall time of some runs, the processor time of that run and the peak memory, and what
-of it that of OTHER is. The program is crates/rtosim/out/rtosim, or PROGRAM; the steps are 10000 and 100000, the view is `--heads`.
+of it that of OTHER is. The program is crates/rtosim/out/rtosim, or PROGRAM.
 
 The cases: `timeouts`, a driver receives with a timeout of one tick while a task works, and the handler sends; `full_queue`, two tasks
 play ping-pong, and the handler fills a queue that nobody reads; `woken`, the handler wakes a task above them that works for three ticks;
@@ -12,16 +10,18 @@ play ping-pong, and the handler fills a queue that nobody reads; `woken`, the ha
 writes in each turn; `added`, it counts on in the variable in which a task counts, so rows meet each other and never the base run;
 `inheritance`, three tasks share a mutex at fixed times, and the handler wakes one that waits for it and gives up; `delays`, the same with
 delays; `stamped`, each row keeps the tick of its injection for good, so no row comes to the kernel of another."""
+from __future__ import annotations
+
 import argparse
-import ctypes
 import os
 import sys
 import tempfile
+from typing import List, Optional, Sequence
 
-HERE = os.path.dirname(os.path.abspath(__file__))
 sys.dont_write_bytecode = True
-sys.path.insert(0, HERE)
-from campaigns import PR_SET_CHILD_SUBREAPER, PROGRAM, array, task, timed, turns
+sys.path.insert(0, os.path.dirname(os.path.abspath(__file__)))
+from campaigns import array, task, turns
+from programs import Taken, add_programs, parser_of, prepare, programs_of, timed, write
 
 PING_PONG = (
     '[[queue]]\nname = "a"\nlength = 1\n[[queue]]\nname = "b"\nlength = 1\n',
@@ -29,17 +29,17 @@ PING_PONG = (
 )
 
 
-def handler(*ops):
+def handler(*ops: str) -> str:
     return f'[[handler]]\nname = "h"\nops = {array(ops)}\n'
 
 
-def ping_pong(objects, isr, *tasks):
+def ping_pong(objects: str, isr: str, *tasks: str) -> str:
     """Two tasks that play ping-pong over two queues, and what a handler does beside them."""
     queues, players = PING_PONG
     return queues + objects + handler(isr) + players + "".join(tasks)
 
 
-def shared_mutex(rest):
+def shared_mutex(rest: str) -> str:
     """Three tasks that share a mutex, between rests of this kind."""
     return (
         '[[binary]]\nname = "s"\n[[mutex]]\nname = "m"\n'
@@ -67,43 +67,56 @@ CASES = {
 }
 
 
-def best_of(runs, words):
+def best_of(runs: int, words: Sequence[str]) -> Taken:
     return min(timed(words) for _ in range(runs))
 
 
-def measure(name, steps, path, options, programs):
+def measure(name: str, steps: int, path: str, options: argparse.Namespace, programs: Sequence[str]) -> None:
     """Runs a campaign by each program, and prints what that took."""
     words = ["campaign", path, *options.view.split(), "--workers", str(options.workers)]
     taken = [best_of(options.runs, [program, *(words if at == 0 else words[:-2])]) for at, program in enumerate(programs)]
-    wall, processors, peak = taken[0]
-    line = f"{name}, {steps} steps: best {wall:.3f} s, processors {processors:.3f} s, peak {peak:.1f} MiB"
+    best = taken[0]
+    line = f"{name}, {steps} steps: best {best.wall:.3f} s, processors {best.processors:.3f} s, peak {best.peak:.1f} MiB"
     if len(taken) == 2:
-        line += f"; the other {taken[1][0]:.3f} s, {taken[1][2]:.1f} MiB, so {wall / taken[1][0]:.2f}"
+        other = taken[1]
+        line += f"; the other {other.wall:.3f} s, {other.peak:.1f} MiB, so {best.wall / other.wall:.2f}"
     print(line, flush=True)
 
 
-def options_of(words):
-    parser = argparse.ArgumentParser(description=__doc__, formatter_class=argparse.RawDescriptionHelpFormatter)
-    parser.add_argument("--steps", default="10000,100000")
-    parser.add_argument("--view", default="--heads")
-    parser.add_argument("--workers", type=int, default=1)
-    parser.add_argument("--runs", type=int, default=3)
-    parser.add_argument("--only", default=",".join(CASES))
-    parser.add_argument("programs", nargs="*", default=[PROGRAM])
+def numbers(text: str) -> List[int]:
+    """Numbers that commas separate."""
+    return [int(it) for it in text.split(",")]
+
+
+def cases(text: str) -> List[str]:
+    """Names of cases that commas separate."""
+    unknown = [it for it in text.split(",") if it not in CASES]
+    if unknown:
+        raise argparse.ArgumentTypeError(f"there is no case {', '.join(unknown)}; the cases are {', '.join(CASES)}")
+    return text.split(",")
+
+
+def options_of(words: Optional[Sequence[str]]) -> argparse.Namespace:
+    parser = parser_of(__doc__)
+    parser.add_argument("--steps", type=numbers, default=[10000, 100000], metavar="N,..", help="the limits of steps (10000,100000)")
+    parser.add_argument("--view", default="--heads", metavar="WORDS", help="the words for what is written, as --view=--heads (that)")
+    parser.add_argument("--workers", type=int, default=1, metavar="N", help="how many workers PROGRAM has (1)")
+    parser.add_argument("--runs", type=int, default=3, metavar="N", help="how many runs each number is the best of (3)")
+    parser.add_argument("--only", type=cases, default=list(CASES), metavar="CASE,..", help="these cases (all)")
+    add_programs(parser)
     return parser.parse_args(words)
 
 
-def main():
-    os.environ["GLIBC_TUNABLES"] = "glibc.malloc.hugetlb=1:glibc.malloc.arena_max=8:glibc.malloc.top_pad=4194304"
-    ctypes.CDLL(None).prctl(PR_SET_CHILD_SUBREAPER, 1, 0, 0, 0)
-    options = options_of(sys.argv[1:])
+def main(words: Optional[Sequence[str]] = None) -> None:
+    options = options_of(words)
+    programs = programs_of(options)
+    prepare()
     with tempfile.TemporaryDirectory() as folder:
-        for name in options.only.split(","):
-            for steps in map(int, options.steps.split(",")):
+        for name in options.only:
+            for steps in options.steps:
                 path = os.path.join(folder, f"{name}.toml")
-                with open(path, "w") as file:
-                    file.write(f'[limits]\nsteps = {steps}\n{CASES[name]}[campaign]\npoints = ["all h"]\n')
-                measure(name, steps, path, options, options.programs)
+                write(path, f'[limits]\nsteps = {steps}\n{CASES[name]}[campaign]\npoints = ["all h"]\n')
+                measure(name, steps, path, options, programs)
 
 
 if __name__ == "__main__":

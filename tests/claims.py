@@ -1,5 +1,5 @@
-"""Cases of tests/check about what README and docs/PROOFS.md claim: the lines that a reader has to believe are counted; the definitions
-that contracts name are in the reading order, or named as exceptions; and what no contract speaks of is named."""
+"""Cases of tests/check about what README, docs/PROOFS.md and docs/proofs/ claim: the lines that a reader has to believe are counted;
+the definitions that contracts name are in the reading order, or named as exceptions; and what no contract speaks of is named."""
 import os
 import re
 from typing import Dict, List, Set
@@ -11,6 +11,8 @@ from definitions import KIT, Name, is_of_kit, named_by_definition, owner_of, rea
 
 README = "README.md"
 PROOFS = "docs/PROOFS.md"
+DEFINITIONS = "docs/proofs/definitions.md"
+PROMISES = "docs/proofs/promises.md"
 MODEL = "crates/model/specs"
 # The errors that may say that no memory is left.
 MEMORY = ("Memory", "AllocError", "ReadFault", "LoadError", "ServeFault", "ExpandFault", "NestingFault", "Error")
@@ -75,10 +77,10 @@ pub fn law()
 """
 
 
-def section(title: str) -> str:
-    """The text below a heading of PROOFS, up to the next one of its kind or of a higher one."""
+def section(title: str, page: str = PROOFS) -> str:
+    """The text below a heading of a page, up to the next one of its kind or of a higher one."""
     level = title.partition(" ")[0]
-    _, _, rest = text_of(PROOFS).partition(f"\n{title}\n")
+    _, _, rest = text_of(page).partition(f"\n{title}\n")
     return re.split(rf"(?m)^#{{1,{len(level)}}} ", rest)[0]
 
 
@@ -90,13 +92,13 @@ def row_files(row: str) -> List[str]:
 
 def model_order() -> List[str]:
     """The files of the first table."""
-    first, _, _ = section("## Definitions").partition("Then, for a reader")
+    first, _, _ = text_of(DEFINITIONS).partition("Then, for a reader")
     return [f"{MODEL}/{it}.antt" for names in re.findall(r"(?m)^\| ([A-Z][\w, ]*) \|", first) for it in names.split(", ")]
 
 
 def public_files() -> List[str]:
     """The files of both tables."""
-    return [*model_order(), *(file for row in re.findall(r"(?m)^\| (`\w+`: [\w, ]+) \|", section("## Definitions")) for file in row_files(row))]
+    return [*model_order(), *(file for row in re.findall(r"(?m)^\| (`\w+`: [\w, ]+) \|", text_of(DEFINITIONS)) for file in row_files(row))]
 
 
 def is_near(said: str, counted: int) -> bool:
@@ -145,7 +147,7 @@ def readme_counts_what_a_reader_believes():
         "of definitions": kernel.definitions.lines,
         "besides": report.definitions.lines,
         "of types": report.types.lines,
-        "of the kit's definition of TOML": report.kit.lines,
+        "of the toolchain's definition of TOML": report.kit.lines,
     }
     text = text_of(README).replace("lines, besides", "lines besides")
     said = {words: re.search(rf"([\d,]*\d)(?: lines)? {words}", " ".join(text.split())).group(1) for words in wanted}
@@ -161,7 +163,7 @@ def each_file_of_the_reading_order_cites_only_those_above_it():
 
 @case
 def proofs_names_each_definition_that_a_public_contract_rests_on():
-    known, text = set(public_files()), section("## Definitions")
+    known, text = set(public_files()), text_of(DEFINITIONS)
     equal([it for it in known if not os.path.exists(f"{believed.ROOT}/{it}")], [])
     rests_on = reached_from({name for it in public_functions() for name in named_by_contract(it)})
     others = [it for it in rests_on if it.file.endswith(".antt") and not is_of_kit(it.file) and it.file not in known]
@@ -191,7 +193,7 @@ def may_lack_memory(types: str) -> bool:
 
 @case
 def proofs_names_each_public_function_that_may_lack_memory():
-    words = {it for text in re.findall(r"`([^`]+)`", section("### Memory")) for it in re.findall(r"\w+", text)}
+    words = {it for text in re.findall(r"`([^`]+)`", section("## Memory", PROMISES)) for it in re.findall(r"\w+", text)}
     found = [it for it in public_functions() if may_lack_memory(it.types)]
     assert len(found) > 30, found
     equal(sorted(f"{it.file}: {it.owner}::{it.name}" for it in found if not words >= {it.name, it.owner} - {""}), [])

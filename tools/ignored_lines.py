@@ -7,7 +7,7 @@ or has more than a megabyte nothing is printed: the program says what is wrong w
 from __future__ import annotations
 
 import sys
-from typing import Any, Callable, Iterable, Iterator, Optional, Set, Tuple
+from typing import AbstractSet, Any, Callable, Iterator, Optional, Set, Tuple
 
 sys.dont_write_bytecode = True
 from rtosim_check import ignored, nodes, toml_reader
@@ -36,13 +36,13 @@ def lines(name: str, program: str) -> Iterator[str]:
         return
     text, root = found
     for it in ignored.warnings(root, asked(program)):
-        yield f"rtosim: {plain(name)}: line {text.count(chr(10), 0, it.span[0]) + 1}: {plain(it.message)}"
+        yield f"rtosim: {plain(name)}: line {text.count(chr(10), 0, it.span[0] if it.span else 0) + 1}: {plain(it.message)}"
 
 
-def asked(program: str) -> Callable[[Iterable[Any]], Set[Any]]:
+def asked(program: str) -> Callable[[AbstractSet[Any]], Set[Any]]:
     """A function that finds those of some keys that the program ignores; all of them, where no program can be asked."""
 
-    def ignored_of(keys: Iterable[Any]) -> Set[Any]:
+    def ignored_of(keys: AbstractSet[Any]) -> Set[Any]:
         from rtosim_check.program import Program
 
         try:

@@ -1,5 +1,5 @@
 # The limit on the program's memory, as bin/rtosim and bin/build give it; both read this file into a POSIX shell. It is on what Linux
-# counts as data (RLIMIT_DATA): heaps, stacks of threads and all memory that is mapped and may be written. docs/DECISIONS.md says why.
+# counts as data (RLIMIT_DATA): heaps, stacks of threads and all memory that is mapped and may be written. docs/decisions/launcher.md says why.
 #
 #     read_memory     sets `limit` to the kilobytes that RTOSIM_MEMORY asks for, to nothing where it isn't set or is empty; status 1
 #                     where it is no amount

@@ -1,9 +1,11 @@
 """Warnings of what the end of the base run shows: base interrupts that it doesn't reach; and of sleeps at which a task ends."""
-from typing import NamedTuple
+from __future__ import annotations
+
+from typing import Iterator, NamedTuple
 
 from rtosim_report.faults import counted
 
-from .application import integer_of
+from .application import Application, integer_of
 from .findings import WARNING, Finding
 from .formats import SECTIONS, op_of
 
@@ -20,12 +22,12 @@ class BaseEnd(NamedTuple):
     ticks: int
 
 
-def warnings(application, end: BaseEnd):
+def warnings(application: Application, end: BaseEnd) -> Iterator[Finding]:
     yield from of_interrupts(application, end)
     yield from of_last_sleeps(application)
 
 
-def of_interrupts(application, end: BaseEnd):
+def of_interrupts(application: Application, end: BaseEnd) -> Iterator[Finding]:
     """Base interrupts that are due after the base run, in one warning. One that fails ends where it fails, which is no wonder."""
     if end.verdict not in ("pass", "steps"):
         return
@@ -43,7 +45,7 @@ def of_interrupts(application, end: BaseEnd):
     yield Finding(WARNING, "NeverComes", entry.table.get("tick").span, message, rule)
 
 
-def of_last_sleeps(application):
+def of_last_sleeps(application: Application) -> Iterator[Finding]:
     for entry in application.entries["task"]:
         for at, node in entry.texts()[-1:]:
             words, op = op_of("task", node.value)

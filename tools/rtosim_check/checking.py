@@ -1,15 +1,20 @@
 """Checks a file: asks the program, and explains its fault or looks for what a tester can't mean."""
+from __future__ import annotations
+
 import itertools
 import os
+from typing import Any, Iterator, List, Optional, Set, Tuple
 
 from . import base_ends, explaining, ignored, points, reach, unused, values
 from .application import Application
+from .base_ends import BaseEnd
 from .findings import FAULT, Checked, Finding
 from .formats import MOST_POINTS
 from .lines import Lines
 from .mending import CannotMend, Mending
 from .nearness import did_you_mean
-from .nodes import NotToml
+from .nodes import NotToml, Table
+from .program import Program
 from .toml_reader import read_document
 from .verdict import Place, Verdict
 
@@ -19,7 +24,7 @@ MOST_FAULTS = 40
 ENCODINGS = ((b"\xff\xfe\0\0", "UTF-32"), (b"\0\0\xfe\xff", "UTF-32"), (b"\xff\xfe", "UTF-16"), (b"\xfe\xff", "UTF-16"))
 
 
-def check(name, program):
+def check(name: str, program: Program) -> Checked:
     """All that is found in the file of this name."""
     try:
         with open(name, "rb") as file:
@@ -27,12 +32,13 @@ def check(name, program):
     except (OSError, ValueError) as why:
         return cannot_read(name, program, why)
     line, end = program.run(content)
-    if line is None:
+    if end is not None:
         return taken(name, content, end, program)
+    assert line is not None
     return refused(name, content, Verdict(line.replace("cannot read /dev/stdin", f"cannot read {name}")), program)
 
 
-def cannot_read(name, program, why):
+def cannot_read(name: str, program: Program, why: Any) -> Checked:
     checked = Checked(name)
     checked.could_be_checked = False
     reason = {IsADirectoryError: "it is a directory", FileNotFoundError: "there is no such file",
@@ -46,7 +52,7 @@ def cannot_read(name, program, why):
 # -- a file that is refused
 
 
-def refused(name, content, verdict, program):
+def refused(name: str, content: bytes, verdict: Verdict, program: Program) -> Checked:
     if verdict.kind in ("TooLarge", "CannotRead", "Memory"):
         return not_judged(name, verdict)
     text, problem = text_of(content)
@@ -73,9 +79,10 @@ def refused(name, content, verdict, program):
     return checked
 
 
-def faults(verdict, text, root, program):
+def faults(verdict: Verdict, text: str, root: Table, program: Program) -> Iterator[Finding]:
     """All faults of a document that don't follow from each other, the program's first one first."""
-    mending, asked = Mending(root), set()
+    mending = Mending(root)
+    asked: Set[str] = set()
     while verdict.place and verdict.line not in asked and len(asked) < MOST_FAULTS:
         place = Place(verdict.place)
         if not asked or not mending.follows(verdict, place):
@@ -93,11 +100,11 @@ def faults(verdict, text, root, program):
         verdict = Verdict(line)
 
 
-def with_line(fault, lines):
+def with_line(fault: NotToml, lines: Any) -> str:
     return fault.message if fault.other is None else fault.message.replace("{line}", str(lines.line_of(fault.other)))
 
 
-def not_judged(name, verdict):
+def not_judged(name: str, verdict: Verdict) -> Checked:
     """A file that the program couldn't judge."""
     checked = Checked(name)
     checked.could_be_checked = False
@@ -106,7 +113,7 @@ def not_judged(name, verdict):
     return checked
 
 
-def text_of(content):
+def text_of(content: bytes) -> Tuple[str, Optional[Finding]]:
     """The text of a file, and what is wrong with its bytes, if something is."""
     other = other_encoding(content)
     if other:
@@ -120,7 +127,7 @@ def text_of(content):
         return text, Finding(FAULT, "NotToml", (at, at + 1), message, "a file is UTF-8")
 
 
-def other_encoding(content):
+def other_encoding(content: bytes) -> Optional[str]:
     """That the bytes are those of another encoding, if they look so."""
     encoding = next((it for mark, it in ENCODINGS if content.startswith(mark)), None)
     if encoding:
@@ -132,13 +139,13 @@ def other_encoding(content):
 # -- a file that the program takes
 
 
-def without_ends(findings):
+def without_ends(findings: List[Finding]) -> List[Finding]:
     """The warnings but those of an end of the script with an op that isn't done, since it is a failed check."""
     failed = {it.span for it in findings if it.kind == "NoValue"}
     return [it for it in findings if it.kind != "Misuse" or it.span not in failed]
 
 
-def taken(name, content, end, program):
+def taken(name: str, content: bytes, end: BaseEnd, program: Program) -> Checked:
     text, _ = text_of(content)
     checked = Checked(name, Lines(text))
     try:

@@ -1,35 +1,39 @@
 """Why the program refuses a document: each fault with its place, what is wrong there, what was meant, and the rule."""
+from __future__ import annotations
+
 import json
 import re
+from typing import Callable, Optional
 
 from . import explaining_nesting, explaining_ops, explaining_points
+from .application import Application
 from .context import Context
 from .findings import FAULT, Finding
-from .formats import CALLED, DAEMON, EXAMPLE_OF_A_TASK, MEANT_KEYS, MEANT_SECTIONS, NAME, OBJECTS, PLURALS, SECTIONS, TICKLESS
+from .formats import CALLED, DAEMON, EXAMPLE_OF_A_TASK, Key, MEANT_KEYS, MEANT_SECTIONS, NAME, OBJECTS, PLURALS, SECTIONS, TICKLESS
 from .nearness import did_you_mean, near, quoted
-from .nodes import Array, Float, Integer, Table, Text
-from .problem import joined
-from .verdict import Place
+from .nodes import Array, Float, Integer, Node, Span, Table, Text
+from .problem import Explanation, joined
+from .verdict import Place, Verdict
 
 # What else people write for true and for false.
 YES, NO = ("true", "yes", "on", "1", "1.0"), ("false", "no", "off", "0", "0.0")
 
 
-def explain(verdict, text, root, takes_several):
+def explain(verdict: Verdict, text: str, root: Table, takes_several: Callable[[], bool]) -> Finding:
     """The finding for a load fault. What can't be explained has the program's line and the place."""
     context = Context(text, root, Place(verdict.place), takes_several)
     span, message, rule = EXPLANATIONS.get(verdict.kind, nothing_known)(context) or nothing_known(context)
     return Finding(FAULT, verdict.kind, span, message, rule)
 
 
-def nothing_known(context):
+def nothing_known(context: Context) -> Explanation:
     return context.nearest, f"{context.label}: the program refuses this", None
 
 
 # -- what is missing
 
 
-def missing(context):
+def missing(context: Context) -> Optional[Explanation]:
     if context.place.words == ["task"]:
         return missing_task(context)
     table = context.nodes[-1]
@@ -42,16 +46,16 @@ def missing(context):
     return header_span(context, table), f'{whole(context)} has no key "{key}"', context.key.rule
 
 
-def whole(context):
+def whole(context: Context) -> str:
     """The entry or the section, without the key."""
     return context.place.section if context.entry is None else context.entry.label
 
 
-def header_span(context, table):
+def header_span(context: Context, table: Table) -> Span:
     return context.spans[-1] if table.start == table.end else table.span
 
 
-def missing_task(context):
+def missing_task(context: Context) -> Explanation:
     rule = f"{SECTIONS['task'].rule}, as {EXAMPLE_OF_A_TASK}"
     for name, member in context.root.members.items():
         if name not in SECTIONS and near(name, ["task"], MEANT_SECTIONS):
@@ -62,7 +66,7 @@ def missing_task(context):
 # -- what is of another kind
 
 
-def wrong_kind(context):
+def wrong_kind(context: Context) -> Optional[Explanation]:
     node, place = context.node, context.place
     if node is None:
         return None
@@ -80,7 +84,7 @@ def wrong_kind(context):
     return wrong_section(context, node)
 
 
-def wrong_section(context, node):
+def wrong_section(context: Context, node: Node) -> Explanation:
     section, member = context.section, context.root.members[context.place.section]
     if section.is_list:
         found, wanted, rule = "one table", "an array of tables", "an entry of a list has a header with two brackets each"
@@ -90,14 +94,14 @@ def wrong_section(context, node):
     return member.span, what + did_you_mean(section.header), f"{rule}: {section.rule}"
 
 
-def wrong_value(context, node):
+def wrong_value(context: Context, node: Node) -> Explanation:
     key = context.key
     wanted = "a text" if key.kind in ("a name", "a handler's name") else key.kind
     meant = meant_boolean(node) if key.kind == "a boolean" else meant_value(key, node, context)
     return node.span, f"{context.label}: {context.source(node)} is {node.kind}, not {wanted}{did_you_mean(meant)}", key.rule
 
 
-def meant_value(key, node, context):
+def meant_value(key: Key, node: Node, context: Context) -> Optional[str]:
     """The value as it should be written, or None."""
     if key.kind == "an array of texts":
         parts = [it.strip() for it in re.split(r"[\n,;]", node.value) if it.strip()] if isinstance(node, Text) else []
@@ -114,7 +118,7 @@ def meant_value(key, node, context):
     return str(value) if value is not None and key.least <= value <= context.most else None
 
 
-def meant_boolean(node):
+def meant_boolean(node: Node) -> Optional[str]:
     """As meant_value, of a key that is true or false."""
     text = node.value.strip().lower() if isinstance(node, Text) else str(node.value) if isinstance(node, (Integer, Float)) else None
     return "true" if text in YES else "false" if text in NO else None
@@ -123,7 +127,7 @@ def meant_boolean(node):
 # -- what is out of range
 
 
-def out_of_range(context):
+def out_of_range(context: Context) -> Optional[Explanation]:
     node, key = context.node, context.key
     if key is None or node is None:
         return None
@@ -141,7 +145,7 @@ def out_of_range(context):
     return node.span, f"{context.label}: {node.value} is out of range: {key.least} to {most}{beside}", key.rule
 
 
-def name_problem(text, application):
+def name_problem(text: str, application: Application) -> str:
     """What is wrong with a text as a name."""
     if not text:
         return "the name is empty"
@@ -157,7 +161,7 @@ def name_problem(text, application):
     return f'"{text}" is no name: it begins with "{text[0]}", and not with a letter'
 
 
-def double_name(context):
+def double_name(context: Context) -> Optional[Explanation]:
     node = context.node
     if not isinstance(node, Text):
         return None
@@ -174,7 +178,7 @@ def double_name(context):
 # -- what is too many
 
 
-def too_many(context):
+def too_many(context: Context) -> Optional[Explanation]:
     node, place = context.node, context.place
     if isinstance(node, Array) and context.key is not None:
         most = context.key.most
@@ -190,7 +194,7 @@ def too_many(context):
     return None
 
 
-def too_many_entries(context, node):
+def too_many_entries(context: Context, node: Array) -> Explanation:
     section, most = context.section, context.section.most
     what = PLURALS.get(section.name, "base interrupts")
     count = len(node.items)
@@ -202,14 +206,14 @@ def too_many_entries(context, node):
     return there, f"there are {count:,} {what}, and at most {section.most:,} are allowed", section.rule
 
 
-def daemon_too_many(context):
+def daemon_too_many(context: Context) -> Explanation:
     """The daemon of a file that has all tasks without it."""
     most = SECTIONS["task"].most
     message = f"the file has {len(context.application.entries['task'])} tasks, and the daemon is one more: at most {most} are allowed"
     return context.nearest, message, context.section.rule
 
 
-def fifth_interrupt(context):
+def fifth_interrupt(context: Context) -> Optional[Explanation]:
     tick = context.nodes[2].get("tick") if isinstance(context.nodes[2], Table) else None
     if not isinstance(tick, Integer):
         return None
@@ -223,7 +227,7 @@ def fifth_interrupt(context):
 # -- names
 
 
-def unknown_name(context):
+def unknown_name(context: Context) -> Optional[Explanation]:
     if context.place.section == "interrupt" and isinstance(context.node, Text):
         return unknown_handler(context)
     if context.place.section == "campaign":
@@ -231,12 +235,12 @@ def unknown_name(context):
     return explaining_ops.unknown_name(context)
 
 
-def unknown_handler(context):
+def unknown_handler(context: Context) -> Explanation:
     problem = explaining_points.no_handler(context, context.node.value)
     return context.node.span, f"{context.label}: {problem}", context.key.rule
 
 
-def bad_op(context):
+def bad_op(context: Context) -> Optional[Explanation]:
     if context.place.section == "campaign":
         return explaining_points.bad_point(context)
     return explaining_ops.bad_op(context)

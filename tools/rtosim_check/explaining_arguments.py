@@ -1,12 +1,16 @@
 """Why a word is no argument of an op: no name, none of some words, or no number of a range."""
-import re
+from __future__ import annotations
 
+import re
+from typing import List, Optional
+
+from .application import Application
 from .explaining_values import no_number_but_name
-from .formats import MEANT_CHOICES, MEANT_TURNS, MEANT_WAITS, NUMBER, Choice, Name, Turns, Wait
+from .formats import Argument, Choice, MEANT_CHOICES, MEANT_TURNS, MEANT_WAITS, NUMBER, Name, Turns, Wait
 from .nearness import did_you_mean, near, quoted
 
 
-def problem_of_argument(argument, word, text, application):
+def problem_of_argument(argument: Argument, word: str, text: List[str], application: Application) -> str:
     if isinstance(argument, Name):
         return no_name(argument, word, application)
     if isinstance(argument, Choice):
@@ -14,7 +18,7 @@ def problem_of_argument(argument, word, text, application):
     return no_number_but_name(argument, word, text, application) or no_number(argument, word)
 
 
-def no_name(argument, word, application):
+def no_name(argument: Name, word: str, application: Application) -> str:
     if NUMBER.fullmatch(word):
         return f"expected {argument.what}, found the number {word}"
     meant = near(word, application.names_of(argument.kinds))
@@ -25,7 +29,7 @@ def no_name(argument, word, application):
     return f'"{word}" is no name, which has letters, digits and `_` and begins with a letter'
 
 
-def no_number(argument, word):
+def no_number(argument: Argument, word: str) -> str:
     ends = f"{argument.least} to {argument.most}" + argument.or_else
     if isinstance(argument, Wait) and (near(word, ["forever"]) or word.lower() in MEANT_WAITS):
         return f'{word} is no wait; did you mean "forever"?'
@@ -42,7 +46,7 @@ def no_number(argument, word):
     return f'expected a number, {ends}, found "{word}"{alone}'
 
 
-def decimal_digits(word):
+def decimal_digits(word: str) -> Optional[str]:
     """The decimal digits that may be meant by a number in another form, or None."""
     if re.fullmatch("0[xX][0-9A-Fa-f]+|0[bB][01]+", word):
         return str(int(word, 0))

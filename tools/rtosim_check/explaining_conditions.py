@@ -1,7 +1,10 @@
 """Why the program refuses the condition of an op, as of `if` and `expect`."""
-import re
+from __future__ import annotations
 
-from .formats import MEANT_ANSWERS, MEANT_FRONTS, MEANT_NONE, MEANT_WITH_EQUAL, WORDS_OF_CONDITIONS, Condition
+import re
+from typing import Any, Dict, List, Optional, Tuple
+
+from .formats import Condition, MEANT_ANSWERS, MEANT_FRONTS, MEANT_NONE, MEANT_WITH_EQUAL, Op, WORDS_OF_CONDITIONS, Word
 from .nearness import did_you_mean, near, quoted
 from .problem import Problem
 
@@ -10,7 +13,7 @@ A_NUMBER = re.compile("[0-9]{1,10}")
 TOGETHER = re.compile("(==|!=|<>|<=|>=|=|!|<|>)(.+)")
 
 
-def problem_of_condition(words, ops):
+def problem_of_condition(words: List[Word], ops: Dict[str, Op]) -> Optional[Problem]:
     """What is wrong with an op that takes a condition, or that is taken to take one; None of any other op."""
     op = ops[words[0][0]]
     given = [it[0] for it in words[1:]]
@@ -27,7 +30,7 @@ def problem_of_condition(words, ops):
     return Problem(words[at + 1][1], words[-1][2] if at == 0 else words[at + 1][2], message, op.rule)
 
 
-def problem_of_else(op, words, given, ops):
+def problem_of_else(op: Op, words: List[Word], given: List[str], ops: Dict[str, Op]) -> Optional[Problem]:
     """An `else if`, which is no op."""
     if given[0] != "if" or "if" not in ops:
         return None
@@ -35,7 +38,7 @@ def problem_of_else(op, words, given, ops):
     return Problem(words[1][1], words[-1][2], message, ops["if"].rule)
 
 
-def problem_of(word, given):
+def problem_of(word: str, given: List[str]) -> Tuple[int, str]:
     """Which of the words is wrong, and what to say of it."""
     meant = meant_condition(given)
     if meant:
@@ -56,14 +59,15 @@ def problem_of(word, given):
     return 1, no_answer(given[1], Condition.FRONTS[front])
 
 
-def meant_condition(given):
+def meant_condition(given: List[str]) -> Optional[str]:
     """The condition that is meant by operators or other words, or None."""
     apart = TOGETHER.fullmatch(given[0])
     if apart and len(given) == 1:
         given = [*apart.groups(), *given[1:]]
     if len(given) != 2:
         return None
-    front, last = given[0].lower(), given[1]
+    front: Any = given[0].lower()
+    last = given[1]
     if front in MEANT_WITH_EQUAL and A_NUMBER.fullmatch(last):
         front, more = MEANT_WITH_EQUAL[front]
         last = str(int(last) + more)
@@ -74,7 +78,7 @@ def meant_condition(given):
     return " ".join(words) if words and words != given and Condition().fits_all(words) else None
 
 
-def no_answer(word, may_be_none):
+def no_answer(word: str, may_be_none: bool) -> str:
     """What to say of a word that is no answer."""
     condition = Condition()
     ends = f"{condition.least} to {condition.most}" + (condition.or_else if may_be_none else ", or the name of a variable")

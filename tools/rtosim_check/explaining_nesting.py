@@ -1,7 +1,12 @@
 """Why the program refuses the nesting of blocks: loops and ifs that don't open and close as they must. A handler has ifs alone."""
+from __future__ import annotations
+
+from typing import List, Optional, Tuple
+
+from .context import Context
 from .formats import DEEPEST, DEEPEST_LOOP, words_of
 from .nodes import Array, Text
-from .problem import joined, told
+from .problem import Explanation, joined, told
 
 OPENING = ("repeat", "if")
 CLOSED = {"task": "each end closes the last repeat or if that is open", "handler": "each end closes the last if that is open"}
@@ -14,11 +19,12 @@ LEFT = "break leaves the innermost repeat that is open"
 class Block:
     """A block that is open: its op's index and word, and the index of its else."""
 
-    def __init__(self, at, word):
-        self.at, self.word, self.parted_at = at, word, None
+    def __init__(self, at: int, word: str) -> None:
+        self.at, self.word = at, word
+        self.parted_at: Optional[int] = None
 
 
-def bad_nesting(context):
+def bad_nesting(context: Context) -> Optional[Explanation]:
     array = context.nodes[3] if len(context.nodes) > 3 else None
     if not isinstance(array, Array) or context.place.at is None:
         return None
@@ -29,12 +35,12 @@ def bad_nesting(context):
     return (context.node.span, told(context, problem), rule) if problem else None
 
 
-def first_word(node):
+def first_word(node: Text) -> str:
     words = words_of(node.value) if isinstance(node, Text) else []
     return words[0][0] if words else ""
 
 
-def open_blocks(items):
+def open_blocks(items: List[Text]) -> List[Block]:
     """The blocks that are still open after these ops."""
     opened = []
     for at, word in enumerate(map(first_word, items)):
@@ -47,7 +53,7 @@ def open_blocks(items):
     return opened
 
 
-def problem_of(word, opened, section):
+def problem_of(word: str, opened: List[Block], section: str) -> Tuple[Optional[str], Optional[str]]:
     """What is wrong with an op of this word inside the open blocks, and the rule; both None where nothing is."""
     loops = [it.at for it in opened if it.word == "repeat"]
     if word == "repeat" and len(loops) == DEEPEST_LOOP:
@@ -62,7 +68,7 @@ def problem_of(word, opened, section):
     return problem_of_else(opened) if word == "else" else (None, None)
 
 
-def problem_of_else(opened):
+def problem_of_else(opened: List[Block]) -> Tuple[Optional[str], Optional[str]]:
     if not opened:
         return "no if is open here, which else could part", PARTED
     last = opened[-1]
@@ -73,7 +79,7 @@ def problem_of_else(opened):
     return None, None
 
 
-def unclosed(context, array, opened):
+def unclosed(context: Context, array: Array, opened: List[Block]) -> Optional[Explanation]:
     if not opened:
         return None
     last = opened[-1]

@@ -1,6 +1,11 @@
 """What is said of ops on notifications: of an action that is none, and of FreeRTOS's functions with their arguments in their order."""
+from __future__ import annotations
+
+from typing import Dict, List, Optional
+
+from .application import Application
 from .explaining_arguments import decimal_digits, problem_of_argument
-from .formats import MEANT_ACTIONS, MEANT_CHOICES, MEANT_WAITS, MOST_OF_A_NUMBER, Action, Value, is_name, op_of
+from .formats import Action, MEANT_ACTIONS, MEANT_CHOICES, MEANT_WAITS, MOST_OF_A_NUMBER, Op, Value, Word, is_name, op_of
 from .nearness import did_you_mean, near, quoted
 from .problem import Problem
 
@@ -16,7 +21,7 @@ WAITS = {"ultasknotifytake": 1, "xtasknotifywait": 2}
 ALL_BITS = ("ulong_max", "uint32_max", "~0", "-1")
 
 
-def problem_of_action(words, ops, application):
+def problem_of_action(words: List[Word], ops: Dict[str, Op], application: Application) -> Optional[Problem]:
     """What is wrong with the action of a notify, or with how many words it has; None of any other op, and where something else is wrong."""
     op, text = ops[words[0][0]], [it[0] for it in words]
     given = text[1:]
@@ -34,19 +39,19 @@ def problem_of_action(words, ops, application):
     return problem_of_value(words, op, start, application)
 
 
-def no_action(start, given):
+def no_action(start: str, given: List[str]) -> str:
     """What to say of a word that is no action."""
     word, rest = given[0], given[1:]
     if Value("V", "").fits(word):
-        meant = f'"{start} bits {word}", or "{start} overwrite {word}"'
-        return f'"{word}" is no action{did_you_mean(meant)}'
+        either = f'"{start} bits {word}", or "{start} overwrite {word}"'
+        return f'"{word}" is no action{did_you_mean(either)}'
     found = near(word, ACTIONS, MEANT_ACTIONS)
     meant = found and " ".join([start, found, *(rest if found in Action.FRONTS else [])])
     is_op = meant and op_of("task", meant)[1]
     return f'expected {", ".join(ACTIONS[:-1])} or {ACTIONS[-1]}, found "{word}"{did_you_mean(quoted(meant if is_op else found))}'
 
 
-def problem_of_value(words, op, start, application):
+def problem_of_value(words: List[Word], op: Op, start: str, application: Application) -> Optional[Problem]:
     """What is wrong with the words behind the word of the action."""
     text = [it[0] for it in words]
     action, rest = text[2], words[3:]
@@ -61,7 +66,7 @@ def problem_of_value(words, op, start, application):
     return Problem(rest[many][1], words[-1][2], f'"{action}" takes {takes}, and "{rest[many][0]}" is one too many{meant}', op.rule)
 
 
-def meant_masks(word, given):
+def meant_masks(word: str, given: List[str]) -> Optional[str]:
     """A `notify_wait` with its wait alone, with the masks that are usual; None of any other op."""
     is_alone = word == "notify_wait" and len(given) == 1 and op_of("task", f"{word} 0 0 {given[0]}")[1]
     return f"{word} 0 {MOST_OF_A_NUMBER} {given[0]}" if is_alone else None
@@ -70,7 +75,7 @@ def meant_masks(word, given):
 # -- functions of FreeRTOS
 
 
-def op_of_function(name, arguments):
+def op_of_function(name: str, arguments: List[str]) -> Optional[str]:
     """The op that a function of FreeRTOS is with these arguments, of which storage and NULL are left out; None where it is none."""
     function = name.lower().replace("fromisr", "")
     form, wait_at = FUNCTIONS.get(function), WAITS.get(function)
@@ -84,7 +89,7 @@ def op_of_function(name, arguments):
     return text if text and op_of("task", text)[1] else None
 
 
-def argument_of(word, is_wait):
+def argument_of(word: str, is_wait: bool) -> str:
     """What an argument is in an op."""
     lower = word.lower()
     if is_wait and lower in MEANT_WAITS:

@@ -1,16 +1,21 @@
 """Why the program refuses an op of a task or a handler."""
-import re
+from __future__ import annotations
 
+import re
+from typing import List, Optional, Tuple
+
+from .application import Application, Entry
+from .context import Context
 from .explaining_arguments import problem_of_argument
-from .explaining_points import listed
 from .explaining_conditions import problem_of_condition
 from .explaining_notifications import meant_masks, op_of_function, problem_of_action
+from .explaining_points import listed
 from .explaining_values import listed_ops, meant_of_variable, no_variable, problem_of_assignment, problem_of_comparison
-from .formats import (CALLED, COMMANDS, DAEMON, EXAMPLE_OF_A_DAEMON, KIN, LOOPS, MASKS, MEANT_OPS, MEASURES, NOT_SIMULATED_OPS, OPS, OWN,
-                      PLURALS, SECTIONS, Name, Wait, not_simulated, not_simulated_rule, op_of, words_of)
+from .formats import (Argument, CALLED, COMMANDS, DAEMON, EXAMPLE_OF_A_DAEMON, KIN, LOOPS, MASKS, MEANT_OPS, MEASURES, NOT_SIMULATED_OPS,
+                      Name, OPS, OWN, Op, PLURALS, SECTIONS, Wait, Word, not_simulated, not_simulated_rule, op_of, words_of)
 from .nearness import did_you_mean, near, quoted
 from .nodes import Integer, Text
-from .problem import Problem, told
+from .problem import Explanation, Problem, told
 
 SEPARATORS = re.compile(r"[\t\n\r\f\v\u00a0\u2000-\u200b\u3000,;]")
 CALLED_SEPARATORS = {"\t": "a tab", ",": "a comma", ";": "a semicolon", "\n": "a new line"}
@@ -20,7 +25,7 @@ ONLY_SPACES = "the words of an op have spaces between them, and nothing else"
 WAITING = ("take", "lock", "wait", "delay", "delay_until", "notify_take", "notify_wait")
 
 
-def bad_op(context):
+def bad_op(context: Context) -> Optional[Explanation]:
     node = context.node
     if not isinstance(node, Text) or context.place.section not in OPS:
         return None
@@ -29,7 +34,7 @@ def bad_op(context):
     return span, told(context, problem.message), problem.rule
 
 
-def problem_of(text, section, application):
+def problem_of(text: str, section: str, application: Application) -> Problem:
     """What is wrong with the text as an op."""
     words = words_of(text)
     if not words:
@@ -48,14 +53,14 @@ def problem_of(text, section, application):
     )
 
 
-def text_of(words):
+def text_of(words: List[Word]) -> str:
     return " ".join(it[0] for it in words)
 
 
 # -- characters
 
 
-def problem_of_characters(text, section):
+def problem_of_characters(text: str, section: str) -> Optional[Problem]:
     """Another separator than a space, or a call as in C."""
     call = CALL.fullmatch(text)
     if call and not not_simulated(call[1], NOT_SIMULATED_OPS):
@@ -75,7 +80,7 @@ def problem_of_characters(text, section):
 # -- the first word
 
 
-def problem_of_word(words, section, application):
+def problem_of_word(words: List[Word], section: str, application: Application) -> Optional[Problem]:
     word, start, end = words[0]
     word, end = word.partition("(")[0], start + len(word.partition("(")[0])
     if word in OPS[section]:
@@ -98,15 +103,15 @@ def problem_of_word(words, section, application):
     return Problem(start, end, f'no op is called "{word}"{did_you_mean(quoted(text or meant))}', rule)
 
 
-def without_isr(word):
+def without_isr(word: str) -> str:
     return re.sub("(?i)(_?from_?isr|_isr)$", "", word)
 
 
-def all_ops(section):
+def all_ops(section: str) -> str:
     return f"the ops of a {section} are {', '.join(OPS[section])}"
 
 
-def op_of_tasks(word):
+def op_of_tasks(word: str) -> str:
     """What to say of an op of tasks in a handler."""
     if word in WAITING:
         return f'"{word}" is an op of tasks: a handler never waits'
@@ -124,7 +129,7 @@ def op_of_tasks(word):
 # -- how many words
 
 
-def problem_of_count(words, section, application):
+def problem_of_count(words: List[Word], section: str, application: Application) -> Optional[Problem]:
     op, given = OPS[section][words[0][0]], len(words) - 1
     many = len(op.arguments)
     if given == many:
@@ -143,7 +148,7 @@ def problem_of_count(words, section, application):
     return Problem(first[1], words[-1][2], f'"{op.word}" takes {count}, and "{first[0]}" is one too many{meant}', op.rule)
 
 
-def too_few(op, words, application):
+def too_few(op: Op, words: List[Word], application: Application) -> str:
     """What to say of arguments that are missing: the one that was left out before others, or the last ones."""
     given, text = [it[0] for it in words[1:]], text_of(words)
     left = left_out(op.arguments, given)
@@ -158,7 +163,7 @@ def too_few(op, words, application):
     return f'"{op.word}" takes {letters}, and {missing} {"is" if len(left) == 1 else "are"} missing{did_you_mean(meant)}'
 
 
-def left_out(arguments, given):
+def left_out(arguments: Tuple[Argument, ...], given: List[str]) -> Tuple[Argument, ...]:
     """The arguments that are missing: the one without which the words fit, or the last ones."""
     for at in reversed(range(len(arguments))):
         if len(given) == len(arguments) - 1 and fits_all(arguments[:at] + arguments[at + 1 :], given):
@@ -166,14 +171,14 @@ def left_out(arguments, given):
     return arguments[len(given) :]
 
 
-def fits_all(arguments, given):
+def fits_all(arguments: Tuple[Argument, ...], given: List[str]) -> bool:
     return all(it.fits(word) for it, word in zip(arguments, given))
 
 
 # -- arguments
 
 
-def problem_of_arguments(words, section, application):
+def problem_of_arguments(words: List[Word], section: str, application: Application) -> Optional[Problem]:
     op = OPS[section][words[0][0]]
     for argument, (word, start, end) in zip(op.arguments, words[1:]):
         if not argument.fits(word):
@@ -185,7 +190,7 @@ def problem_of_arguments(words, section, application):
 # -- names
 
 
-def unknown_name(context):
+def unknown_name(context: Context) -> Optional[Explanation]:
     node = context.node
     if not isinstance(node, Text) or context.place.section not in OPS:
         return None
@@ -201,7 +206,7 @@ def unknown_name(context):
     return node.part(start, end), told(context, message), rule
 
 
-def no_such(context, op, word, kinds):
+def no_such(context: Context, op: Op, word: str, kinds: Tuple[str, ...]) -> Tuple[str, str]:
     """What to say of a name that nothing of the kinds has, and the rule."""
     is_semaphore = kinds == ("binary", "counting")
     wanted, plural = ("semaphore", "semaphores") if is_semaphore else (CALLED[kinds[0]], PLURALS[kinds[0]])
@@ -210,8 +215,8 @@ def no_such(context, op, word, kinds):
         line = context.line_of(other.table.start)
         if other.section == DAEMON and kinds == ("task",):
             return f'"{word}" is the daemon (line {line}), and no op can {op.word} it', op.rule
-        end, meant = instead(context, op, other, names)
-        return f'"{word}" is {one(other.section)} (line {line}), and {op.word} speaks of {plural}{end}', (meant or op).rule
+        end, better = instead(context, op, other, names)
+        return f'"{word}" is {one(other.section)} (line {line}), and {op.word} speaks of {plural}{end}', (better or op).rule
     start, meant = f'no {wanted} is called "{word}"', near(word, names)
     if meant:
         return start + did_you_mean(quoted(meant)), op.rule
@@ -221,14 +226,14 @@ def no_such(context, op, word, kinds):
     return f"{start}; {there}", op.rule
 
 
-def one(section):
+def one(section: str) -> str:
     """As `a queue`, `an event group`, `the daemon`."""
     if section == DAEMON:
         return "the daemon"
     return ("an " if CALLED[section][0] in "aeiou" else "a ") + CALLED[section]
 
 
-def instead(context, op, other, names):
+def instead(context: Context, op: Op, other: Entry, names: List[str]) -> Tuple[str, Optional[Op]]:
     """Which op is meant, or which ops speak of what has the name, or which names the op may have; and the op that is meant."""
     known = OPS[context.place.section]
     ops = [it.word for it in known.values() if other.section in it.kinds]
@@ -240,7 +245,7 @@ def instead(context, op, other, names):
     return did_you_mean(listed(names)), None
 
 
-def no_daemon(context):
+def no_daemon(context: Context) -> Optional[Explanation]:
     """A command of a handler in a file without a daemon."""
     node = context.node
     words = words_of(node.value) if isinstance(node, Text) and context.place.section == "handler" else []
@@ -253,12 +258,12 @@ def no_daemon(context):
     return node.part(start, end), message, rule
 
 
-def overwrite_length(context):
+def overwrite_length(context: Context) -> Optional[Explanation]:
     node = context.node
     words = words_of(node.value) if isinstance(node, Text) else []
     entry = context.application.named.get(words[1][0]) if len(words) > 1 else None
     length = entry.table.get("length") if entry else None
-    if not isinstance(length, Integer):
+    if entry is None or not isinstance(length, Integer):
         return None
     has = f'queue "{entry.name}" has length {length.value} (line {context.line_of(length.start)})'
     rule = OPS["task"]["overwrite"].rule

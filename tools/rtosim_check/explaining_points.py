@@ -1,12 +1,18 @@
 """Why the program refuses a point."""
-import re
+from __future__ import annotations
 
-from .formats import A_POINT, DAEMON, MOST_PAIRS, NAME, SEVERAL, STEP, words_of
+import re
+from typing import Any, List, Optional, Tuple
+
+from .application import Application
+from .context import Context
+from .formats import A_POINT, DAEMON, MOST_PAIRS, NAME, SEVERAL, STEP, Word, words_of
 from .nearness import did_you_mean, near, quoted
 from .nodes import Integer, Text
+from .problem import Explanation
 
 
-def no_handler(context, name):
+def no_handler(context: Context, name: str) -> str:
     """What to say of a name that no handler has."""
     application = context.application
     handlers = application.names_of(("handler",))
@@ -21,19 +27,19 @@ def no_handler(context, name):
     return f'no handler is called "{name}"; {there}'
 
 
-def meant_point(context, node):
+def meant_point(context: Context, node: Any) -> Optional[str]:
     """The point that is meant by the number of a step alone, or None."""
     handlers = context.application.names_of(("handler",))
     is_step = isinstance(node, Integer) and context.place.section == "campaign" and STEP.least <= node.value <= STEP.most
     return f'"{node.value} {handlers[0]}"' if is_step and handlers else None
 
 
-def listed(names, most=8):
+def listed(names: List[str], most: int = 8) -> str:
     """As `"a", "b"`, the first of them."""
     return ", ".join(f'"{it}"' for it in names[:most]) + (", .." if len(names) > most else "")
 
 
-def unknown_handler(context):
+def unknown_handler(context: Context) -> Optional[Explanation]:
     node = context.node
     if not isinstance(node, Text):
         return None
@@ -44,11 +50,11 @@ def unknown_handler(context):
     return None
 
 
-def told(context, problem):
+def told(context: Context, problem: str) -> str:
     return f'{context.label}, "{context.node.value}": {problem}'
 
 
-def bad_point(context):
+def bad_point(context: Context) -> Optional[Explanation]:
     node = context.node
     if not isinstance(node, Text):
         return None
@@ -58,7 +64,7 @@ def bad_point(context):
     return node.part(start, end) if end else node.span, told(context, problem), rule
 
 
-def problem_of(words, context):
+def problem_of(words: List[Word], context: Context) -> Optional[Word]:
     """What is wrong with a point's words, and which part of the text."""
     if not words:
         return "the point is empty", 0, 0
@@ -79,19 +85,19 @@ def problem_of(words, context):
     return None
 
 
-def separated(word):
-    character = re.search(r"[\s,;:@]", word[0])
+def separated(word: Word) -> Word:
+    character: Any = re.search(r"[\s,;:@]", word[0])
     what = "a tab" if character.group() == "\t" else f'a "{character.group()}"'
     at = word[1] + character.start()
     return f"the point has {what} in it, and spaces alone separate its words", at, at + 1
 
 
-def example(application):
+def example(application: Application) -> str:
     handlers = application.names_of(("handler",))
     return handlers[0] if handlers else "HANDLER"
 
 
-def problem_of_all(words, application):
+def problem_of_all(words: List[Word], application: Application) -> Optional[Word]:
     first, start, end = words[0]
     if len(words) == 1:
         return f'"{first}" needs a handler; did you mean "all {example(application)}"?', start, end
@@ -102,7 +108,7 @@ def problem_of_all(words, application):
     return problem_of_name(words[1])
 
 
-def problem_of_odd(words, application):
+def problem_of_odd(words: List[Word], application: Application) -> Word:
     word, start, end = words[-1]
     if len(words) > 1:
         return f"{len(words)} words, and each step needs its handler", start, end
@@ -113,7 +119,7 @@ def problem_of_odd(words, application):
     return f'"{word}" is no point: expected a step and a handler', start, end
 
 
-def problem_of_step(step, handler):
+def problem_of_step(step: Word, handler: Word) -> Optional[Word]:
     word, start, end = step
     if STEP.fits(word):
         return None
@@ -131,7 +137,7 @@ def problem_of_step(step, handler):
     return f'expected a step, 0 to {STEP.most}, or all, found "{word}"', start, end
 
 
-def problem_of_name(word):
+def problem_of_name(word: Word) -> Optional[Word]:
     if NAME.fullmatch(word[0]):
         return None
     if STEP.fits(word[0]):
@@ -139,7 +145,7 @@ def problem_of_name(word):
     return f'"{word[0]}" can\'t be the name of a handler', word[1], word[2]
 
 
-def problem_of_several(pairs, takes_several):
+def problem_of_several(pairs: List[Tuple[Word, Word]], takes_several: bool) -> Optional[Word]:
     if not takes_several:
         return "several injections in one point, and this program takes one", pairs[1][0][1], pairs[-1][1][2]
     if len(pairs) > MOST_PAIRS:

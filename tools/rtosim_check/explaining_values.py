@@ -1,9 +1,14 @@
 """What is said of variables and of the last answer in ops that can't be: an assignment as in C, a variable or `answer` in the place of a
 number, and names that no variable has."""
-import re
+from __future__ import annotations
 
+import re
+from typing import Any, List, Optional, Sequence
+
+from .application import Application
 from .explaining_conditions import meant_condition
-from .formats import ANSWER, MEANT_ANSWERS, MEANT_NONE, MEANT_OF_VARIABLES, OPERATORS, OPS, Condition, Operand, Turns, Value, Wait, is_name
+from .formats import (ANSWER, Argument, Condition, MEANT_ANSWERS, MEANT_NONE, MEANT_OF_VARIABLES, OPERATORS, OPS, Op, Operand, Turns,
+                      Value, Wait, Word, is_name)
 from .nearness import did_you_mean, near, quoted
 from .problem import Problem
 
@@ -14,22 +19,23 @@ TAKES_ANSWER = '"answer" is a word for the number of send, send_front, overwrite
 TAKES_VARIABLE = "conditions, and add, sub, mul, div, mod, and, or, xor, take the name of a variable"
 
 
-def listed_ops(ops):
+def listed_ops(ops: Sequence[str]) -> str:
     """As `"load x", "add 1"`."""
-    return ", ".join(quoted(it) for it in ops)
+    return ", ".join(f'"{it}"' for it in ops)
 
 
-def problem_of_assignment(text, section, application):
+def problem_of_assignment(text: str, section: str, application: Application) -> Optional[Problem]:
     """An assignment, as `count += 1`; None of any other text."""
     found = ASSIGNMENT.fullmatch(text)
     if not found or found[1] in OPS[section]:
         return None
-    ops = ops_of_assignment(*found.groups(), application)
+    name, step, operator, value = found.groups()
+    ops = ops_of_assignment(name, step, operator, value, application)
     meant = did_you_mean(listed_ops(ops)) if ops else ""
     return Problem(found.start(1), len(text.rstrip(" ")), f'"{text.strip()}" is an assignment, and no op{meant}', MEMORY)
 
 
-def problem_of_comparison(text, section, application):
+def problem_of_comparison(text: str, section: str, application: Application) -> Optional[Problem]:
     """A comparison of a variable, as `if count < 5`; None of any other text."""
     found = COMPARISON.fullmatch(text)
     if not found or found[2] not in application.names_of(("variable",)):
@@ -42,7 +48,8 @@ def problem_of_comparison(text, section, application):
     return Problem(found.start(2), found.end(4), message, OPS[section][word].rule)
 
 
-def ops_of_assignment(name, step, operator, value, application):
+def ops_of_assignment(name: str, step: Optional[str], operator: Optional[str], value: Any,
+                      application: Application) -> Optional[List[str]]:
     """The ops that do the like, or None."""
     if step:
         operator, value = step[0], "1"
@@ -55,7 +62,7 @@ def ops_of_assignment(name, step, operator, value, application):
     return [f"store {name} {value}"] if Value("V", "").fits(value) else None
 
 
-def meant_of_variable(words, application):
+def meant_of_variable(words: List[Word], application: Application) -> Optional[List[str]]:
     """The ops that are meant by another word before the name of a variable, or None."""
     if len(words) < 2 or words[1][0] not in application.names_of(("variable",)):
         return None
@@ -64,7 +71,7 @@ def meant_of_variable(words, application):
     return [it.format(x=words[1][0], v=value) for it in ops] if ops else None
 
 
-def no_number_but_name(argument, word, text, application):
+def no_number_but_name(argument: Argument, word: str, text: List[str], application: Application) -> Optional[str]:
     """What to say of `answer`, or of the name of a variable, in the place of a number; None of any other word."""
     is_variable = word in application.names_of(("variable",))
     if isinstance(argument, Value) and is_variable:
@@ -79,7 +86,7 @@ def no_number_but_name(argument, word, text, application):
     return None
 
 
-def no_variable(op, words, word, application):
+def no_variable(op: Op, words: List[str], word: str, application: Application) -> Optional[str]:
     """What to say of a name in a condition, or in the place of a number, that nothing has."""
     names = application.names_of(("variable",))
     if op.has_condition:
@@ -93,7 +100,7 @@ def no_variable(op, words, word, application):
     return None
 
 
-def meant_by_condition(word, words):
+def meant_by_condition(word: str, words: List[str]) -> Optional[str]:
     """Of an answer by another name what it is."""
     if word in MEANT_ANSWERS:
         return MEANT_ANSWERS[word]

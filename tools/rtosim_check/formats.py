@@ -1,8 +1,13 @@
 """The format of an application as tables: sections, keys, ops and points, as docs/FORMATS.md has them.
 
 What messages say of a rule is said here. The verdict is never made of these tables: it is the program's."""
-import re
+from __future__ import annotations
 
+import re
+from typing import Any, Dict, List, Optional, Tuple
+
+# A word of an op or a point, with its start and its end in the text.
+Word = Tuple[str, int, int]
 MOST_OF_A_NUMBER = 4294967295
 # The greatest limit of ticks of a tickless application, 2^48.
 MOST_TICKLESS = 281474976710656
@@ -35,7 +40,7 @@ PLURALS = {
 class Key:
     """A key of a section: its name, the kind of its value, whether it must be there, and the rule in a sentence."""
 
-    def __init__(self, name, kind, rule, needed=True, least=0, most=0):
+    def __init__(self, name: str, kind: str, rule: str, needed: bool = True, least: int = 0, most: int = 0) -> None:
         self.name, self.kind, self.rule, self.needed, self.least, self.most = name, kind, rule, needed, least, most
         # The greatest number where the application is tickless.
         self.most_tickless = most
@@ -44,26 +49,26 @@ class Key:
 class Section:
     """A section of the file; `is_list` where its entries have two brackets each."""
 
-    def __init__(self, name, is_list, most, rule, *keys):
+    def __init__(self, name: str, is_list: bool, most: int, rule: str, *keys: Key) -> None:
         self.name, self.is_list, self.most, self.rule = name, is_list, most, rule
         self.keys = {key.name: key for key in keys}
 
     @property
-    def header(self):
+    def header(self) -> str:
         return f"[[{self.name}]]" if self.is_list else f"[{self.name}]"
 
 
-def number_key(name, least, most, what, default=None):
+def number_key(name: str, least: int, most: int, what: str, default: Optional[int] = None) -> Key:
     rule = f"{name} is {what}, an integer from {least} to {most}"
     rule += "" if default is None else f"; without the key it is {default}"
     return Key(name, "an integer", rule, default is None, least, most)
 
 
-def texts_key(name, most, rule, example):
+def texts_key(name: str, most: int, rule: str, example: str) -> Key:
     return Key(name, "an array of texts", f"{rule}, as {example}", True, 0, most)
 
 
-def limit_of_ticks():
+def limit_of_ticks() -> Key:
     key = number_key("ticks", 1, 1000000, "after how many elapsed ticks a run ends", 1000000)
     key.rule += f"; with tickless = true it is up to {MOST_TICKLESS}"
     key.most_tickless = MOST_TICKLESS
@@ -141,11 +146,11 @@ class Number:
 
     or_else = ""
 
-    def __init__(self, letter, least=0, most=MOST_OF_A_NUMBER, what="a number"):
+    def __init__(self, letter: str, least: int = 0, most: int = MOST_OF_A_NUMBER, what: str = "a number") -> None:
         self.letter, self.least, self.most = letter, least, most
         self.rule = f"{letter} is {what}, {least} to {most}"
 
-    def fits(self, word):
+    def fits(self, word: str) -> bool:
         return bool(NUMBER.fullmatch(word)) and self.least <= int(word) <= self.most
 
 
@@ -154,11 +159,11 @@ class Wait(Number):
 
     or_else = ", or forever"
 
-    def __init__(self):
+    def __init__(self) -> None:
         super().__init__("w", 0, MOST_OF_A_NUMBER - 1)
         self.rule = f"w is how many ticks it waits at most, 0 to {self.most}{self.or_else}"
 
-    def fits(self, word):
+    def fits(self, word: str) -> bool:
         return word == "forever" or super().fits(word)
 
 
@@ -167,11 +172,11 @@ class Turns(Number):
 
     or_else = ", or forever"
 
-    def __init__(self):
+    def __init__(self) -> None:
         super().__init__("n", 1, 1000)
         self.rule = f"n is how many turns, 1 to {self.most}, or forever, up to a break"
 
-    def fits(self, word):
+    def fits(self, word: str) -> bool:
         return word == "forever" or super().fits(word)
 
 
@@ -180,11 +185,11 @@ class Value(Number):
 
     or_else = ", or answer"
 
-    def __init__(self, letter, what):
+    def __init__(self, letter: str, what: str) -> None:
         super().__init__(letter)
         self.rule = f"{letter} is {what}, 0 to {self.most}, or answer, which is the last answer"
 
-    def fits(self, word):
+    def fits(self, word: str) -> bool:
         return word == ANSWER or super().fits(word)
 
 
@@ -194,11 +199,11 @@ class Operand(Number):
     or_else = ", or the name of a variable"
     kinds = ("variable",)
 
-    def __init__(self, least=0):
+    def __init__(self, least: int = 0) -> None:
         super().__init__("O", least)
         self.rule = f"O is a number, {least} to {self.most}{self.or_else}"
 
-    def fits(self, word):
+    def fits(self, word: str) -> bool:
         return is_name(word) or super().fits(word)
 
 
@@ -210,19 +215,19 @@ class Condition(Number):
     FRONTS = {"not": True, "below": False, "above": False}
     kinds = ("variable",)
 
-    def __init__(self):
+    def __init__(self) -> None:
         super().__init__("C")
         self.rule = (f"C is what the last answer must be: n, none, not n, not none, below n or above n. n is a number, 0 to {self.most}, "
                      "or a variable; none is neither below nor above it")
 
-    def fits(self, word):
+    def fits(self, word: str) -> bool:
         return word == "none" or self.is_value(word)
 
-    def is_value(self, word):
+    def is_value(self, word: str) -> bool:
         """Whether it is a number, or may be the name of a variable."""
         return super().fits(word) or is_name(word) and word not in WORDS_OF_CONDITIONS
 
-    def fits_all(self, words):
+    def fits_all(self, words: List[str]) -> bool:
         if len(words) == 2 and words[0] in self.FRONTS:
             return self.is_value(words[1]) or words[1] == "none" and self.FRONTS[words[0]]
         return len(words) == 1 and self.fits(words[0])
@@ -234,16 +239,16 @@ class Action(Number):
     # The words that stand alone, and those that a value follows.
     ALONE, FRONTS = ("none", "increment"), ("bits", "overwrite", "keep")
 
-    def __init__(self):
+    def __init__(self) -> None:
         super().__init__("A")
         self.value = Value("V", "a number")
         self.rule = (f"A is {', '.join(self.ALONE)}, {', '.join(f'{it} V' for it in self.FRONTS[:-1])} or {self.FRONTS[-1]} V, "
                      f"which is what becomes of its notification value; {self.value.rule}")
 
-    def fits(self, word):
+    def fits(self, word: str) -> bool:
         return word in self.ALONE
 
-    def fits_all(self, words):
+    def fits_all(self, words: List[str]) -> bool:
         if len(words) == 2 and words[0] in self.FRONTS:
             return self.value.fits(words[1])
         return len(words) == 1 and self.fits(words[0])
@@ -252,26 +257,26 @@ class Action(Number):
 class Choice:
     """One of some words."""
 
-    def __init__(self, letter, rule, *words):
+    def __init__(self, letter: str, rule: str, *words: str) -> None:
         self.letter, self.words = letter, words
         self.rule = f"{letter} is {' or '.join(words)}, {rule}"
 
-    def fits(self, word):
+    def fits(self, word: str) -> bool:
         return word in self.words
 
 
 class Name:
     """The name of one of these kinds."""
 
-    def __init__(self, letter, what, *kinds):
+    def __init__(self, letter: str, what: str, *kinds: str) -> None:
         self.letter, self.what, self.kinds = letter, what, kinds
         self.rule = f"{letter} is {what}"
 
-    def fits(self, word):
+    def fits(self, word: str) -> bool:
         return is_name(word)
 
 
-def is_name(word):
+def is_name(word: str) -> bool:
     return bool(NAME.fullmatch(word))
 
 
@@ -286,47 +291,51 @@ W = Wait()
 B = Number("b", 1, 16777215, "a mask of bits")
 
 
+# One of these, or of their kinds.
+Argument = Any
+
+
 class Op:
     """An op: its word, its arguments, and what it does."""
 
-    def __init__(self, word, *arguments, does):
+    def __init__(self, word: str, *arguments: Argument, does: str) -> None:
         self.word, self.arguments, self.does = word, arguments, does
 
     @property
-    def usage(self):
+    def usage(self) -> str:
         return " ".join((self.word, *(it.letter for it in self.arguments)))
 
     @property
-    def rule(self):
+    def rule(self) -> str:
         return "; ".join((f"{self.usage}: {self.does}", *(it.rule for it in self.arguments)))
 
-    def fits(self, given):
+    def fits(self, given: List[str]) -> bool:
         """Whether these words are its arguments."""
         before = len(self.arguments) - 1
         if self.has_condition or self.has_action:
             return len(given) > before and self.fits_first(given[:before]) and self.arguments[-1].fits_all(given[before:])
         return len(given) == len(self.arguments) and self.fits_first(given)
 
-    def fits_first(self, given):
+    def fits_first(self, given: List[str]) -> bool:
         """Whether these words are its first arguments."""
         return all(it.fits(word) for it, word in zip(self.arguments, given))
 
     @property
-    def has_action(self):
+    def has_action(self) -> bool:
         """Whether its last argument is an action of a notify, of one word or two."""
         return any(isinstance(it, Action) for it in self.arguments)
 
     @property
-    def has_condition(self):
+    def has_condition(self) -> bool:
         """Whether its one argument is a condition, of one word or two."""
         return any(isinstance(it, Condition) for it in self.arguments)
 
     @property
-    def kinds(self):
+    def kinds(self) -> Tuple[str, ...]:
         """The kinds of what it may name; a condition, which is about the last answer, has none here."""
         return next((it.kinds for it in self.arguments if isinstance(it, (Name, Operand))), ())
 
-    def name_at(self, given):
+    def name_at(self, given: List[str]) -> Optional[Tuple[int, Tuple[str, ...]]]:
         """The index of the one of its words, which fit, that is a name, and the kinds of what it may name; None if none is."""
         if self.has_condition:
             last = len(given) - 1
@@ -334,14 +343,14 @@ class Op:
         found = ((at, it.kinds) for at, it in enumerate(self.arguments) if isinstance(it, (Name, Operand)) and is_name(given[at]))
         return next(found, None)
 
-    def uses_answer(self, given):
+    def uses_answer(self, given: List[str]) -> bool:
         """Whether these words, which are its arguments, use the last answer as a number."""
         if self.has_action:
             return given[-1] == ANSWER and len(given) > len(self.arguments)
         return self.word in ARITHMETIC or any(isinstance(it, Value) and word == ANSWER for it, word in zip(self.arguments, given))
 
 
-def table_of(*ops):
+def table_of(*ops: Op) -> Dict[str, Op]:
     return {op.word: op for op in ops}
 
 
@@ -527,23 +536,23 @@ PAIRS = 3
 MOST_POINTS = 1000000
 
 
-def not_simulated(word, table):
+def not_simulated(word: str, table: Dict[str, Tuple[str, ...]]) -> Optional[str]:
     """What of FreeRTOS isn't simulated that a word or a section is about; None where it is about nothing of that kind."""
     plain = word.lower().replace("_", "")
     return next((what for what, starts in table.items() if plain.startswith(tuple(it.replace("_", "") for it in starts))), None)
 
 
-def not_simulated_rule(what):
+def not_simulated_rule(what: str) -> str:
     return "; ".join(it for it in ("docs/KERNEL.md names what is left out", IN_ITS_PLACE.get(what)) if it)
 
 
-def op_of(section, text):
+def op_of(section: str, text: str) -> Tuple[List[str], Any]:
     """The words of an op and the op that they spell, which is None where this check doesn't know it."""
     words = [it[0] for it in words_of(text)]
     op = OPS[section].get(words[0]) if words else None
     return words, op if op and op.fits(words[1:]) else None
 
 
-def words_of(text):
+def words_of(text: str) -> List[Word]:
     """The words of an op or a point, each with its start and its end. Only U+0020 separates."""
     return [(it.group(), it.start(), it.end()) for it in re.finditer("[^ ]+", text)]

@@ -1,20 +1,24 @@
 """Warnings of what the program ignores: sections and keys that the format hasn't, and those in another place than theirs."""
+from __future__ import annotations
+
+from typing import Callable, Iterator, List, Optional, Set, Tuple
+
 from .application import Entry
 from .findings import WARNING, Finding
-from .formats import (MEANT_KEYS, MEANT_SECTIONS, NOT_SIMULATED_SECTIONS, SECTIONS, TOP_KEYS, WITHOUT_SECTION, not_simulated,
+from .formats import (MEANT_KEYS, MEANT_SECTIONS, NOT_SIMULATED_SECTIONS, SECTIONS, Section, TOP_KEYS, WITHOUT_SECTION, not_simulated,
                       not_simulated_rule)
 from .nearness import did_you_mean, near
-from .nodes import Array, Table
+from .nodes import Array, Member, Node, Table
 
 
-def warnings(root, ignored):
+def warnings(root: Table, ignored: Callable[[Set[Tuple[str, str]]], Set[Tuple[str, str]]]) -> List[Finding]:
     """The warnings of a document. `ignored` is asked which of some keys, each with its section, the program ignores."""
     unknown = list(of_document(root))
     sure = ignored({key for key, _ in unknown}) if unknown else ()
     return [it for key, it in unknown if key in sure]
 
 
-def of_document(root):
+def of_document(root: Table) -> Iterator[Tuple[Tuple[str, str], Finding]]:
     """What isn't known, each key with its section, and the warning of it."""
     for name, member in root.members.items():
         if name in SECTIONS:
@@ -24,7 +28,7 @@ def of_document(root):
             yield ("", name), of_section(member)
 
 
-def tables_of(section, value):
+def tables_of(section: str, value: Node) -> List[Tuple[str, Table]]:
     """The tables of a section as it must be, with how a message calls each."""
     if not SECTIONS[section].is_list:
         return [(f"[{section}]", value)] if isinstance(value, Table) else []
@@ -32,7 +36,7 @@ def tables_of(section, value):
     return [(Entry(section, at, it).label, it) for at, it in enumerate(items) if isinstance(it, Table)]
 
 
-def of_section(member):
+def of_section(member: Member) -> Finding:
     """The warning of a section, or a key above the first table, that isn't known."""
     name, shown = member.key, member.shown
     owner = owner_of(name)
@@ -50,20 +54,20 @@ def of_section(member):
     return warning("UnknownSection", member, f"{shown} is ignored: there is no such {kind}{end}", rule)
 
 
-def owner_of(key):
+def owner_of(key: str) -> Optional[str]:
     """The header of the section that has the key, or the headers of two; None where there are more."""
     owners = [it.header for it in SECTIONS.values() if key in it.keys]
     return " or ".join(owners) if 0 < len(owners) < 3 else None
 
 
-def of_table(section, label, table):
+def of_table(section: Section, label: str, table: Table) -> Iterator[Tuple[Tuple[str, str], Finding]]:
     """As of_document, of a table's keys."""
     for name, member in table.members.items():
         if name not in section.keys:
             yield (section.name, name), warning("UnknownKey", member, *of_key(section, label, name))
 
 
-def of_key(section, label, name):
+def of_key(section: Section, label: str, name: str) -> Tuple[str, Optional[str]]:
     """What to say of a key that its table doesn't know, and the rule."""
     start = f'"{name}" is ignored'
     if name in TOP_KEYS:
@@ -79,5 +83,5 @@ def of_key(section, label, name):
     return f"{label}: {start}: it is no key of {section.header}", f"the keys of {section.header} are {', '.join(section.keys)}"
 
 
-def warning(kind, member, message, rule=None):
+def warning(kind: str, member: Member, message: str, rule: Optional[str] = None) -> Finding:
     return Finding(WARNING, kind, member.span, message, rule)

@@ -2,11 +2,15 @@
 
 The copy is never shown. What follows from an earlier fault isn't reported: a name that is lost with the entry that has it, or blocks of a
 script in which an op is none."""
-import json
+from __future__ import annotations
 
-from .formats import DAEMON, MEANT_OPS, NOT_SIMULATED_OPS, OBJECTS, OPS, SECTIONS, not_simulated, op_of
+import json
+from typing import Any, Dict, List, Optional, Set, Tuple
+
+from .formats import DAEMON, Key, MEANT_OPS, NOT_SIMULATED_OPS, OBJECTS, OPS, SECTIONS, not_simulated, op_of
 from .nearness import near
 from .nodes import Array, Moment, Table
+from .verdict import Place, Verdict
 
 # What takes the place of an op of no block, and of one that opens, parts or closes a block.
 HARMLESS = {"task": "work 1", "handler": "mark 0"}
@@ -23,19 +27,20 @@ class CannotMend(Exception):
 class Mending:
     """The copy of a document, and what was lost by the faults that were mended."""
 
-    def __init__(self, root):
-        self.document = plain(root)
+    def __init__(self, root: Table) -> None:
+        self.document: Dict[str, Any] = plain(root)
         # Sections that the file has, which may be lost with a fault.
         self.sections = {key for key, member in root.members.items() if not (isinstance(member.value, Array) and not member.value.items)}
         # Kinds of which names may be lost; scripts whose blocks aren't known, each as a section and an index.
-        self.lost, self.broken = set(), set()
+        self.lost: Set[str] = set()
+        self.broken: Set[Tuple[str, Optional[int]]] = set()
         self.names = 0
 
-    def text(self):
+    def text(self) -> str:
         """The copy as a text."""
         return "".join(f"{toml_of(key)} = {toml_of(value)}\n" for key, value in self.document.items())
 
-    def follows(self, verdict, place):
+    def follows(self, verdict: Verdict, place: Place) -> bool:
         """Whether a fault follows from one that was mended before."""
         if verdict.kind == "UnknownName":
             return bool(self.lost.intersection(self.kinds_at(place)))
@@ -45,7 +50,7 @@ class Mending:
             return place.section in self.sections
         return verdict.kind in ("BadNesting", "TooMany") and (place.section, place.index) in self.broken
 
-    def mend(self, verdict, place):
+    def mend(self, verdict: Verdict, place: Place) -> None:
         """Puts what the program takes in the place of the fault."""
         try:
             MENDERS[verdict.kind](self, place)
@@ -54,14 +59,14 @@ class Mending:
 
     # -- parts
 
-    def entry(self, place):
+    def entry(self, place: Place) -> Dict[str, Any]:
         found = self.document[place.section]
         return found if place.index is None else found[place.index]
 
-    def ops(self, place):
+    def ops(self, place: Place) -> List[str]:
         return self.entry(place)[KEY_OF_OPS[place.section]]
 
-    def fresh_name(self):
+    def fresh_name(self) -> str:
         """A name that nothing has."""
         taken = {it.get("name") for section in SECTIONS for it in self.entries(section)}
         while True:
@@ -69,15 +74,15 @@ class Mending:
             if f"mended_{self.names}" not in taken:
                 return f"mended_{self.names}"
 
-    def entries(self, section):
+    def entries(self, section: str) -> List[Dict[str, Any]]:
         found = self.document.get(section)
         return [it for it in (found if isinstance(found, list) else [found]) if isinstance(it, dict)]
 
-    def handler(self):
+    def handler(self) -> str:
         """The name of a handler."""
         return next(it["name"] for it in self.entries("handler") if isinstance(it.get("name"), str))
 
-    def kinds_at(self, place):
+    def kinds_at(self, place: Place) -> Tuple[str, ...]:
         """Of which kinds the name at a place is to be."""
         if place.section not in OPS:
             return ("handler",)
@@ -85,7 +90,7 @@ class Mending:
         found = op.name_at(words[1:]) if op else None
         return found[1] if found else ()
 
-    def value_of(self, section, key):
+    def value_of(self, section: str, key: Key) -> Any:
         """A value that the key may have."""
         if key.kind == "an integer":
             return key.most if key.name in ROOMY else key.least
@@ -93,19 +98,19 @@ class Mending:
             return self.fresh_name()
         return {"an array of texts": [], "a boolean": False}[key.kind] if key.kind != "a handler's name" else self.handler()
 
-    def entry_of(self, section):
+    def entry_of(self, section: str) -> Dict[str, Any]:
         return {it.name: self.value_of(section, it) for it in SECTIONS[section].keys.values() if it.needed}
 
     # -- what takes the place of a fault, by its kind
 
-    def missing(self, place):
+    def missing(self, place: Place) -> None:
         if place.key is None:
             self.document[place.section] = [self.entry_of(place.section)]
             self.lost.add(place.section)
         else:
             self.put_value(place)
 
-    def put_value(self, place):
+    def put_value(self, place: Place) -> None:
         """A good value of the key at the place; one that needn't be there is left out."""
         entry, key = self.entry(place), SECTIONS[place.section].keys[place.key]
         entry.pop(key.name, None)
@@ -114,7 +119,7 @@ class Mending:
         if key.name == "name":
             self.lost.add(place.section)
 
-    def wrong_value(self, place):
+    def wrong_value(self, place: Place) -> None:
         if place.section not in SECTIONS or place.key is None and place.index is None:
             del self.document[place.section]
             self.lost.add(place.section)
@@ -126,23 +131,23 @@ class Mending:
         else:
             self.wrong_text(place)
 
-    def wrong_text(self, place):
+    def wrong_text(self, place: Place) -> None:
         """An op or a point that is none."""
         if place.section not in OPS:
             self.entry(place)[place.key][place.at] = f"0 {self.handler()}"
             return
         ops = self.ops(place)
         words = ops[place.at].split() if isinstance(ops[place.at], str) else []
-        meant = words and near(words[0], OPS["task"], MEANT_OPS)
+        meant: Any = words and near(words[0], OPS["task"], MEANT_OPS)
         if not meant and not (words and not_simulated(words[0], NOT_SIMULATED_OPS)):
             self.broken.add((place.section, place.index))
         ops[place.at] = OF_BLOCKS.get(meant, HARMLESS[place.section])
 
-    def double_name(self, place):
+    def double_name(self, place: Place) -> None:
         self.entry(place)["name"] = self.fresh_name()
         self.lost.add(place.section)
 
-    def unknown_name(self, place):
+    def unknown_name(self, place: Place) -> None:
         """All that names it is mended."""
         if place.section in OPS:
             words, op = op_of(place.section, self.ops(place)[place.at])
@@ -153,38 +158,39 @@ class Mending:
             known = {it.get("name") for it in self.entries("handler")}
             self.mend_handler(next(it for it in self.entry(place)["points"][place.at].split()[1::2] if it not in known))
 
-    def mend_ops_about(self, name, kinds):
+    def mend_ops_about(self, name: str, kinds: Tuple[str, ...]) -> None:
         if not any(self.entries(it) for it in kinds):
             self.lost.update(kinds)
         for section, key in KEY_OF_OPS.items():
             for entry in self.entries(section):
-                ops = entry.get(key)
+                ops: Any = entry.get(key)
                 for at, text in enumerate(ops if isinstance(ops, list) else []):
+                    op: Any
                     words, op = op_of(section, text) if isinstance(text, str) else ([], None)
                     found = op.name_at(words[1:]) if op else None
                     if found and words[1 + found[0]] == name and found[1] == kinds:
                         ops[at] = OF_BLOCKS.get(op.word, HARMLESS[section])
 
-    def mend_handler(self, name):
+    def mend_handler(self, name: str) -> None:
         good = self.handler()
         for it in self.entries("interrupt"):
             if it.get("handler") == name:
                 it["handler"] = good
         for campaign in self.entries("campaign"):
-            points = campaign.get("points")
+            points: Any = campaign.get("points")
             for at, text in enumerate(points if isinstance(points, list) else []):
                 words = text.split(" ") if isinstance(text, str) else []
                 if name in words[1:]:
                     points[at] = " ".join([*words[:1], *(good if it == name else it for it in words[1:])])
 
-    def plain_op(self, place):
+    def plain_op(self, place: Place) -> None:
         self.ops(place)[place.at] = HARMLESS[place.section]
 
-    def no_daemon(self, place):
+    def no_daemon(self, place: Place) -> None:
         """A daemon is there from now on."""
         self.document[DAEMON] = self.entry_of(DAEMON)
 
-    def bad_nesting(self, place):
+    def bad_nesting(self, place: Place) -> None:
         """An op that can't be there is taken away; a block that is left open is closed."""
         ops = self.ops(place)
         self.broken.add((place.section, place.index))
@@ -193,7 +199,7 @@ class Mending:
         else:
             ops.append("end")
 
-    def too_many(self, place):
+    def too_many(self, place: Place) -> None:
         if place.key is not None:
             key = SECTIONS[place.section].keys[place.key]
             del self.entry(place)[key.name][key.most :]
@@ -218,7 +224,7 @@ MENDERS = {
 }
 
 
-def plain(node):
+def plain(node: Any) -> Any:
     """A copy of a node as dictionaries, lists and values; a moment stays a node."""
     if isinstance(node, Table):
         return {key: plain(member.value) for key, member in node.members.items()}
@@ -227,7 +233,7 @@ def plain(node):
     return node if isinstance(node, Moment) else node.value
 
 
-def toml_of(value):
+def toml_of(value: Any) -> str:
     """A value, or a key, in TOML."""
     if isinstance(value, dict):
         return "{" + ", ".join(f"{toml_of(key)} = {toml_of(it)}" for key, it in value.items()) + "}"

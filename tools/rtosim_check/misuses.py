@@ -3,10 +3,15 @@
 stay open.
 
 All are sure: each condition may hold or not, each `lock` may succeed, and each op may end."""
-from typing import Dict, FrozenSet, NamedTuple
+from __future__ import annotations
+
+from typing import Dict, FrozenSet, Iterator, List, NamedTuple, Optional, Set, TYPE_CHECKING
 
 from .findings import WARNING, Finding
 from .formats import OF_VARIABLES
+
+if TYPE_CHECKING:
+    from .reach import Script
 
 HOLDS, RELEASES = "suspend_all", "resume_all"
 OPENS, CLOSES = "enter_critical", "exit_critical"
@@ -38,13 +43,13 @@ class Count(NamedTuple):
     fewest: int = 0
     most: int = 0
 
-    def joined(self, other):
+    def joined(self, other: Count) -> Count:
         return Count(min(self.fewest, other.fewest), max(self.most, other.most))
 
-    def more(self, bound):
+    def more(self, bound: int) -> Count:
         return Count(min(self.fewest + 1, bound), min(self.most + 1, bound))
 
-    def less(self):
+    def less(self) -> Count:
         return Count(max(self.fewest, 1) - 1, self.most - 1)
 
 
@@ -55,11 +60,11 @@ class Held(NamedTuple):
     sections: Count = Count()
     mutexes: FrozenSet[str] = frozenset()
 
-    def joined(self, other):
+    def joined(self, other: Held) -> Held:
         return Held(self.suspensions.joined(other.suspensions), self.sections.joined(other.sections), self.mutexes | other.mutexes)
 
 
-def warnings(scripts):
+def warnings(scripts: List[Script]) -> Iterator[Finding]:
     """The misuses of these scripts of tasks, whose ops are known, and their sections that stay open."""
     for script in scripts:
         codes = misuses(script)
@@ -71,25 +76,25 @@ def warnings(scripts):
                 yield warning(script, at, "LeftOpen", message, f"no handler and no tick comes while a section is open; {TO_DO[6]}")
 
 
-def warning(script, at, kind, message, rule):
+def warning(script: Script, at: int, kind: str, message: str, rule: str) -> Finding:
     node = script.ops[at][1]
     return Finding(WARNING, kind, node.span, f'{script.entry.label}, script {at}, "{node.value}": {message}', rule)
 
 
-def rule_of(words, code):
+def rule_of(words: List[str], code: int) -> str:
     """Why a misuse ends the run, and what to do."""
     to_do = OF_WORK if code == 5 and words[0] == "work" else TO_DO.get(code)
     return f"{RULE}; {to_do}" if to_do else RULE
 
 
-def misuses(script) -> Dict[int, int]:
+def misuses(script: Script) -> Dict[int, int]:
     """The code of each op that is a misuse on each way to it."""
     before = held_before(script)
     codes = {at: code_of(script.ops[at][0], held) or code_of_end(script, at, held) for at, held in before.items() if at < len(script.ops)}
     return {at: code for at, code in codes.items() if code}
 
 
-def held_before(script) -> Dict[int, Held]:
+def held_before(script: Script) -> Dict[int, Held]:
     """What may be held before each op to which a way leads without a misuse."""
     before = {0: Held()} if script.ops else {}
     following = list(before)
@@ -107,7 +112,7 @@ def held_before(script) -> Dict[int, Held]:
     return before
 
 
-def code_of(words, held: Held):
+def code_of(words: List[str], held: Held) -> Optional[int]:
     """The code of the misuse that an op is whichever way leads to it; None if it needn't be one."""
     if words[0] not in STAYS and held.suspensions.fewest > 0:
         return 1
@@ -120,7 +125,7 @@ def code_of(words, held: Held):
     return 6 if words[0] == CLOSES and held.sections.most == 0 else None
 
 
-def code_of_end(script, at, held: Held):
+def code_of_end(script: Script, at: int, held: Held) -> Optional[int]:
     """The code of the misuse that it is to end the script with this op, if it surely ends there and is one."""
     if set(script.paths.after(at)) != {len(script.ops)}:
         return None
@@ -130,7 +135,7 @@ def code_of_end(script, at, held: Held):
     return 7 if after.sections.fewest > 0 else None
 
 
-def held_after(words, held: Held, bound) -> Held:
+def held_after(words: List[str], held: Held, bound: int) -> Held:
     """What is held after an op that was no misuse."""
     word = words[0]
     if word not in STAYS:
@@ -150,18 +155,18 @@ def held_after(words, held: Held, bound) -> Held:
     return held._replace(mutexes=held.mutexes - {words[1]}) if word == "unlock" else held
 
 
-def left_open(script):
+def left_open(script: Script) -> List[int]:
     """Those that open a critical section, of the ops to which a way leads, after which no op closes one."""
     words = [words[0] for words, _ in script.ops]
     reached = reached_from(script, 0)
     return [at for at in sorted(reached) if words[at] == OPENS and not any(words[it] == CLOSES for it in reached_after(script, at))]
 
 
-def reached_after(script, at):
+def reached_after(script: Script, at: int) -> Set[int]:
     return set().union(*(reached_from(script, it) for it in script.paths.after(at)))
 
 
-def reached_from(script, first):
+def reached_from(script: Script, first: int) -> Set[int]:
     """The ops to which ways lead from this one."""
     reached, following = set(), [first]
     while following:

@@ -1,4 +1,10 @@
 """What a TOML document holds, and where it is in the text: offsets in characters, the end not included."""
+from __future__ import annotations
+
+from typing import Any, Dict, List, Optional, Tuple, Union
+
+# The offsets of the first character and of the one after the last.
+Span = Tuple[int, int]
 
 
 class Node:
@@ -7,18 +13,18 @@ class Node:
     __slots__ = ("start", "end")
     kind = "a value"
 
-    def __init__(self, start, end):
+    def __init__(self, start: int, end: int) -> None:
         self.start, self.end = start, end
 
     @property
-    def span(self):
+    def span(self) -> Span:
         return self.start, self.end
 
 
 class Scalar(Node):
     __slots__ = ("value",)
 
-    def __init__(self, value, start, end):
+    def __init__(self, value: Any, start: int, end: int) -> None:
         super().__init__(start, end)
         self.value = value
 
@@ -51,17 +57,17 @@ class Text(Scalar):
     __slots__ = ("places",)
     kind = "a text"
 
-    def __init__(self, value, start, end, places):
+    def __init__(self, value: str, start: int, end: int, places: Union[int, List[int]]) -> None:
         super().__init__(value, start, end)
         self.places = places
 
-    def place(self, index):
+    def place(self, index: int) -> int:
         """Where in the document the character of this index is, or the text ends."""
         if isinstance(self.places, int):
             return self.places + index
         return self.places[index] if index < len(self.places) else self.end - 1
 
-    def part(self, start, end):
+    def part(self, start: int, end: int) -> Span:
         """The span of a part of the text; of an empty part the place where it would be."""
         if start >= end:
             return self.place(start), self.place(start) + 1
@@ -73,12 +79,13 @@ class Array(Node):
 
     __slots__ = ("items", "is_of_headers")
 
-    def __init__(self, start, end, is_of_headers=False):
+    def __init__(self, start: int, end: int, is_of_headers: bool = False) -> None:
         super().__init__(start, end)
-        self.items, self.is_of_headers = [], is_of_headers
+        self.items: List[Any] = []
+        self.is_of_headers = is_of_headers
 
     @property
-    def kind(self):
+    def kind(self) -> str:  # type: ignore[override]
         return "an array of tables" if self.is_of_headers else "an array"
 
 
@@ -87,21 +94,21 @@ class Member:
 
     __slots__ = ("key", "start", "end", "value")
 
-    def __init__(self, key, start, end, value):
+    def __init__(self, key: str, start: int, end: int, value: Any) -> None:
         self.key, self.start, self.end, self.value = key, start, end, value
 
     @property
-    def has_header(self):
+    def has_header(self) -> bool:
         value = self.value
         return isinstance(value, Array) and value.is_of_headers or isinstance(value, Table) and value.origin == Table.HEADER
 
     @property
-    def span(self):
+    def span(self) -> Span:
         """Where the section begins: its first header, or the key where it has none."""
         return self.value.span if self.has_header else (self.start, self.end)
 
     @property
-    def shown(self):
+    def shown(self) -> str:
         """The section or key as the file writes it."""
         if not self.has_header:
             return f'"{self.key}"'
@@ -115,11 +122,12 @@ class Table(Node):
     kind = "a table"
     IMPLICIT, DOTTED, HEADER, INLINE = range(4)
 
-    def __init__(self, start, end, origin):
+    def __init__(self, start: int, end: int, origin: int) -> None:
         super().__init__(start, end)
-        self.members, self.origin = {}, origin
+        self.members: Dict[str, Member] = {}
+        self.origin = origin
 
-    def get(self, key):
+    def get(self, key: str) -> Any:
         """The value of a key, or None."""
         member = self.members.get(key)
         return None if member is None else member.value
@@ -129,6 +137,6 @@ class NotToml(Exception):
     """The text is no TOML document: where, what is wrong there, and what would be right. `{line}` in the message is the line of
     another place, `other`."""
 
-    def __init__(self, start, end, message, rule=None, other=None):
+    def __init__(self, start: int, end: int, message: str, rule: Optional[str] = None, other: Optional[int] = None) -> None:
         super().__init__(message)
         self.start, self.end, self.message, self.rule, self.other = start, end, message, rule, other

@@ -1,10 +1,13 @@
 """Where a task may go in its script, which the program has taken: the ops that may follow each op. Each condition may hold or not."""
+from __future__ import annotations
+
+from typing import List
 
 
 class Paths:
     """The ways through the ops of a script, each op as its words."""
 
-    def __init__(self, ops):
+    def __init__(self, ops: List[List[str]]) -> None:
         self.ops = ops
         # Of each block where it is parted and where it ends; of each else and each end its block; of each break its loop.
         self.parts, self.ends, self.blocks, self.loops = {}, {}, {}, {}
@@ -20,7 +23,7 @@ class Paths:
                 self.blocks[at] = opened.pop()
                 self.ends[self.blocks[at]] = at
 
-    def after(self, at):
+    def after(self, at: int) -> List[int]:
         """The ops that may be next when this one has ended; the number of ops is the script's end."""
         word = self.ops[at][0]
         if word == "if":
@@ -34,10 +37,10 @@ class Paths:
             return [back] if self.is_endless(self.blocks[at]) else [back, at + 1]
         return [at + 1]
 
-    def is_endless(self, at):
+    def is_endless(self, at: int) -> bool:
         return self.ops[at] == ["repeat", "forever"]
 
-    def unreached(self):
+    def unreached(self) -> List[int]:
         """The first op of each stretch that no way leads to, except for those that only part or close a block."""
         reached, following = set(), [0]
         while following:

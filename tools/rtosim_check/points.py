@@ -1,19 +1,23 @@
 """The points of a campaign: too many of them, and those behind the end of the base run."""
+from __future__ import annotations
+
+from typing import Iterator, List
+
 from rtosim_report.faults import counted
 
-from .application import pairs_of
+from .application import Application, pairs_of
 from .findings import FAULT, WARNING, Finding
 from .formats import MOST_POINTS
-from .nodes import Text
+from .nodes import Table, Text
 
 
-def count(nodes, steps):
+def count(nodes: List[Text], steps: int) -> int:
     """How many points these are, where the base run has this many steps."""
     every = sum(isinstance(it, Text) and it.value.lstrip(" ").startswith("all ") for it in nodes)
     return len(nodes) - every + every * steps
 
 
-def too_many(nodes, steps, root, line):
+def too_many(nodes: List[Text], steps: int, root: Table, line: str) -> Finding:
     """The fault of a campaign of too many points."""
     message = f"campaign, points: {count(nodes, steps):,} points, and a campaign has at most {MOST_POINTS:,}"
     message += f"; the base run has {steps:,} steps, each a point of an all"
@@ -21,7 +25,7 @@ def too_many(nodes, steps, root, line):
     return Finding(FAULT, "TooManyPoints", root.get("campaign").members["points"].span, message, rule, line)
 
 
-def warnings(application, steps):
+def warnings(application: Application, steps: int) -> Iterator[Finding]:
     """Points that are not reached by a base run of this many steps, in one warning."""
     behind = []
     for at, node in enumerate(application.points() or []):

@@ -3,11 +3,15 @@ a handler's call that always fails.
 
 All are sure. What a task waits for is taken to come wherever an op that brings it may be reached at all, each condition may hold or
 not, and each handler is taken to come at any time. Where an op isn't known, nothing is said."""
+from __future__ import annotations
+
+from typing import Any, Dict, FrozenSet, Iterator, List, Optional, Set
+
 from . import misuses
-from .application import integer_of
+from .application import Application, Entry, integer_of
 from .findings import WARNING, Finding
 from .formats import AWAITS, COMMANDS, ENDLESS, SECTIONS, op_of
-from .nodes import Boolean
+from .nodes import Boolean, Text
 from .paths import Paths
 
 NOBODY = "no op that is ever reached"
@@ -21,13 +25,13 @@ PASSES = "a run passes when every task that isn't endless has come to the end of
 NAMELESS = ""
 
 
-def scripts_of(application):
+def scripts_of(application: Application) -> Optional[List[Script]]:
     """The scripts of handlers and tasks, or None if an op isn't known."""
     scripts = [Script(it) for it in (*application.entries["handler"], *application.entries["task"])]
     return scripts if all(it.is_known for it in scripts) else None
 
 
-def warnings(application):
+def warnings(application: Application) -> Iterator[Finding]:
     scripts = scripts_of(application)
     if scripts is not None:
         yield from of_tasks(application, scripts)
@@ -39,31 +43,32 @@ def warnings(application):
 class Script:
     """The ops of a task or a handler: each its words and its node."""
 
-    def __init__(self, entry):
+    def __init__(self, entry: Entry) -> None:
         self.entry = entry
         spelled = [(*op_of(entry.section, node.value), node) for _, node in entry.texts()]
         self.ops = [(words, node) for words, _, node in spelled]
         self.is_known = all(op for _, op, _ in spelled)
-        self.paths = Paths([words for words, _ in self.ops]) if self.is_known else None
+        self.paths: Any = Paths([words for words, _ in self.ops]) if self.is_known else None
         # Of each op to which it may come the mutexes that it surely holds then; and the ops that may end.
-        self.held, self.passed = {0: frozenset()}, set()
+        self.held: Dict[int, FrozenSet[str]] = {0: frozenset()}
+        self.passed: Set[int] = set()
 
     @property
-    def is_endless(self):
+    def is_endless(self) -> bool:
         value = self.entry.table.get(ENDLESS.name)
         return isinstance(value, Boolean) and value.value
 
     @property
-    def may_end(self):
+    def may_end(self) -> bool:
         return len(self.ops) in self.held
 
-    def come(self, at, held):
+    def come(self, at: int, held: FrozenSet[str]) -> bool:
         """It may come to this op with these mutexes; whether that is new."""
         before = self.held.get(at)
         self.held[at] = held if before is None else before & held
         return self.held[at] != before
 
-    def held_after(self, at):
+    def held_after(self, at: int) -> FrozenSet[str]:
         """The mutexes that it surely holds when this op has ended."""
         words, held = self.ops[at][0], self.held[at]
         if words[0] == "lock" and words[2] == "forever":
@@ -74,15 +79,19 @@ class Script:
 class Brought:
     """What ops that may be reached bring: items, counts, bits, resumes, notifications."""
 
-    def __init__(self, application):
-        self.queues, self.semaphores, self.resumed, self.notified, self.bits = set(), set(), set(), set(), {}
+    def __init__(self, application: Application) -> None:
+        self.queues: Set[str] = set()
+        self.semaphores: Set[str] = set()
+        self.resumed: Set[str] = set()
+        self.notified: Set[str] = set()
+        self.bits: Dict[str, int] = {}
         limit = integer_of(application.root.get("limits"), LIMIT.name)
         self.limit = LIMIT.most if limit is None else limit
         for it in application.entries["counting"]:
-            if integer_of(it.table, "initial"):
+            if integer_of(it.table, "initial") and it.name is not None:
                 self.semaphores.add(it.name)
 
-    def add(self, words):
+    def add(self, words: List[str]) -> None:
         word = words[0]
         if word in WRITES:
             self.queues.add(words[1])
@@ -95,7 +104,7 @@ class Brought:
         elif word == "set":
             self.bits[words[1]] = self.bits.get(words[1], 0) | int(words[2])
 
-    def lacks(self, script, at):
+    def lacks(self, script: Script, at: int) -> Optional[str]:
         """What is missing for this op of a task to end, or None."""
         words = script.ops[at][0]
         word, name = words[0], words[1] if len(words) > 1 else None
@@ -121,7 +130,7 @@ class Brought:
             return f'this task has locked "{name}" itself before'
         return None
 
-    def lacks_bits(self, words):
+    def lacks_bits(self, words: List[str]) -> Optional[str]:
         """As lacks, of `wait g b c k forever`."""
         mask, bits = int(words[2]), self.bits.get(words[1], 0)
         is_met = bits & mask if words[3] == "any" else bits & mask == mask
@@ -131,7 +140,7 @@ class Brought:
         return f'{NOBODY} sets {what} of "{words[1]}"'
 
 
-def of_tasks(application, scripts):
+def of_tasks(application: Application, scripts: List[Script]) -> Iterator[Finding]:
     """The tasks that come to an op which can't end, or never to their end."""
     brought = Brought(application)
     tasks = [it for it in scripts if it.entry.section == "task"]
@@ -149,7 +158,7 @@ def of_tasks(application, scripts):
         yield Finding(WARNING, "NeverEnds", span, "all tasks are endless, so no run passes", PASSES)
 
 
-def go_on(script, brought):
+def go_on(script: Script, brought: Brought) -> bool:
     """Lets a task go on as far as it may come, and answers whether it has."""
     has_gone, following = False, list(script.held)
     while following:
@@ -167,7 +176,7 @@ def go_on(script, brought):
     return has_gone
 
 
-def never_ends(script, brought):
+def never_ends(script: Script, brought: Brought) -> Finding:
     """The first op that can't end; where there is none, the loop that is never left."""
     stuck = [it for it in sorted(script.held) if brought.lacks(script, it) is not None]
     if not stuck:
@@ -179,7 +188,7 @@ def never_ends(script, brought):
     return Finding(WARNING, "NeverEnds", node.span, message, LIMIT.rule if words[0] in SLEEPS else PASSES)
 
 
-def never_left(script):
+def never_left(script: Script) -> Finding:
     paths = script.paths
     at = next(it for it in sorted(script.held) if paths.is_endless(it) and paths.ends[it] + 1 not in script.held)
     node = script.ops[at][1]
@@ -188,7 +197,7 @@ def never_left(script):
     return Finding(WARNING, "NeverEnds", node.span, message, ENDLESS.rule)
 
 
-def of_unreached(scripts):
+def of_unreached(scripts: List[Script]) -> Iterator[Finding]:
     """Ops to which no way leads, whatever comes."""
     for script in scripts:
         for at in script.paths.unreached():
@@ -199,16 +208,16 @@ def of_unreached(scripts):
             yield Finding(WARNING, "Unreached", node.span, message, rule)
 
 
-def of_handlers(application, handlers):
+def of_handlers(application: Application, handlers: List[Script]) -> Iterator[Finding]:
     """The calls of handlers that find no room, since the handler itself has filled it just before."""
-    room = {it.name: integer_of(it.table, "length") for it in application.entries["queue"]}
+    room: Dict[Any, Any] = {it.name: integer_of(it.table, "length") for it in application.entries["queue"]}
     room.update({it.name: 1 for section in ("binary", "task") for it in application.entries[section]})
     room.update({it.name: integer_of(it.table, "max") for it in application.entries["counting"]})
     if application.daemon is not None:
         room[NAMELESS] = integer_of(application.daemon.table, "length")
     for script in handlers:
         # Of each op how much the handler has put into what at least, whichever way it came there: ways go on alone.
-        before = {0: {}}
+        before: Dict[int, Dict[Any, int]] = {0: {}}
         for at, (words, node) in enumerate(script.ops):
             put = before[at]
             name = NAMELESS if words[0] in COMMANDS else words[1] if len(words) > 1 else None
@@ -219,12 +228,12 @@ def of_handlers(application, handlers):
                 before[following] = least(before[following], after) if following in before else after
 
 
-def needs_room(words):
+def needs_room(words: List[str]) -> bool:
     """Whether an op of a handler fails where there is no room. Of a task's notifications one alone is pending, which `keep` keeps."""
     return words[0] in FILLS or words[0] == NOTIFIES and words[2] == KEEPS
 
 
-def filled(put, word, name, room):
+def filled(put: Dict[Any, int], word: str, name: Optional[str], room: int) -> Dict[Any, int]:
     """How much there is in what after an op."""
     if word in FILLS:
         return {**put, name: min(put.get(name, 0) + 1, room)}
@@ -233,11 +242,11 @@ def filled(put, word, name, room):
     return {**put, name: max(put.get(name, 0) - 1, 0)} if word == "receive" else put
 
 
-def least(one, other):
+def least(one: Dict[Any, int], other: Dict[Any, int]) -> Dict[Any, int]:
     return {it: min(one[it], other[it]) for it in one if it in other}
 
 
-def always_fails(script, at, node, room):
+def always_fails(script: Script, at: int, node: Text, room: int) -> Finding:
     words = node.value.split()
     why, rule = f"the handler has filled \"{words[1]}\" before", "no task runs between the ops of a handler, so nobody makes room"
     if words[0] in COMMANDS:

@@ -2,17 +2,20 @@
 `PYTHONPATH=tools python3 -m rtosim_check.schema` writes.
 
 It is draft 7, which Taplo and Even Better TOML take. What a schema can't say, as which names there are, isn't in it."""
-import json
+from __future__ import annotations
 
-from .formats import (A_NAME, A_POINT, ANSWER, OPS, PAIRS, SECTIONS, STEP, TICKLESS, TOP_KEYS, WORDS_OF_CONDITIONS, Action, Choice, Condition,
-                      Name, Operand, Turns, Value, Wait)
+import json
+from typing import Any, Dict, List, Union
+
+from .formats import (ANSWER, A_NAME, A_POINT, Action, Argument, Choice, Condition, Key, Name, OPS, Op, Operand, PAIRS, SECTIONS, STEP,
+                      Section, TICKLESS, TOP_KEYS, Turns, Value, WORDS_OF_CONDITIONS, Wait)
 
 NAME = "[A-Za-z][A-Za-z0-9_]{0,15}"
 DIGITS = 10
 TITLE = "Application for rtosim"
 
 
-def number_pattern(least, most):
+def number_pattern(least: int, most: int) -> str:
     """A pattern of the numbers of a range, whose least is 0 or 1: at most ten digits, of which the first may be zeros."""
     text = str(most)
     parts = ["0{1,10}"] if least == 0 else []
@@ -24,15 +27,15 @@ def number_pattern(least, most):
     return f"({'|'.join([*parts, zeros(len(text)) + text])})"
 
 
-def zeros(size):
+def zeros(size: int) -> str:
     return f"0{{0,{DIGITS - size}}}" if size < DIGITS else ""
 
 
-def digits(count):
+def digits(count: int) -> str:
     return f"[0-9]{{{count}}}" if count else ""
 
 
-def argument_pattern(argument):
+def argument_pattern(argument: Argument) -> str:
     if isinstance(argument, Name):
         return NAME
     if isinstance(argument, Choice):
@@ -49,32 +52,32 @@ def argument_pattern(argument):
     return f"(forever|{number})" if isinstance(argument, (Turns, Wait)) else number
 
 
-def condition_pattern(number):
+def condition_pattern(number: str) -> str:
     value = f"{number}|(?!({'|'.join(WORDS_OF_CONDITIONS)})( |$)){NAME}"
     fronts = [f"{front} +(none|{value})" if is_none else f"{front} +({value})" for front, is_none in Condition.FRONTS.items()]
     return f"({'|'.join(['none', value, *fronts])})"
 
 
-def text_of(*words):
+def text_of(*words: str) -> Dict[str, str]:
     """A text of these words."""
     return {"pattern": f"^ *{' +'.join(words)} *$"}
 
 
-def op_schema(op):
+def op_schema(op: Op) -> Dict[str, str]:
     return {"description": op.rule, **text_of(op.word, *map(argument_pattern, op.arguments))}
 
 
-def ops_schema(section):
+def ops_schema(section: str) -> Dict[str, Union[List[Dict[str, str]], str]]:
     return {"type": "string", "anyOf": [op_schema(op) for op in OPS[section].values()]}
 
 
-def points_schema():
+def points_schema() -> Dict[str, Union[List[Dict[str, str]], str]]:
     pair = (number_pattern(STEP.least, STEP.most), NAME)
     pairs = [text_of(*pair * count) for count in range(1, PAIRS + 1)]
     return {"type": "string", "description": A_POINT, "anyOf": [text_of("all", NAME), *pairs]}
 
 
-def key_schema(section, key):
+def key_schema(section: Any, key: Key) -> Dict[str, Any]:
     schema = {"description": key.rule}
     if key.kind == "an integer":
         return {**schema, "type": "integer", "minimum": key.least, "maximum": key.most_tickless}
@@ -86,7 +89,7 @@ def key_schema(section, key):
     return {**schema, "type": "string", "pattern": f"^{NAME}$"}
 
 
-def section_schema(section):
+def section_schema(section: Section) -> Dict[str, Any]:
     table = {
         "type": "object",
         "properties": {key.name: key_schema(section, key) for key in section.keys.values()},
@@ -99,18 +102,18 @@ def section_schema(section):
     return {"description": section.rule, "type": "array", **least, "maxItems": section.most, "items": table}
 
 
-def is_tickless():
+def is_tickless() -> Dict[str, Union[Dict[str, Dict[str, bool]], List[str]]]:
     return {"properties": {TICKLESS.name: {"const": True}}, "required": [TICKLESS.name]}
 
 
-def fits_without_tickless():
+def fits_without_tickless() -> Dict[str, Dict[str, Dict[str, Dict[str, Dict[str, int]]]]]:
     """The numbers whose range is larger in a tickless application are in that of others."""
     sections = {it.name: {key.name: {"maximum": key.most} for key in it.keys.values() if key.most < key.most_tickless}
                 for it in SECTIONS.values()}
     return {"properties": {name: {"properties": keys} for name, keys in sections.items() if keys}}
 
 
-def schema():
+def schema() -> Dict[str, Any]:
     """The whole of it."""
     return {
         "$schema": "http://json-schema.org/draft-07/schema#",
@@ -129,7 +132,7 @@ def schema():
     }
 
 
-def text():
+def text() -> str:
     return json.dumps(schema(), indent=1) + "\n"
 
 

@@ -2,10 +2,14 @@
 
 It takes what the program takes, whose reader goes by the grammar of TOML 1.1: arrays and inline tables at most 80 deep, keys of at
 most 80 parts, integers of 64 bits."""
+from __future__ import annotations
+
 import re
 import unicodedata
+from typing import Any, List, Optional, Tuple
 
-from .nodes import Array, NotToml, Table, Text
+from .formats import Word
+from .nodes import Array, Node, NotToml, Table, Text
 from .toml_tables import Builder, put
 from .toml_words import A_VALUE, word_node
 
@@ -37,7 +41,7 @@ A_TEXT = 'a text is between two " or two \' in one line'
 A_KEY = "a key is letters, digits, `-` and `_`, or a text in quotes"
 
 
-def read_document(text):
+def read_document(text: str) -> Table:
     """The table that the text is, or NotToml."""
     return Reader(text).document()
 
@@ -45,30 +49,31 @@ def read_document(text):
 class Reader:
     """The text, and how far it is read."""
 
-    def __init__(self, text):
+    def __init__(self, text: str) -> None:
         self.text = text
         self.at = 1 if text.startswith("\ufeff") else 0
 
     # -- characters
 
-    def peek(self):
+    def peek(self) -> str:
         return self.text[self.at : self.at + 1]
 
-    def skip(self, pattern):
+    def skip(self, pattern: Any) -> None:
+        """Goes past what the pattern takes here, which may be nothing."""
         self.at = pattern.match(self.text, self.at).end()
 
-    def here(self, message, rule=None, start=None):
+    def here(self, message: str, rule: Optional[str] = None, start: Optional[int] = None) -> NotToml:
         """NotToml at what comes next, or from `start` to what comes next."""
         if start is not None:
             return NotToml(start, max(self.at, start + 1), message, rule)
         return NotToml(self.at, self.at + len(self.next_piece()), message, rule)
 
-    def next_piece(self):
+    def next_piece(self) -> str:
         """The word that comes next, or the character where there is none."""
         word = PIECE.match(self.text, self.at)
         return word.group() if word else self.text[self.at : self.at + 1]
 
-    def found(self):
+    def found(self) -> str:
         """What comes next, for a message."""
         quote = SIMPLE.get(self.peek())
         simple = quote and quote.match(self.text, self.at)
@@ -83,7 +88,7 @@ class Reader:
 
     # -- the document
 
-    def document(self):
+    def document(self) -> Table:
         builder = Builder()
         while True:
             self.skip(BLANK)
@@ -98,7 +103,7 @@ class Reader:
                 builder.pair(self.key(), self.value_after_equals(DEPTH))
             self.end_of_line()
 
-    def header(self, brackets):
+    def header(self, brackets: int) -> List[Word]:
         start = self.at
         self.at += brackets
         self.skip(SPACES)
@@ -110,7 +115,7 @@ class Reader:
         self.at += brackets
         return key
 
-    def end_of_line(self):
+    def end_of_line(self) -> None:
         self.skip(SPACES)
         comment = COMMENT.match(self.text, self.at)
         if comment:
@@ -121,7 +126,7 @@ class Reader:
             raise self.here("a control character in a comment")
         raise self.here(f"expected the end of the line, found {self.found()}", self.rule_of_line())
 
-    def rule_of_line(self):
+    def rule_of_line(self) -> str:
         if self.text.startswith("//", self.at) or self.peek() == ";":
             return "a comment begins with #"
         if self.peek() == ",":
@@ -130,7 +135,7 @@ class Reader:
 
     # -- keys
 
-    def key(self):
+    def key(self) -> List[Word]:
         """The parts of a key, each with its span, and the spaces behind it."""
         parts = []
         while True:
@@ -144,7 +149,7 @@ class Reader:
             self.at += 1
             self.skip(SPACES)
 
-    def simple_key(self):
+    def simple_key(self) -> str:
         if self.peek() in ('"', "'") and self.peek():
             return self.one_line().value
         bare = BARE.match(self.text, self.at)
@@ -153,7 +158,7 @@ class Reader:
             return bare.group()
         raise self.here(*self.no_key())
 
-    def no_key(self):
+    def no_key(self) -> Tuple[str, str]:
         if self.text.startswith("//", self.at) or self.peek() == ";":
             return "expected a key or a section, found " + self.found(), "a comment begins with #"
         if self.peek() and self.peek() in CURLED:
@@ -162,14 +167,14 @@ class Reader:
             return "expected a key or a section, found {", "a file is TOML, and not JSON"
         return f"expected a key, found {self.found()}", A_KEY
 
-    def value_after_equals(self, depth):
+    def value_after_equals(self, depth: int) -> Node:
         if self.peek() != "=":
             raise self.no_equals()
         self.at += 1
         self.skip(SPACES)
         return self.value(depth)
 
-    def no_equals(self):
+    def no_equals(self) -> NotToml:
         rule = "a line is `key = value`, `[section]` or `[[section]]`"
         if self.peek() == ":":
             return self.here("expected = after the key, found :", rule)
@@ -177,7 +182,7 @@ class Reader:
 
     # -- values
 
-    def value(self, depth):
+    def value(self, depth: int) -> Node:
         first = self.peek()
         if first and first in "\"'":
             return self.string()
@@ -187,18 +192,19 @@ class Reader:
             return self.array(depth - 1) if first == "[" else self.inline_table(depth - 1)
         return self.word()
 
-    def word(self):
+    def word(self) -> Node:
         match = WORD.match(self.text, self.at)
         if not match:
             raise self.no_value()
         start, end = match.span()
         second = SECOND_WORD.match(self.text, end)
         word = match.group() + (second.group() if second and "-" in match.group()[1:] else "")
-        node = word_node(word, start, UNQUOTED.match(self.text, start).group().rstrip())
+        unquoted: Any = UNQUOTED.match(self.text, start)
+        node = word_node(word, start, unquoted.group().rstrip())
         self.at = node.end
         return node
 
-    def no_value(self):
+    def no_value(self) -> NotToml:
         first = self.peek()
         if first and first in CURLED:
             return self.here(f"expected a value, found the typographic quote {first}", A_TEXT)
@@ -208,7 +214,7 @@ class Reader:
             return self.here("expected a value, found (", "an array is between [ and ]")
         return self.here(f"expected a value, found {self.found()}", A_VALUE)
 
-    def array(self, depth):
+    def array(self, depth: int) -> Array:
         start, array = self.at, Array(self.at, self.at)
         self.at += 1
         while True:
@@ -224,7 +230,7 @@ class Reader:
         array.end = self.at
         return array
 
-    def simple_elements(self, items):
+    def simple_elements(self, items: List[Text]) -> None:
         element = ELEMENT.match(self.text, self.at)
         while element:
             start, end = element.span(1)
@@ -232,11 +238,11 @@ class Reader:
             self.at = element.end()
             element = ELEMENT.match(self.text, self.at)
 
-    def not_over(self, start, what, closing):
+    def not_over(self, start: int, what: str, closing: str) -> None:
         if self.at == len(self.text):
             raise NotToml(start, start + 1, f"this {what} is not closed: expected {closing} before the end of the file")
 
-    def after_element(self, start, closing, what):
+    def after_element(self, start: int, closing: str, what: str) -> bool:
         """Whether the closing bracket comes next; otherwise a comma has been read."""
         self.skip(BLANK)
         if self.peek() == closing:
@@ -250,7 +256,7 @@ class Reader:
         self.at += 1
         return False
 
-    def inline_table(self, depth):
+    def inline_table(self, depth: int) -> Table:
         start, table = self.at, Table(self.at, self.at, Table.INLINE)
         self.at += 1
         while True:
@@ -268,13 +274,13 @@ class Reader:
 
     # -- strings
 
-    def string(self):
+    def string(self) -> Text:
         quote = self.peek()
         if self.text.startswith(quote * 3, self.at):
             return self.several_lines(quote)
         return self.one_line()
 
-    def one_line(self):
+    def one_line(self) -> Text:
         start, quote = self.at, self.peek()
         simple = SIMPLE[quote].match(self.text, start)
         if simple:
@@ -283,7 +289,7 @@ class Reader:
         self.at += 1
         return self.body(start, quote, False)
 
-    def several_lines(self, quote):
+    def several_lines(self, quote: str) -> Text:
         start = self.at
         self.at += 3
         newline = NEWLINE.match(self.text, self.at)
@@ -291,9 +297,10 @@ class Reader:
             self.at = newline.end()
         return self.body(start, quote, True)
 
-    def body(self, start, quote, is_long):
+    def body(self, start: int, quote: str, is_long: bool) -> Text:
         """The rest of a string, piece by piece."""
-        pieces, places = [], []
+        pieces: List[str] = []
+        places: List[int] = []
         while True:
             plain = PLAIN[quote, is_long].match(self.text, self.at)
             if plain:
@@ -313,7 +320,7 @@ class Reader:
             else:
                 raise self.unclosed(start, quote, is_long)
 
-    def closes(self, quote, is_long):
+    def closes(self, quote: str, is_long: bool) -> bool:
         """Whether the quotes that come next end the string, which are read then."""
         if not is_long:
             self.at += 1
@@ -326,7 +333,7 @@ class Reader:
             self.at += 3
         return count == 3
 
-    def unclosed(self, start, quote, is_long):
+    def unclosed(self, start: int, quote: str, is_long: bool) -> NotToml:
         if self.peek() and (self.peek() not in "\r\n" or is_long):
             code = ord(self.peek())
             return self.here(f"a control character in a text, U+{code:04X}", 'in a text between two " it is written as an escape')
@@ -335,11 +342,12 @@ class Reader:
         end = "line" if self.peek() else "file"
         return self.here(f"this text is not closed: expected {quote} before the end of the {end}", A_TEXT, start)
 
-    def escape(self, start, is_long):
+    def escape(self, start: int, is_long: bool) -> str:
         """The character that an escape spells."""
         place = self.at
         self.at += 1
-        if is_long and NEWLINE.match(self.text, SPACES.match(self.text, self.at).end()):
+        spaces: Any = SPACES.match(self.text, self.at)
+        if is_long and NEWLINE.match(self.text, spaces.end()):
             self.skip(LINES)
             return ""
         letter = self.peek()
@@ -357,5 +365,5 @@ class Reader:
         raise self.here(message, ESCAPES_ARE, place)
 
 
-def is_character(code):
+def is_character(code: int) -> bool:
     return code < 0xD800 or 0xE000 <= code < 0x110000

@@ -1,15 +1,20 @@
 """The rules by which keys and headers define tables."""
-from .nodes import Array, Member, NotToml, Table
+from __future__ import annotations
+
+from typing import List
+
+from .formats import Word
+from .nodes import Array, Member, Node, NotToml, Span, Table
 
 
-def put(table, key, value):
+def put(table: Table, key: List[Word], value: Node) -> None:
     """Defines a dotted key in a table."""
     for part in key[:-1]:
         table = along_dot(table, part)
     define(table, key, value)
 
 
-def along_dot(table, part):
+def along_dot(table: Table, part: Word) -> Table:
     """The table that a part of a dotted key leads to: none that a header defined, and no inline one."""
     key, start, end = part
     member = table.members.get(key)
@@ -25,7 +30,7 @@ def along_dot(table, part):
     return inner
 
 
-def define(table, parts, value):
+def define(table: Table, parts: List[Word], value: Node) -> None:
     key, start, end = parts[-1]
     if key in table.members:
         raise NotToml(start, end, f'the key "{key}" is there twice: it is already defined in line {{line}}',
@@ -36,21 +41,21 @@ def define(table, parts, value):
 class Builder:
     """The document so far, and the table of the last header."""
 
-    def __init__(self):
+    def __init__(self) -> None:
         self.root = Table(0, 0, Table.HEADER)
         self.section, self.header = self.root, None
 
-    def pair(self, key, value):
+    def pair(self, key: List[Word], value: Node) -> None:
         put(self.section, key, value)
 
-    def parent(self, key):
+    def parent(self, key: List[Word]) -> Table:
         """The table in which the last part of a header's key is defined."""
         table = self.root
         for part in key[:-1]:
             table = self.along_header(table, part)
         return table
 
-    def along_header(self, table, part):
+    def along_header(self, table: Table, part: Word) -> Table:
         key, start, end = part
         member = table.members.get(key)
         if member is None:
@@ -64,7 +69,7 @@ class Builder:
             return inner
         raise NotToml(start, end, f'"{key}" is already defined in line {{line}}, and is {inner.kind}', None, member.start)
 
-    def table(self, key, span):
+    def table(self, key: List[Word], span: Span) -> None:
         table, (name, start, end) = self.parent(key), key[-1]
         member = table.members.get(name)
         if member is None:
@@ -78,7 +83,7 @@ class Builder:
         self.section.origin = Table.HEADER
         self.section.start, self.section.end = span
 
-    def array_table(self, key, span):
+    def array_table(self, key: List[Word], span: Span) -> None:
         table, (name, start, end) = self.parent(key), key[-1]
         member = table.members.get(name)
         if member is None:

@@ -1,7 +1,10 @@
 """Words of TOML without quotes: booleans, integers, floats, dates and times."""
-import re
+from __future__ import annotations
 
-from .nodes import Boolean, Float, Integer, Moment, NotToml
+import re
+from typing import Dict, Optional, Tuple
+
+from .nodes import Boolean, Float, Integer, Moment, Node, NotToml
 
 DIGITS = r"[0-9](?:_?[0-9])*"
 WHOLE = r"(?:0|[1-9](?:_?[0-9])*)"
@@ -21,7 +24,7 @@ A_MOMENT = "a date is 2026-01-31, a time 07:30:00"
 A_VALUE = 'a value is a text in quotes, a number, true, false, an array `[..]` or a table `{..}`'
 
 
-def word_node(word, start, unquoted=""):
+def word_node(word: str, start: int, unquoted: str = "") -> Node:
     """The node of a word, or NotToml. `unquoted` is what may be meant as a text there."""
     end = start + len(word)
     if word in ("true", "false"):
@@ -33,33 +36,33 @@ def word_node(word, start, unquoted=""):
     prefixed = PREFIXED.fullmatch(word)
     if prefixed:
         radix = {"x": 16, "o": 8, "b": 2}[word[1]]
-        return integer(int(prefixed[prefixed.lastindex].replace("_", ""), radix), word, start, end)
+        return integer(int(prefixed[prefixed.lastindex or 0].replace("_", ""), radix), word, start, end)
     if FLOAT.fullmatch(word):
         return float_node(word, start, end)
     raise NotToml(start, end, *no_value(word, unquoted or word))
 
 
-def integer(value, word, start, end):
+def integer(value: int, word: str, start: int, end: int) -> Integer:
     if LEAST <= value <= MOST:
         return Integer(value, start, end)
     raise NotToml(start, end, f"{word} has no room in 64 bits", f"an integer is {LEAST} to {MOST}")
 
 
-def float_node(word, start, end):
+def float_node(word: str, start: int, end: int) -> Float:
     value = float(word.replace("_", ""))
     if value in (float("inf"), float("-inf")) and "inf" not in word:
         raise NotToml(start, end, f"{word} is too large for a float")
     return Float(value, start, end)
 
 
-def moment(word, start, end):
+def moment(word: str, start: int, end: int) -> Moment:
     found = MOMENT.fullmatch(word) or CLOCK.fullmatch(word)
     if found is None or not is_in_calendar(found.groupdict()):
         raise NotToml(start, end, f"{word} is no date and no time", A_MOMENT)
     return Moment(word, start, end)
 
 
-def is_in_calendar(parts):
+def is_in_calendar(parts: Dict[str, Optional[str]]) -> bool:
     numbers = {key: int(value) for key, value in parts.items() if value is not None}
     bounds = (("hour", 23), ("minute", 59), ("second", 60), ("away", 23), ("aside", 59))
     if any(numbers.get(key, 0) > bound for key, bound in bounds):
@@ -67,13 +70,13 @@ def is_in_calendar(parts):
     return "month" not in numbers or 1 <= numbers["day"] <= days_in(numbers["year"], numbers["month"])
 
 
-def days_in(year, month):
+def days_in(year: int, month: int) -> int:
     if month == 2:
         return 29 if year % 4 == 0 and (year % 100 != 0 or year % 400 == 0) else 28
     return {4: 30, 6: 30, 9: 30, 11: 30}.get(month, 31 if 1 <= month <= 12 else 0)
 
 
-def no_value(word, unquoted):
+def no_value(word: str, unquoted: str) -> Tuple[str, str]:
     """What is wrong with a word that is no value, and the rule."""
     if word.lower() in ("true", "yes", "on", "false", "no", "off"):
         meant = "true" if word.lower() in ("true", "yes", "on") else "false"

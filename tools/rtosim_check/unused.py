@@ -1,12 +1,16 @@
 """Warnings of what nothing uses: objects, event groups, handlers; of handlers without a point; of interrupts that never come; of notifications
 that nobody takes."""
-from .application import integer_of, pairs_of
+from __future__ import annotations
+
+from typing import Iterator, List, Set
+
+from .application import Application, integer_of, pairs_of
 from .findings import WARNING, Finding
 from .formats import AWAITS, CALLED, COMMANDS, OBJECTS, OPS, OWN, SECTIONS, op_of
 from .nodes import Text
 
 
-def warnings(application):
+def warnings(application: Application) -> Iterator[Finding]:
     used = names_in_ops(application)
     for section in (*OBJECTS, "group", "variable"):
         for entry in application.entries[section]:
@@ -18,7 +22,7 @@ def warnings(application):
     yield from of_notifications(application)
 
 
-def names_in_ops(application):
+def names_in_ops(application: Application) -> Set[str]:
     """The names in the ops of tasks and handlers. Of an op that isn't known each word may be one."""
     found = set()
     for section in OPS:
@@ -28,7 +32,7 @@ def names_in_ops(application):
     return found
 
 
-def names_in(section, text):
+def names_in(section: str, text: str) -> List[str]:
     words, op = op_of(section, text)
     if op is None:
         return words
@@ -36,7 +40,7 @@ def names_in(section, text):
     return [words[place[0] + 1]] if place else []
 
 
-def of_daemon(application):
+def of_daemon(application: Application) -> Iterator[Finding]:
     """A daemon that no handler has a command for. An op that isn't known may be one."""
     daemon = application.daemon
     texts = (node.value for it in application.entries["handler"] for _, node in it.texts())
@@ -46,7 +50,7 @@ def of_daemon(application):
         yield Finding(WARNING, "Unused", daemon.table.span, message, OPS["handler"]["set"].rule)
 
 
-def of_handlers(application):
+def of_handlers(application: Application) -> Iterator[Finding]:
     """Handlers that come with no point and no interrupt, and a campaign without points."""
     nodes = application.points() or []
     called = {handler for it in nodes if isinstance(it, Text) for _, handler in pairs_of(it.value)}
@@ -67,7 +71,7 @@ def of_handlers(application):
         yield Finding(WARNING, "Unused", it.table.span, f'no point and no interrupt brings the handler "{it.name}"', rule)
 
 
-def of_interrupts(application):
+def of_interrupts(application: Application) -> Iterator[Finding]:
     """Interrupts behind the limit of ticks."""
     limit = integer_of(application.root.get("limits"), "ticks")
     for it in application.entries["interrupt"]:
@@ -77,7 +81,7 @@ def of_interrupts(application):
             yield Finding(WARNING, "NeverComes", it.table.get("tick").span, message, SECTIONS["limits"].keys["ticks"].rule)
 
 
-def of_notifications(application):
+def of_notifications(application: Application) -> Iterator[Finding]:
     """The first op that notifies each task none of whose ops is about its notification. An op that isn't known may be one."""
     texts = [(it, key, at, node) for section, key in (("handler", "ops"), ("task", "script")) for it in application.entries[section]
              for at, node in it.texts()]
@@ -91,11 +95,11 @@ def of_notifications(application):
             yield Finding(WARNING, "NeverTaken", node.span, message, rule)
 
 
-def may_take(text):
+def may_take(text: str) -> bool:
     words, op = op_of("task", text)
     return op is None or words[0] in OWN
 
 
-def is_task(application, name):
+def is_task(application: Application, name: str) -> bool:
     found = application.named.get(name)
     return found is not None and found.section == "task"

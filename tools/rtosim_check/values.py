@@ -2,13 +2,16 @@
 variables that nothing stores or nothing reads; and variables whose names are other words too.
 
 Failed checks are sure: each condition may hold or not, and each op may end that may."""
-from typing import Dict, FrozenSet
+from __future__ import annotations
+
+from typing import Dict, FrozenSet, Iterator, List, Optional, Set, Tuple
 
 from . import misuses
-from .application import integer_of
+from .application import Application, Entry, integer_of
 from .findings import WARNING, Finding
 from .formats import ANSWER, ARITHMETIC, OPS, SECTIONS, WORDS_OF_CONDITIONS
-from .reach import scripts_of
+from .misuses import Held
+from .reach import Script, scripts_of
 
 NONE, NUMBER = "none", "a number"
 EITHER: FrozenSet[str] = frozenset((NONE, NUMBER))
@@ -23,7 +26,7 @@ NEEDS_A_DIVISOR = "no op stores {name}, and its initial value is 0: give it anot
 IS_READ = "load reads a variable, and so do conditions and arithmetic that name it; pictures and --state show it in any case"
 
 
-def warnings(application):
+def warnings(application: Application) -> Iterator[Finding]:
     scripts = scripts_of(application)
     if scripts is not None:
         uses = Uses(scripts)
@@ -35,7 +38,7 @@ def warnings(application):
         yield from of_name(entry)
 
 
-def of_failed_checks(application, script, uses):
+def of_failed_checks(application: Application, script: Script, uses: Uses) -> Iterator[Finding]:
     """The ops of a script that use a number that isn't there."""
     held = misuses.held_before(script) if script.entry.section == "task" else {}
     for at, before in sorted(answers_before(script).items()):
@@ -48,18 +51,18 @@ def of_failed_checks(application, script, uses):
             yield warning(script, at, f"{words[1]} is 0", NEEDS_A_DIVISOR.format(name=words[1]))
 
 
-def warning(script, at, why, rule):
+def warning(script: Script, at: int, why: str, rule: str) -> Finding:
     key = "script" if script.entry.section == "task" else "ops"
     node = script.ops[at][1]
     return Finding(WARNING, "NoValue", node.span, f'{script.entry.label}, {key} {at}, "{node.value}": {FAILS}: {why}', rule)
 
 
-def may_be_misuse(words, held):
+def may_be_misuse(words: List[str], held: Optional[Held]) -> bool:
     """Whether a task's op may be misuse here, which comes before a failed check."""
     return words[0] not in misuses.LOOKS and held is not None and (held.suspensions.most > 0 or held.sections.most > 0)
 
 
-def is_zero(application, name, uses):
+def is_zero(application: Application, name: str, uses: Uses) -> bool:
     """Whether a variable has the value 0 in each run."""
     entry = application.named.get(name)
     return name not in uses.stored and entry is not None and entry.section == "variable" and not integer_of(entry.table, INITIAL.name)
@@ -68,7 +71,7 @@ def is_zero(application, name, uses):
 # -- the last answer
 
 
-def answers_before(script) -> Dict[int, FrozenSet[str]]:
+def answers_before(script: Script) -> Dict[int, FrozenSet[str]]:
     """Of each op to which a way may lead whether the last answer may be none there, and whether it may be a number."""
     before = {0: frozenset((NONE,))} if script.ops else {}
     following = list(before)
@@ -82,7 +85,7 @@ def answers_before(script) -> Dict[int, FrozenSet[str]]:
     return before
 
 
-def answers_after(script, at, before):
+def answers_after(script: Script, at: int, before: FrozenSet[str]) -> List[Tuple[int, FrozenSet[str]]]:
     """The ops that may be next, each with what the last answer may be then."""
     words = script.ops[at][0]
     after = script.paths.after(at)
@@ -99,7 +102,7 @@ def answers_after(script, at, before):
     return [(it, found) for it in after]
 
 
-def narrowed(before, condition, holds):
+def narrowed(before: FrozenSet[str], condition: List[str], holds: bool) -> FrozenSet[str]:
     """What the last answer may be where a condition holds, or where it doesn't."""
     is_negated = condition[0] == "not"
     if condition[-1] == "none":
@@ -113,13 +116,14 @@ def narrowed(before, condition, holds):
 class Uses:
     """The names of variables that ops of these scripts store, and of those that they read, also by the answer of a store."""
 
-    def __init__(self, scripts):
-        self.stored, self.read = set(), set()
+    def __init__(self, scripts: List[Script]) -> None:
+        self.stored: Set[str] = set()
+        self.read: Set[str] = set()
         for script in scripts:
             for at, (words, _) in enumerate(script.ops):
                 self.add(script, at, words)
 
-    def add(self, script, at, words):
+    def add(self, script: Script, at: int, words: List[str]) -> None:
         op = OPS[script.entry.section][words[0]]
         if words[0] == "store":
             self.stored.add(words[1])
@@ -130,7 +134,7 @@ class Uses:
             self.read.update([words[1 + found[0]]] if found else [])
 
 
-def answer_is_used(script, first):
+def answer_is_used(script: Script, first: int) -> bool:
     """Whether an op after this one may look at its answer."""
     seen, following = set(), list(script.paths.after(first))
     while following:
@@ -147,7 +151,7 @@ def answer_is_used(script, first):
     return False
 
 
-def of_uses(entry, uses):
+def of_uses(entry: Entry, uses: Uses) -> Iterator[Finding]:
     name = entry.name
     if name in uses.read and name not in uses.stored and entry.table.get(INITIAL.name) is None:
         message = f'no op stores the variable "{name}", so it is always 0'
@@ -157,7 +161,7 @@ def of_uses(entry, uses):
         yield Finding(WARNING, "NeverRead", entry.table.span, message, IS_READ)
 
 
-def of_name(entry):
+def of_name(entry: Entry) -> Iterator[Finding]:
     if entry.name in WORDS_OF_CONDITIONS:
         message = f'variable "{entry.name}": in a condition "{entry.name}" is a word, so no condition can name this variable'
     elif entry.name == ANSWER:

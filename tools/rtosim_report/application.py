@@ -1,7 +1,10 @@
 """The application of a report: what its tasks' and handlers' ops are, by their texts, or by the names that comments give them. The
 program has taken the file; nothing is checked here but that it can be read."""
+from __future__ import annotations
+
 import re
-from typing import Dict, List, NamedTuple, Optional, Tuple
+from typing import Any, Dict, List, NamedTuple, Optional, Tuple
+
 
 from .escaping import plain
 from .faults import Fault
@@ -34,16 +37,16 @@ class Op(NamedTuple):
     given_name: str = ""
 
     @property
-    def text(self):
+    def text(self) -> str:
         return " ".join(self.words)
 
     @property
-    def lasting(self):
+    def lasting(self) -> str:
         """What it is called in the names of classes."""
         return self.given_name or self.text
 
     @property
-    def word(self):
+    def word(self) -> str:
         return self.words[0] if self.words else ""
 
     @property
@@ -52,11 +55,11 @@ class Op(NamedTuple):
         return self.words[1] if len(self.words) > 1 and self.word not in NAMELESS else None
 
     @property
-    def is_silent(self):
+    def is_silent(self) -> bool:
         return self.word in SILENT_WORDS
 
     @property
-    def uses_answer(self):
+    def uses_answer(self) -> bool:
         """Whether it needs the last answer to be a number; else it is a failed check."""
         return self.word in ARITHMETIC or ANSWER in self.words[1 if self.word == "mark" else 2 :] and self.word in TAKES_ANSWER
 
@@ -69,10 +72,10 @@ class Script(NamedTuple):
     is_endless: bool = False
     priority: int = 0
 
-    def op(self, index) -> Optional[Op]:
+    def op(self, index: int) -> Optional[Op]:
         return self.ops[index] if 0 <= index < len(self.ops) else None
 
-    def lasting_name(self, index):
+    def lasting_name(self, index: int) -> str:
         """The op by the name that it is given, otherwise by its text; and from the second op of this name on which of them it is: so that
         ops added elsewhere change nothing."""
         op = self.op(index)
@@ -89,7 +92,7 @@ class Application(NamedTuple):
 
     tasks: Dict[str, Script]
     handlers: Dict[str, Script]
-    daemon: Optional[Script] = None
+    daemon: Any = None
     is_tickless: bool = False
     start: int = 0
     interrupt_ticks: List[int] = []
@@ -98,7 +101,7 @@ class Application(NamedTuple):
     has_campaign: bool = False
     variables: Dict[str, int] = {}
 
-    def script(self, name) -> Optional[Script]:
+    def script(self, name: str) -> Optional[Script]:
         return self.tasks.get(name) or self.handlers.get(name)
 
     def first_runner(self) -> Optional[str]:
@@ -108,11 +111,11 @@ class Application(NamedTuple):
         return None if first is None else first.name
 
     @property
-    def has_sections(self):
+    def has_sections(self) -> bool:
         """Whether a task opens critical sections."""
         return any(it.word == OPENS for script in self.tasks.values() for it in script.ops)
 
-    def op(self, name, index) -> Optional[Op]:
+    def op(self, name: str, index: int) -> Optional[Op]:
         script = self.script(name)
         return None if script is None or index is None else script.op(index)
 
@@ -123,7 +126,7 @@ class Named(str):
     given_name = ""
 
 
-def read_document(name):
+def read_document(name: str) -> Tuple[Dict[str, Any], List[str]]:
     """The document in the file of this name, as dictionaries and lists, and a line for each section and key that the program ignores."""
     try:
         with open(name, "rb") as file:
@@ -134,7 +137,7 @@ def read_document(name):
         raise Fault(f"{plain(name)} is no application: {why}") from None
 
 
-def read_application(name):
+def read_application(name: str) -> Application:
     """The application in the file of this name."""
     document, ignored = read_document(name)
     tasks = [script_of(it, "script") for it in entries(document, "task")]
@@ -148,7 +151,7 @@ def read_application(name):
                        {str(it.get("name")): number_of(it, "initial") for it in entries(document, "variable")})
 
 
-def document_of(text) -> Tuple[dict, List[str]]:
+def document_of(text: str) -> Tuple[dict, List[str]]:
     """As read_document. What reads it names the fault as a ValueError."""
     try:
         from rtosim_check import ignored, nodes, toml_reader
@@ -158,11 +161,11 @@ def document_of(text) -> Tuple[dict, List[str]]:
         root = toml_reader.read_document(text)
     except nodes.NotToml as why:
         raise ValueError(f"not TOML: {plain(str(why))}") from None
-    lines = [f"line {text.count(chr(10), 0, it.span[0]) + 1}: {it.message}" for _, it in ignored.of_document(root)]
+    lines = [f"line {text.count(chr(10), 0, it.span[0] if it.span else 0) + 1}: {it.message}" for _, it in ignored.of_document(root)]
     return values_of(root, text), lines
 
 
-def document_of_library(text):
+def document_of_library(text: str) -> Dict[str, Any]:
     try:
         import tomllib
     except ImportError:
@@ -170,7 +173,7 @@ def document_of_library(text):
     return tomllib.loads(text)
 
 
-def values_of(node, text):
+def values_of(node: Any, text: str) -> Any:
     """The plain values of a document that is read with its places in this text; of a text the name too."""
     if hasattr(node, "members"):
         return {key: values_of(it.value, text) for key, it in node.members.items()}
@@ -184,18 +187,18 @@ def values_of(node, text):
     return found
 
 
-def entries(document, section):
+def entries(document: Dict[str, Any], section: str) -> List[Dict[str, Any]]:
     found = document.get(section, [])
     return [it for it in found if isinstance(it, dict)] if isinstance(found, list) else []
 
 
-def script_of(entry, key):
+def script_of(entry: Dict[str, Any], key: str) -> Script:
     ops = entry.get(key, [])
     texts = [it for it in ops if isinstance(it, str)] if isinstance(ops, list) else []
     return Script(str(entry.get("name")), [Op(it.split(), getattr(it, "given_name", "")) for it in texts],
                   entry.get("endless") is True, number_of(entry, "priority"))
 
 
-def number_of(table, key):
+def number_of(table: Dict[str, Any], key: str) -> int:
     found = table.get(key)
     return found if isinstance(found, int) else 0

@@ -2,19 +2,22 @@
 
 A campaign's report need not have the base run. Then each row has it up to its step, and what the rows agree on except for
 their handlers' lines is taken for the rest. Where they agree on nothing, it is known up to the last of these steps."""
+from __future__ import annotations
+
 import bisect
 import enum
 import hashlib
 from dataclasses import dataclass, field
 from itertools import islice
-from typing import Dict, List, Optional, Tuple
+from typing import Any, Dict, List, Optional, Tuple, Union
 
 from .causes import failed_calls, has_failed
 from .faults import BadReport, Fault, WordsFault
 from .grammar import EVENT_LINES
 from .injections import own_stretches, own_words, without
-from .reading import Run, run_of_part
-from .report import Head, Line
+from .reading import Reader, Run, run_of_part
+from .report import Injection, Line
+from .source import Source
 
 # So many rows are looked at to presume the base run.
 ENOUGH = 20_000
@@ -35,7 +38,7 @@ class Origin(enum.Enum):
 class BaseRun:
     """The lines of the base run, with the places of their steps. It has no head where it is known in part alone."""
 
-    head: Optional[Head]
+    head: Any
     lines: List[Line]
     origin: Origin
     known_until: int
@@ -48,7 +51,7 @@ class BaseRun:
     failed: List[bytes] = field(default_factory=list)
     failed_at: List[int] = field(default_factory=list)
 
-    def __post_init__(self):
+    def __post_init__(self) -> None:
         self.failed_at = [at for at, (_, _, what) in enumerate(self.lines) if what.startswith(b"isr ") and has_failed(what)]
         self.failed = [self.lines[at][2] for at in self.failed_at]
         self.steps = [int(it[0]) for it in self.lines]
@@ -58,19 +61,19 @@ class BaseRun:
         for it in texts:
             self.offsets.append(self.offsets[-1] + len(it))
 
-    def run(self):
+    def run(self) -> Run:
         """Itself as a run of a report, whose place there isn't known."""
         return Run(self.head, self.text, 0, self.state)
 
-    def failed_from(self, position):
+    def failed_from(self, position: int) -> List[bytes]:
         """The handlers' calls that failed from this line on."""
         return self.failed[bisect.bisect_left(self.failed_at, position) :]
 
-    def position(self, step):
+    def position(self, step: int) -> int:
         """How many lines come before this step."""
         return bisect.bisect_left(self.steps, step)
 
-    def place(self, step):
+    def place(self, step: int) -> Tuple[int, int]:
         """How many lines, and how many bytes, come before this step."""
         found = self.places.get(step)
         if found is None:
@@ -79,15 +82,15 @@ class BaseRun:
         return found
 
 
-def texts_of(lines):
+def texts_of(lines: List[Line]) -> List[bytes]:
     return [b" ".join(it) + b"\n" for it in lines]
 
 
-def base_of(run, origin):
+def base_of(run: Run, origin: Origin) -> BaseRun:
     return BaseRun(run.head, run.checked_lines(), origin, run.head.steps, state=run.state)
 
 
-def given_base(reader, origin=Origin.GIVEN):
+def given_base(reader: Union[List[Run], Reader], origin: Origin = Origin.GIVEN) -> BaseRun:
     """The base run of a report of its own."""
     for run in reader:
         if run.head.is_base():
@@ -104,7 +107,7 @@ class Scan:
     last_step: int = -1
     seen: bytearray = field(default_factory=bytearray)
 
-    def add(self, part):
+    def add(self, part: bytes) -> None:
         """Looks at the text of a row. It isn't checked here."""
         end = part.find(b": ")
         words = part[: max(0, end)].split(b" ", 3)
@@ -121,7 +124,7 @@ class Scan:
         self.seen[step] = 1
 
 
-def find_base(source):
+def find_base(source: Source) -> BaseRun:
     """The base run as far as the report has it, or None of a report without rows. A report with a fault, which may be found
     in the rows that are looked at here, is checked from its beginning, so that its first fault is reported."""
     try:
@@ -132,7 +135,7 @@ def find_base(source):
         raise
 
 
-def seek_base(source):
+def seek_base(source: Source) -> Any:
     first = source.beginning(6)
     if first.startswith(b"base: "):
         return given_base(source.reader(), Origin.TOLD)
@@ -150,14 +153,14 @@ def seek_base(source):
     return known if lacks_rows else presumed_base(source, known, all(scan.seen)) or known
 
 
-def checked_run(part):
+def checked_run(part: bytes) -> Run:
     run = run_of_part(part)
     if run is None:
         raise BadReport(0, "a row", part)
     return run
 
 
-def own_bytes(text, injection):
+def own_bytes(text: bytes, injection: Injection) -> int:
     """How many bytes at the beginning are lines of the injected handler."""
     own, at = own_words(injection.handler), 0
     when = [str(injection.step).encode(), *text[:40].split(b" ", 2)[1:2]]
@@ -177,7 +180,7 @@ class Candidate:
     rows: int = 0
 
 
-def without_own(run, start):
+def without_own(run: Run, start: int) -> bytes:
     """The row's text except for the lines of its handlers, of which the first comes at this byte."""
     point, text = run.head.point, run.text
     own = own_bytes(text[start : start + 4096], point[0]) if point.is_single else 0
@@ -187,7 +190,7 @@ def without_own(run, start):
     return text[:start] + b"".join(texts_of(without(tail, own_stretches(tail, point))))
 
 
-def beyond_known(run, known):
+def beyond_known(run: Run, known: BaseRun) -> Optional[bytes]:
     """What the row has beyond what is known, except for its handlers' lines; None where it doesn't have what is known."""
     start = known.place(run.head.point.first_step)[1]
     text = without_own(run, start) if run.text[:start] == known.text[:start] else b""
@@ -198,7 +201,7 @@ def beyond_known(run, known):
     return None if is_known else beyond
 
 
-def presumed_base(source, known, is_covered):
+def presumed_base(source: Source, known: BaseRun, is_covered: bool) -> Optional[BaseRun]:
     """The run that most rows have except for their handlers' lines, if it begins with what is known. Where there is a point for
     each step, the base run ends after the last of them; otherwise one row alone is not enough."""
     last_step = known.known_until
@@ -227,7 +230,7 @@ def presumed_base(source, known, is_covered):
     return BaseRun(head, run._replace(text=text).lines(), Origin.PRESUMED, head.steps)
 
 
-def is_base_exactly(run, base):
+def is_base_exactly(run: Run, base: BaseRun) -> bool:
     """A quick look whether the row is the base run, with all numbers, except for the handler's own lines, in which no call fails."""
     head, text = run.head, run.text
     more = len(text) - len(base.text)
@@ -241,7 +244,7 @@ def is_base_exactly(run, base):
     return own_bytes(own, head.point[0]) == more and len(lines) == own.count(b"\n") and not failed_calls(lines)
 
 
-def tail_of_row(run, base):
+def tail_of_row(run: Run, base: BaseRun) -> Tuple[List[Line], int]:
     """The row's lines from its injection on, and how many of the base run come before it. The lines before it are the same
     in both, so those of a row that isn't reached are all the base run's."""
     step = run.head.point.first_step if run.head.is_reached else run.head.steps

@@ -1,8 +1,12 @@
 """Why a check failed: the last answer, of which an `expect` wasn't true; or that an op needs a number and there is none, or that it divides by
 a variable that is 0. A report has the answers, and the values of variables by their stores."""
-from typing import Dict, List, NamedTuple, Optional
+from __future__ import annotations
 
+from typing import Any, Dict, List, NamedTuple, Optional, Tuple
+
+from .application import Application, Op
 from .progress import Walker, holds
+from .reading import Run
 from .report import Event, Kind, event_of
 from .variables import STORES, History, Values, stored_by
 
@@ -17,9 +21,9 @@ class Found(NamedTuple):
     values: Values
 
 
-def words_of_check(application, run) -> Optional[str]:
+def words_of_check(application: Application, run: Run) -> Optional[str]:
     """In words why the run's check failed; None where that isn't found."""
-    verdict = run.head.verdict
+    verdict: Any = run.head.verdict
     index, op = verdict.numbers[0], application.op(verdict.task, verdict.numbers[0])
     if op is None:
         return None
@@ -32,7 +36,7 @@ def words_of_check(application, run) -> Optional[str]:
     return None if why is None else f'{verdict.text}: "{op.text}", {why}'
 
 
-def why_it_fails(op, found: Found) -> Optional[str]:
+def why_it_fails(op: Op, found: Found) -> Optional[str]:
     """What is wrong for this op with what it found; None where nothing is."""
     answer, name = "none" if found.answer is None else found.answer, op.words[-1]
     known = found.values.get(name, ())
@@ -46,18 +50,18 @@ def why_it_fails(op, found: Found) -> Optional[str]:
     return f"{name} is 0" if op.word in DIVIDES and 0 in known else None
 
 
-def fails(op, found: Found) -> bool:
+def fails(op: Op, found: Found) -> bool:
     return why_it_fails(op, found) is not None
 
 
-def found_by_task(application, events: List[Event], name) -> Found:
+def found_by_task(application: Application, events: List[Event], name: str) -> Found:
     """What the task found in the run's last step, in which no base interrupt comes."""
     answers = [it.answer for it in events if it.kind is Kind.CALL and it.name == name]
     history = History(application, events, lambda at: at)
     return Found(answers[-1] if answers else None, history.before(len(events)))
 
 
-def found_by_handler(application, events: List[Event], name, index, last_step) -> Optional[Found]:
+def found_by_handler(application: Application, events: List[Event], name: str, index: int, last_step: int) -> Any:
     """What the handler found in the run's last step. It may have come several times there: each call of it begins with the op of its
     first line, as each begins with no answer; one of them may have no line."""
     history = History(application, events, lambda at: at)
@@ -68,7 +72,8 @@ def found_by_handler(application, events: List[Event], name, index, last_step) -
             calls.append([])
         calls[-1].append(at)
     first = next((at for at, it in enumerate(events) if it.step == last_step), len(events))
-    for call in [*calls, []]:
+    whole: List[List[int]] = [*calls, []]
+    for call in whole:
         before = history.before(call[0] - 1) if call else values_within(history, first, len(events))
         found = first_failure(application, name, {events[at].op: events[at].answer for at in call}, before)
         if found is not None and found[0] == index:
@@ -76,7 +81,7 @@ def found_by_handler(application, events: List[Event], name, index, last_step) -
     return None
 
 
-def values_within(history: History, first, last) -> Values:
+def values_within(history: History, first: int, last: int) -> Values:
     """The values that variables have before one of these events."""
     found: Dict[str, List[int]] = {}
     for at in range(first, last + 1):
@@ -85,7 +90,7 @@ def values_within(history: History, first, last) -> Values:
     return {name: tuple(dict.fromkeys(it)) for name, it in found.items()}
 
 
-def first_failure(application, name, answers, values: Values):
+def first_failure(application: Application, name: str, answers: Dict[Any, Any], values: Values) -> Optional[Tuple[int, Found]]:
     """The index of the first op that is a failed check in a call of the handler, whose ops have these answers, and what it found; None
     where there is none, or the ops aren't those of the answers."""
     walker = Walker(application.handlers[name])

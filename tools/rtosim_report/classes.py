@@ -2,19 +2,23 @@
 
 Two rows have the same outcome when their verdicts, and what they report from where the first handler comes, are the same except for the
 numbers of steps and ticks. The rows that are the base run except for the handlers' own lines, in which no call fails, are a class of their own."""
+from __future__ import annotations
+
 import enum
 import hashlib
 import re
 from dataclasses import dataclass, field
-from typing import Dict, List, Optional, Tuple
+from typing import Any, Dict, List, Optional, Tuple
 
 from . import differences
+from .application import Application
 from .base_run import is_base_exactly, tail_of_row
 from .causes import Causes, failed_beyond, failed_in_text
 from .endings import Endings
 from .faults import BadReport
 from .injections import from_arrival
-from .report import Head
+from .reading import Run
+from .report import Head, Line, Point, Verdict
 
 # An outcome that takes more bytes is known by a digest.
 LONGEST_KEY = 200
@@ -55,14 +59,14 @@ class OutcomeClass:
     handlers: Dict[str, int] = field(default_factory=dict)
 
     @property
-    def verdict(self):
+    def verdict(self) -> Verdict:
         return self.first.verdict
 
     @property
-    def point(self):
+    def point(self) -> Point:
         return self.first.point
 
-    def add(self, head):
+    def add(self, head: Head) -> None:
         self.rows += 1
         self.not_reached += not head.is_reached
         if not self.fewest_steps <= head.steps <= self.most_steps:
@@ -89,12 +93,13 @@ def handlers_words(head: Head) -> str:
 class Classifier:
     """Puts rows into classes, one after another; its memory is that of the classes and the base run."""
 
-    def __init__(self, base, by=By.OUTCOME, application=None, endings=None):
+    def __init__(self, base: Any, by: By = By.OUTCOME, application: Optional[Application] = None,
+                 endings: Optional[Endings] = None) -> None:
         self.base, self.by = base, by
         self.causes, self.endings = Causes(application, base), endings or Endings(application)
         self.classes: Dict[object, OutcomeClass] = {}
 
-    def add(self, run, is_made=False) -> Optional[OutcomeClass]:
+    def add(self, run: Run, is_made: bool = False) -> Any:
         """The class of the row, which may be new. A base run of a report isn't a row. `is_made` says that the program has just made it."""
         if run.head.row is None:
             run.checked_lines()
@@ -104,9 +109,9 @@ class Classifier:
             known.add(run.head)
             return known
         if None in self.classes and self.base.head is not None and is_base_exactly(run, self.base):
-            found = self.classes[None]
-            found.add(run.head)
-            return found
+            known = self.classes[None]
+            known.add(run.head)
+            return known
         tail, position = tail_of_row(run, self.base)
         if not run.head.is_reached:
             self.check_unreached(run, tail, position)
@@ -118,10 +123,11 @@ class Classifier:
         found.add(run.head)
         return found
 
-    def add_head(self, run) -> OutcomeClass:
+    def add_head(self, run: Run) -> OutcomeClass:
         """The class of a row of which the head alone is known: those that pass are one, those that fail are of one end and of the same
         handlers."""
         head = run.head
+        key: Tuple[Any, ...]
         if self.by is By.VERDICT:
             key = BY_CAUSE, head.verdict.text
         else:
@@ -134,7 +140,7 @@ class Classifier:
         found.add(head)
         return found
 
-    def quick_class(self, run) -> Optional[OutcomeClass]:
+    def quick_class(self, run: Run) -> Optional[OutcomeClass]:
         """The class of a row that the program has made, if it is one by cause that is there already: lines are looked at for calls that
         failed alone. None where it isn't found so."""
         head, base = run.head, self.base
@@ -146,20 +152,20 @@ class Classifier:
         failed = failed_in_text(run, base, start)
         return self.classes.get(self.key_by_cause(run, failed))
 
-    def check(self, run):
+    def check(self, run: Run) -> None:
         """Looks at the lines of a row that is classed by its head: they begin as the base run does, and are its own if it isn't reached."""
         tail, position = tail_of_row(run, self.base)
         if not run.head.is_reached:
             self.check_unreached(run, tail, position)
 
-    def check_unreached(self, run, tail, position):
+    def check_unreached(self, run: Run, tail: List[Line], position: int) -> None:
         if self.base and not differences.equals_exactly(run, tail, position, self.base):
             raise BadReport(run.line_number, "the base run, since the point is not reached", run.head.text().encode())
 
-    def is_by_cause(self, verdict):
+    def is_by_cause(self, verdict: Verdict) -> bool:
         return self.by is By.CAUSE or self.by is By.DEFAULT and not verdict.passes
 
-    def key_of(self, run, tail, position, failed):
+    def key_of(self, run: Run, tail: List[Line], position: int, failed: Tuple[bytes, ...]) -> Any:
         """What rows of one class have in common: None of the base run's, otherwise what it is and what is alike."""
         if self.by is By.VERDICT:
             return BY_CAUSE, run.head.verdict.text
@@ -179,10 +185,10 @@ class Classifier:
             outcome = hashlib.blake2b(outcome, digest_size=16).digest()
         return end, outcome
 
-    def key_by_cause(self, run, failed):
+    def key_by_cause(self, run: Run, failed: Tuple[bytes, ...]) -> Any:
         return BY_CAUSE, self.causes.key_of(run, failed), () if run.head.verdict.passes else tuple(sorted(handlers_of(run.head)))
 
-    def new_class(self, run, tail, position, key, failed):
+    def new_class(self, run: Run, tail: List[Line], position: int, key: Any, failed: Tuple[bytes, ...]) -> OutcomeClass:
         words = differences.difference(run, tail, position, self.base, self.by is By.EXACT).words
         is_by_cause = key is not None and key[0] == BY_CAUSE
         failed_words = "".join("; " + self.causes.failed_words(it) for it in failed)
@@ -198,7 +204,7 @@ class Classifier:
             name = lasting_words(run.head.verdict, words)
         return OutcomeClass(run.head, key is None, words, name, is_by_cause, failed_words, self.endings.lines_of(run, self.base, failed))
 
-    def name_as_base(self, run):
+    def name_as_base(self, run: Run) -> str:
         return AS_BASE if run.head.verdict.passes else f"{AS_BASE}: {self.causes.end_of(run)}"
 
     def in_order(self) -> List[OutcomeClass]:
@@ -210,12 +216,12 @@ class Classifier:
         return found
 
 
-def lasting_words(verdict, words):
+def lasting_words(verdict: Verdict, words: str) -> str:
     """A name of an outcome, by what differs first."""
     return verdict.text if not words or STEP_OF_BASE.search(words) else f"{verdict.text}: {words}"
 
 
-def name_apart(classes):
+def name_apart(classes: List[OutcomeClass]) -> None:
     """Of classes with one name, the second and those behind it get a number."""
     seen: Dict[str, int] = {}
     for it in classes:

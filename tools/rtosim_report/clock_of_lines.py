@@ -2,8 +2,13 @@
 
 In a tickless application a step of idle passes as many ticks as come before the next thing to happen, and any other step one at
 most. Who wakes then has a line; a base interrupt whose handler has no ops has none, and is known by the application."""
+from __future__ import annotations
+
+from typing import AbstractSet, Any, Callable, List, Optional
+
+from .application import Application
 from .lanes import Clock
-from .report import IDLE, Kind
+from .report import Event, Head, IDLE, Kind
 
 WRAP = 1 << 32
 
@@ -11,14 +16,15 @@ WRAP = 1 << 32
 class TickReader:
     """Puts the clock of a run together. `boundary` answers when the event of an index is seen."""
 
-    def __init__(self, head, events, injected, boundary, application):
+    def __init__(self, head: Head, events: List[Event], injected: AbstractSet[int], boundary: Callable[..., Any],
+                 application: Optional[Application]) -> None:
         self.head, self.events, self.injected, self.boundary = head, events, injected, boundary
         self.application = application if application is not None and application.is_tickless else None
         self.is_tickless = self.application is not None or head.is_tickless
         self.start = self.tick_at_reset()
         self.boundaries, self.ticks = [0], [0]
 
-    def clock(self):
+    def clock(self) -> Clock:
         """Known are the ticks of lines, and those at both ends."""
         last, is_idle = self.start, False
         for index, event in enumerate(self.events):
@@ -36,7 +42,7 @@ class TickReader:
             self.know(self.head.steps, elapsed)
         return Clock(self.boundaries, self.ticks, self.start)
 
-    def know(self, boundary, elapsed, is_latest=False):
+    def know(self, boundary: int, elapsed: int, is_latest: bool = False) -> None:
         """The ticks of a boundary behind those that are known, or what a later line shows of the last of these."""
         if boundary > self.boundaries[-1]:
             self.boundaries.append(boundary)
@@ -44,7 +50,7 @@ class TickReader:
         elif boundary == self.boundaries[-1] and is_latest:
             self.ticks[-1] = max(self.ticks[-1], elapsed)
 
-    def lay_silent_jumps(self, is_idle, end, elapsed):
+    def lay_silent_jumps(self, is_idle: bool, end: int, elapsed: int) -> None:
         """The ticks at which steps of idle before this boundary end that have no line: each is that of a base interrupt."""
         start, last = self.boundaries[-1], self.ticks[-1]
         if self.application is None or not is_idle or end - start < 2:
@@ -54,7 +60,7 @@ class TickReader:
             for at, tick in enumerate(ticks, start + 1):
                 self.know(at, tick)
 
-    def tick_at_reset(self):
+    def tick_at_reset(self) -> int:
         """The printed tick at reset: counted back from a line of the last step, otherwise taken for 0 where it can be. Of a tickless
         application it is known; where it isn't given, no step before the first line passes more than a tick, since none is idle's."""
         if self.application is not None:

@@ -1,28 +1,34 @@
 """The words of the command line, and what each command does.
 
 A command takes in its own modules when it is done, so that each of them starts soon."""
+from __future__ import annotations
+
 import argparse
 import os
 import sys
+from typing import Any, ContextManager, Dict, Optional, Sequence
 
 from .classes import By
 from .escaping import plain
 from .faults import STATUS_OUTPUT, STATUS_READER_LEFT, Fault
 from .job import Job
 from .known import Failure
-from .output import ReaderLeft, direct_output, output_file, standard_output
+from .output import ReaderLeft, Text as Output, direct_output, output_file, standard_output
 
+# What subcommands are added to.
+Commands = Any
 DESCRIPTION = "Reads a report of `rtosim run` or `rtosim campaign`: which points matter, pictures, other tools' formats."
 # So the name of an application ends, where a report may be named too.
 APPLICATION = ".toml"
 
 
-def do_classes(job, output):
+def do_classes(job: Job, output: Output) -> int:
     from . import known, table
 
     accepted = None if job.words.accept is None else known.read_names(job.words.accept)
     classes = job.classify()
     if job.words.names:
+        it: Any
         for it in [*job.failures([]), *(it for it in classes if not (job.words.failing and it.verdict.passes))]:
             output.line(it.line() if isinstance(it, Failure) else Failure(it.name, it.rows).line())
     else:
@@ -34,7 +40,7 @@ def do_classes(job, output):
     return max(known.judged(job.failures(classes), accepted), job.is_empty())
 
 
-def do_compare(words, output):
+def do_compare(words: argparse.Namespace, output: Output) -> bool:
     """Reads both reports. Ops are named by their texts where both are of applications, otherwise by their numbers."""
     from .comparing import write_changes
 
@@ -44,19 +50,19 @@ def do_compare(words, output):
     return max(write_changes(output, old, new, jobs[1].given) > 0, jobs[1].is_empty())
 
 
-def named(name):
+def named(name: str) -> Dict[str, Optional[str]]:
     """The words of a report, or of an application, of which the program makes one."""
     is_application = name.endswith(APPLICATION)
     return {"application": name if is_application else None, "report": None if is_application else name}
 
 
-def do_join(words, output):
+def do_join(words: argparse.Namespace, output: Output) -> None:
     from .joining import join
 
     join(words.parts, words.of, output)
 
 
-def do_pairs(words, output):
+def do_pairs(words: argparse.Namespace, output: Output) -> None:
     """Writes the points of pairs. How many steps the base run has the program says."""
     from .application import read_application
     from .faults import WordsFault
@@ -75,15 +81,16 @@ def do_pairs(words, output):
     write_pairs(output, list(dict.fromkeys(words.handler)), range(words.first, last), words.within)
 
 
-def do_show(job, output):
+def do_show(job: Job, output: Output) -> None:
     from . import show
 
+    run: Any
     run, base = job.wanted_run(job.words.row)
     has_colour = job.words.output is None and sys.stdout.isatty()
     show.write_row(output, run, base, job.words.context, has_colour, job.endings.lines_of(run, base), job.source_map)
 
 
-def do_explore(job, output):
+def do_explore(job: Job, output: Output) -> None:
     """Explores the application, and shows the least placement of each end."""
     from . import explored
 
@@ -93,7 +100,7 @@ def do_explore(job, output):
     explored.write_ends(output, explored.Explanation(job, words), job.words.pictures)
 
 
-def do_json(job, output):
+def do_json(job: Job, output: Output) -> None:
     from . import json_lines
 
     write = json_lines.write_run if job.made or not job.source.has_heads_alone() else json_lines.write_head
@@ -101,7 +108,7 @@ def do_json(job, output):
         write(output, run, job.source_map)
 
 
-def do_junit(job, output):
+def do_junit(job: Job, output: Output) -> int:
     from . import junit, known
 
     accepted = known.Known() if job.words.accept is None else known.read_names(job.words.accept)
@@ -116,7 +123,7 @@ def do_junit(job, output):
     return 0 if job.words.accept is None else max(known.judged(job.failures(classes), accepted), job.is_empty())
 
 
-def do_svg(job, output):
+def do_svg(job: Job, output: Output) -> None:
     from . import map_picture, timeline_picture
 
     if not job.words.campaign:
@@ -127,30 +134,30 @@ def do_svg(job, output):
     picture.write(output, classes, job.total.rows, job.base)
 
 
-def do_perfetto(job, output):
+def do_perfetto(job: Job, output: Output) -> None:
     from . import perfetto
 
     perfetto.write(output, job.timeline())
 
 
-def do_vcd(job, output):
+def do_vcd(job: Job, output: Output) -> None:
     from . import value_change_dump
 
     value_change_dump.write(output, job.timeline())
 
 
-def workers(word):
+def workers(word: str) -> str:
     """A number, or `auto`."""
     return word if word == "auto" else str(int(word))
 
 
-def do_html(job, output):
+def do_html(job: Job, output: Output) -> None:
     from .page import write_page
 
     write_page(output, job)
 
 
-def add_common(parser):
+def add_common(parser: argparse.ArgumentParser) -> None:
     parser.add_argument("report", nargs="?", metavar="REPORT", help="a file; else standard input is read")
     help_text = "the application: of its texts, and without REPORT the program is run on it"
     parser.add_argument("--application", metavar="FILE", help=help_text)
@@ -159,7 +166,7 @@ def add_common(parser):
     add_options(parser)
 
 
-def add_options(parser):
+def add_options(parser: argparse.ArgumentParser) -> None:
     parser.add_argument("--workers", type=workers, metavar="N|auto", help="of how many workers the program makes use")
     parser.add_argument("--partial", action="store_true", help="take the whole rows of a report that is cut off")
     parser.add_argument("--output", "-o", metavar="FILE", help="write to this file, when all of it is there")
@@ -168,7 +175,7 @@ def add_options(parser):
                         allow_empty=False, folds=False, source=None)
 
 
-def add_classes(commands):
+def add_classes(commands: Commands) -> None:
     parser = commands.add_parser("classes", help="the rows grouped by outcome: which points matter")
     add_common(parser)
     parser.add_argument("--exact", action="store_const", const=By.EXACT, dest="by", help="ticks count too")
@@ -183,17 +190,17 @@ and the outcome of those that pass")
     parser.set_defaults(do=do_classes, asks_for_states=True)
 
 
-def add_accept(parser):
+def add_accept(parser: argparse.ArgumentParser) -> None:
     parser.add_argument("--accept", metavar="FILE", help="names of failures that are known, a line each; status 1 for any other, and for \
 more rows of one")
 
 
-def add_allow_empty(parser):
+def add_allow_empty(parser: argparse.ArgumentParser) -> None:
     help_text = "a campaign without points, or of points none of which is reached, is no failure"
     parser.add_argument("--allow-empty", action="store_true", help=help_text)
 
 
-def add_compare(commands):
+def add_compare(commands: Commands) -> None:
     parser = commands.add_parser("compare", help="two versions: which classes are new, gone, larger, smaller")
     parser.add_argument("old", metavar="OLD", help="a report, or an application, FILE.toml, of which the program makes one")
     parser.add_argument("new", metavar="NEW", help="the same of the new version; status 1 where a failure is new, or has more rows")
@@ -202,7 +209,7 @@ def add_compare(commands):
     parser.set_defaults(do=do_compare, by=By.CAUSE, application=None, report=None, base=None)
 
 
-def add_join(commands):
+def add_join(commands: Commands) -> None:
     parser = commands.add_parser("join", help="the report of a campaign, of those of its shards")
     parser.add_argument("parts", nargs="+", metavar="PART", help="the report of a shard, 1 to N in this order")
     parser.add_argument("--of", type=int, metavar="N", help="how many shards there are; else as many as parts are named")
@@ -210,7 +217,7 @@ def add_join(commands):
     parser.set_defaults(do=do_join, report=None, application=None, base=None, workers=None, accept=None)
 
 
-def step(word):
+def step(word: str) -> int:
     """A number of a step, or of steps."""
     found = int(word)
     if not 0 <= found <= 1_000_000:
@@ -218,7 +225,7 @@ def step(word):
     return found
 
 
-def add_pairs(commands):
+def add_pairs(commands: Commands) -> None:
     parser = commands.add_parser("pairs", help="the points of two interrupts each, as a section for the end of an application")
     parser.add_argument("file", nargs="?", metavar="FILE", help="the application")
     parser.add_argument("--application", metavar="FILE", help="the same")
@@ -230,7 +237,7 @@ def add_pairs(commands):
     parser.set_defaults(do=do_pairs, report=None, base=None, workers=None, accept=None, makes_points=True)
 
 
-def add_show(commands):
+def add_show(commands: Commands) -> None:
     parser = commands.add_parser("show", help="a row beside the base run")
     parser.add_argument("row", type=int, metavar="N", help="the row's number")
     add_common(parser)
@@ -238,7 +245,7 @@ def add_show(commands):
     parser.set_defaults(do=do_show, asks_for_states=True)
 
 
-def add_explore(commands):
+def add_explore(commands: Commands) -> None:
     parser = commands.add_parser("explore", help="all placements of up to three interrupts: the least one of each end")
     parser.add_argument("file", nargs="?", metavar="FILE", help="the application")
     parser.add_argument("--application", metavar="FILE", help="the same")
@@ -251,7 +258,7 @@ def add_explore(commands):
                         about_a_run=False, asks_for_states=True, allow_empty=True, folds=False)
 
 
-def add_formats(commands):
+def add_formats(commands: Commands) -> None:
     parser = commands.add_parser("json", help="a JSON object a row, a line each")
     add_common(parser)
     parser.set_defaults(do=do_json)
@@ -280,7 +287,7 @@ def add_formats(commands):
         parser.set_defaults(do=do, about_a_run=True)
 
 
-def parsed(words):
+def parsed(words: Optional[Sequence[str]]) -> argparse.Namespace:
     parser = argparse.ArgumentParser(prog="rtosim-report", description=DESCRIPTION)
     commands = parser.add_subparsers(dest="command", metavar="COMMAND", required=True)
     add_classes(commands)
@@ -305,12 +312,12 @@ def parsed(words):
     return found
 
 
-def makes_report(found):
+def makes_report(found: argparse.Namespace) -> bool:
     """Whether the program makes the report, of the application."""
     return found.report is None and found.application is not None
 
 
-def check_together(parser, found):
+def check_together(parser: argparse.ArgumentParser, found: argparse.Namespace) -> None:
     """Which words go together."""
     has_made = makes_report(found)
     if found.command == "compare":
@@ -327,7 +334,7 @@ def check_together(parser, found):
 OF_SEVERAL_REPORTS = (do_compare, do_join, do_pairs)
 
 
-def output_of(found):
+def output_of(found: argparse.Namespace) -> ContextManager[Output]:
     """Where the result goes. The objects of rows that the program makes may be of any size, and are written as they come."""
     if found.output:
         return output_file(found.output)
@@ -335,7 +342,7 @@ def output_of(found):
     return direct_output() if is_direct else standard_output()
 
 
-def main(words=None):
+def main(words: Optional[Sequence[str]] = None) -> int:
     """Does what the words ask for, and returns the status."""
     found = parsed(words)
     try:

@@ -3,11 +3,16 @@ commands of handlers that found room, each of which has a line.
 
 It is known by its name with the application. Otherwise it is the one whose calls are those that a daemon makes in these steps and that
 has begun to wait in them, if there is just one such task."""
+from __future__ import annotations
+
 import enum
-from typing import List, NamedTuple, Tuple
+from typing import Iterator, List, NamedTuple, Optional, Set, TYPE_CHECKING, Tuple
 
 from .lanes import Bar, Doing, Lane, Window, WindowKind
 from .report import Kind
+
+if TYPE_CHECKING:
+    from .timeline import Builder
 
 COMMANDS = ("set", "clear")
 # The command is the first op of its endless script, which receives it, and this one, which does it.
@@ -23,7 +28,7 @@ class Command(NamedTuple):
     group: str
 
 
-def commands_of(builder) -> List[Command]:
+def commands_of(builder: Builder) -> List[Command]:
     """Those of a run, in order."""
     found = []
     for index, event in enumerate(builder.events):
@@ -53,7 +58,7 @@ HELD = (Phase.PLACE, Phase.UNLOCK, Phase.LEAVE, Phase.END_OF_SET)
 class DaemonTimes:
     """The daemon's turns, gone through step by step: its waits and its windows, or that it isn't the daemon."""
 
-    def __init__(self, lane: Lane, turns, calls: List[Tuple[int, str]], commands: List[Command], steps: int):
+    def __init__(self, lane: Lane, turns: List[Bar], calls: List[Tuple[int, str]], commands: List[Command], steps: int) -> None:
         self.lane, self.turns, self.commands, self.steps = lane, turns, commands, steps
         self.phase, self.taken, self.since, self.waits = Phase.TRY, 0, 0, False
         self.done: List[Tuple[int, str]] = []
@@ -61,7 +66,7 @@ class DaemonTimes:
         self.windows: List[Window] = []
         self.is_known = all(self.follow(it) for it in turns) and self.done == calls
 
-    def follow(self, turn):
+    def follow(self, turn: Bar) -> bool:
         """Goes through the turn; False where no daemon has it."""
         for step in range(turn.start, turn.end):
             if self.waits and self.phase is Phase.TRY and not self.has_command(step):
@@ -70,16 +75,16 @@ class DaemonTimes:
         self.wakes.append(self.wake(turn.end))
         return turn.end == self.steps or self.phase not in HELD
 
-    def has_command(self, step):
+    def has_command(self, step: int) -> bool:
         return self.taken < len(self.commands) and self.commands[self.taken].boundary <= step
 
-    def wake(self, boundary):
+    def wake(self, boundary: int) -> int:
         """From when on it is Ready, if it leaves the processor at this boundary."""
         if not self.waits or self.phase is not Phase.TRY:
             return boundary
         return max(boundary, self.commands[self.taken].boundary) if self.taken < len(self.commands) else self.steps
 
-    def after(self, step):
+    def after(self, step: int) -> Phase:
         """Does the step, and answers what is next."""
         phase = self.phase
         if phase is Phase.TRY:
@@ -95,14 +100,14 @@ class DaemonTimes:
             self.done.append((step, self.commands[self.taken - 1].word))
         return {Phase.PLACE: Phase.UNLOCK, Phase.UNLOCK: Phase.LEAVE, Phase.SET: Phase.END_OF_SET}.get(phase, Phase.TRY)
 
-    def tried(self, step):
+    def tried(self, step: int) -> Phase:
         self.waits = False
         if not self.has_command(step):
             return Phase.DECIDE
         self.taken += 1
         return Phase.SET if self.commands[self.taken - 1].word == "set" else Phase.CLEAR
 
-    def bars(self, is_first_known):
+    def bars(self, is_first_known: bool) -> Iterator[Bar]:
         """What it does between its turns: it waits until a command is there, and is Ready from then on; at reset it is Ready."""
         starts = [it.start for it in self.turns] + [self.steps]
         stretches = [(0, 0, starts[0])] if is_first_known else []
@@ -114,17 +119,18 @@ class DaemonTimes:
                 yield Bar(self.lane, max(first, wake), last, Doing.READY)
 
 
-def times_of(builder, name):
+def times_of(builder: Builder, name: str) -> DaemonTimes:
     """The times of the task of this name, as if it were the daemon."""
     lane = builder.lanes[name]
-    calls = [(it.step, it.event.word) for it in builder.notes if it.lane == lane and it.event.kind is Kind.CALL]
+    calls = [(it.step, it.event.word or "") for it in builder.notes if it.lane == lane and it.event.kind is Kind.CALL]
     turns = [it for it in builder.turns if it.lane == lane and it.end > it.start]
     return DaemonTimes(lane, turns, calls, builder.commands, builder.head.steps)
 
 
-def who_may_be_it(builder):
+def who_may_be_it(builder: Builder) -> List[str]:
     """Those of whom nothing is reported that isn't reported of a daemon; nobody where no command has found room."""
-    like_it, others = set(), {builder.head.verdict.task}
+    like_it: Set[Optional[str]] = set()
+    others = {builder.head.verdict.task}
     for it in builder.events if builder.commands else ():
         if it.kind is not Kind.RUN:
             is_like_it = it.kind is Kind.CALL and it.op == OP_OF_COMMAND and it.word in COMMANDS
@@ -132,7 +138,7 @@ def who_may_be_it(builder):
     return [it for it in builder.lanes if it in like_it - others]
 
 
-def find_daemon(builder):
+def find_daemon(builder: Builder) -> Tuple[Optional[DaemonTimes], bool]:
     """The daemon's times, or None where it isn't known; and whether somebody must be or may be the daemon whose turns aren't a
     daemon's."""
     if builder.application is not None:

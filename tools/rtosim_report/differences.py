@@ -1,10 +1,14 @@
 """In words: the first event of a row that the base run has not, or has at another place."""
+from __future__ import annotations
+
 from dataclasses import dataclass
 from itertools import product
-from typing import Optional
+from typing import Any, Iterator, List, Optional, Tuple
 
+from .base_run import BaseRun
 from .injections import leading_own, own_stretches, without
-from .report import IDLE
+from .reading import Run
+from .report import IDLE, Line
 
 
 @dataclass(frozen=True)
@@ -14,7 +18,7 @@ class Difference:
     words: str
 
 
-def told(what):
+def told(what: bytes) -> str:
     """What an event line says, in words."""
     kind, name, *rest = what.decode("ascii").split(" ")
     if kind == "run":
@@ -25,7 +29,7 @@ def told(what):
     return words if kind == "call" else f"handler {words}"
 
 
-def difference(run, tail, position, base, keeps_ticks=False):
+def difference(run: Run, tail: List[Line], position: int, base: BaseRun, keeps_ticks: bool = False) -> Difference:
     """What is different in this row, of which the tail is shown from the injection on."""
     if base is None:
         return Difference("not known, without the base run")
@@ -38,7 +42,7 @@ def difference(run, tail, position, base, keeps_ticks=False):
     return Difference(where_one_ends(rest, base_tail, run, base, keeps_ticks))
 
 
-def where_one_ends(rest, base_tail, run, base, keeps_ticks):
+def where_one_ends(rest: List[Line], base_tail: List[Line], run: Run, base: BaseRun, keeps_ticks: bool) -> str:
     """The lines of one are the first of the other's."""
     count = min(len(rest), len(base_tail))
     if base.head is None and len(rest) >= len(base_tail):
@@ -52,7 +56,7 @@ def where_one_ends(rest, base_tail, run, base, keeps_ticks):
     return ""
 
 
-def where_they_part(rest, base_rest, run, base):
+def where_they_part(rest: List[Line], base_rest: List[Line], run: Run, base: BaseRun) -> str:
     """The words for the first lines of the two, which differ, and for the next one that the base run never has."""
     line = rest[0] if rest else None
     wanted = base_rest[0] if base_rest else None
@@ -63,7 +67,7 @@ def where_they_part(rest, base_rest, run, base):
     return words + ", " + in_base(line, wanted, base_rest, base) + afterwards(rest, base)
 
 
-def in_base(line, wanted, base_rest, base):
+def in_base(line: Optional[Line], wanted: Optional[Line], base_rest: List[Line], base: BaseRun) -> str:
     if wanted is None:
         return "where the base run is over" if base.head else "after which the base run is not known"
     if line is not None and line[2] == wanted[2]:
@@ -77,12 +81,12 @@ def in_base(line, wanted, base_rest, base):
     return f"where the base run has {words}" + (" first" if later else "")
 
 
-def same_call(what, wanted):
+def same_call(what: bytes, wanted: bytes) -> bool:
     """The same op of the same name, with another answer."""
     return what.rpartition(b" ")[0] == wanted.rpartition(b" ")[0] and not what.startswith(b"run ")
 
 
-def afterwards(rest, base):
+def afterwards(rest: List[Line], base: BaseRun) -> str:
     """After a change of the processor: what comes next that the base run never has."""
     if not rest or not rest[0][2].startswith(b"run "):
         return ""
@@ -91,7 +95,7 @@ def afterwards(rest, base):
     return "" if new is None else f"; then {told(new)}"
 
 
-def is_as_base(run, tail, position, base, keeps_ticks=False) -> bool:
+def is_as_base(run: Run, tail: List[Line], position: int, base: BaseRun, keeps_ticks: bool = False) -> bool:
     """The row is the base run except for the handler's own lines, and the numbers of steps and ticks."""
     if base is None or base.head is None or run.head.verdict != base.head.verdict:
         return False
@@ -107,7 +111,7 @@ def is_as_base(run, tail, position, base, keeps_ticks=False) -> bool:
     return are_alike(tail, own, base.lines, position, seen)
 
 
-def are_alike(lines, start, base_lines, base_start, seen):
+def are_alike(lines: List[Line], start: int, base_lines: List[Line], base_start: int, seen: slice) -> bool:
     """The lines from this one on are those of the base run from that one on, except for what isn't seen of them."""
     for at in range(start, len(lines)):
         if lines[at][seen] != base_lines[base_start + at - start][seen]:
@@ -115,13 +119,13 @@ def are_alike(lines, start, base_lines, base_start, seen):
     return True
 
 
-def parts_of_stretches(stretches, count):
+def parts_of_stretches(stretches: List[Tuple[int, int]], count: int) -> Iterator[Any]:
     """The stretches, cut at their ends so that they have this many lines together: in each way."""
     for sizes in product(*(range(size + 1) for _, size in stretches)):
         if sum(sizes) == count:
             yield [(start, size) for (start, _), size in zip(stretches, sizes)]
 
 
-def equals_exactly(run, tail, position, base) -> Optional[bool]:
+def equals_exactly(run: Run, tail: List[Line], position: int, base: BaseRun) -> bool:
     """The run is the base run, with all numbers."""
     return base.head is not None and tail == base.lines[position:] and run.head.end_text() == base.head.end_text()

@@ -1,5 +1,10 @@
 """What pictures have in common: numbers, texts and their widths, colours for light and for dark."""
+from __future__ import annotations
+
+from typing import List, Optional, Tuple
 from xml.sax.saxutils import escape
+
+from .output import Text as Output
 
 FONT = "ui-monospace, 'DejaVu Sans Mono', Menlo, Consolas, monospace"
 FONT_SIZE = 12
@@ -18,17 +23,17 @@ COMMON_STYLES = [
 ]
 
 
-def number(value):
+def number(value: float) -> str:
     """At most two digits after the point."""
     text = f"{value:.2f}".rstrip("0").rstrip(".")
     return "0" if text in ("", "-0") else text
 
 
-def width_of(text):
+def width_of(text: str) -> float:
     return len(text) * CHARACTER
 
 
-def style_sheet(styles):
+def style_sheet(styles: List[Tuple[str, str, str]]) -> str:
     """Rules for light, and for a reader who prefers dark."""
     rules = COMMON_STYLES + styles
     light = "".join(f"{selector}{{{light}}}" for selector, light, _ in rules)
@@ -37,7 +42,7 @@ def style_sheet(styles):
     return f"<style>{fixed}{light}@media (prefers-color-scheme:dark){{{dark}}}</style>"
 
 
-def start(output, width, height, styles, title):
+def start(output: Output, width: float, height: float, styles: List[Tuple[str, str, str]], title: str) -> None:
     output.line(
         f'<svg xmlns="http://www.w3.org/2000/svg" width="{number(width)}" height="{number(height)}"'
         f' viewBox="0 0 {number(width)} {number(height)}" role="img">'
@@ -47,30 +52,32 @@ def start(output, width, height, styles, title):
     output.line(f'<rect class="paper" width="{number(width)}" height="{number(height)}"/>')
 
 
-def end(output):
+def end(output: Output) -> None:
     output.line("</svg>")
 
 
-def box(left, top, width, height, classes, title=None):
+def box(left: float, top: float, width: float, height: float, classes: str,
+        title: Optional[str] = None) -> str:
     shape = f'<rect class="{classes}" x="{number(left)}" y="{number(top)}" width="{number(width)}" height="{number(height)}"'
     return f"{shape}/>" if title is None else f"{shape}><title>{escape(title)}</title></rect>"
 
 
-def label(left, base, text, classes="", anchor="start", title=None):
+def label(left: float, base: float, text: str, classes: str = "", anchor: str = "start",
+          title: Optional[str] = None) -> str:
     named = f' class="{classes}"' if classes else ""
     placed = "" if anchor == "start" else f' text-anchor="{anchor}"'
     told = "" if title is None else f"<title>{escape(title)}</title>"
     return f'<text{named} x="{number(left)}" y="{number(base)}"{placed}>{escape(text)}{told}</text>'
 
 
-def line(left, top, right, bottom, classes, title=None):
+def line(left: float, top: float, right: float, bottom: float, classes: str, title: Optional[str] = None) -> str:
     shape = (
         f'<line class="{classes}" x1="{number(left)}" y1="{number(top)}" x2="{number(right)}" y2="{number(bottom)}"'
     )
     return f"{shape}/>" if title is None else f"{shape}><title>{escape(title)}</title></line>"
 
 
-def nice_interval(least):
+def nice_interval(least: float) -> int:
     """The least of 1, 2, 5, 10, 20 .. that is not below this."""
     power = 1
     while True:
@@ -86,10 +93,11 @@ class Labels:
 
     GAP = 6
 
-    def __init__(self, rows, limit=float("inf")):
-        self.rows, self.limit = [[] for _ in range(rows)], limit
+    def __init__(self, rows: int, limit: float = float("inf")) -> None:
+        self.rows: List[List[Label]] = [[] for _ in range(rows)]
+        self.limit = limit
 
-    def add(self, left, text, classes=""):
+    def add(self, left: float, text: str, classes: str = "") -> None:
         """A text that begins here, or as far to the left as it must to end before the limit."""
         left = min(left, self.limit - width_of(text + " +99"))
         for row in self.rows:
@@ -98,13 +106,13 @@ class Labels:
                 return
         self.fold(text)
 
-    def fold(self, text):
+    def fold(self, text: str) -> None:
         """A text that isn't shown."""
         row = min((it for it in self.rows if it), key=lambda it: it[-1].end, default=None)
         if row is not None:
             row[-1].folded.append(text)
 
-    def placed(self):
+    def placed(self) -> List[Tuple[int, Label]]:
         """Each label, with the number of its row."""
         return [(at, it) for at, row in enumerate(self.rows) for it in row]
 
@@ -112,18 +120,19 @@ class Labels:
 class Label:
     """A text at a place, and those that are folded into it."""
 
-    def __init__(self, left, text, classes):
-        self.left, self.text, self.classes, self.folded = left, text, classes, []
+    def __init__(self, left: float, text: str, classes: str) -> None:
+        self.left, self.text, self.classes = left, text, classes
+        self.folded: List[str] = []
 
     @property
-    def shown(self):
+    def shown(self) -> str:
         return f"{self.text} +{len(self.folded):,}" if self.folded else self.text
 
     @property
-    def end(self):
+    def end(self) -> float:
         return self.left + width_of(self.shown)
 
-    def shape(self, base):
+    def shape(self, base: float) -> str:
         if not self.folded:
             return label(self.left, base, self.text, self.classes)
         more = self.folded[:MOST_TOLD] + [".."] * (len(self.folded) > MOST_TOLD)

@@ -1,8 +1,10 @@
 """What `rtosim run .. --state` writes behind a run: where each task is after the last step, who holds which mutex, and the values of
 variables."""
+from __future__ import annotations
+
 import enum
 import re
-from typing import Dict, List, NamedTuple, Optional
+from typing import Any, Dict, List, NamedTuple, Optional, Tuple
 
 from .faults import BadReport
 from .grammar import NAME, NUMBER
@@ -48,15 +50,15 @@ class EndState(NamedTuple):
     values: Dict[int, int] = {}
 
 
-def first_of(body):
+def first_of(body: bytes) -> Optional[int]:
     """Where the first line of a state begins, or None."""
     if body.startswith(FIRST_WORDS):
         return 0
     found = [it + 1 for it in (body.find(b"\n" + word) for word in FIRST_WORDS) if it >= 0]
-    return min(found, default=None)
+    return min(found) if found else None
 
 
-def parted(body, line_number):
+def parted(body: bytes, line_number: int) -> Tuple[bytes, bytes]:
     """The lines of a run, of which the first has this number, without the lines of its state; and these, which may be none."""
     start = first_of(body)
     if start is None:
@@ -72,7 +74,7 @@ def parted(body, line_number):
     return body[:start], state
 
 
-def state_of(lines) -> Optional[EndState]:
+def state_of(lines: bytes) -> Optional[EndState]:
     """The state that these lines say; None where there are none."""
     if not lines:
         return None
@@ -84,11 +86,12 @@ def state_of(lines) -> Optional[EndState]:
         elif value:
             found.values[int(value[1])] = int(value[2])
         else:
-            found.tasks.append(task_of(STATE_LINE.fullmatch(line)))
+            words: Any = STATE_LINE.fullmatch(line)
+            found.tasks.append(task_of(words))
     return found
 
 
-def task_of(match):
+def task_of(match: re.Match) -> TaskState:
     name, ended, plain, op, timed, timed_op, until = match.groups()
     name = name.decode()
     if ended:

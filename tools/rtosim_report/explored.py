@@ -1,4 +1,6 @@
 """What `rtosim explore` finds: its report, and what happens in the runs of the least placements."""
+from __future__ import annotations
+
 import os
 import re
 import subprocess
@@ -10,9 +12,10 @@ from .base_run import given_base
 from .classes import By, Classifier, OutcomeClass
 from .escaping import plain, shell_word
 from .faults import BadReport, Fault, ProgramFault, counted
-from .output import output_file
-from .report import Head, Injection, Point, Verdict
+from .job import Job
+from .output import Text as Output, output_file
 from .reading import Run, lone_run_of
+from .report import Head, Injection, Point, Verdict
 from .source import PROGRAM, STATUSES_OF_REPORTS, lone_reader, state_source
 from .table import aligned, share_of
 from .words import words_of_point
@@ -34,7 +37,7 @@ class End(NamedTuple):
     head: Head
 
     @property
-    def fails(self):
+    def fails(self) -> bool:
         return not self.head.verdict.passes
 
 
@@ -48,7 +51,7 @@ class Explained:
     picture: Optional[str] = None
 
 
-def end_of_line(line, number) -> End:
+def end_of_line(line: bytes, number: int) -> End:
     """The end that a line of the report is about."""
     match = END.fullmatch(line)
     if match is None:
@@ -60,7 +63,7 @@ def end_of_line(line, number) -> End:
     return End(int(placements), head)
 
 
-def ends_of(text) -> List[End]:
+def ends_of(text: bytes) -> List[End]:
     """The ends that a report is about."""
     *lines, last = text.split(b"\n")[:-1] or [b""]
     ends = [end_of_line(it, number) for number, it in enumerate(lines, 1)]
@@ -70,7 +73,7 @@ def ends_of(text) -> List[End]:
     return ends
 
 
-def explored(application, words) -> List[End]:
+def explored(application: str, words: List[str]) -> List[End]:
     """What the program finds."""
     try:
         ran = subprocess.run([PROGRAM, "explore", application, *words], stdin=subprocess.DEVNULL, stdout=subprocess.PIPE, check=False)
@@ -84,7 +87,7 @@ def explored(application, words) -> List[End]:
 class Explanation:
     """The ends, each that fails with the run of its least placement beside the base run."""
 
-    def __init__(self, job, words):
+    def __init__(self, job: Job, words: List[str]) -> None:
         self.job, self.application = job, job.application
         self.ends = explored(self.application, words)
         self.base = given_base(lone_reader("run", self.application))
@@ -94,13 +97,13 @@ class Explanation:
         """The run of the least placement, with the state at its end."""
         if end.head.point is None:
             return self.base.run()
-        source = state_source(self.application, words_of_point(end.head.point, True))
+        source = state_source(self.application, words_of_point(end.head.point, True) or [])
         run = None if source is None else lone_run_of(source.reader())
         if run is None or run.head.end_text() != end.head.end_text():
             raise Fault(f"the run of {end.head.point.text()} isn't that of `explore`: {end.head.end_text()}")
         return run
 
-    def explained(self, end: End, folder) -> Explained:
+    def explained(self, end: End, folder: Optional[str]) -> Explained:
         """What happens in the run of the least placement of an end that fails."""
         if not end.fails:
             return Explained(end)
@@ -108,7 +111,7 @@ class Explanation:
         found = None if end.head.point is None else Classifier(self.base, By.CAUSE, self.job.texts, self.job.endings).add(run)
         return Explained(end, run, found, None if folder is None else self.draw(run, end, folder))
 
-    def draw(self, run, end: End, folder) -> str:
+    def draw(self, run: Run, end: End, folder: str) -> str:
         """Draws the run, and returns the name of the file."""
         from . import timeline, timeline_picture
 
@@ -127,18 +130,18 @@ class Explanation:
         name = [] if it.found is None else [it.found.name]
         differs = [it.found.what_differs] if it.found is not None and it.found.what_differs else []
         ending = self.job.endings.lines_of(it.run, self.base) if it.found is None else it.found.ending
-        words = " ".join(map(shell_word, words_of_point(it.end.head.point, True)))
+        words = " ".join(map(shell_word, words_of_point(it.end.head.point, True) or []))
         command = f"rtosim run {shell_word(self.application)} {words}".rstrip()
         return [*name, *differs, *ending, command, *([it.picture] if it.picture else [])]
 
 
-def cells(number, end: End, total):
+def cells(number: int, end: End, total: int) -> List[str]:
     head = end.head
     least = "none" if head.point is None else head.point.text()
     return [str(number), f"{end.placements:,}", share_of(end.placements, total), head.verdict.text, least, f"{head.steps:,}", f"{head.ticks:,}"]
 
 
-def write_ends(output, explanation: Explanation, folder):
+def write_ends(output: Output, explanation: Explanation, folder: Optional[str]) -> None:
     """The table of the ends, each with the lines of its least placement below it."""
     ends = explanation.ends
     total, failing = sum(it.placements for it in ends), sum(it.placements for it in ends if it.fails)

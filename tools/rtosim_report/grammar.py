@@ -1,6 +1,8 @@
 """The lines of a report, as docs/FORMATS.md has them.
 
 The words of ops are not listed here: an op of a later version reads like the others."""
+from __future__ import annotations
+
 import re
 
 NUMBER = rb"(?:0|[1-9][0-9]{0,9})"
@@ -42,5 +44,5 @@ A_FIRST_LINE = "`base: VERDICT in N steps, E ticks`, `row 0 at STEP HANDLER: ..`
 A_TOTAL = "`total P: pass A, check B, misuse C, ticks D, steps F, stuck G, not reached H`"
 
 
-def a_row(number):
+def a_row(number: int) -> str:
     return f"`row {number} at STEP HANDLER: VERDICT in N steps, E ticks`"

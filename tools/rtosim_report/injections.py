@@ -3,9 +3,17 @@
 The lines of a step are in this order: those of the handlers that come before it, one handler after another, each with
 a change of the processor behind them if they bring one about; then those of the step. A handler that is injected while a critical section
 is open is pending, and comes before the first step after the section."""
+from __future__ import annotations
+
 import functools
 import re
 from itertools import groupby, islice
+from typing import Dict, Iterator, List, Optional, Sequence, Set, TYPE_CHECKING, Tuple, Union
+
+from .report import Injection, Line, Point
+
+if TYPE_CHECKING:
+    from .base_run import BaseRun
 
 # What a task may report while a critical section is open.
 INSIDE = re.compile(
@@ -14,13 +22,13 @@ INSIDE = re.compile(
 
 
 @functools.lru_cache(maxsize=64)
-def own_words(handler):
+def own_words(handler: str) -> Tuple[bytes, bytes]:
     """How the lines of a handler's ops begin."""
     name = handler.encode()
     return b"isr " + name + b" ", b"mark " + name + b" "
 
 
-def leading_own(lines, injection, start=0):
+def leading_own(lines: List[Line], injection: Injection, start: int = 0) -> int:
     """How many lines, from the first or from this one on, are those of the injected handler. They are of one tick: those of
     a base interrupt in the tick that the step brings have the next."""
     when = str(injection.step).encode(), lines[start][1] if start < len(lines) else b""
@@ -30,7 +38,7 @@ def leading_own(lines, injection, start=0):
     return end - start
 
 
-def position_of(lines, step):
+def position_of(lines: List[Line], step: int) -> int:
     """How many lines come before this step."""
     first, last = 0, len(lines)
     while first < last:
@@ -42,12 +50,12 @@ def position_of(lines, step):
     return first
 
 
-def groups_of(point):
+def groups_of(point: Union[Point, Sequence[Injection]]) -> List[Tuple[int, List[Injection]]]:
     """The injections of a point by their steps: each step with those that come before it, in their order."""
     return [(step, list(group)) for step, group in groupby(point, key=lambda it: it.step)]
 
 
-def arrival_of(lines, injection, names):
+def arrival_of(lines: List[Line], injection: Injection, names: Set[bytes]) -> int:
     """Before which step an injected handler comes: its own; or a later one, where these lines are as those of a critical section up to the
     lines of handlers of these names."""
     own, inside, left_at = own_words(injection.handler), None, None
@@ -67,7 +75,7 @@ def arrival_of(lines, injection, names):
     return injection.step
 
 
-def lines_of_step(lines, at):
+def lines_of_step(lines: List[Line], at: int) -> Iterator[Line]:
     """Those from this line on that are of its step."""
     step = lines[at][0]
     for it in islice(lines, at, None):
@@ -76,25 +84,25 @@ def lines_of_step(lines, at):
         yield it
 
 
-def arrivals_of(lines, point):
+def arrivals_of(lines: List[Line], point: Point) -> Dict[Injection, int]:
     """Of each injection of a point the step before which it comes."""
     names = {it.handler.encode() for it in point}
     return {it: arrival_of(lines, it, names) for it in point}
 
 
-def arrived(lines, point):
+def arrived(lines: List[Line], point: Point) -> List[Injection]:
     """The injections of a point, each with the step before which it comes, in the order in which they come."""
     arrivals = arrivals_of(lines, point)
     found = [(it, it._replace(step=arrivals[it])) for it in point]
     return [come for _, come in sorted(found, key=lambda it: (it[1].step, it[0].step == it[1].step, order_of(lines, *it)))]
 
 
-def from_arrival(tail, point):
+def from_arrival(tail: List[Line], point: Point) -> List[Line]:
     """The lines of a row from where the first of its handlers comes; the tail begins at the first injection."""
     return tail[position_of(tail, min(arrivals_of(tail, point).values())) :]
 
 
-def order_of(lines, injection, come):
+def order_of(lines: List[Line], injection: Injection, come: Injection) -> int:
     """Of a pending handler where its lines are, since they come in the order of the file; the others come in theirs."""
     if injection.step == come.step:
         return 0
@@ -102,7 +110,7 @@ def order_of(lines, injection, come):
     return next((at for at in range(position_of(lines, come.step), len(lines)) if lines[at][2].startswith(own)), 0)
 
 
-def is_change_between(lines, at, injection):
+def is_change_between(lines: List[Line], at: int, injection: Injection) -> bool:
     """Whether the processor changes in this line between a handler and the next one, of which a line follows."""
     if at + 1 >= len(lines) or not lines[at][2].startswith(b"run "):
         return False
@@ -111,10 +119,11 @@ def is_change_between(lines, at, injection):
     return lines[at][0] == following[0] == step and following[2].startswith(own_words(injection.handler))
 
 
-def stretches_of_step(lines, start, injections):
+def stretches_of_step(lines: List[Line], start: int, injections: List[Injection]) -> List[Tuple[int, int]]:
     """Where the lines of handlers that come before one step are, a stretch for each of them: its first line, and how many
     there are. Two of one name that follow each other are one stretch, and an empty one."""
-    found, at = [], start
+    found: List[Tuple[int, int]] = []
+    at = start
     for injection in injections:
         if found and is_change_between(lines, at, injection):
             at += 1
@@ -124,7 +133,7 @@ def stretches_of_step(lines, start, injections):
     return found
 
 
-def own_stretches(tail, point, base=None):
+def own_stretches(tail: List[Line], point: Point, base: Optional[BaseRun] = None) -> List[Tuple[int, int]]:
     """The stretches of all injections of a row, of which the tail begins at the first. What the base run has at the same step and
     tick, since its own interrupt has the same handler while the ticks are held, is taken off the last of a step."""
     found = []
@@ -137,14 +146,14 @@ def own_stretches(tail, point, base=None):
     return found
 
 
-def known_in_base(base, injection, first):
+def known_in_base(base: BaseRun, injection: Injection, first: List[Line]) -> int:
     """How many lines of this handler the base run has at the step, where they are of the same tick as the first one here."""
     at = base.position(injection.step)
     is_same_tick = first and base.lines[at : at + 1] and base.lines[at][1] == first[0][1]
     return leading_own(base.lines, injection, at) if is_same_tick else 0
 
 
-def without(lines, stretches):
+def without(lines: List[Line], stretches: List[Tuple[int, int]]) -> List[Line]:
     """The lines that are in none of the stretches."""
     rest, at = [], 0
     for start, count in stretches:

@@ -1,19 +1,25 @@
 """What was asked for, and the report that it is asked of: one that is named, or one that the program makes of an application."""
-import sys
+from __future__ import annotations
 
-from .application import read_application
-from .base_run import find_base, given_base, tail_of_row
-from .classes import By, Classifier
+import argparse
+import sys
+from typing import Any, Callable, Iterator, List, Optional, Tuple
+
+from .application import Application, read_application
+from .base_run import BaseRun, find_base, given_base, tail_of_row
+from .classes import By, Classifier, OutcomeClass
 from .emptiness import emptiness_of
-from .end_state import state_of
+from .end_state import EndState, state_of
 from .endings import Endings
 from .escaping import plain
 from .faults import Fault, WordsFault, counted
 from .known import Failure, failures_of
+from .lanes import Timeline
 from .made import MadeReport, Plan
-from .reading import Tally, ViewReader, lone_run_of
-from .source import file_source, standard_input, state_source
-from .source_map import read_map
+from .reading import Reader, Run, Tally, ViewReader, lone_run_of
+from .report import Head
+from .source import Source, file_source, standard_input, state_source
+from .source_map import SourceMap, read_map
 from .table import Given
 from .words import takes_points, words_of_point
 
@@ -24,51 +30,54 @@ HEADS_ALONE = "the report has heads alone (--heads): this needs whole rows"
 HEADS_ONLY = Plan(False, False)
 
 
-def say(text):
+def say(text: str) -> None:
     print(f"rtosim-report: {text}", file=sys.stderr)
 
 
 class Job:
     """What was asked for, and the report."""
 
-    def __init__(self, words, has_texts=True):
+    def __init__(self, words: argparse.Namespace, has_texts: bool = True) -> None:
         self.words = words
         self.application = words.application
         is_made = self.application is not None and words.report is None
-        self.made = MadeReport(self.application, words.workers, words.whole) if is_made else None
-        self.source = None if is_made else self.open_source()
+        self.made: Any = MadeReport(self.application, words.workers, words.whole) if is_made else None
+        self.source: Any = None if is_made else self.open_source()
         self.texts = self.read_texts() if self.application is not None and has_texts else None
         self.source_map = self.read_source_map()
-        self.base = None
+        self.base: Any = None
         # The head of the base run of a report without rows, what it says at its end, and the name of its failure.
-        self.lone_run, self.ending, self.lone_name = None, [], ""
+        self.lone_run: Any = None
+        self.ending: List[str] = []
+        self.lone_name = ""
         # What the total line counts, and what there is to say of rows that aren't looked at whole.
-        self.total, self.notes = Tally(), []
+        self.total = Tally()
+        self.notes: List[str] = []
         self.asked = 0 if is_made and words.asks_for_states else MOST_ASKED
         self.endings = Endings(self.texts, self.ask_for_state, self.source_map)
 
     @property
-    def given(self):
+    def given(self) -> Given:
         return Given(self.application, self.words.report, self.words.base, self.takes_points)
 
     @property
-    def takes_points(self):
+    def takes_points(self) -> bool:
         """Whether there is a program that runs a point of several injections, which is asked if there are such rows."""
         return self.made is not None and self.made.has_several and takes_points()
 
-    def open_source(self):
+    def open_source(self) -> Source:
         if self.words.report in (None, "-"):
             return standard_input(self.words.partial)
         return file_source(self.words.report, self.words.partial)
 
-    def read_texts(self):
+    def read_texts(self) -> Application:
         """The application. What the program ignores of it is named on standard error."""
         found = read_application(self.application)
         for it in found.ignored:
             say(f"{plain(self.application)}: {plain(it)}")
         return found
 
-    def read_source_map(self):
+    def read_source_map(self) -> Optional[SourceMap]:
         """The lines of C of the ops, which are those of the application where that is known."""
         if self.words.source is None:
             return None
@@ -80,21 +89,21 @@ class Job:
     # -- what is judged
 
     @property
-    def is_of_a_run(self):
+    def is_of_a_run(self) -> bool:
         """Whether the report is that of `rtosim run`, and of no campaign."""
         return self.lone_run is not None and self.made is None
 
-    def failures(self, classes):
+    def failures(self, classes: List[OutcomeClass]) -> List[Failure]:
         """What fails: classes, and the base run of a report without rows."""
         if self.lone_run is None or self.lone_run.verdict.passes:
             return failures_of(classes)
         return [Failure(self.lone_name), *failures_of(classes)]
 
-    def emptiness(self):
+    def emptiness(self) -> Any:
         """Why nothing is tested, if that is so."""
         return emptiness_of(self.total, self.is_of_a_run)
 
-    def is_empty(self):
+    def is_empty(self) -> bool:
         """Whether nothing is tested, which is named on standard error, and may not be."""
         found = None if self.words.allow_empty else self.emptiness()
         if found is not None:
@@ -103,7 +112,7 @@ class Job:
 
     # -- the report
 
-    def runs(self):
+    def runs(self) -> Iterator[Run]:
         """The runs of a report that is named, all of which are there when the last one was taken."""
         reader = self.source.reader()
         yield from self.read(reader)
@@ -111,22 +120,23 @@ class Job:
             say(f"the report is cut off: {counted(reader.tally.rows, 'whole row')}")
         self.total = reader.total or reader.tally
 
-    def read(self, reader):
+    def read(self, reader: Reader) -> Iterator[Run]:
         try:
             yield from reader
         finally:
-            reader.progress.end()
+            if reader.progress is not None:
+                reader.progress.end()
         if isinstance(reader, ViewReader) and reader.total is not None and reader.contradiction():
             raise Fault(reader.contradiction())
 
-    def heads(self):
+    def heads(self) -> Iterator[Run]:
         """The heads of all rows, of a report that was read before or that the program makes."""
         if self.made:
             yield from self.made.campaign("--heads")
         else:
             yield from self.read(self.source.reader())
 
-    def whole_runs(self):
+    def whole_runs(self) -> Iterator[Run]:
         """The runs, whole and in order; of an application without points its base run; of a report of heads these."""
         if self.made is None:
             yield from self.runs()
@@ -140,7 +150,7 @@ class Job:
             yield self.made.base().run()
         yield from self.made.whole(None, survey)
 
-    def ask_for_state(self, head):
+    def ask_for_state(self, head: Head) -> Optional[EndState]:
         """The state at the end of a row, as the program writes it. Where it writes none once, it isn't asked again."""
         words = None if self.asked >= MOST_ASKED else words_of_point(head.point, self.takes_points)
         if words is None:
@@ -153,7 +163,7 @@ class Job:
             return None
         return state_of(run.state)
 
-    def find_base(self):
+    def find_base(self) -> BaseRun:
         if self.words.base is not None:
             self.base = given_base(file_source(self.words.base).reader())
         elif self.made:
@@ -164,7 +174,7 @@ class Job:
 
     # -- classes
 
-    def classify(self, see=None):
+    def classify(self, see: Optional[Callable[..., Any]] = None) -> List[OutcomeClass]:
         """All rows that are looked at in classes. Each row and its class are shown to `see`."""
         classifier = Classifier(self.find_base(), self.words.by, self.texts, self.endings)
         if self.made:
@@ -174,11 +184,11 @@ class Job:
         return self.with_endings(classifier.in_order())
 
     @property
-    def wants_passing(self):
+    def wants_passing(self) -> bool:
         """Whether rows that pass are looked at whole."""
         return self.words.whole or not (self.words.folds or getattr(self.words, "failing", False))
 
-    def classify_named(self, classifier, see):
+    def classify_named(self, classifier: Classifier, see: Optional[Callable[..., Any]]) -> None:
         heads_alone = self.words.by is By.VERDICT or self.source.has_heads_alone()
         for run in self.runs():
             if run.head.row is None:
@@ -197,13 +207,14 @@ class Job:
         if self.total.rows and self.source.has_heads_alone() and self.words.by is not By.VERDICT:
             self.notes.append("the report has heads alone (--heads), so rows are classed by these")
 
-    def classify_made(self, classifier, see):
+    def classify_made(self, classifier: Classifier, see: Optional[Callable[..., Any]]) -> None:
         by_heads = self.words.by is By.VERDICT
         is_complete = by_heads or see is not None or self.wants_passing
         survey = self.made.survey(is_complete)
         self.total = survey.total
         if not survey.total.rows:
-            return self.take_lone_run(self.base.run(), classifier)
+            self.take_lone_run(self.base.run(), classifier)
+            return
         plan = HEADS_ONLY if by_heads else self.made.plan(self.wants_passing, survey)
         if not by_heads:
             for it in self.made.needs(plan, survey, self.wants_passing):
@@ -214,18 +225,18 @@ class Job:
             if see:
                 see(run, found)
 
-    def failing_runs(self, plan):
+    def failing_runs(self, plan: Plan) -> Iterator[Run]:
         """The rows that fail, whole or as heads."""
         if plan.failing:
             return self.made.whole(False, self.made.surveyed)
         return self.made.campaign("--only", "failing", "--heads")
 
-    def take_lone_run(self, run, classifier):
+    def take_lone_run(self, run: Run, classifier: Classifier) -> None:
         """The base run is all that there is."""
         self.lone_run = run.head
         self.ending, self.lone_name = self.endings.lines_of(run), f"{BASE_RUN}: {classifier.causes.end_of(run)}"
 
-    def with_endings(self, classes):
+    def with_endings(self, classes: List[OutcomeClass]) -> List[OutcomeClass]:
         """The classes. What the first row says at its end is looked for in those that were made of heads."""
         for it in classes:
             if self.made and it.is_by_head and not it.verdict.passes and self.words.by is not By.VERDICT and not it.ending:
@@ -234,7 +245,7 @@ class Job:
 
     # -- one run
 
-    def wanted_run(self, row):
+    def wanted_run(self, row: Optional[int]) -> Tuple[Optional[Run], BaseRun]:
         """The run of this row, or none for the base run; and the base run beside it. A report that is named is checked as a whole."""
         base = self.find_base()
         if self.made:
@@ -255,7 +266,7 @@ class Job:
             raise WordsFault(f"there is no row {row}: the report has {counted(rows, 'row')}{of_all}")
         return wanted, base
 
-    def timeline(self):
+    def timeline(self) -> Timeline:
         from . import timeline
 
         run, base = self.wanted_run(self.words.row)
@@ -267,7 +278,7 @@ class Job:
         found = timeline.of_base(base, self.texts)
         return self.with_words(found, base.run())
 
-    def with_words(self, found, run):
+    def with_words(self, found: Timeline, run: Run) -> Timeline:
         """The timeline of a run with what that says at its end, and with the lines of C of its calls."""
         found.ending, found.source_map = self.endings.lines_of(run, self.base), self.source_map
         return found

@@ -2,17 +2,19 @@
 
 Each part is read twice: first all are checked, then they are copied. So nothing is written before they are known to be of one campaign.
 One row at a time is in memory, and of all parts together the rows that say most of the base run."""
+from __future__ import annotations
+
 import contextlib
 import itertools
 import os
 import re
-from typing import NamedTuple, Optional
+from typing import Any, Iterable, Iterator, List, NamedTuple, Optional, Union
 
 from .escaping import plain
 from .faults import BadReport, CutOff, Fault, WordsFault, counted
-from .output import Progress
+from .output import Progress, Text as Output
 from .reading import Run, Tally, ViewReader
-from .source import file_source
+from .source import Source, file_source
 
 BLOCK = 1 << 20
 STEP_OF_LINE = re.compile(rb"^([0-9]+) ", re.MULTILINE)
@@ -22,12 +24,12 @@ ANOTHER_BASE = "its rows begin otherwise than those of the parts before it: it i
 class BadPart(Fault):
     """A part that can't be joined with the others."""
 
-    def __init__(self, name, why):
+    def __init__(self, name: str, why: Union[BadReport, str]) -> None:
         super().__init__(f"{plain(name)}: {why}")
 
 
 @contextlib.contextmanager
-def named(name):
+def named(name: str) -> Iterator[None]:
     """Around what reads a part: its faults are reported with its name."""
     try:
         yield
@@ -37,7 +39,7 @@ def named(name):
         raise BadPart(name, fault) from None
 
 
-def lines_before(run, step):
+def lines_before(run: Run, step: int) -> bytes:
     """The bytes of a run's lines before this step."""
     for line in STEP_OF_LINE.finditer(run.text):
         if int(line[1]) >= step:
@@ -49,28 +51,28 @@ class Bases:
     """What rows say of the base run: the one that isn't reached says all of it, and the one whose first injection is the latest says
     it up to there."""
 
-    def __init__(self):
+    def __init__(self) -> None:
         self.whole: Optional[Run] = None
         self.latest: Optional[Run] = None
 
-    def add(self, run):
+    def add(self, run: Run) -> None:
         if not run.head.is_reached:
             self.whole = self.whole or run
         elif self.latest is None or run.head.point.first_step > self.latest.head.point.first_step:
             self.latest = run
 
-    def differ(self, other, has_lines):
+    def differ(self, other: Bases, has_lines: bool) -> bool:
         """Whether both can't be of one base run."""
         there = [it for it in (self.whole, self.latest, other.whole, other.latest) if it is not None]
         return any(differ(one, two, has_lines) for one, two in itertools.combinations(there, 2))
 
 
-def known_until(run):
+def known_until(run: Run) -> int:
     """Up to which step a row says the base run."""
     return run.head.point.first_step if run.head.is_reached else run.head.steps
 
 
-def differ(one, two, has_lines):
+def differ(one: Run, two: Run, has_lines: bool) -> bool:
     """Whether two rows can't have one base run."""
     wholes = [it for it in (one, two) if not it.head.is_reached]
     if len(wholes) == 2:
@@ -91,11 +93,11 @@ class View(NamedTuple):
     has_lines: bool
     has_heads_alone: bool
 
-    def together(self, other):
+    def together(self, other: View) -> View:
         both = (self.has_lines or other.has_lines, self.has_heads_alone or other.has_heads_alone)
         return View(self.written | other.written, self.left_out | other.left_out, *both)
 
-    def contradiction(self):
+    def contradiction(self) -> Optional[str]:
         """Why no words of a campaign leave this; None where some do."""
         if self.has_lines and self.has_heads_alone:
             return "some rows are heads alone (--heads) and others whole"
@@ -106,9 +108,10 @@ class View(NamedTuple):
 class Part:
     """The report of a shard: what its total line counts, and what its rows show."""
 
-    def __init__(self, name):
+    def __init__(self, name: str) -> None:
         self.name = name
-        self.first = self.last = None
+        self.first: Any = None
+        self.last: Any = None
         self.bases = Bases()
         source = file_source(name)
         reader = ViewReader(source.stream, progress=Progress(source.size))
@@ -117,12 +120,12 @@ class Part:
             self.view = self.see_rows(reader)
         self.size, self.rows_end = source.size, source.size - len(self.total.text()) - 1
         # What can be opened again isn't kept open: there may be more parts than files that a process may open.
-        self.source = source
+        self.source: Optional[Source] = source
         if os.path.isfile(name):
             source.stream.close()
             self.source = None
 
-    def see_rows(self, reader):
+    def see_rows(self, reader: ViewReader) -> View:
         """Reads all rows and the total line, and returns the view."""
         has_lines = has_heads_alone = False
         try:
@@ -135,8 +138,9 @@ class Part:
                 has_lines = has_lines or bool(run.text)
                 has_heads_alone = has_heads_alone or not run.text and run.head.verdict.passes and run.head.steps > 0
         finally:
-            reader.progress.end()
-        self.total = reader.total
+            if reader.progress is not None:
+                reader.progress.end()
+        self.total: Any = reader.total
         if self.total is None:
             raise BadPart(self.name, "it is the report of a run, and not of a shard of a campaign")
         why = reader.contradiction()
@@ -144,13 +148,13 @@ class Part:
             raise BadPart(self.name, why)
         return self.view_of(reader.tally, has_lines, has_heads_alone)
 
-    def view_of(self, written, has_lines, has_heads_alone):
+    def view_of(self, written: Tally, has_lines: bool, has_heads_alone: bool) -> View:
         """The view of these rows. Those of one end are all written, or none of them is."""
         there = frozenset(kind for kind, count in written.by_kind.items() if count)
         lacking = frozenset(kind for kind, count in self.total.by_kind.items() if count and kind not in there)
         return View(there, lacking, has_lines, has_heads_alone)
 
-    def copy_rows(self, output):
+    def copy_rows(self, output: Output) -> None:
         """Writes all but the total line."""
         source = self.source or file_source(self.name)
         source.stream.seek(0)
@@ -164,7 +168,7 @@ class Part:
         source.stream.close()
 
 
-def check_of_one_campaign(parts):
+def check_of_one_campaign(parts: Iterable[Any]) -> Iterator[Part]:
     """Reads all parts, and yields each without what it says of the base run, which is compared with that of those before."""
     bases, view = Bases(), View(frozenset(), frozenset(), False, False)
     for part in parts:
@@ -181,7 +185,7 @@ def check_of_one_campaign(parts):
         yield part
 
 
-def check_order(parts):
+def check_order(parts: List[Part]) -> int:
     """The rows of each part follow those of the one before it."""
     begin = 0
     for at, part in enumerate(parts):
@@ -193,11 +197,11 @@ def check_order(parts):
     return begin
 
 
-def rows_of(begin, end):
+def rows_of(begin: int, end: int) -> str:
     return f"rows {begin} to {end - 1}" if begin < end else "none"
 
 
-def why_not_next(parts, at, begin):
+def why_not_next(parts: List[Part], at: int, begin: int) -> str:
     """Why a part isn't the next one."""
     first = parts[at].first
     before = next((it for it in parts[:at] if it.first is not None and it.first <= first <= it.last), None)
@@ -208,7 +212,7 @@ def why_not_next(parts, at, begin):
     return "a shard is missing"
 
 
-def check_division(parts, rows):
+def check_division(parts: List[Part], rows: int) -> None:
     """Each part has as many rows as that shard of the campaign."""
     begin = 0
     for number, part in enumerate(parts, 1):
@@ -220,7 +224,7 @@ def check_division(parts, rows):
         begin = end
 
 
-def join(names, shards, output):
+def join(names: List[str], shards: Optional[int], output: Output) -> None:
     """Writes the report of the campaign whose shards these are."""
     if shards is not None and shards != len(names):
         why = "a shard is missing" if len(names) < shards else "there are too many"

@@ -1,13 +1,18 @@
 """Test cases for a build server, in the format that JUnit's reports made common: a class of rows each, or a row each."""
+from __future__ import annotations
+
 import os
 import time
 from dataclasses import dataclass
-from typing import List
+from typing import Any, Iterable, List, Optional
 from xml.sax.saxutils import escape, quoteattr
 
+from .classes import OutcomeClass
+from .emptiness import Emptiness
 from .escaping import plain
 from .faults import counted
 from .known import Failure, Known
+from .output import Text as Output
 from .report import Head, Verdict
 from .table import Given, command_of, words_of
 
@@ -38,7 +43,7 @@ class LoneRun:
     ending: List[str]
     name: str
 
-    def case(self):
+    def case(self) -> Case:
         passes = self.head.verdict.passes
         return Case(Failure("the base run" if passes else self.name), self.head.verdict, "\n".join([self.head.text(), *self.ending]))
 
@@ -52,24 +57,24 @@ class Case:
     text: str
 
     @property
-    def fails(self):
+    def fails(self) -> bool:
         return not self.verdict.passes
 
-    def is_skipped(self, suite):
+    def is_skipped(self, suite: Suite) -> bool:
         return self.fails and suite.known.accepts(self.failure)
 
 
-def attribute(text):
+def attribute(text: str) -> str:
     return quoteattr(plain(text))
 
 
-def timestamp():
+def timestamp() -> str:
     """Now, or what SOURCE_DATE_EPOCH says, so that the same report gives the same bytes."""
     seconds = os.environ.get("SOURCE_DATE_EPOCH", "")
     return time.strftime("%Y-%m-%dT%H:%M:%S", time.gmtime(int(seconds) if seconds.isdigit() else None))
 
 
-def write_start(output, suite, counts):
+def write_start(output: Output, suite: Suite, counts: Counts) -> None:
     numbers = f'tests="{counts.cases}" failures="{counts.failures}" errors="0"'
     output.line('<?xml version="1.0" encoding="UTF-8"?>')
     output.line(f'<testsuites name="rtosim" {numbers} time="0">')
@@ -80,14 +85,14 @@ def write_start(output, suite, counts):
     output.line("<properties/>")
 
 
-def write_end(output):
+def write_end(output: Output) -> None:
     output.line("<system-out/>")
     output.line("<system-err/>")
     output.line("</testsuite>")
     output.line("</testsuites>")
 
 
-def write_case(output, suite, case):
+def write_case(output: Output, suite: Suite, case: Case) -> None:
     name, verdict = case.failure.name, case.verdict
     start = f"<testcase classname={attribute('rtosim.' + class_name(suite.name))} name={attribute(name)} time=\"0\""
     if verdict.passes:
@@ -102,16 +107,17 @@ def write_case(output, suite, case):
     output.line("</testcase>")
 
 
-def plain_lines(text):
+def plain_lines(text: str) -> str:
     return "\n".join(map(plain, text.split("\n")))
 
 
-def class_name(name):
+def class_name(name: str) -> str:
     """The name of a file without its folder and ending, fit for a dotted name."""
     return os.path.splitext(os.path.basename(name))[0].replace(".", "_") or "report"
 
 
-def write_classes(output, suite, classes, lone_run=None, empty=None):
+def write_classes(output: Output, suite: Suite, classes: List[OutcomeClass], lone_run: Optional[LoneRun] = None,
+                  empty: Optional[Emptiness] = None) -> None:
     """A case for each class; of a report without rows one for the base run that it has; and one that says why nothing is tested, where
     that is so."""
     cases = [Case(Failure(it.name, it.rows), it.verdict, class_text(it, suite)) for it in classes]
@@ -126,18 +132,18 @@ def write_classes(output, suite, classes, lone_run=None, empty=None):
     write_end(output)
 
 
-def class_text(it, suite):
+def class_text(it: OutcomeClass, suite: Suite) -> str:
     handlers = " ".join(it.handlers)
     lines = [f"{counted(it.rows, 'row')} of {handlers}; the first:", it.first.text(), *words_of(it), command_of(it.first, suite.given)]
     return "\n".join(lines)
 
 
-def counts_of(classes):
+def counts_of(classes: List[OutcomeClass]) -> Counts:
     """The counts of single rows."""
     return Counts(sum(it.rows for it in classes), sum(it.rows for it in classes if not it.verdict.passes))
 
 
-def write_rows(output, suite, runs, counts):
+def write_rows(output: Output, suite: Suite, runs: Iterable[Any], counts: Counts) -> None:
     write_start(output, suite, counts)
     for run in runs:
         head = run.head

@@ -1,14 +1,16 @@
 """What a timeline is made of: lanes, what is done in them and when, what is reported, and the clock.
 
 Times are boundaries: boundary b is before step b, and boundary N after the last step."""
+from __future__ import annotations
+
 import bisect
 import enum
 from dataclasses import dataclass, field
-from typing import Dict, List, Optional, Tuple
+from typing import Any, Dict, List, Optional, Tuple
 
 from .op_times import Stretch
 from .report import Event, Head, Injection, Kind
-from .source_map import SourceLine, SourceMap
+from .source_map import SourceLine
 from .variables import ValueStretch
 
 
@@ -51,7 +53,7 @@ class Bar:
     object: str = ""
 
     @property
-    def call(self):
+    def call(self) -> str:
         """The call that it waits in, with its object where that is known."""
         return f"{self.word} {self.object}" if self.object else self.word
 
@@ -67,11 +69,11 @@ class Note:
     object: str = ""
 
     @property
-    def step(self):
+    def step(self) -> int:
         return self.event.step
 
     @property
-    def told(self):
+    def told(self) -> str:
         """What is reported, without the name of the lane, and with the call's object where that is known."""
         event = self.event
         if event.kind is not Kind.CALL and event.kind is not Kind.ISR or not self.object:
@@ -95,17 +97,17 @@ class Clock:
     ticks: List[int]
     start: int = 0
 
-    def at(self, boundary):
+    def at(self, boundary: int) -> int:
         return int(self.exactly(boundary))
 
-    def exactly(self, boundary):
+    def exactly(self, boundary: int) -> float:
         at = bisect.bisect_right(self.boundaries, boundary) - 1
         if at + 1 == len(self.boundaries):
             return self.ticks[at]
         first, last = self.boundaries[at], self.boundaries[at + 1]
         return self.ticks[at] + (self.ticks[at + 1] - self.ticks[at]) * (boundary - first) / (last - first)
 
-    def silent_steps(self, start, end):
+    def silent_steps(self, start: int, end: int) -> int:
         """How many of the steps between the two were no ticks."""
         return end - start - (self.at(end) - self.at(start))
 
@@ -126,22 +128,22 @@ class Timeline:
     is_presumed: bool = False
     # What the run says at its end, in words.
     ending: List[str] = field(default_factory=list)
-    source_map: Optional[SourceMap] = None
+    source_map: Any = None
 
     @property
-    def steps(self):
+    def steps(self) -> int:
         return self.head.steps
 
     @property
-    def outlasts_printed_ticks(self):
+    def outlasts_printed_ticks(self) -> bool:
         """Whether it is so long that a printed tick comes again."""
         return self.head.ticks >= 1 << 32
 
-    def line_of(self, note) -> Optional[SourceLine]:
+    def line_of(self, note: Note) -> Optional[SourceLine]:
         """The line of C of a call, where that is known."""
         return self.source_map.line(note.event.name, note.event.op, note.event.word) if self.source_map else None
 
-    def told(self, note) -> str:
+    def told(self, note: Note) -> str:
         """What is reported, with the number of its line of C where that is known."""
         found = self.line_of(note)
         return f"{note.told} {self.source_map.short(found)}" if found else note.told
@@ -151,6 +153,6 @@ class Timeline:
         found = (self.line_of(it) for it in sorted(self.notes, key=lambda it: (it.boundary, not it.is_injected)))
         return list({(it.file, it.line): it for it in found if it}.values())
 
-    def title(self):
+    def title(self) -> str:
         words = self.head.text()
         return words + " (presumed)" if self.is_presumed else words

@@ -3,14 +3,19 @@ a map of two axes.
 
 Where there are more steps than columns, a column is for several steps, and shows the class that comes first in the
 table. What is kept is the classes of each column, never a row."""
+from __future__ import annotations
+
 import math
-from typing import Dict, Tuple
+from typing import Dict, List, Tuple
 
 from . import drawing
+from .base_run import BaseRun
 from .classes import OutcomeClass
 from .colours import colours_of, has_light_text
 from .faults import counted
+from .output import Text as Output
 from .pairs_picture import PairMap
+from .reading import Run
 from .table import base_words, what_differs
 
 PLOT, TOP, CELL_HEIGHT, ROW_GAP, WIDEST, RIGHT = 1080, 44, 26, 8, 54, 24
@@ -27,7 +32,7 @@ STYLES = [
 class Map:
     """Which classes are at which steps, of each handler: columns of one step, or, of many steps, of the same power of two."""
 
-    def __init__(self):
+    def __init__(self) -> None:
         self.width = 1
         self.last = -1
         self.cells: Dict[Tuple[str, int], Dict[int, Tuple[OutcomeClass, int]]] = {}
@@ -35,7 +40,7 @@ class Map:
         self.several = 0
         self.pairs = PairMap()
 
-    def see(self, run, found):
+    def see(self, run: Run, found: OutcomeClass) -> None:
         """Takes a row with its class."""
         head = run.head
         if not head.is_reached:
@@ -51,7 +56,7 @@ class Map:
         cell = self.cells.setdefault((injection.handler, injection.step // self.width), {})
         cell[id(found)] = (found, cell.get(id(found), (found, 0))[1] + 1)
 
-    def widen(self):
+    def widen(self) -> None:
         """Puts two columns together."""
         self.width *= 2
         old, self.cells = self.cells, {}
@@ -60,17 +65,17 @@ class Map:
             for key, (found, rows) in classes.items():
                 cell[key] = (found, cell.get(key, (found, 0))[1] + rows)
 
-    def handlers(self):
+    def handlers(self) -> List[str]:
         return list(dict.fromkeys(handler for handler, _ in self.cells))
 
-    def write(self, output, classes, rows, base):
+    def write(self, output: Output, classes: List[OutcomeClass], rows: int, base: BaseRun) -> None:
         Picture(self, classes, rows, base).write(output)
 
 
 class Picture:
     """The map with its legend."""
 
-    def __init__(self, map_of_points, classes, rows, base):
+    def __init__(self, map_of_points: Map, classes: List[OutcomeClass], rows: int, base: BaseRun) -> None:
         self.map, self.classes, self.rows, self.base = map_of_points, classes, rows, base
         self.colours = colours_of(classes)
         self.handlers = self.map.handlers()
@@ -82,7 +87,7 @@ class Picture:
         self.legend_top = self.axis_top + 44 + self.map.pairs.size
         self.shown = min(len(classes), SHOWN_CLASSES)
 
-    def write(self, output):
+    def write(self, output: Output) -> None:
         width = self.left + PLOT + RIGHT
         more = len(self.classes) > self.shown or self.map.not_reached or self.map.several
         height = self.legend_top + 20 * self.shown + (26 if more else 10)
@@ -100,10 +105,10 @@ class Picture:
         self.write_legend(output)
         drawing.end(output)
 
-    def across(self, step):
+    def across(self, step: int) -> float:
         return self.left + step / self.map.width * self.cell
 
-    def write_cell(self, output, row, handler, column, cell):
+    def write_cell(self, output: Output, row: int, handler: str, column: int, cell: Dict[int, Tuple[OutcomeClass, int]]) -> None:
         found = sorted(cell.values(), key=lambda it: it[0].number)
         first = found[0][0]
         steps = f"step {column}" if self.map.width == 1 else \
@@ -120,11 +125,11 @@ class Picture:
             colour = self.on_colour(first)
             output.line(drawing.label(left + self.cell / 2, top + 17, str(first.number), colour, "middle"))
 
-    def on_colour(self, it):
+    def on_colour(self, it: OutcomeClass) -> str:
         """How a number on the colour of a class is drawn."""
         return "number" if has_light_text(self.colours[it.number]) else "dark"
 
-    def write_axis(self, output):
+    def write_axis(self, output: Output) -> None:
         last = self.map.last + 1
         widest = (len(f"{last:,}") + 2) * drawing.CHARACTER
         interval = drawing.nice_interval(widest / self.cell * self.map.width)
@@ -133,7 +138,7 @@ class Picture:
         for step in range(0, last, interval):
             output.line(drawing.label(self.across(step) + middle, self.axis_top + 16, f"{step:,}", "quiet", "middle"))
 
-    def write_legend(self, output):
+    def write_legend(self, output: Output) -> None:
         top = self.legend_top
         for it in self.classes[: self.shown]:
             shape = drawing.box(12, top - 11, 26, 15, "cell")
@@ -156,5 +161,5 @@ class Picture:
             output.line(drawing.label(46, top + 1, "; ".join(notes), "quiet"))
 
 
-def words_of(it):
+def words_of(it: OutcomeClass) -> str:
     return f"class {it.number}: {it.name}" if it.is_by_cause else f"class {it.number} ({it.verdict.text}): {what_differs(it)}"

@@ -1,19 +1,25 @@
 """At which moments of the C the interrupts of a row come: after which call of the task that runs, and before which."""
-from typing import Iterator, List, Optional
+from __future__ import annotations
 
+from typing import Any, Iterator, List, Optional, Sequence
+
+from .application import Application
+from .base_run import BaseRun
 from .injections import groups_of, position_of
-from .report import IDLE
+from .reading import Run
+from .report import IDLE, Line
+from .source_map import SourceMap
 from .whereabouts import CALL, Place, Whereabouts
 
 
 class Moments:
     """The moments of rows of an application whose lines of C are known."""
 
-    def __init__(self, application, source_map):
+    def __init__(self, application: Application, source_map: SourceMap) -> None:
         self.application, self.source_map = application, source_map
-        self.whereabouts: Optional[Whereabouts] = None
+        self.whereabouts: Any = None
 
-    def lines_of(self, run, base) -> List[str]:
+    def lines_of(self, run: Run, base: BaseRun) -> List[str]:
         """In words each moment at which interrupts come; nothing of the base run and of a row that isn't reached."""
         if run.head.point is None or not run.head.is_reached:
             return []
@@ -21,7 +27,7 @@ class Moments:
             self.whereabouts = Whereabouts(self.application, base)
         return list(self.words_of_row(run))
 
-    def words_of_row(self, run) -> Iterator[str]:
+    def words_of_row(self, run: Run) -> Iterator[str]:
         place, size = self.whereabouts.place_before(run)
         lines, at = run.lines(), run.text.count(b"\n", 0, size)
         for step, injections in groups_of(run.head.point):
@@ -34,12 +40,12 @@ class Moments:
             who = f"{' and '.join(names)} come{'s' * (len(names) == 1)}"
             yield from self.words_of_moment(who, self.runner(lines[:position]), place, lines[position:])
 
-    def runner(self, lines) -> Optional[str]:
+    def runner(self, lines: List[Line]) -> Optional[str]:
         """Who runs after these lines."""
         last = next((what for _, _, what in reversed(lines) if what.startswith(b"run ")), None)
         return self.application.first_runner() if last is None else last[4:].decode()
 
-    def words_of_moment(self, who: str, runner: Optional[str], place: Place, rest) -> Iterator[str]:
+    def words_of_moment(self, who: str, runner: Optional[str], place: Place, rest: List[Line]) -> Iterator[str]:
         """After which call of the task that runs, and before which, as far as that is known. A call is over when it is complete."""
         if runner not in self.application.tasks:
             yield f"{who} while {'idle' if runner in (IDLE, None) else runner} runs"
@@ -52,7 +58,7 @@ class Moments:
             yield f"{'and' if last else who} before {following.shown}"
 
 
-def take(place: Place, lines) -> None:
+def take(place: Place, lines: Sequence[Line]) -> None:
     """Goes on by these lines."""
     for _, _, what in lines:
         parts = CALL.fullmatch(what)
@@ -60,7 +66,7 @@ def take(place: Place, lines) -> None:
             place.take(parts.groups())
 
 
-def next_call(place: Place, name: str, rest) -> Optional[int]:
+def next_call(place: Place, name: str, rest: List[Line]) -> Optional[int]:
     """The index of the call that a task completes next; None where that isn't known. Which branch it takes may depend on variables, which
     the interrupts that come now may change, so there the rest of the lines is looked at."""
     if place.values:

@@ -2,11 +2,15 @@
 
 A tick is a millisecond there; the steps of one tick follow each other within it. In a run of more ticks than a trace has milliseconds
 a tick is a microsecond."""
-import json
+from __future__ import annotations
 
+import json
+from typing import Any, Dict, Iterator, Union
+
+from .lanes import Bar, Lane, LaneKind, Note, Timeline, Window, WindowKind
+from .output import Text as Output
 from .report import Kind
 from .subticks import SubTicks
-from .lanes import LaneKind, WindowKind
 
 # In microseconds; a trace has at most 2^63 nanoseconds.
 MILLISECOND, MICROSECOND = 1000, 1
@@ -15,7 +19,7 @@ PROCESS = 1
 WINDOWS = {WindowKind.LOCKED: "queue locked", WindowKind.HELD: "scheduler held", WindowKind.MASKED: "interrupts masked"}
 
 
-def write(output, timeline):
+def write(output: Output, timeline: Timeline) -> None:
     times = SubTicks(timeline)
     tracks = {lane: at for at, lane in enumerate(timeline.lanes, 1)}
     output.line('{"displayTimeUnit":"ms","otherData":' + json.dumps(other_data(timeline, times)) + ',"traceEvents":[')
@@ -24,7 +28,7 @@ def write(output, timeline):
     output.line("]}")
 
 
-def other_data(timeline, times):
+def other_data(timeline: Timeline, times: SubTicks) -> Dict[str, str]:
     return {
         "run": timeline.title(),
         "tick": "1 ms" if size_of_tick(timeline) == MILLISECOND else "1 us",
@@ -33,11 +37,11 @@ def other_data(timeline, times):
     }
 
 
-def size_of_tick(timeline):
+def size_of_tick(timeline: Timeline) -> int:
     return MILLISECOND if timeline.head.ticks < MOST_MILLISECONDS else MICROSECOND
 
 
-def events_of(timeline, times, tracks):
+def events_of(timeline: Timeline, times: SubTicks, tracks: Dict[Lane, int]) -> Iterator[Dict[str, Any]]:
     size = size_of_tick(timeline)
     stamp = lambda boundary: round(times.at(boundary) * size / times.in_a_tick, 3)
     yield {"ph": "M", "name": "process_name", "pid": PROCESS, "tid": 0, "ts": 0, "args": {"name": timeline.title()}}
@@ -65,22 +69,22 @@ def events_of(timeline, times, tracks):
         }
 
 
-def value_of(name, value, stamp):
+def value_of(name: str, value: int, stamp: float) -> Dict[str, Union[Dict[str, int], float, int, str]]:
     """A value of a variable, which has a track of its own as a counter."""
     return {"ph": "C", "name": f"variable {name}", "pid": PROCESS, "tid": 0, "ts": stamp, "args": {"value": value}}
 
 
-def bar_name(bar):
+def bar_name(bar: Bar) -> str:
     return f"{bar.doing.value}: {bar.call}" if bar.word else bar.doing.value
 
 
-def window_name(window):
+def window_name(window: Window) -> str:
     return WINDOWS[window.kind]
 
 
-def instant(note, stamp, track, source):
+def instant(note: Note, stamp: float, track: int, source: Any) -> Dict[str, Any]:
     event = note.event
-    args = {"step": event.step, "tick": event.tick}
+    args: Dict[str, Any] = {"step": event.step, "tick": event.tick}
     if event.kind is not Kind.MARK:
         args.update(op=event.op, answer=event.answer)
     if source is not None:

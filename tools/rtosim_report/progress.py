@@ -2,9 +2,12 @@
 
 Between two calls a task does ops that have no line: they are gone through here as the task goes through them, since loops count
 and conditions look at the last answer, which is reported, and at variables, which the reported stores change."""
-import copy
-from typing import List, Optional, Tuple
+from __future__ import annotations
 
+import copy
+from typing import Any, Iterable, List, Optional, Tuple
+
+from .application import Op, Script
 from .variables import Values
 
 # So many ops without a line are gone through between two calls.
@@ -14,7 +17,7 @@ PATIENCE = 20_000
 class Blocks:
     """Of each op that opens, parts or closes a block: where its block opens, parts and closes."""
 
-    def __init__(self, script):
+    def __init__(self, script: Script) -> None:
         self.opening, self.closing, self.parting = {}, {}, {}
         stack = []
         for at, op in enumerate(script.ops):
@@ -27,11 +30,11 @@ class Blocks:
                 start = stack.pop()
                 self.opening[at], self.closing[start] = start, at
 
-    def end_of(self, start, ops):
+    def end_of(self, start: int, ops: List[Op]) -> int:
         return self.closing.get(start, len(ops))
 
 
-def holds(words, answer: Optional[int], values: Values) -> Optional[bool]:
+def holds(words: List[str], answer: Optional[int], values: Values) -> Optional[bool]:
     """Whether a condition holds of an answer: `N`, `none`, `not C`, `below N` or `above N`, where N may be a variable; None where that
     depends on which of its values a variable has."""
     if words[0] == "not":
@@ -39,18 +42,18 @@ def holds(words, answer: Optional[int], values: Values) -> Optional[bool]:
         return None if found is None else not found
     if words == ["none"]:
         return answer is None
-    found = {is_met(words[:-1], answer, it) for it in numbers_of(words[-1], values)}
-    return found.pop() if len(found) == 1 else None
+    met = {is_met(words[:-1], answer, it) for it in numbers_of(words[-1], values)}
+    return met.pop() if len(met) == 1 else None
 
 
-def is_met(front, answer: Optional[int], number: int) -> bool:
+def is_met(front: List[str], answer: Optional[int], number: int) -> bool:
     """Whether an answer is this number, or with a front is below or above it."""
     if not front or answer is None:
         return answer == number
     return answer < number if front == ["below"] else answer > number
 
 
-def numbers_of(word, values: Values):
+def numbers_of(word: str, values: Values) -> Tuple[int, ...]:
     """What a word of a condition may be: a number, or each of the values of a variable."""
     return (int(word),) if word.isdigit() else values.get(word, ())
 
@@ -58,7 +61,7 @@ def numbers_of(word, values: Values):
 class Walker:
     """A task on its way through its script. `at` is the op that it does next; behind the last one it has ended."""
 
-    def __init__(self, script):
+    def __init__(self, script: Script) -> None:
         self.script, self.blocks = script, Blocks(script)
         self.at = 0
         self.loops: List[Tuple[int, int]] = []
@@ -66,26 +69,26 @@ class Walker:
         # The values that variables may have had when the ops were done that are gone past.
         self.values: Values = {}
 
-    def copied(self):
+    def copied(self) -> Walker:
         """One that goes on by itself."""
         found = copy.copy(self)
         found.loops = list(self.loops)
         return found
 
     @property
-    def op(self):
+    def op(self) -> Any:
         return self.script.op(self.at)
 
     @property
-    def has_ended(self):
+    def has_ended(self) -> bool:
         return self.at >= len(self.script.ops)
 
-    def called(self, answer):
+    def called(self, answer: Optional[int]) -> None:
         """The call that is next is complete."""
         self.answer = answer
         self.at += 1
 
-    def go_past(self):
+    def go_past(self) -> Optional[Walker]:
         """The op that is next, which has no line, is done. Returns where it would be on the other way, where either may have been taken."""
         op, ops, other = self.op, self.script.ops, None
         if op.word == "repeat":
@@ -104,28 +107,28 @@ class Walker:
         self.at += 1
         return other
 
-    def otherwise(self):
+    def otherwise(self) -> int:
         """The op behind which it goes on where the condition of the `if` that is next doesn't hold."""
         parting = self.blocks.parting.get(self.at)
         return self.blocks.end_of(self.at, self.script.ops) if parting is None else parting
 
-    def parted(self):
+    def parted(self) -> Optional[Walker]:
         """One for which the condition of the `if` that is next doesn't hold."""
         found = self.copied()
         found.at = found.otherwise() + 1
         return found
 
-    def turn(self):
+    def turn(self) -> None:
         """At the end of a loop's turn: back to its first op, or out of it."""
         start, left = self.loops.pop()
         if left > 1:
             self.loops.append((start, left - 1))
             self.at = start
 
-    def to_call(self, wanted: Optional[int] = None):
+    def to_call(self, wanted: Optional[int] = None) -> bool:
         """Goes on to the next op that has a line, or to the end; False where that isn't known, or takes too long to find out. Where either
         branch may have been taken, it is the one that leads to the op that is wanted."""
-        others = []
+        others: List[Walker] = []
         for _ in range(PATIENCE):
             if self.has_ended or not self.op.is_silent:
                 if self.at == wanted or not others:
@@ -138,11 +141,11 @@ class Walker:
             others += [other] if other is not None else []
         return False
 
-    def become(self, other):
+    def become(self, other: Walker) -> None:
         self.at, self.loops, self.answer = other.at, other.loops, other.answer
 
 
-def walked(script, calls) -> Optional[Walker]:
+def walked(script: Script, calls: Iterable[Tuple[int, Optional[int]]]) -> Optional[Walker]:
     """The walker behind these calls, pairs of an op and an answer, at the next call or the end; None where they are none of the
     script's, or it isn't found."""
     walker = Walker(script)

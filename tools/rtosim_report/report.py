@@ -1,6 +1,6 @@
 """What a report is made of: heads, runs, events."""
 import enum
-from typing import List, NamedTuple, Optional, Tuple
+from typing import Any, List, NamedTuple, Optional, Tuple
 
 IDLE = "-"
 
@@ -58,7 +58,8 @@ class Head(NamedTuple):
     """The head line of a run: of the base run there is neither a row nor a point."""
 
     row: Optional[int]
-    point: Optional[Point]
+    # A Point, or None of the base run.
+    point: Any
     is_reached: bool
     verdict: Verdict
     steps: int

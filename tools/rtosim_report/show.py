@@ -1,10 +1,15 @@
 """A row beside the base run, line by line, with what differs marked."""
+from __future__ import annotations
+
 import difflib
 import enum
 from dataclasses import dataclass
-from typing import Optional
+from typing import Any, Iterable, Iterator, List, Optional, Sequence, Tuple
 
+from .base_run import BaseRun
 from .injections import own_stretches, position_of, without
+from .output import Text as Output
+from .reading import Run
 from .report import Line, event_of
 
 LONGEST_COMPARED = 3000
@@ -35,18 +40,18 @@ class Pair:
     mark: Mark
 
 
-def paired(base, row):
+def paired(base: Line, row: Line) -> Pair:
     """The two lines beside each other."""
     if base == row:
         return Pair(base, row, Mark.SAME)
     return Pair(base, row, Mark.NUMBERS if base[2] == row[2] else Mark.OTHER)
 
 
-def is_same_call(base, row):
+def is_same_call(base: Line, row: Line) -> bool:
     return base[2].rpartition(b" ")[0] == row[2].rpartition(b" ")[0] != b"run"
 
 
-def pairs_of_replaced(base, row):
+def pairs_of_replaced(base: List[Line], row: List[Line]) -> Iterator[Pair]:
     """Of lines that are in each other's place, those of one call beside each other."""
     for wanted, line in zip(base, row):
         if is_same_call(wanted, line):
@@ -60,7 +65,7 @@ def pairs_of_replaced(base, row):
         yield Pair(None, line, Mark.ONLY_ROW)
 
 
-def pairs_of(base, row):
+def pairs_of(base: List[Line], row: List[Line]) -> Iterator[Pair]:
     """The lines of the two, aligned. What is too long to be aligned is taken line by line."""
     if max(len(base), len(row)) > LONGEST_COMPARED:
         count = min(len(base), len(row))
@@ -75,7 +80,7 @@ def pairs_of(base, row):
             yield from pairs_of_replaced(base[base_start:base_end], row[row_start:row_end])
 
 
-def all_pairs(run, base):
+def all_pairs(run: Run, base: BaseRun) -> List[Pair]:
     """The whole of the row beside the base run: alike up to the first injection, then the handlers' own lines among the rest."""
     lines = run.checked_lines()
     step = run.head.point.first_step if run.head.is_reached else run.head.steps
@@ -87,7 +92,7 @@ def all_pairs(run, base):
     return pairs + with_own(pairs_of(base_tail, without(tail, stretches)), tail, stretches)
 
 
-def with_own(pairs, tail, stretches):
+def with_own(pairs: Iterable[Pair], tail: List[Line], stretches: List[Tuple[int, int]]) -> List[Pair]:
     """The pairs with the handlers' own lines in their places among those of the row."""
     own = {at for start, count in stretches for at in range(start, start + count)}
     found, at = [], 0
@@ -100,17 +105,18 @@ def with_own(pairs, tail, stretches):
     return found + [Pair(None, it, Mark.OWN) for it in tail[at:]]
 
 
-def text_of(line):
+def text_of(line: Optional[Line]) -> str:
     return b" ".join(line).decode("ascii") if line else ""
 
 
-def source_of(line, source_map):
+def source_of(line: Any, source_map: Any) -> str:
     """The line of C of a line of a report, if it is that of a call."""
     event = event_of(line)
     return source_map.column(source_map.line(event.name, event.op, event.word))
 
 
-def write_row(output, run, base, context=None, has_colour=False, ending=(), source_map=None):
+def write_row(output: Output, run: Run, base: BaseRun, context: Optional[int] = None, has_colour: bool = False, ending: Sequence[str] = (),
+              source_map: Any = None) -> None:
     """The two heads, the pairs, with a map also their lines of C, what the row says at its end, and what the marks mean."""
     pairs = all_pairs(run, base)
     base_head = base.head.text() if base and base.head else "base: not known whole"
@@ -130,17 +136,17 @@ def write_row(output, run, base, context=None, has_colour=False, ending=(), sour
         colour = COLOURS.get(it.mark) if has_colour else None
         output.line(f"\x1b[{colour}m{line}\x1b[0m" if colour else line)
     write_folded(output, folded)
-    for it in ending:
-        output.line(f"  {it}")
+    for words in ending:
+        output.line(f"  {words}")
     output.line(LEGEND)
 
 
-def write_folded(output, count):
+def write_folded(output: Output, count: int) -> None:
     if count:
         output.line(f"  .. {count:,} alike ..")
 
 
-def shown(pairs, context):
+def shown(pairs: List[Pair], context: Optional[int]) -> List[bool]:
     """Which of the pairs are shown: all, or those that have something that differs in this many lines around them."""
     if context is None:
         return [True] * len(pairs)

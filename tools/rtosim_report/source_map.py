@@ -1,8 +1,11 @@
 """The lines of C of an application's ops, as the map has them that rtosim-from-c writes."""
+from __future__ import annotations
+
 import json
 from dataclasses import dataclass
 from typing import Dict, List, NamedTuple, Optional, Tuple
 
+from .application import Application
 from .escaping import plain
 from .faults import Fault
 
@@ -21,11 +24,11 @@ class SourceLine(NamedTuple):
     calls: Tuple[int, ...] = ()
 
     @property
-    def place(self):
+    def place(self) -> str:
         return f"{self.file}:{self.line}"
 
     @property
-    def shown(self):
+    def shown(self) -> str:
         """The place and the text."""
         called = f" (called at {', '.join(map(str, self.calls))})" if self.calls else ""
         return f"{self.place}{called}: {self.text}"
@@ -66,7 +69,7 @@ class SourceMap:
         at = str(found.line) if found.file == self.main else found.place
         return f"{at}: {found.text}"
 
-    def check(self, application, file: str) -> None:
+    def check(self, application: Application, file: str) -> None:
         """That the application in this file is the one that the map was written with: it may have tasks and handlers besides."""
         for kind, scripts, owners in (("task", application.tasks, self.tasks), ("handler", application.handlers, self.handlers)):
             for name, lines in owners.items():

@@ -1,8 +1,13 @@
 """Who is suspended when by another task. A report has the call, but not whom it is about; the application's scripts say it."""
-from typing import List, NamedTuple, Optional
+from __future__ import annotations
+
+from typing import Any, Iterator, List, NamedTuple, Optional, Sequence, TYPE_CHECKING, Tuple
 
 from .lanes import Doing
 from .report import Kind
+
+if TYPE_CHECKING:
+    from .timeline import Builder
 
 
 class Change(NamedTuple):
@@ -13,11 +18,11 @@ class Change(NamedTuple):
     is_suspend: bool
     by: str
 
-    def may_be_of(self, name):
+    def may_be_of(self, name: str) -> bool:
         return self.task == name or self.task is None and self.by != name
 
 
-def changes_of(builder) -> List[Change]:
+def changes_of(builder: Builder) -> List[Change]:
     """Those of a run, in order. A task that leaves the processor in the step of its `suspend` has suspended itself."""
     left_at = {(it.lane.name, it.end) for it in builder.turns}
     found = []
@@ -33,7 +38,8 @@ def changes_of(builder) -> List[Change]:
     return found
 
 
-def known_stretches(name, changes, bar_start, bar_end, doing, comes_back):
+def known_stretches(name: str, changes: List[Change], bar_start: int, bar_end: int, doing: Optional[Doing],
+                    comes_back: bool) -> Iterator[Tuple[int, int, Optional[Doing]]]:
     """The stretch in which a task does this, cut where it is suspended: from there on it is suspended, and Ready when it is resumed.
     Where it may be suspended, and it isn't known, the rest is left out. Yields starts, ends and what is done."""
     at = bar_start
@@ -49,7 +55,7 @@ def known_stretches(name, changes, bar_start, bar_end, doing, comes_back):
     yield at, bar_end, doing
 
 
-def may_come_back(name, changes, since, until, comes_back):
+def may_come_back(name: str, changes: Sequence[Any], since: int, until: int, comes_back: bool) -> bool:
     """Whether a task that is suspended then does what this one does: a `resume` alone lets it come back."""
     resumes = (it for it in changes if not it.is_suspend and since < it.boundary <= until)
     return not comes_back or any(it.may_be_of(name) for it in resumes)

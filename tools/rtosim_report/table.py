@@ -1,8 +1,15 @@
 """The table of classes, for people."""
-from typing import NamedTuple, Optional
+from __future__ import annotations
 
+from typing import AbstractSet, Iterator, List, NamedTuple, Optional, Sequence
+
+from .base_run import BaseRun
+from .classes import OutcomeClass
 from .escaping import shell_word
 from .faults import counted
+from .output import Text as Output
+from .reading import Tally
+from .report import Head
 from .words import words_of_point
 
 AS_BASE = "as the base run, but for the handler's own lines"
@@ -19,7 +26,7 @@ class Given(NamedTuple):
     takes_points: bool = False
 
 
-def command_of(head, given):
+def command_of(head: Head, given: Given) -> str:
     """The command that shows what happens at a row's point, or the words of it that are known; of several injections, if the program
     has no words for them, the entry that makes a campaign of them."""
     found = words_of_point(head.point, given.takes_points)
@@ -28,13 +35,13 @@ def command_of(head, given):
     words = " ".join(map(shell_word, found))
     if given.application is not None:
         return f"rtosim run {shell_word(given.application)} {words}"
-    if given.report in (None, "-"):
+    if given.report is None or given.report == "-":
         return words
     base = f" --base {shell_word(given.base)}" if given.base else ""
     return f"rtosim-report show {head.row} {shell_word(given.report)}{base}"
 
 
-def what_differs(it):
+def what_differs(it: OutcomeClass) -> str:
     """What the rows of a class have that the base run has not."""
     if it.is_base and it.not_reached == it.rows:
         return NOT_REACHED
@@ -43,7 +50,7 @@ def what_differs(it):
     return it.what_differs + it.failed
 
 
-def words_of(it):
+def words_of(it: OutcomeClass) -> List[str]:
     """The cause, where it says more than the verdict, what differs in the first row, and what that says at its end."""
     lines = [it.name] if it.is_by_cause and it.name != it.verdict.text else []
     if it.is_by_head:
@@ -51,11 +58,11 @@ def words_of(it):
     return [*lines, what_differs(it) if not lines else (it.what_differs or AS_BASE), *it.ending]
 
 
-def span(fewest, most):
+def span(fewest: int, most: int) -> str:
     return f"{fewest:,}" if fewest == most else f"{fewest:,} to {most:,}"
 
 
-def cells(it, rows):
+def cells(it: OutcomeClass, rows: int) -> List[str]:
     return [
         str(it.number),
         f"{it.rows:,}",
@@ -68,7 +75,7 @@ def cells(it, rows):
     ]
 
 
-def share_of(part, whole):
+def share_of(part: int, whole: int) -> str:
     """In percent; the smallest that is shown is not zero."""
     share = 100 * part / whole
     return f"{share:.1f}%" if share >= 0.05 else "<0.1%"
@@ -78,7 +85,7 @@ HEADINGS = ["class", "rows", "share", "verdict", "first point", "steps", "ticks"
 RIGHT = {0, 1, 2, 5, 6}
 
 
-def aligned(table, right=frozenset(RIGHT)):
+def aligned(table: List[List[str]], right: AbstractSet[int] = frozenset(RIGHT)) -> Iterator[str]:
     """The lines of a table, of which the columns of these indices end at one place."""
     widths = [max(map(len, column)) for column in zip(*table)]
     for row in table:
@@ -86,7 +93,7 @@ def aligned(table, right=frozenset(RIGHT)):
         yield "  ".join(parts).rstrip()
 
 
-def base_words(base, rows=0):
+def base_words(base: BaseRun, rows: int = 0) -> str:
     if base is None:
         return "the base run is not known" if rows else "no row, and no base run"
     if base.head is None:
@@ -95,14 +102,15 @@ def base_words(base, rows=0):
     return f"the base run: {base.head.end_text()}{origin}"
 
 
-def of_base(it, base):
+def of_base(it: OutcomeClass, base: BaseRun) -> List[str]:
     """That the base run fails in the same check, or by the same misuse, as the rows of a class. Stuck runs may wait for different things."""
     if base is None or base.head is None or it.verdict.kind not in ("check", "misuse"):
         return []
     return [BASE_FAILS] if it.verdict.text == base.head.verdict.text else []
 
 
-def write_classes(output, classes, base, total, given, failing=False, notes=()):
+def write_classes(output: Output, classes: List[OutcomeClass], base: BaseRun, total: Tally, given: Given, failing: bool = False,
+                  notes: Sequence[str] = ()) -> None:
     """The table, with the lines of each class below its own; of those that fail alone, where that is asked for; and notes on the whole, as
     what a lone run says at its end."""
     shown = [it for it in classes if not (failing and it.verdict.passes)]
@@ -111,8 +119,8 @@ def write_classes(output, classes, base, total, given, failing=False, notes=()):
         output.line(f"{counted(total.rows, 'row')}: {passing:,} pass, {total.rows - passing:,} fail in {counted(len(shown), 'class')}; {base_words(base, total.rows)}")
     else:
         output.line(f"{counted(total.rows, 'row')} in {counted(len(classes), 'class')}; {base_words(base, total.rows)}")
-    for it in notes:
-        output.line(f"  {it}")
+    for note in notes:
+        output.line(f"  {note}")
     if not shown:
         return
     heading, *lines = aligned([HEADINGS, *(cells(it, total.rows) for it in shown)])

@@ -2,33 +2,40 @@
 
 A report has changes of the processor and the ends of calls. What isn't shown by them, nor by the scripts where the application is
 known, isn't drawn."""
-from itertools import combinations
-from typing import Dict, List
+from __future__ import annotations
 
+from itertools import combinations
+from typing import AbstractSet, Any, Dict, Iterator, List, Optional, Set, Tuple
+
+from .application import Application
 from .away import UNNAMED, AwayTimes
+from .base_run import BaseRun
 from .clock_of_lines import TickReader
-from .daemon import commands_of, find_daemon
+from .daemon import commands_of, find_daemon, Command
 from .injections import arrivals_of, arrived, groups_of, position_of, stretches_of_step
-from .lanes import Bar, Doing, Lane, LaneKind, Note, Timeline, WindowKind
-from .report import IDLE, Kind, event_of
+from .lanes import Bar, Doing, Lane, LaneKind, Note, Timeline, Window, WindowKind
+from .op_times import Stretch
+from .reading import Run
+from .report import Event, Head, IDLE, Injection, Kind, Line, Point, event_of
 from .suspensions import changes_of
 from .variables import History
 from .windows import windows_of_calls, windows_of_sections, windows_of_waits
 
 
-def of_base(base, application=None):
+def of_base(base: BaseRun, application: Optional[Application] = None) -> Timeline:
     built = Builder(base.head, [event_of(it) for it in base.lines], application=application).build()
     built.is_presumed = base.origin.name == "PRESUMED"
     return built
 
 
-def of_row(run, base, application=None):
+def of_row(run: Run, base: BaseRun, application: Optional[Application] = None) -> Timeline:
     """The timeline of a row. The base run shows whether a change of the processor at the injection is the step's own; and so do
     the daemon, which can't do in fewer steps what it does, and the scripts."""
     lines = run.checked_lines()
     own, switches = injected_lines(lines, run.head.point, base) if run.head.is_reached else (set(), set())
     arrivals = arrivals_of(lines, run.head.point)
-    events, first = [event_of(it) for it in lines], None
+    events = [event_of(it) for it in lines]
+    first: Any = None
     for count in range(len(switches) + 1):
         for left_out in combinations(sorted(switches), count):
             builder = Builder(run.head, events, own | switches.difference(left_out), application, arrivals)
@@ -39,9 +46,10 @@ def of_row(run, base, application=None):
     return first
 
 
-def injected_lines(lines, point, base):
+def injected_lines(lines: List[Line], point: Point, base: BaseRun) -> Tuple[Set[int], Set[int]]:
     """Which lines come before their step: the handlers' own, and the changes of the processor that they bring about."""
-    found, switches = set(), set()
+    found: Set[int] = set()
+    switches: Set[int] = set()
     for step, injections in groups_of(arrived(lines, point)):
         first = position_of(lines, step)
         at, count = stretches_of_step(lines, first, injections)[-1]
@@ -53,7 +61,7 @@ def injected_lines(lines, point, base):
     return found, switches
 
 
-def is_switch_of_injection(own, following, injected_at, base):
+def is_switch_of_injection(own: List[Line], following: List[Line], injected_at: int, base: BaseRun) -> bool:
     """Whether the line after the handlers' own shows that the processor changes at once, and not after the step."""
     step, tick, what = following[0]
     if not what.startswith(b"run ") or int(step) != injected_at or own and own[-1][1] != tick:
@@ -66,7 +74,8 @@ def is_switch_of_injection(own, following, injected_at, base):
 class Builder:
     """Puts a timeline together from the events of a run."""
 
-    def __init__(self, head, events, injected=frozenset(), application=None, arrivals=None):
+    def __init__(self, head: Head, events: List[Event], injected: AbstractSet[int] = frozenset(), application: Any = None,
+                 arrivals: Optional[Dict[Injection, int]] = None) -> None:
         self.head, self.events, self.injected, self.application = head, events, injected, application
         # Of each injection the step before which its lines come.
         self.arrivals = arrivals or {}
@@ -79,7 +88,7 @@ class Builder:
         self.notes: List[Note] = []
         self.is_contradicted = False
 
-    def name_lanes(self):
+    def name_lanes(self) -> None:
         """Tasks as they are named, idle, handlers. A mark's name alone doesn't show which it is."""
         tasks = [it.name for it in self.events if it.kind in (Kind.CALL, Kind.RUN) and it.name != IDLE]
         handlers = [it.name for it in self.events if it.kind is Kind.ISR]
@@ -88,7 +97,7 @@ class Builder:
         if self.head.verdict.task is not None:
             (handlers if self.is_handler(self.head.verdict.task, handlers) else tasks).append(self.head.verdict.task)
         tasks += [it.name for it in self.events if it.kind is Kind.MARK and it.name not in handlers]
-        tasks += [self.daemon_name] * bool(self.daemon_name and self.commands)
+        tasks += [self.daemon_name] if self.daemon_name and self.commands else []
         first = self.first_runner(set(handlers))
         for name in dict.fromkeys([first, *tasks]):
             self.lanes[name] = Lane(name, LaneKind.TASK)
@@ -98,12 +107,12 @@ class Builder:
             self.lanes.setdefault(name, Lane(name, LaneKind.HANDLER))
 
     @property
-    def daemon_name(self):
+    def daemon_name(self) -> Optional[str]:
         """The daemon's name, or None where it isn't known by the application."""
         daemon = self.application.daemon if self.application else None
         return None if daemon is None else daemon.name
 
-    def is_handler(self, name, handlers):
+    def is_handler(self, name: str, handlers: List[str]) -> bool:
         """Whether it is a handler that ends the run by a check. Without the application it is one that has a line, or whose check fails
         while another one runs: a task that checks runs, and doesn't leave the processor by that."""
         if name in handlers or self.application is not None:
@@ -111,7 +120,7 @@ class Builder:
         changes = [it.name for it in self.events if it.kind is Kind.RUN]
         return self.head.verdict.kind == "check" and changes != [] and changes[-1] != name
 
-    def first_runner(self, handlers):
+    def first_runner(self, handlers: Set[str]) -> str:
         """Who runs at reset: whom a line names before the first change, or where that is to idle the one task that is named, since
         all tasks have run before idle does."""
         if self.application is not None and self.application.first_runner() is not None:
@@ -130,12 +139,13 @@ class Builder:
         left = named - {changed_to, IDLE}
         return left.pop() if len(left) == 1 and changed_to == IDLE else self.who_ran_before(left) or UNNAMED
 
-    def who_ran_before(self, tasks):
+    def who_ran_before(self, tasks: Set[str]) -> Optional[str]:
         """The task whose first call has too high an index for the steps that it is reported to have run before it."""
-        runner, since, steps = None, 0, dict.fromkeys(tasks, 0)
+        runner: Any = None
+        since, steps = 0, dict.fromkeys(tasks, 0)
         for it in self.events:
             if it.kind is Kind.CALL and it.name in steps:
-                if steps.pop(it.name) + it.step - since < it.op:
+                if it.op is not None and steps.pop(it.name) + it.step - since < it.op:
                     return it.name
             elif it.kind is Kind.RUN:
                 if runner in steps:
@@ -143,12 +153,12 @@ class Builder:
                 runner, since = it.name, it.step + 1
         return None
 
-    def boundary(self, index):
+    def boundary(self, index: int) -> int:
         """When an event is seen: after its step, or before it if it is injected."""
         step = self.events[index].step
         return step if index in self.injected else step + 1
 
-    def build(self):
+    def build(self) -> Timeline:
         self.walk()
         daemon, self.is_contradicted = find_daemon(self)
         waits, endings, ops = self.away(None if daemon is None else daemon.lane)
@@ -165,17 +175,17 @@ class Builder:
                         endings, ops, variables)
 
     @property
-    def passes_with_idle(self):
+    def passes_with_idle(self) -> bool:
         """Whether the run passes and idle runs at its end, so that nobody is Ready."""
         return self.head.verdict.passes and self.turns[-1].lane.kind is LaneKind.IDLE
 
-    def injections(self):
+    def injections(self) -> Tuple[Injection, ...]:
         """Those that come: the first one where the point is reached, a later one where the run isn't over before its step."""
         if self.head.point is None or not self.head.is_reached:
             return ()
         return tuple(it for it in self.head.point if it.step < self.head.steps)
 
-    def walk(self):
+    def walk(self) -> None:
         """Turns on the processor, and notes."""
         runner, since, commands = next(iter(self.lanes)), 0, iter(self.commands)
         for index, event in enumerate(self.events):
@@ -188,7 +198,7 @@ class Builder:
                 self.notes.append(Note(self.lanes[event.name], event.step, event, index in self.injected, about))
         self.turns.append(Bar(self.lanes[runner], since, self.head.steps, Doing.RUNS))
 
-    def about(self, event, commands):
+    def about(self, event: Event, commands: Iterator[Command]) -> str:
         """What a call is about, as far as it is known. The daemon does the commands that found room in their order."""
         if event.kind is Kind.CALL and event.name == self.daemon_name:
             command = next(commands, None)
@@ -196,7 +206,7 @@ class Builder:
         op = self.application.op(event.name, event.op) if self.application and event.op is not None else None
         return op.object or "" if op is not None else ""
 
-    def away(self, daemon):
+    def away(self, daemon: Optional[Lane]) -> Tuple[List[Bar], List[Tuple[Lane, int]], Dict[Lane, List[Stretch]]]:
         """What the tasks but the daemon do between their turns, as far as it is known, where they end, and which ops they are in."""
         found, endings, ops = [], [], {}
         changes = changes_of(self)
@@ -212,16 +222,16 @@ class Builder:
                     ops[lane] = times.ops.stretches
         return found, endings, ops
 
-    def leaves_a_script(self, ops):
+    def leaves_a_script(self, ops: Dict[Lane, List[Stretch]]) -> bool:
         """Whether the turns and the calls of a task aren't those of its script."""
         scripts = self.application.tasks if self.application else {}
         return any(it.lane.name in scripts and it.lane not in ops for it in self.turns if it.end > it.start)
 
-    def windows(self, waits, ops):
+    def windows(self, waits: List[Bar], ops: Dict[Lane, List[Stretch]]) -> List[Window]:
         sections = windows_of_sections(ops, self.application, self.head.steps)
         return windows_of_waits(waits, self.head.steps) + windows_of_calls(self.notes, self.head.steps) + sections
 
-    def pending(self, windows):
+    def pending(self, windows: List[Window]) -> Iterator[Bar]:
         """From where handlers were injected in a critical section to where they came, or to the run's end: by the sections where they are
         known, otherwise by the handlers' lines."""
         masked = [it for it in windows if it.kind is WindowKind.MASKED]

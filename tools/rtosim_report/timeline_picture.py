@@ -1,14 +1,18 @@
 """A run as a picture: a lane for each task, for idle and for each handler, in bands that are below each other. Of a run that is too long for
 that one band has all of it, and others the steps around the injections and those at the end."""
+from __future__ import annotations
+
 import math
 import textwrap
 from dataclasses import dataclass
 from itertools import groupby
-from typing import List, Tuple
+from typing import Any, Iterator, List, Sequence, Tuple
 
 from . import drawing, variables_picture
+from .drawing import Labels
 from .injections import groups_of
-from .lanes import Doing, LaneKind, WindowKind
+from .lanes import Bar, Doing, Lane, LaneKind, Note, Timeline, Window, WindowKind
+from .output import Text as Output
 
 PLOT, RIGHT, TOP = 1080, 24, 58
 WIDEST_STEP, NARROWEST_STEP, MOST_BANDS, MOST_DETAILS = 54, 6, 16, 3
@@ -55,7 +59,7 @@ SECTION_LEGEND = [("masked", "masked"), ("pending", "pending")]
 class Layout:
     """Where steps and lanes are."""
 
-    timeline: object
+    timeline: Timeline
     left: float
     # The first step of each band, and the one behind its last. They may have steps in common.
     spans: List[Tuple[int, int]]
@@ -69,56 +73,56 @@ class Layout:
     source: List[str]
 
     @property
-    def bands(self):
+    def bands(self) -> int:
         return len(self.spans)
 
-    def bands_of(self, boundary):
+    def bands_of(self, boundary: int) -> List[int]:
         """The bands in which a boundary is: not at the end of one that another one follows on."""
         return [band for band in range(self.bands) if self.overlaps(band, boundary, boundary)]
 
-    def overlaps(self, band, start, end):
+    def overlaps(self, band: int, start: int, end: int) -> bool:
         """Whether a stretch has a part in a band."""
         first, last = self.spans[band]
         return first < max(end, start + 1) and (start < last or start == last == self.timeline.steps)
 
-    def first_step(self, band):
+    def first_step(self, band: int) -> int:
         return self.spans[band][0]
 
-    def last_step(self, band):
+    def last_step(self, band: int) -> int:
         return min(self.timeline.steps, self.spans[band][1])
 
-    def step_width(self, band):
+    def step_width(self, band: int) -> float:
         first, last = self.spans[band]
         return min(WIDEST_STEP, PLOT / max(1, last - first))
 
-    def across(self, band, boundary):
+    def across(self, band: int, boundary: float) -> float:
         return self.left + (boundary - self.first_step(band)) * self.step_width(band)
 
-    def band_top(self, band):
+    def band_top(self, band: int) -> float:
         return TOP + band * (self.band_height + BAND_GAP)
 
-    def bar_top(self, band, lane):
+    def bar_top(self, band: int, lane: int) -> float:
         return self.band_top(band) + self.lane_tops[lane] + rows_of(self.timeline.lanes[lane]) * LABEL_ROW
 
     @property
-    def width(self):
+    def width(self) -> float:
         return self.left + PLOT + RIGHT
 
     @property
-    def height(self):
+    def height(self) -> float:
         return self.source_top + ENDING_ROW * len(self.source)
 
     @property
-    def source_top(self):
+    def source_top(self) -> float:
         return self.band_top(self.bands) + 22 + ENDING_ROW * len(self.ending)
 
 
-def rows_of(lane):
+def rows_of(lane: Lane) -> int:
     """How many rows of labels a lane has."""
     return 0 if lane.kind is LaneKind.IDLE else 2
 
 
-def layout_of(timeline):
+def layout_of(timeline: Timeline) -> Layout:
     tops, at = [], 24.0
     for lane in timeline.lanes:
         tops.append(at)
@@ -134,7 +138,7 @@ def layout_of(timeline):
     return Layout(timeline, left, spans_of(timeline), tops, variables_top, at + axis, axis, ending, source_of(timeline, room))
 
 
-def source_of(timeline, room):
+def source_of(timeline: Timeline, room: int) -> List[str]:
     """The lines of C of the calls, below the name of the file; nothing if no map has them."""
     found = timeline.source_lines()
     if not found:
@@ -144,7 +148,7 @@ def source_of(timeline, room):
     return [it if len(it) <= room else f"{it[:room - 3]} .." for it in (timeline.source_map.main, *texts, *more)]
 
 
-def spans_of(timeline):
+def spans_of(timeline: Timeline) -> List[Tuple[int, int]]:
     """The steps of each band: all in few bands, or those of a long run in one, and below it those around what matters."""
     steps = max(1, timeline.steps)
     bands = max(1, math.ceil(steps * NARROWEST_STEP / PLOT))
@@ -153,14 +157,14 @@ def spans_of(timeline):
         return [(first, first + size) for first in range(0, steps, size)]
     size = int(PLOT / NARROWEST_STEP)
     starts = [max(0, it.step - size // 3) for it in timeline.injections[:MOST_DETAILS]] + [steps - size]
-    details = []
+    details: List[Tuple[int, int]] = []
     for start in sorted(min(it, steps - size) for it in starts):
         if not details or start > details[-1][0] + size // 2:
             details.append((start, start + size))
     return [(0, steps), *details]
 
 
-def axis_numbers(timeline, last):
+def axis_numbers(timeline: Timeline, last: int) -> Iterator[str]:
     """The widest numbers of the axis up to a boundary, except for steps."""
     elapsed = timeline.clock.at(last)
     yield f"{min(timeline.clock.start + elapsed, (1 << 32) - 1):,}"
@@ -168,7 +172,7 @@ def axis_numbers(timeline, last):
         yield f"{elapsed:,}"
 
 
-def write(output, timeline):
+def write(output: Output, timeline: Timeline) -> None:
     layout = layout_of(timeline)
     styles = STYLES + SECTION_STYLES * has_sections(timeline) + variables_picture.STYLES * bool(timeline.variables)
     drawing.start(output, layout.width, layout.height, styles, timeline.title())
@@ -187,12 +191,12 @@ def write(output, timeline):
     drawing.end(output)
 
 
-def has_sections(timeline):
+def has_sections(timeline: Timeline) -> bool:
     """Whether a critical section, or a handler that is pending, is drawn."""
     return any(it.kind is WindowKind.MASKED for it in timeline.windows) or any(it.doing is Doing.PENDING for it in timeline.bars)
 
 
-def write_legend(output, layout):
+def write_legend(output: Output, layout: Layout) -> None:
     at = 12.0
     for name, text in LEGEND + SECTION_LEGEND * has_sections(layout.timeline):
         top, height = (40, 4) if name == "ready" else (36, 11)
@@ -201,7 +205,7 @@ def write_legend(output, layout):
         at += 16 + drawing.width_of(text) + 18
 
 
-def write_band(output, layout, band):
+def write_band(output: Output, layout: Layout, band: int) -> None:
     """The ground of a band: the lanes with their names, and the axis."""
     top = layout.band_top(band)
     right = layout.across(band, layout.last_step(band))
@@ -214,7 +218,7 @@ def write_band(output, layout, band):
     write_axis(output, layout, band, top + layout.band_height - layout.axis)
 
 
-def write_axis(output, layout, band, top):
+def write_axis(output: Output, layout: Layout, band: int, top: float) -> None:
     first, last = layout.first_step(band), layout.last_step(band)
     clock = layout.timeline.clock
     widest = max(len(f"{last:,}"), *map(len, axis_numbers(layout.timeline, last)))
@@ -233,7 +237,7 @@ def write_axis(output, layout, band, top):
             output.line(drawing.label(at, top + 32 + AXIS_ROW, f"{clock.at(step):,}", "quiet", "middle"))
 
 
-def write_lane_contents(output, layout):
+def write_lane_contents(output: Output, layout: Layout) -> None:
     timeline = layout.timeline
     for index, lane in enumerate(timeline.lanes):
         bars = sorted((it for it in timeline.bars if it.lane == lane), key=lambda it: it.start)
@@ -244,7 +248,7 @@ def write_lane_contents(output, layout):
     write_failure(output, layout)
 
 
-def pieces(layout, band, stretches):
+def pieces(layout: Layout, band: int, stretches: Sequence[Any]) -> Iterator[Tuple[int, int, Any]]:
     """The parts of stretches that lie in a band, each with its start and its end there."""
     first, last = layout.first_step(band), layout.last_step(band)
     for it in stretches:
@@ -252,10 +256,11 @@ def pieces(layout, band, stretches):
             yield max(it.start, first), min(it.end, last), it
 
 
-def write_bars(output, layout, index, bars):
+def write_bars(output: Output, layout: Layout, index: int, bars: List[Bar]) -> None:
     """Bars too narrow to be seen apart are drawn as one."""
     for band in range(layout.bands):
-        drawn, width = [], layout.step_width(band)
+        drawn: List[List[Any]] = []
+        width = layout.step_width(band)
         for start, end, it in pieces(layout, band, bars):
             last = drawn[-1] if drawn else None
             if last and (end - start) * width < LEAST_VISIBLE and (start - last[1]) * width < LEAST_VISIBLE:
@@ -266,7 +271,7 @@ def write_bars(output, layout, index, bars):
             output.line(bar_shape(layout, index, band, start, end, it, count))
 
 
-def bar_shape(layout, index, band, start, end, it, count):
+def bar_shape(layout: Layout, index: int, band: int, start: int, end: int, it: Bar, count: int) -> str:
     left, right = layout.across(band, start), layout.across(band, end)
     top = layout.bar_top(band, index)
     name = "idle" if it.lane.kind is LaneKind.IDLE else CLASSES[it.doing]
@@ -283,7 +288,7 @@ def bar_shape(layout, index, band, start, end, it, count):
     return shape
 
 
-def write_windows(output, layout, index, windows):
+def write_windows(output: Output, layout: Layout, index: int, windows: List[Window]) -> None:
     for band in range(layout.bands):
         for start, end, it in pieces(layout, band, windows):
             name, below = WINDOWS[it.kind]
@@ -293,7 +298,7 @@ def write_windows(output, layout, index, windows):
             output.line(drawing.box(left, top, max(right - left, LEAST_VISIBLE), 3, name, title))
 
 
-def write_endings(output, layout, index, boundaries):
+def write_endings(output: Output, layout: Layout, index: int, boundaries: List[int]) -> None:
     """Where a task has ended."""
     for boundary in boundaries:
         for band in layout.bands_of(max(0, boundary - 1)):
@@ -302,7 +307,7 @@ def write_endings(output, layout, index, boundaries):
             output.line(drawing.box(at, top, 4, BAR, "ended", title))
 
 
-def write_notes(output, layout, index, notes):
+def write_notes(output: Output, layout: Layout, index: int, notes: List[Note]) -> None:
     """A mark at each step with something reported, and what is reported above it."""
     for band in range(layout.bands):
         there = [it for it in notes if layout.overlaps(band, it.step, it.step)]
@@ -314,7 +319,7 @@ def write_notes(output, layout, index, notes):
                 output.line(it.shape(top - 5 - row * LABEL_ROW))
 
 
-def write_marks(output, layout, index, band, notes, labels):
+def write_marks(output: Output, layout: Layout, index: int, band: int, notes: List[Note], labels: Labels) -> None:
     """The marks of one band. Those that can't be seen apart are one."""
     marked, top = float("-inf"), layout.bar_top(band, index)
     for (step, is_injected), group in groupby(notes, key=lambda it: (it.step, it.is_injected)):
@@ -329,7 +334,7 @@ def write_marks(output, layout, index, band, notes, labels):
         labels.add(at + (5 if is_injected else -2), told, "injected" if is_injected else "")
 
 
-def write_failure(output, layout):
+def write_failure(output: Output, layout: Layout) -> None:
     """Where a run ends by a check or a misuse: in the lane of the task."""
     head = layout.timeline.head
     names = [it.name for it in layout.timeline.lanes]
@@ -341,9 +346,9 @@ def write_failure(output, layout):
         output.line(drawing.box(at - 3, top - 4, 5, BAR + 8, "injected", head.end_text()))
 
 
-def write_injections(output, layout):
+def write_injections(output: Output, layout: Layout) -> None:
     """A line at each injection. Texts that would lie over each other are one."""
-    labels = []
+    labels: List[Tuple[float, float, str]] = []
     for step, injections in groups_of(layout.timeline.injections):
         text = f"{', '.join(it.handler for it in injections)} before step {step}"
         for band in layout.bands_of(step):
@@ -352,7 +357,7 @@ def write_injections(output, layout):
         output.line(drawing.label(left, top + 11, text, "injected"))
 
 
-def write_injection(output, layout, band, step, text, labels):
+def write_injection(output: Output, layout: Layout, band: int, step: int, text: str, labels: List[Tuple[float, float, str]]) -> None:
     """The line of an injection in a band, and its text among those of the others."""
     at, top = layout.across(band, step), layout.band_top(band)
     output.line(drawing.line(at, top, at, top + layout.band_height - layout.axis + 4, "injection", text))
@@ -364,6 +369,6 @@ def write_injection(output, layout, band, step, text, labels):
         labels.append((top, left_of(layout, at, text), text))
 
 
-def left_of(layout, at, text):
+def left_of(layout: Layout, at: float, text: str) -> float:
     """Where a text at an injection begins: so far to the left that it ends within the picture."""
     return min(at + 5, layout.left + PLOT + RIGHT - 4 - drawing.width_of(text))

@@ -2,11 +2,16 @@
 
 Of each task: whether it runs, whether it waits, its last answer and its last mark; of each handler: when it comes, its last
 answer and mark; of each variable its value; and idle, the step, the printed tick, the windows and the injection."""
-from collections import defaultdict
+from __future__ import annotations
 
+from collections import defaultdict
+from typing import Any, Dict, List, Optional
+
+from .lanes import Bar, Doing, Lane, LaneKind, Note, Timeline, WindowKind
+from .output import Text as Output
 from .report import Kind
 from .subticks import SubTicks
-from .lanes import Doing, LaneKind, WindowKind
+from .variables import ValueStretch
 
 WORD = 32
 # The scope of variables: it is longer than the name of a task or a handler may be.
@@ -14,7 +19,7 @@ VARIABLES = "values_of_variables"
 FIRST, CODES = 33, 94
 
 
-def code_of(index):
+def code_of(index: int) -> str:
     """A short name of printable characters."""
     text = ""
     while True:
@@ -27,15 +32,15 @@ def code_of(index):
 class Signal:
     """A wire or a register, with its changes."""
 
-    def __init__(self, name, size, code):
+    def __init__(self, name: str, size: int, code: str) -> None:
         self.name, self.size, self.code = name, size, code
 
-    def change(self, value):
+    def change(self, value: Optional[int]) -> str:
         if self.size == 1:
             return f"{'x' if value is None else int(value)}{self.code}"
         return f"b{'x' if value is None else format(value, 'b')} {self.code}"
 
-    def declaration(self):
+    def declaration(self) -> str:
         kind = "wire" if self.size == 1 else "reg"
         return f"$var {kind} {self.size} {self.code} {self.name} $end"
 
@@ -43,28 +48,28 @@ class Signal:
 class Dump:
     """Signals in scopes, and what changes when."""
 
-    def __init__(self):
-        self.scopes = defaultdict(list)
-        self.changes = defaultdict(dict)
+    def __init__(self) -> None:
+        self.scopes: Dict[str, List[Signal]] = defaultdict(list)
+        self.changes: Dict[int, Dict[Signal, Any]] = defaultdict(dict)
         self.count = 0
 
-    def signal(self, scope, name, size=1, value=0):
+    def signal(self, scope: str, name: str, size: int = 1, value: Optional[int] = 0) -> Signal:
         found = Signal(name, size, code_of(self.count))
         self.count += 1
         self.scopes[scope].append(found)
         self.set(0, found, value)
         return found
 
-    def set(self, time, signal, value):
+    def set(self, time: int, signal: Any, value: Optional[int]) -> None:
         self.changes[time][signal] = value
 
-    def while_on(self, signal, start, end):
+    def while_on(self, signal: Any, start: int, end: int) -> None:
         """On from one time to another; what ends when the next begins stays on."""
         if end > start:
             self.set(start, signal, 1)
             self.changes[end].setdefault(signal, 0)
 
-    def write(self, output, comment, scale, end):
+    def write(self, output: Output, comment: str, scale: str, end: int) -> None:
         output.line(f"$comment {comment} $end")
         output.line(f"$timescale {scale} $end")
         output.line("$scope module rtosim $end")
@@ -81,14 +86,14 @@ class Dump:
                 output.line(signal.change(value))
 
 
-def scale_of(in_a_tick):
+def scale_of(in_a_tick: int) -> str:
     """A tick is a millisecond, or as much more as its parts need to be nanoseconds at least."""
     if in_a_tick <= 1_000_000:
         return {10: "100 us", 100: "10 us", 1000: "1 us", 10_000: "100 ns", 100_000: "10 ns"}.get(in_a_tick, "1 ns")
     return "1 ns"
 
 
-def write(output, timeline):
+def write(output: Output, timeline: Timeline) -> None:
     times, dump = SubTicks(timeline), Dump()
     add_counters(dump, timeline, times)
     add_windows(dump, timeline, times)
@@ -100,7 +105,7 @@ def write(output, timeline):
     dump.write(output, comment, scale_of(times.in_a_tick), times.at(timeline.steps) + 1)
 
 
-def add_counters(dump, timeline, times):
+def add_counters(dump: Dump, timeline: Timeline, times: SubTicks) -> None:
     step, tick = dump.signal("", "step", WORD), dump.signal("", "tick", WORD)
     last = None
     for boundary in range(timeline.steps + 1):
@@ -116,7 +121,7 @@ def add_counters(dump, timeline, times):
             dump.while_on(injected, times.at(it.step), times.at(it.step) + 1)
 
 
-def add_windows(dump, timeline, times):
+def add_windows(dump: Dump, timeline: Timeline, times: SubTicks) -> None:
     kinds = [(WindowKind.LOCKED, "queue_locked"), (WindowKind.HELD, "scheduler_held")]
     if any(it.kind is WindowKind.MASKED for it in timeline.windows):
         kinds.append((WindowKind.MASKED, "interrupts_masked"))
@@ -127,7 +132,7 @@ def add_windows(dump, timeline, times):
                 dump.while_on(signal, times.at(it.start), times.at(it.end))
 
 
-def add_lane(dump, timeline, times, lane):
+def add_lane(dump: Dump, timeline: Timeline, times: SubTicks, lane: Lane) -> None:
     bars = sorted((it for it in timeline.bars if it.lane == lane), key=lambda it: it.start)
     notes = [it for it in timeline.notes if it.lane == lane]
     if lane.kind is LaneKind.HANDLER:
@@ -136,8 +141,8 @@ def add_lane(dump, timeline, times, lane):
             dump.while_on(comes, times.at(it.boundary), times.at(it.boundary) + 1)
         if bars:
             pending = dump.signal(lane.name, "pending")
-            for it in bars:
-                dump.while_on(pending, times.at(it.start), times.at(it.end))
+            for bar in bars:
+                dump.while_on(pending, times.at(bar.start), times.at(bar.end))
     else:
         scope = lane.name if lane.kind is LaneKind.TASK else "idle"
         add_doing(dump, times, scope if scope != "(not named)" else "not_named", bars)
@@ -145,13 +150,13 @@ def add_lane(dump, timeline, times, lane):
         add_answers(dump, times, lane, notes)
 
 
-def add_variable(dump, times, name, stretches):
+def add_variable(dump: Dump, times: SubTicks, name: str, stretches: List[ValueStretch]) -> None:
     signal = dump.signal(VARIABLES, name, WORD, stretches[0].value)
     for it in stretches[1:]:
         dump.set(times.at(it.start), signal, it.value)
 
 
-def add_doing(dump, times, scope, bars):
+def add_doing(dump: Dump, times: SubTicks, scope: str, bars: List[Bar]) -> None:
     runs = dump.signal(scope, "runs")
     away = dump.signal(scope, "waits") if scope != "idle" else None
     for it in bars:
@@ -160,7 +165,7 @@ def add_doing(dump, times, scope, bars):
             dump.while_on(signal, times.at(it.start), times.at(it.end))
 
 
-def add_answers(dump, times, lane, notes):
+def add_answers(dump: Dump, times: SubTicks, lane: Lane, notes: List[Note]) -> None:
     kinds = {it.event.kind for it in notes}
     answer = dump.signal(lane.name, "answer", WORD, None) if kinds != {Kind.MARK} else None
     mark = dump.signal(lane.name, "mark", WORD, None) if Kind.MARK in kinds else None

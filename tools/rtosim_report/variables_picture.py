@@ -1,5 +1,15 @@
 """Variables in the picture of a run: a row for each below the lanes, with its values as boxes from one `store` to the next."""
+from __future__ import annotations
+
+from typing import Any, List, TYPE_CHECKING
+
 from . import drawing
+from .lanes import Timeline
+from .output import Text as Output
+from .variables import ValueStretch
+
+if TYPE_CHECKING:
+    from .timeline_picture import Layout
 
 ROW, BOX = 22, 14
 STYLES = [
@@ -10,11 +20,11 @@ STYLES = [
 LEAST_WIDTH, LEAST_VISIBLE = 2.0, 0.75
 
 
-def height_of(timeline):
+def height_of(timeline: Timeline) -> int:
     return ROW * len(timeline.variables)
 
 
-def write(output, layout):
+def write(output: Output, layout: Layout) -> None:
     for row, (name, stretches) in enumerate(layout.timeline.variables.items()):
         for band in range(layout.bands):
             top = layout.band_top(band) + layout.variables_top + ROW * row
@@ -23,10 +33,10 @@ def write(output, layout):
                 output.line(shape_of(layout, band, top, name, start, end, there))
 
 
-def grouped(layout, band, stretches):
+def grouped(layout: Layout, band: int, stretches: List[ValueStretch]) -> List[List[Any]]:
     """The parts of the values that lie in a band; those too narrow to be seen apart are together."""
     first, last, width = layout.first_step(band), layout.last_step(band), layout.step_width(band)
-    found = []
+    found: List[List[Any]] = []
     for it in stretches:
         if not layout.overlaps(band, it.start, it.end):
             continue
@@ -40,7 +50,7 @@ def grouped(layout, band, stretches):
     return found
 
 
-def shape_of(layout, band, top, name, start, end, there):
+def shape_of(layout: Layout, band: int, top: float, name: str, start: int, end: int, there: List[ValueStretch]) -> str:
     left, right = layout.across(band, start), layout.across(band, end)
     width = max(right - left, LEAST_VISIBLE)
     if len(there) > 1:
@@ -54,11 +64,11 @@ def shape_of(layout, band, top, name, start, end, there):
     return shape
 
 
-def steps_of(it):
+def steps_of(it: ValueStretch) -> str:
     return f"steps {it.start} to {it.end - 1}" if it.end > it.start else f"from step {it.start} on"
 
 
-def origin_of(it):
+def origin_of(it: ValueStretch) -> str:
     """Who has stored the value."""
     if it.by is None:
         return ", from reset on"

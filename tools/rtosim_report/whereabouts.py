@@ -1,11 +1,18 @@
 """Where each task of a stuck run is, by its lines and the scripts. Up to its injection a row is the base run, so the tasks are followed
 through the base run once, and through each row from its injection on."""
+from __future__ import annotations
+
 import copy
 import re
-from typing import Dict, Optional
+from typing import Any, Dict, Optional, Sequence, TYPE_CHECKING, Tuple
 
+from .application import Application, Script
 from .progress import Walker
+from .reading import Run
 from .variables import Values, stored_by
+
+if TYPE_CHECKING:
+    from .base_run import BaseRun
 
 CALLS = re.compile(rb"^[0-9]+ [0-9]+ (call|isr) ([A-Za-z][A-Za-z0-9_]*) ([0-9]+) ([a-z_]+) = (none|[0-9]+)$", re.MULTILINE)
 CALL = re.compile(rb"(call|isr) ([A-Za-z][A-Za-z0-9_]*) ([0-9]+) ([a-z_]+) = (none|[0-9]+)")
@@ -19,25 +26,25 @@ class Place:
     """How far each task is: its walker, which is None where the script is left, and its last call; who is suspended by whom; and which
     values variables have, and had since the last call of a task."""
 
-    def __init__(self, application):
+    def __init__(self, application: Application) -> None:
         self.application = application
-        self.walkers: Dict[str, Optional[Walker]] = {name: Walker(it) for name, it in application.tasks.items()}
+        self.walkers: Dict[str, Any] = {name: Walker(it) for name, it in application.tasks.items()}
         self.last: Dict[str, int] = {}
         self.suspended: Dict[str, str] = {}
         self.values: Dict[str, int] = dict(application.variables)
         self.since: Dict[str, Values] = {}
 
-    def copied(self):
+    def copied(self) -> Place:
         found = copy.copy(self)
         found.walkers = {name: None if it is None else it.copied() for name, it in self.walkers.items()}
         found.last, found.suspended = dict(self.last), dict(self.suspended)
         found.values, found.since = dict(self.values), {name: dict(it) for name, it in self.since.items()}
         return found
 
-    def take(self, parts):
+    def take(self, parts: Sequence[Any]) -> None:
         """Goes on by a call of a task or a handler, cut into its parts."""
-        kind, name, op, word, answer = parts
-        name, index, number = name.decode(), int(op), None if answer == b"none" else int(answer)
+        kind, named, op, word, answer = parts
+        name, index, number = named.decode(), int(op), None if answer == b"none" else int(answer)
         if word in (b"suspend", b"resume") and number == 1:
             self.take_suspension(name, index, word == b"suspend")
         if kind == b"call" and name in self.walkers:
@@ -52,7 +59,7 @@ class Place:
         if kind == b"call":
             self.since.pop(name, None)
 
-    def take_store(self, variable, value):
+    def take_store(self, variable: Optional[str], value: Any) -> None:
         """A variable has a new value, which ops may find that tasks did since their last calls, or the old one."""
         if variable is None:
             return
@@ -61,15 +68,15 @@ class Place:
             since[variable] = tuple(dict.fromkeys((*since.get(variable, (self.values[variable],)), value)))
         self.values[variable] = value
 
-    def walker(self, name) -> Optional[Walker]:
+    def walker(self, name: str) -> Any:
         """The walker of a task, with the values that variables may have had since its last call."""
         found = self.walkers[name]
         if found is not None and self.values:
             found.values = {**{it: (value,) for it, value in self.values.items()}, **self.since.get(name, {})}
         return found
 
-    def take_suspension(self, name, index, is_suspend):
-        op = self.application.op(name, index)
+    def take_suspension(self, name: str, index: int, is_suspend: bool) -> None:
+        op: Any = self.application.op(name, index)
         if op is None:
             return
         if is_suspend:
@@ -77,12 +84,12 @@ class Place:
         else:
             self.suspended.pop(op.object, None)
 
-    def words(self):
+    def words(self) -> str:
         """Each task that isn't at its end, as far as it is known."""
         found = (self.words_of_task(it) for it in self.application.tasks.values())
         return ", ".join(it for it in found if it)
 
-    def words_of_task(self, script):
+    def words_of_task(self, script: Script) -> str:
         """Where this task is, or nothing where it has ended, or serves forever and waits for what it serves."""
         name, walker = script.name, self.walker(script.name)
         # one that is suspended before its last op is complete has ops left, though they may have no line
@@ -102,20 +109,20 @@ class Place:
 class Whereabouts:
     """The tasks of an application in the runs of a campaign, of which the base run may be known."""
 
-    def __init__(self, application, base=None):
+    def __init__(self, application: Application, base: Any = None) -> None:
         self.application, self.base = application, base
         # The places before some lines of the base run, and the one that was asked for last.
         self.kept: Dict[int, Place] = {}
         self.last, self.last_place = 0, Place(application)
 
-    def at_end_of(self, run) -> str:
+    def at_end_of(self, run: Run) -> str:
         """Where the tasks are at the end of a run, in words."""
         place, start = self.place_before(run)
         for it in CALLS.findall(run.text, start):
             place.take(it)
         return place.words()
 
-    def place_before(self, run):
+    def place_before(self, run: Run) -> Tuple[Place, int]:
         """The place at the injection of a row that begins as the base run does, and how many bytes come before it."""
         base, point = self.base, run.head.point
         if base is None or point is None or not run.head.is_reached or point.first_step > base.known_until:
@@ -126,7 +133,7 @@ class Whereabouts:
         self.go_to(position)
         return self.last_place.copied(), size
 
-    def go_to(self, position):
+    def go_to(self, position: int) -> None:
         """Follows the tasks through the base run to this line, from the nearest place before it that is kept."""
         if position < self.last:
             self.last = max((it for it in self.kept if it <= position), default=0)

@@ -1,7 +1,12 @@
 """The stretches in which a queue is locked or the scheduler is held, as the waits and the calls of a run show them; and those in which a
 critical section is open, as far as it is known which ops the tasks are in."""
+from __future__ import annotations
+
+from typing import Any, Dict, List
+
 from .application import AWAITS, CLOSES, OPENS
-from .lanes import Doing, Window, WindowKind
+from .lanes import Bar, Doing, Lane, Note, Window, WindowKind
+from .op_times import Stretch
 from .report import Kind
 
 # The calls on queues, semaphores and mutexes begin a wait in these steps: Start or Try, Decide, Place, Unlock, Leave.
@@ -12,7 +17,7 @@ SILENT_STEPS = {**dict.fromkeys(OBJECT_CALLS, 5), **dict.fromkeys(PLAIN_CALLS, 2
 LOCKED_FROM, LOCKED_TO, HELD_FROM_OBJECT, HELD_FROM_PLAIN = 4, 1, 4, 2
 
 
-def windows_of_waits(waits, steps):
+def windows_of_waits(waits: List[Bar], steps: int) -> List[Window]:
     """A call that begins to wait holds the scheduler in its last steps before, and has the queue locked in some of them."""
     found = []
     for it in waits:
@@ -26,9 +31,11 @@ def windows_of_waits(waits, steps):
     return [it for it in found if 0 <= it.start < it.end <= steps]
 
 
-def windows_of_calls(notes, steps):
+def windows_of_calls(notes: List[Note], steps: int) -> List[Window]:
     """`set` holds the scheduler in its two steps; a task does from its first `suspend_all` to its last `resume_all`."""
-    found, depth, since, holder = [], 0, 0, None
+    found: List[Window] = []
+    depth, since = 0, 0
+    holder: Any = None
     for it in notes:
         word = it.event.word if it.event.kind is Kind.CALL else None
         if word == "set":
@@ -46,7 +53,7 @@ def windows_of_calls(notes, steps):
     return found
 
 
-def windows_of_sections(ops, application, steps):
+def windows_of_sections(ops: Dict[Lane, List[Stretch]], application: Any, steps: int) -> List[Window]:
     """A task has interrupts masked from its first `enter_critical` to its last `exit_critical`."""
     found = []
     for lane, stretches in ops.items():

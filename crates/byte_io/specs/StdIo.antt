@@ -1,4 +1,4 @@
--- What is behind a source and a sink over std's readers and writers.
+-- What a source and a sink over std's readers and writers rest on.
 use Rattle.std.specs.Prelude.{Bool}
 use Rattle.byte_io.specs.declared.std_io.FromReader.{FromReader}
 use Rattle.byte_io.specs.declared.std_io.ToWriter.{ToWriter}

@@ -27,7 +27,8 @@ pub fn flush<W: Sink>(writer: &mut W, page: &mut Page) -> Result<(), WriteFault>
     Ok(())
 }
 
-/// Makes room in the page for this many bytes: where they don't fit, what the page holds goes to the sink.
+/// Makes room in the page for this many bytes: if they don't fit, what the page holds goes to the
+/// sink.
 #[tactic(auto, using(crate::proofs::Sending::Sent_none, crate::proofs::Sending::Sent_all))]
 pub fn make_room<W: Sink>(writer: &mut W, page: &mut Page, count: usize) -> Result<(), WriteFault>
     requires working { W.has_failed writer.old ≡ false }

@@ -4,8 +4,8 @@ ghost use Rattle.std.specs.Prelude.{◌≡◌, ◌≤◌, ◌++◌, [], Some, fa
 use crate::stream::{Failed, Sink};
 use std::alloc::Global;
 
-/// Bytes that are kept in memory, at most this many. As a sink it takes all bytes of a call or fails: where they are too many, or
-/// where it gets no memory for them.
+/// Bytes that are kept in memory, at most this many. As a sink it takes all bytes of a call or
+/// fails: if they are too many, or if it gets no memory for them.
 #[derive(Drop)]
 pub struct Buffer {
     bytes: Vec<u8>,

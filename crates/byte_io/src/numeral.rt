@@ -1,4 +1,4 @@
-//! A number in decimal digits, of which all but the last were spelled before.
+//! A number in decimal digits; all but the last were spelled before.
 ghost use Rattle.std.specs.Prelude.{◌≡◌, ◌≤◌, ◌++◌, ◌∷◌, [], take};
 
 use std::marker::Model;

@@ -90,7 +90,7 @@ impl Page {
         self.used = put_array(&mut self.bytes, self.used, text);
     }
 
-    /// Adds the number in decimal digits, of which a `u32` has at most 10.
+    /// Adds the number in decimal digits, at most 10 of them.
     #[inline]
     pub fn push_number(&mut self, number: u32)
         requires { length self.old + 10 ≤ Self.SIZE }
@@ -100,7 +100,7 @@ impl Page {
         self.used = put_number(&mut self.bytes, self.used, number);
     }
 
-    /// Adds the number in decimal digits, of which a `u64` has at most 20.
+    /// Adds the number in decimal digits, at most 20 of them.
     #[inline]
     pub fn push_long_number(&mut self, number: u64)
         requires { length self.old + 20 ≤ Self.SIZE }

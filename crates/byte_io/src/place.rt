@@ -1,4 +1,5 @@
-//! Text put into bytes at a place. The place is handed on: each function answers where the text ends.
+//! Text put into bytes at a place. The place is handed on: each function returns the place at which
+//! the text ends.
 //!
 //! What puts many pieces in turn keeps the place in a variable by this. In a field it would be stored and read again for each
 //! piece, since a byte written at a place that the compiler can't bound might be the field's.
@@ -77,7 +78,7 @@ pub fn put_numeral(bytes: &mut [u8], at: usize, numeral: Numeral<'_>, after: u8)
     put_byte(bytes, at, after)
 }
 
-/// Writes the number in decimal digits, of which a `u16` has at most 5.
+/// Writes the number in decimal digits, at most 5 of them.
 #[inline]
 pub fn put_short_number(bytes: &mut [u8], at: usize, number: u16) -> usize
     requires { at + 5 ≤ length bytes.old }
@@ -89,7 +90,7 @@ pub fn put_short_number(bytes: &mut [u8], at: usize, number: u16) -> usize
     put_text(bytes, at, buffer.format(number).as_bytes())
 }
 
-/// Writes the number in decimal digits, of which a `u32` has at most 10.
+/// Writes the number in decimal digits, at most 10 of them.
 #[inline]
 pub fn put_number(bytes: &mut [u8], at: usize, number: u32) -> usize
     requires { at + 10 ≤ length bytes.old }

@@ -26,8 +26,9 @@ impl From<AllocError> for ReadFault {
     }
 }
 
-/// Reads to the end: all bytes that the source has left, where they are at most this many; `None` where they are more. `Failed`
-/// where, and only where, the source failed. At `None` and at `Err` some bytes of the source may be lost.
+/// Reads to the end: all bytes that the source has left, if they are at most this many; `None` if
+/// they are more. `Failed` exactly if the source failed. At `None` and at `Err` some bytes of the
+/// source may be lost.
 pub fn read_at_most<R: Source>(
     alloc: Global,
     source: &mut R,
@@ -54,8 +55,8 @@ pub fn read_at_most<R: Source>(
     }
 }
 
-/// Reads to the end: all bytes that the source has left. `Failed` where, and only where, the source failed. At `Err`
-/// some bytes of the source may be lost.
+/// Reads to the end: all bytes that the source has left. `Failed` exactly if the source failed. At
+/// `Err` some bytes of the source may be lost.
 pub fn read_all<R: Source>(alloc: Global, source: &mut R) -> Result<Vec<u8>, ReadFault>
     requires { R.has_failed source.old ≡ false }
     ensures bytes { IfOk result (λ v. IfSome (R.left source.old) (λ bytes. v.items ≡ bytes)) }

@@ -1,7 +1,8 @@
 //! The standard library's readers and writers as sources and sinks.
 //!
-//! The contracts of `pull` and `put` say what is done with the bytes, and that a fault is reported. That they call the reader and
-//! the writer, and fail only where these fail, no contract of the standard library lets us say: it is tested.
+//! The contracts of `pull` and `put` say what is done with the bytes, and that a fault is reported.
+//! That they call the reader and the writer, and fail only if these fail, no contract of the
+//! standard library lets us say: it is tested.
 use crate::stream::{Failed, Sink, Source};
 use std::io::{Read, Write};
 

@@ -10,7 +10,7 @@ pub struct Failed;
 
 /// What takes bytes.
 pub trait Sink {
-    // The bytes that it holds, where they are known.
+    // The bytes that it holds, if they are known.
     ghost held: { Self → Option (List ℕ) };
 
     // A call has failed, or took none of some bytes.
@@ -27,14 +27,14 @@ pub trait Sink {
 
 /// What gives bytes.
 pub trait Source {
-    // The bytes that it still gives, where they are known.
+    // The bytes that it still gives, if they are known.
     ghost left: { Self → Option (List ℕ) };
 
     // A call has failed.
     ghost has_failed: { Self → Bool };
 
-    /// Puts bytes into the front of the buffer, and says how many: 0 only at the end, or where the buffer is empty. At
-    /// `Err` it gave none, and it is not called again.
+    /// Puts bytes into the front of the buffer, and says how many: 0 only at the end, or if the
+    /// buffer is empty. At `Err` it gave none, and it is not called again.
     fn pull(&mut self, buffer: &mut [u8]) -> Result<usize, Failed>
         requires { has_failed self.old ≡ false }
         ensures within { IfOk result (λ n. n ≤ length buffer.new) }

@@ -1,5 +1,5 @@
--- What the campaign of a file comes to: the report of one row for each of its points, or of a part of these, as a view shows it; or
--- the fault that prevents it.
+-- The outcome of the campaign of a file: the report of one row for each of its points, or of a part of these, as a view shows it;
+-- or the fault that prevents it.
 use Rattle.std.specs.Prelude.{◌≡◌, ◌<◌, ◌≤◌, ℕ, List, [], length, Result}
 use Rattle.model.specs.Application.{Application}
 use Rattle.model.specs.Scripts.{most_points}
@@ -41,11 +41,11 @@ pub record IsCampaignOf (view : View) (shard : Shard) (bytes report : List ℕ) 
   pub adds_up : totals ≡ totals_of rows
   pub text : report ≡ report_text app view (first_number runs) rows
 
--- The bytes have this fault, where their campaign is asked for.
+-- The bytes have this fault, if their campaign is asked for.
 abbrev pub HasCampaignFault : List ℕ → ServeFault → Type 0
 HasCampaignFault bytes TooManyPoints = (app : Application) × IsFileOf bytes app × HasTooManyPoints app
 HasCampaignFault bytes fault = HasFileFault bytes fault
 
--- a call that serves a part of the campaign of a file, as the view shows it, and answers that part's totals
+-- a call that serves a part of the campaign of a file, as the view shows it, and returns that part's totals
 abbrev pub ServesCampaign : View → Shard → Streams → Result Totals ServeFault → Type 0
 ServesCampaign view shard streams outcome = Serves Totals (IsCampaignOf view shard) HasCampaignFault streams outcome

@@ -23,8 +23,8 @@ pub record IsWhole (work : Work) (base : Run) (deal : Game) : Type 0 where
   pub whole : sum work.lengths ≡ length work.points
   pub few : length work.points ≤ most_points
 
--- All lanes of the deal came back, one of them saw that every block is handed out, and the parts have the rows of what they were
--- answered.
+-- All lanes of the deal came back, one of them saw that every block is handed out, and the parts have the rows of the blocks that
+-- were returned to them.
 pub record BringsWhole (work : Work) (deal : Game) (lanes : List Sight) (parts : List Part) : Type 0 where
   pub its_lanes : AreLanesOf deal lanes
   pub all_lanes : length lanes ≡ deal.lanes

@@ -1,4 +1,4 @@
--- Marks: kernels that rows have come to, and how each row goes on that comes to them.
+-- Marks: kernels that rows have reached, and how each row that reaches them goes on.
 use Rattle.std.specs.Prelude.{ℕ, ◌≤◌, List, length, drop}
 use Rattle.std.specs.List.{AllByRecursion}
 use Rattle.machine.specs.declared.machine.Machine.{Machine}
@@ -17,30 +17,30 @@ use Rattle.campaign.specs.Working.{AreKnown, IsRestIn}
 
 -- ---- marks
 
--- Each mark has the rest of each row that comes to its kernel.
+-- Each mark has the rest of each row that reaches its kernel.
 abbrev pub AreMarked : Application → Limits → View → Run → Store → List Mark → Type 0
 AreMarked app limits view base store marks =
     AllByRecursion (λ (m : Mark). IsRestIn app limits view base store m.kernel.value m.rest) marks
 
--- Where the marks are right, so is this rest of the kernel.
+-- If the marks are right, this rest of the kernel is right too.
 abbrev pub IsRestAt : List Mark → Machine → Ahead → Type 0
 IsRestAt marks k rest = (app : Application) (limits : Limits) (view : View) (base : Run) (store : Store)
     → AreMarked app limits view base store marks → IsRestIn app limits view base store k rest
 
--- Where the old marks and this one are right, so are the new ones.
+-- If the old marks and this one are right, the new ones are right too.
 abbrev pub IsPutAt : (old new : List Mark) → Mark → Type 0
 IsPutAt old new mark = (app : Application) (limits : Limits) (view : View) (base : Run) (store : Store)
     → AreMarked app limits view base store old → IsRestIn app limits view base store mark.kernel.value mark.rest
     → AreMarked app limits view base store new
 
--- Where the marks are right, each row that comes to the kernel goes on so.
+-- If the marks are right, each row that reaches the kernel goes on in this way.
 abbrev pub IsAhead : Application → Limits → Run → List Mark → Machine → Ahead → Type 0
 IsAhead app limits base marks k rest = (view : View) (store : Store)
     → AreMarked app limits view base store marks → IsRestIn app limits view base store k rest
 
 -- ---- kernels on the way
 
--- Each run that has come to the kernel that was passed comes to the present one, and reports what the trail has from there on.
+-- Each run that has reached the kernel that was passed reaches the present one, and reports what the trail has from there on.
 pub record IsBehind (app : Application) (limits : Limits) (trail : List Event) (now : Machine) (passed : Passed) : Type 0 where
   pub within : passed.from ≤ length trail
   pub leads : LeadsTo app limits passed.kernel.value now (drop passed.from trail)
@@ -48,17 +48,17 @@ pub record IsBehind (app : Application) (limits : Limits) (trail : List Event) (
 abbrev pub AreBehind : Application → Limits → (trail : List Event) → (now : Machine) → List Passed → Type 0
 AreBehind app limits trail now passed = AllByRecursion (IsBehind app limits trail now) passed
 
--- Where each of the old ones is behind the kernel, so is each of the new ones.
+-- If each of the old ones is after the kernel, each of the new ones is too.
 abbrev pub IsNoted : (trail : List Event) → (now : Machine) → (old new : List Passed) → Type 0
 IsNoted trail now old new =
     (app : Application) (limits : Limits) → AreBehind app limits trail now old → AreBehind app limits trail now new
 
--- how each row goes on that comes to the kernel that was passed, where that is by the leg of this number and then so
+-- how each row that reaches the kernel that was passed goes on, if that is by the leg of this number and then in this way
 abbrev pub rest_from : (number : ℕ) → Ahead → Passed → Ahead
 rest_from number rest passed = record rest { told = link.Leg number passed.from }
 
--- Where the old marks are right, and each row that comes to one of the kernels that were passed goes on so, the new marks are
--- right.
+-- If the old marks are right, and each row that reaches one of the kernels that were passed goes on in this way, the new marks
+-- are right.
 abbrev pub ArePut : (number : ℕ) → Ahead → List Passed → (old new : List Mark) → Type 0
 ArePut number rest passed old new = (app : Application) (limits : Limits) (view : View) (base : Run) (store : Store)
     → AreMarked app limits view base store old

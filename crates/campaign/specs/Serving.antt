@@ -1,4 +1,4 @@
--- What serving a file comes to, whatever is asked for of it: the report that is asked for, or the fault that prevents it.
+-- The outcome of serving a file, whatever is asked for: the report that is asked for, or the fault that prevents it.
 use Rattle.std.specs.Prelude.{◌≡◌, ◌≢◌, ℕ, Bool, true, false, List, [], Option, Some, None, Result, Ok, Err, IfSome}
 use Rattle.std.specs.Str.{IsUtf8}
 use Rattle.std.specs.Io.KnownBytes.{Appends, Keeps}
@@ -43,11 +43,11 @@ is_write_fault outcome = false
 
 -- the source that a call reads, and the sink to which it writes
 pub record Streams : Type 0 where
-  -- the bytes that the source had left, where they are known
+  -- the bytes that the source had left, if they are known
   pub input : Option (List ℕ)
   -- reading failed
   pub read_failed : Bool
-  -- what the sink had taken before the call and after it, where that is known
+  -- what the sink had taken before the call and after it, if that is known
   pub old : Option (List ℕ)
   pub new : Option (List ℕ)
   -- writing failed
@@ -56,13 +56,12 @@ pub record Streams : Type 0 where
 abbrev pub streams_of : (input : Option (List ℕ)) (read_failed : Bool) (old new : Option (List ℕ)) (write_failed : Bool) → Streams
 streams_of input read old new write = record { input = input; read_failed = read; old = old; new = new; write_failed = write }
 
--- the bytes are those of an input, where they are known
+-- the bytes are those of an input, if they are known
 abbrev pub Known : Option (List ℕ) → List ℕ → Type 0
 Known input bytes = IfSome input (λ known. bytes ≡ known)
 
--- What goes out, for some bytes of the input, where this says which text is their report, and what is answered with it. With an
--- answer: the whole report. At a write fault: a beginning of such a report. At any other fault, which these bytes have:
--- nothing.
+-- What goes out, for some bytes of the input, by what this says: which text is their report, and what is returned with it. At
+-- `Ok`: the whole report. At a write fault: a beginning of such a report. At any other fault, which these bytes have: nothing.
 abbrev pub Answers : {A : Type 0} → (IsReport : (bytes report : List ℕ) → A → Type 0)
     → (HasFault : (bytes : List ℕ) → ServeFault → Type 0) → Streams → Result A ServeFault → Type 0
 Answers IsReport HasFault streams (Ok answer) =
@@ -74,7 +73,7 @@ Answers {A} IsReport HasFault streams (Err Write) =
 Answers IsReport HasFault streams (Err fault) =
     ((bytes : List ℕ) × Known streams.input bytes × HasFault bytes fault) × Keeps streams.old streams.new
 
--- A call of this outcome, which failed to read or to write where, and only where, its fault says so.
+-- A call with this outcome. It failed to read or to write exactly if its fault says so.
 pub record Serves (A : Type 0) (IsReport : (bytes report : List ℕ) → A → Type 0) (HasFault : (bytes : List ℕ) → ServeFault → Type 0)
     (streams : Streams) (outcome : Result A ServeFault) : Type 0 where
   pub answers : Answers IsReport HasFault streams outcome

@@ -32,8 +32,8 @@ use Rattle.rows.specs.Report.{row_of, rows_of, store_of, IsKept, AreKept}
 use Rattle.rows.specs.Placing.{numbers_of}
 use Rattle.campaign.specs.Seen.{AreSeen, IsSeen}
 
--- What there is to be done: rows of the application under these limits, for this view, with this base run, at these points, which
--- are cut into blocks of these lengths.
+-- The work: rows of the application under these limits, for this view, with this base run, at these points, which are cut into
+-- blocks of these lengths.
 pub record Work : Type 0 where
   pub app : Application
   pub limits : Limits
@@ -68,7 +68,7 @@ pub record IsAmong (rows : List KeptRow) (point : List Injection) (number : ℕ)
   pub is : slice_get rows number ≡ Some row
   pub at_point : row.point ≡ point
 
--- Behind these rows comes that of this point, with what the store gains, and ends so.
+-- After these rows comes that of this point, with what the store gains, and ends in this way.
 pub record KeepsRow (app : Application) (limits : Limits) (view : View)
     (base : Run) (point : List Injection) (kept kept' : List KeptRow)
     (old new : Store) (end : End) : Type 0 where
@@ -83,19 +83,19 @@ pub record KeepsRow (app : Application) (limits : Limits) (view : View)
 abbrev pub store_in : Runner → Store
 store_in runner = record { trail = all_of runner.trail; legs = runner.legs.items }
 
--- These events are behind the link, where the view shows those of a row that ends so.
+-- These events follow the link, if the view shows those of a row that ends in this way.
 abbrev pub IsTold : View → (base : List Event) → Store → Link → End → List Event → Type 0
 IsTold view base store link end events = shows_events view end ≡ true → Tells base store link events
 
--- Each row that comes to the kernel goes on so, and what it reports is there, where the view shows it.
+-- Each row that reaches the kernel goes on in this way, and what it reports is there, if the view shows it.
 pub record IsRestIn (app : Application) (limits : Limits) (view : View)
     (base : Run) (store : Store) (k : Machine) (rest : Ahead) : Type 0 where
   pub events : List Event
   pub told : IsTold view base.events store rest.told rest.end events
   pub is_rest : IsRest app limits k (record { events = events; steps = rest.steps; ticks = rest.ticks; end = rest.end })
 
--- The row of this point, which has come to the kernel, goes on by what the trail gained, and then so; and what it reports then is
--- there, where the view shows it.
+-- The row of this point, which has reached the kernel, goes on by what the trail gained, and then in this way; and what it
+-- reports then is there, if the view shows it.
 pub record IsRestOf (app : Application) (limits : Limits) (view : View) (base : Run)
     (old new : Store) (point : List Injection) (k : Machine) (rest : Ahead) : Type 0 where
   pub own : List Event
@@ -109,8 +109,8 @@ pub record IsRestOf (app : Application) (limits : Limits) (view : View) (base : 
     end = rest.end;
   })
 
--- Each row that comes to the kernel that was passed goes on by the trail from there on, and then so; and what it reports then is
--- there, where the view shows it.
+-- Each row that reaches the kernel that was passed goes on by the trail from there on, and then in this way; and what it reports
+-- then is there, if the view shows it.
 pub record IsPassed (app : Application) (limits : Limits) (view : View)
     (base : Run) (store : Store) (rest : Ahead) (passed : Passed) : Type 0 where
   pub within : passed.from ≤ length store.trail
@@ -126,7 +126,7 @@ pub record Gained (counts : ℕ → ℕ) (old new : Tallied) : Type 0 where
   pub same : new.sheet ≡ old.sheet
   pub rises : (kind : ℕ) → kind < 7 → slice_index new.added kind ≡ slice_index old.added kind + counts kind
 
--- a seat of this tally that has added so many, kind by kind
+-- a seat of this tally that has added this many, kind by kind
 abbrev pub counted : Sheet → List ℕ → Tallied
 counted tally kinds = record { sheet = tally; added = kinds; seen = zeros }
 
@@ -136,7 +136,7 @@ HasRoom count seat = (kind : ℕ) → kind < 7 → slice_index seat.added kind +
 
 -- ---- the rows of several points
 
--- Behind these rows come those of these points, with what the store gains, and the seat counted them.
+-- After these rows come those of these points, with what the store gains, and the seat counted them.
 pub record GainsRows (app : Application) (limits : Limits) (view : View) (base : Run) (points : List (List Injection))
     (kept kept' : List KeptRow) (store store' : Store) (seat seat' : Tallied) : Type 0 where
   pub more : List KeptRow
@@ -180,7 +180,7 @@ CountsBlocks work blocks old new =
 
 -- ---- workers
 
--- lanes of this deal, which have been answered nothing
+-- lanes of this deal, to which nothing has been returned yet
 abbrev pub AreIdle : Game → List Sight → Type 0
 AreIdle deal lanes = AllByRecursion (λ (lane : Sight). (lane.game ≡ deal) × (lane.answered ≡ [])) lanes
 
@@ -199,7 +199,7 @@ pub record IsJob (deal : Game) (tally : Sheet) (count : ℕ) (job : Job) : Type 
 abbrev pub AreJobs : Game → Sheet → ℕ → List Job → Type 0
 AreJobs deal tally count jobs = AllByRecursion (IsJob deal tally count) jobs
 
--- what comes of a job where nothing was refused: all blocks are handed out, and the rows of those that the lane was answered are
+-- what comes of a job if nothing was refused: all blocks are handed out, and the rows of those that were returned to the lane are
 -- made and counted
 pub record Brings (work : Work) (job : Job) (done : Done) : Type 0 where
   pub lane : done.lane.game ≡ job.lane.game

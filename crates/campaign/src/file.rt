@@ -19,7 +19,8 @@ pub enum ServeFault {
     NotToml,
     /// The document has this fault, the first that its checks find.
     Load(Fault),
-    /// No handler of the application has the name that what is asked for has in this place, from 0. It is the first such name.
+    /// No handler of the application has the name in this place, from 0, of what is asked for. It
+    /// is the first such name.
     UnknownHandler(usize),
     /// The points of the campaign are more than 1,000,000 (profile).
     TooManyPoints,
@@ -71,11 +72,12 @@ impl From<LoadError> for ServeFault {
     }
 }
 
-// Of a file of so many bytes at most the document stays in memory to the end of the program.
+// Of a file of this many bytes at most the document stays in memory to the end of the program.
 const FEW: usize = 65_536;
 
-// Lets go of the document of a file of so many bytes. One of few bytes stays in memory: it takes 10 MB at most, mostly far less, and to
-// give back a thousand of its tables takes as long as ten thousand steps.
+// Lets go of the document of a file of this many bytes. One of few bytes stays in memory: it takes
+// 10 MB at most, usually far less, and to give back a thousand of its tables takes as long as ten
+// thousand steps.
 fn let_go(document: Table, bytes: usize) {
     if bytes <= FEW {
         forget(document);

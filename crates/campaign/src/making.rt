@@ -29,7 +29,8 @@ use std::sync::atomic::AtomicU64;
 use std::thread;
 use std::thread::Threads;
 
-/// The rows of a campaign, with which one its base run is still to come, and the seats that counted them.
+/// The rows of a campaign, to which its base run has yet to be added, and the seats that counted
+/// them.
 #[derive(Drop)]
 pub(crate) struct Made {
     pub(crate) parts: Vec<Part>,
@@ -38,14 +39,14 @@ pub(crate) struct Made {
     pub(crate) seats: Vec<TallySeat>,
 }
 
-// What the workers brought, and the deal that they worked off.
+// What the workers brought, and the deal that they worked through.
 #[derive(Drop)]
 struct Brought {
     deal: Deal,
     apart: Apart,
 }
 
-// Does the jobs, each in a thread of its own where one can be started, otherwise one after the other.
+// Does the jobs, each in a thread of its own if one can be started, otherwise one after the other.
 fn run_all<R: Threads + Wait + Sync, G: Gate + Sync>(
     rt: &R,
     alloc: Global,
@@ -73,7 +74,8 @@ fn run_all<R: Threads + Wait + Sync, G: Gate + Sync>(
     }
 }
 
-// Lets this many workers, each with one of these lanes and a seat, work off what was dealt, and takes apart what they bring.
+// Lets this many workers, each with one of these lanes and a seat, work through what was dealt, and
+// takes apart what they bring.
 fn work_off<R: Threads + Wait + Sync, G: Gate + Sync>(
     rt: &R,
     alloc: Global,
@@ -93,7 +95,8 @@ fn work_off<R: Threads + Wait + Sync, G: Gate + Sync>(
         → IsBrought (work_of setup.now deal.lengths) deal setup.now.tally.now seats.items
         apart.lanes.items apart.seats.items apart.parts.items) }
 {
-    // Each worker gets room for an eighth more rows than if all made as many, since who is faster makes more.
+    // Each worker gets room for an eighth more rows than if all made as many, since a faster worker
+    // makes more.
     let rows = setup.points.len();
     let share = rows / workers;
     let room = rows.min(share.saturating_add(share / 8));
@@ -124,8 +127,8 @@ fn bring_all<R: Threads + Wait + Sync, G: Gate + Sync>(
     ensures brought { IfOk result (λ brought. IsBrought (work_of setup.now division) brought.deal setup.now.tally.now seats.items
         brought.apart.lanes.items brought.apart.seats.items brought.apart.parts.items) }
 {
-    // Where only heads are written the last points come first, since no row is then run far. Otherwise they don't, since a row's events would
-    // then lie on many short legs.
+    // If only heads are written the last points come first, since no row is then run far. Otherwise
+    // they don't, since a row's events would then lie on many short legs.
     let rising = !setup.view.heads;
     let Ok((deal, lanes)) = Deal::new(alloc, division, workers, rising) else {
         return Err(Memory);
@@ -134,8 +137,8 @@ fn bring_all<R: Threads + Wait + Sync, G: Gate + Sync>(
     Ok(Brought { deal, apart })
 }
 
-// Gathers the rows, so many, by the numbers of their blocks. All lanes came back and were answered all blocks, so none is left over. The
-// seats had added so much before.
+// Gathers the rows, this many, by the numbers of their blocks. All lanes came back, and all blocks
+// were returned to them, so none is left over. The seats had added so much before.
 fn gather_rows(
     alloc: Global,
     brought: Brought,
@@ -232,15 +235,19 @@ pub(crate) fn campaign_from<R: Threads + Wait + Sync, G: Gate + Sync>(
     Ok(Finished { report, seats })
 }
 
-/// Runs an application once for each of these points, under these limits, and reports the rows, all of each: a row's injections come where
-/// the base run gets beyond the step of the first; otherwise the row is the base run. There are at most 1,000,000 points, and their
-/// handlers are the application's.
+/// Runs an application once for each of these points, under these limits, and reports the rows, all
+/// of each: a row's injections come if the base run gets beyond the step of the first; otherwise
+/// the row is the base run. There are at most 1,000,000 points, and their handlers are the
+/// application's.
 ///
-/// This many workers make the rows, 1 to 64, each in a thread of its own where one can be started; this thread is one of them. A
-/// worker takes blocks of the division until all are handed out, and adds the rows of each to its seat when they are made. The gate learns
-/// of each block before its first point. The stride says how many steps lie between two states of the base run that are kept.
+/// This many workers make the rows, 1 to 64, each in a thread of its own if one can be started;
+/// this thread is one of them. A worker takes blocks of the division until all are handed out, and
+/// adds the rows of each to its seat when they are made. The gate learns of each block before its
+/// first point. The stride says how many steps lie between two states of the base run that are
+/// kept.
 ///
-/// `Memory` is answered only where a growth was refused; then the seats are spent. It waits for the workers.
+/// `Memory` is returned only if a growth was refused; then the seats are spent. It waits for the
+/// workers.
 pub fn campaign<R: Threads + Wait + Sync, G: Gate + Sync>(
     rt: &R,
     alloc: Global,

@@ -1,9 +1,11 @@
-//! Kernels that rows have come to, and how they went on from there: rows that come to the same kernel go on alike.
+//! Kernels that rows have reached, and how they went on from there: rows that reach the same kernel
+//! go on alike.
 use crate::ahead::Ahead;
 use kernel::Snapshot;
 
-/// The kernel as it was before a step of some row, behind that row's last injection, and how the row went on from there. So does each row
-/// that comes to the same kernel. The hint and the step are that kernel's.
+/// The kernel as it was before a step of some row, after that row's last injection, and how the row
+/// went on from there. Each row that reaches the same kernel goes on in the same way. The hint and
+/// the step are that kernel's.
 #[derive(Drop)]
 pub(crate) struct Mark {
     pub(crate) kernel: Box<Snapshot>,
@@ -12,8 +14,8 @@ pub(crate) struct Mark {
     pub(crate) rest: Ahead,
 }
 
-/// A kernel that the row on its way has come to, behind its last injection, and where its events from there on begin in the trail. It
-/// becomes a mark when the row is over.
+/// A kernel that the row on its way has reached, after its last injection, and where its events
+/// from there on begin in the trail. It becomes a mark when the row is over.
 #[derive(Drop)]
 pub(crate) struct Passed {
     pub(crate) kernel: Box<Snapshot>,

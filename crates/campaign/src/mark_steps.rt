@@ -1,11 +1,13 @@
 //! At which steps a row looks for marks, and leaves them.
 ghost use Rattle.std.specs.Prelude.{◌<◌, ◌^◌};
 
-// So many steps are between two marks near an injection, or a few more, where they are widest apart (`Spacing`).
+// This many steps are between two marks near an injection, or a few more, if they are widest apart
+// (`Spacing`).
 const WIDE: u32 = 64;
 
-/// The steps between two marks near an injection at most, where the base run has a stop before each `stride`-th step: the least of
-/// the strides doubled that are 64 or more, so that rows meet the base run at its stops; 64 where these are further from each other.
+/// The steps between two marks near an injection at most, if the base run has a stop before each
+/// `stride`-th step: the least of the strides doubled that are 64 or more, so that rows meet the
+/// base run at its stops; 64 if these are further from each other.
 pub(crate) fn spacing_of(stride: u32) -> u32 {
     let mut spacing = stride.clamp(1, WIDE);
     for _ in 0..6 {
@@ -16,8 +18,8 @@ pub(crate) fn spacing_of(stride: u32) -> u32 {
     spacing
 }
 
-// The steps between two marks so far behind the last injection: a sixteenth to an eighth of the way. They are multiples of each other,
-// so a row passes each mark of a row that was injected before it.
+// The steps between two marks so far after the last injection: a sixteenth to an eighth of the way.
+// They are multiples of each other, so a row passes each mark of a row that was injected before it.
 fn spacing_at(spacing: u32, way: u32) -> u32 {
     let eighths = way / spacing.max(1) / 8;
     if eighths < 2 {
@@ -27,13 +29,15 @@ fn spacing_at(spacing: u32, way: u32) -> u32 {
     }
 }
 
-/// Whether a row whose last injection comes before this step may look for a mark at that one, where so many steps are between two marks
-/// that are closest together. Where it doesn't, no row with an earlier last injection does.
+/// Whether a row whose last injection comes before this step may look for a mark at that one, if
+/// this many steps are between two marks that are closest together. If it doesn't, no row with an
+/// earlier last injection does.
 pub(crate) fn may_look(closest: u32, last: u32, mark: u32) -> bool {
     last < mark && mark % spacing_at(closest, mark - last).max(1) == 0
 }
 
-/// The next step behind this one at which a row looks for a mark, whose last injection comes before that step.
+/// The next step after this one at which a row looks for a mark, whose last injection comes before
+/// that step.
 pub(crate) fn next_mark(spacing: u32, last: u32, step: u32) -> u32
     requires { step < 2 ^ 31 }
     ensures { step < result }

@@ -8,10 +8,10 @@ use crate::mark_steps::may_look;
 use kernel::{Kernel, Snapshot};
 use std::alloc::Global;
 
-// So many marks are kept before any is replaced.
+// This many marks are kept before any is replaced.
 const LEAST_ROOM: usize = 256;
 
-// So many marks are looked at for one that may be replaced.
+// This many marks are looked at for one that may be replaced.
 const TRIES: usize = 4;
 
 // How many places of the table there are.
@@ -20,7 +20,7 @@ const SLOTS: usize = 1 << 15;
 // How many places of the table are looked at.
 const PROBES: usize = 8;
 
-// The number that a place has where no mark is.
+// The number in a place that has no mark.
 const NO_MARK: u32 = u32::MAX;
 
 /// Marks, and a table of guesses at which of them may be looked for, by the kernel's hint. Any mark may be left out, and any guess be
@@ -34,14 +34,14 @@ pub(crate) struct MarkTable {
     turn: usize,
 }
 
-// The place so far behind that of a hint.
+// The place this far after that of a hint.
 fn place(hint: u64, probe: usize) -> usize {
     (hint as usize).wrapping_add(probe) % SLOTS
 }
 
 impl MarkTable {
-    /// No marks. So many steps are between two of a row where they are closest together. Where there is no memory for the table none will
-    /// be found.
+    /// No marks. This many steps are between two of a row if they are closest together. If there is
+    /// no memory for the table none will be found.
     pub(crate) fn new(alloc: Global, closest: u32) -> MarkTable
         ensures { result.marks.items ≡ [] }
     {
@@ -53,7 +53,7 @@ impl MarkTable {
         }
     }
 
-    /// How each row goes on that comes to this kernel, of this hint, if a mark of it is found.
+    /// How each row that reaches this kernel, of this hint, goes on, if a mark of it is found.
     pub(crate) fn find(&self, kernel: &Kernel, hint: u64) -> Option<Ahead>
         ensures { IfSome result (IsRestAt self.now.marks.items kernel.now) }
     {
@@ -67,9 +67,10 @@ impl MarkTable {
         None
     }
 
-    /// Puts a mark, where there is memory for it, of a row whose last injection comes before this step. Where there are many, it takes the
-    /// place of one at which no row looks that was injected no later, if such a one is found soon; where there are so many as `room`, that
-    /// of any. The snapshot of that one is then among the spent ones.
+    /// Puts a mark, if there is memory for it, of a row whose last injection comes before this
+    /// step. If there are many, it takes the place of one that is of no use to this row or to rows
+    /// that were injected before it, if such a one is found soon. If there are as many as `room`,
+    /// it takes the place of any. The snapshot of the replaced one is then among the spent ones.
     pub(crate) fn put(&mut self, mark: Mark, step: u32, room: usize, spent: &mut Vec<Box<Snapshot>>)
         ensures { IsPutAt self.old.marks.items self.new.marks.items mark }
     {
@@ -84,11 +85,12 @@ impl MarkTable {
         let old = std::mem::replace(&mut self.marks[number], mark);
         self.forget(old.hint, number);
         self.guess(hint, number);
-        // Where there is no memory for that, the snapshot is given back.
+        // If there is no memory for that, the snapshot is given back.
         let _ = spent.push(old.kernel);
     }
 
-    // Whether no row looks at this mark whose last injection comes before this step, or earlier.
+    // Whether this mark is of no use to rows whose last injection comes before this step, or
+    // earlier.
     fn is_spent(&self, number: usize, step: u32) -> bool {
         let Some(mark) = self.marks.get(number) else {
             return false;
@@ -109,8 +111,8 @@ impl MarkTable {
         turn
     }
 
-    // The number of a mark in place of which another may be put. Where there are few marks there is none, and where there is room for no more
-    // it is any.
+    // The number of a mark in place of which another may be put. If there are few marks there is
+    // none, and if there is room for no more it is any.
     fn spent(&mut self, step: u32, room: usize) -> Option<usize>
         ensures marks { self.new.marks ≡ self.old.marks }
         ensures within { IfSome result (λ number. number < length self.old.marks.items) }
@@ -130,7 +132,8 @@ impl MarkTable {
         Some(self.turn.min(self.marks.len() - 1))
     }
 
-    // Of the places to which this hint leads, gives the first that has this number another. Whether one had it.
+    // Of the places to which this hint leads, the first that has this number gets another one.
+    // Returns whether one had it.
     fn change(&mut self, hint: u64, number: u32, new: u32) -> bool
         ensures { self.new.marks ≡ self.old.marks }
     {
@@ -155,7 +158,7 @@ impl MarkTable {
         }
     }
 
-    // Notes where a mark of this hint may be; in place of another one where all places are taken.
+    // Notes where a mark of this hint may be; in place of another one if all places are taken.
     fn guess(&mut self, hint: u64, number: usize)
         ensures { self.new.marks ≡ self.old.marks }
     {

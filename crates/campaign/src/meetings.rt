@@ -1,16 +1,17 @@
-//! Whether it pays that a row looks for marks far behind its last injection.
+//! Whether it pays off for a row to look for marks long after its last injection.
 
-// So many rows more than those that come to a mark may look on for one before that is taken not to pay.
+// This many more rows than those that reach a mark may go on looking for one before that is taken
+// not to pay off.
 const PATIENCE: u32 = 32;
 
-// Where it doesn't pay, each so manieth row looks on.
+// If it doesn't pay off, one row in this many looks on.
 const SELDOM: u32 = 128;
 
-// Where more rows than these looked on, the earlier ones count half.
+// If more rows than these looked on, the earlier ones count half.
 const MOST_ROWS: u32 = 1024;
 
-/// How many rows of a worker went on behind their first mark step, and how many of those that looked for marks there came to one. Where
-/// fewer than half do, most rows are run to their end without.
+/// How many rows of a worker went on after their first mark step, and how many of those that looked
+/// for marks there reached one. If fewer than half do, most rows are run to their end without.
 #[derive(Drop)]
 pub(crate) struct Meetings {
     rows: u32,
@@ -35,7 +36,7 @@ impl Meetings {
         self.looked <= most || self.rows % SELDOM == 0
     }
 
-    /// Counts a row that looked for marks, and came to one or didn't.
+    /// Counts a row that looked for marks, and reached one or didn't.
     pub(crate) fn count(&mut self, has_met: bool) {
         if self.looked >= MOST_ROWS {
             self.looked /= 2;

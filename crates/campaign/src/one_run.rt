@@ -21,8 +21,8 @@ pub(crate) fn base_run(alloc: Global, app: &App, limits: Limits) -> Result<Run, 
     kernel::run(alloc, app, &plan, limits, &mut Meter::new())
 }
 
-// Whether the point is reached, and its row. The base run comes first, and is the row where it ends before the point's first
-// injection.
+// Whether the point is reached, and its row. The base run comes first, and is the row if it ends
+// before the point's first injection.
 fn row_of(alloc: Global, app: &App, point: &Point) -> Result<(bool, Run), Memory>
     ensures { IfOk result (λ row. IsRow app.now app.now.limits point.now row.0 row.1) }
 {
@@ -57,7 +57,8 @@ fn asked_run(
     Ok((title, run))
 }
 
-// Runs an application as it is asked for, and writes the report of the run, as its last deed.
+// Runs an application as it is asked for, and writes the report of the run, as the last thing it
+// does.
 fn serve_app<W: Sink>(
     alloc: Global,
     app: &App,
@@ -74,8 +75,9 @@ fn serve_app<W: Sink>(
     Ok(run.end)
 }
 
-/// Reads a file, runs the application that it names under its own limits, and writes the report of the run, as its
-/// last deed: the base run, or where a point is asked for, row 0. Answers how the run that it wrote ends.
+/// Reads a file, runs the application that it names under its own limits, and writes the report of
+/// the run, as the last thing it does: the base run, or if a point is asked for, row 0. Returns how
+/// the run that it wrote ends.
 ///
 /// At `Write` a beginning of the report is written. At every other error nothing is. `UnknownHandler` comes after every
 /// fault of the file, and before any run.

@@ -17,7 +17,7 @@ pub enum ExpandFault {
     Memory,
 }
 
-// How many points an entry means, where the base run has this many steps.
+// How many points an entry means, if the base run has this many steps.
 fn count_of(entry: &PointEntry, steps: u32) -> usize
     ensures count { result ≡ length (points_of steps entry.now) }
     ensures few { result ≤ 2 ^ 32 }
@@ -28,7 +28,7 @@ fn count_of(entry: &PointEntry, steps: u32) -> usize
     }
 }
 
-// How many points the entries mean; `None` where these are more than there may be.
+// How many points the entries mean; `None` if these are more than there may be.
 fn count_points(entries: &[PointEntry], steps: u32) -> Option<usize>
     ensures { MatchOption result (most_points < length (flat_map (points_of steps) entries.now))
         (λ count. (count ≡ length (flat_map (points_of steps) entries.now)) × (count ≤ most_points)) }

@@ -27,8 +27,9 @@ use rows::{KeptRow, Leg, Link};
 use shelf::{Shelf, Walk};
 use std::alloc::Global;
 
-/// What a worker runs its rows with: a kernel, the log of a step, the trail and the legs of all of them, the marks at kernels that they
-/// came to, and the kernels that the row on its way has come to.
+/// What a worker runs its rows with: a kernel, the log of a step, the trail and the legs of all of
+/// them, the marks at kernels that they reached, and the kernels that the row on its way has
+/// reached.
 #[derive(Drop)]
 pub(crate) struct Runner {
     alloc: Global,
@@ -44,8 +45,8 @@ pub(crate) struct Runner {
     spacing: Spacing,
 }
 
-// The first step at which a row looks for marks, whose last injection comes before this step. It is behind that, or behind each step that
-// a run can come to.
+// The first step at which a row looks for marks, whose last injection comes before this step. It is
+// after that, or after each step that a run can reach.
 fn first_mark(spacing: &Spacing, last: u32) -> u32
     ensures { min last 1000000 < result }
 {
@@ -54,7 +55,7 @@ fn first_mark(spacing: &Spacing, last: u32) -> u32
     next_mark(spacing.steps(), last, last + delay)
 }
 
-// How many of the base run's events a row has that is the base run, as far as the view shows it.
+// How many events a row has that is the base run, as far as the view shows it.
 fn shared_by(base: &Run, view: View) -> usize
     ensures { result ≡ (if shows_events view base.now.end then length base.now.events else 0) }
 {
@@ -65,7 +66,7 @@ fn shared_by(base: &Run, view: View) -> usize
     }
 }
 
-// How a row goes on that ended so: no more.
+// The rest of a row that ended in this way: nothing more.
 fn ahead_of(ending: RestEnding, base: &Run) -> Ahead
     ensures { result ≡ record { told = links.Base (length base.now.events); steps = ending.steps; ticks = ending.ticks; end = ending.end } }
 {
@@ -77,7 +78,7 @@ fn ahead_of(ending: RestEnding, base: &Run) -> Ahead
     }
 }
 
-// The end of the base run, behind which there are no events.
+// The end of the base run, after which there are no events.
 fn end_of_base(base: &Run) -> Link
     ensures { result ≡ links.Base (length base.now.events) }
 {
@@ -86,7 +87,7 @@ fn end_of_base(base: &Run) -> Link
     }
 }
 
-// A snapshot of the kernel, where there is memory for it: in that of one of these, if it serves.
+// A snapshot of the kernel, if there is memory for it: in that of one of these, if it serves.
 fn snapshot_of(
     alloc: Global,
     kernel: &Kernel,
@@ -130,7 +131,7 @@ impl Runner {
         (self.trail, self.legs)
     }
 
-    // How a row goes on that has come to its end: no more.
+    // The rest of a row that has reached its end: nothing more.
     fn no_rest(
         &self,
         app: &App,
@@ -153,7 +154,8 @@ impl Runner {
         }
     }
 
-    // How each row goes on that comes to this kernel, where that is known: since the base run has come to it, or another row.
+    // How each row that reaches this kernel goes on, if that is known: since the base run has
+    // reached it, or another row.
     fn known_rest(&self, app: &App, shelf: &Shelf, hint: u64) -> Option<Ahead>
         requires shelf { IsShelf app.now shelf.now }
         ensures { IfSome result (IsAhead app.now shelf.now.limits shelf.now.base self.now.table.marks.items self.now.kernel) }
@@ -170,7 +172,7 @@ impl Runner {
         })
     }
 
-    // Notes the kernel to which the row on its way has come, where there is memory for it.
+    // Notes the kernel that the row has reached on its way, if there is memory for it.
     fn note(&mut self, hint: u64)
         ensures kernel { self.new.kernel ≡ self.old.kernel }
         ensures trail { self.new.trail ≡ self.old.trail }
@@ -187,7 +189,7 @@ impl Runner {
         }
     }
 
-    // Runs a row on to its end, whose last injection comes before the step at which it is.
+    // Runs a row to its end. Its last injection comes before the step that it has reached.
     fn run_out(
         &mut self,
         app: &App,
@@ -220,13 +222,14 @@ impl Runner {
         )?;
         match ending {
             Some(ending) => Ok(ahead_of(ending, shelf.base())),
-            // No run comes so far (profile).
+            // No run gets this far (profile).
             None => unreachable!(),
         }
     }
 
-    // Runs a row on, whose last injection comes before the step at which it is, to a kernel from which it is known how each row goes on,
-    // or to its end. At each mark step on its way it looks for marks, and notes the kernel.
+    // Runs a row to a kernel from which the rest of each row is known, or to its end. Its last
+    // injection comes before the step that it has reached. At each mark step on its way it looks
+    // for marks, and notes the kernel.
     fn run_on(
         &mut self,
         app: &App,
@@ -274,7 +277,8 @@ impl Runner {
         }
     }
 
-    // The same, from the row's first mark step on. Where it doesn't pay to look for marks behind that, the row is run to its end.
+    // The same, from the row's first mark step on. If it doesn't pay to look for marks after that,
+    // the row is run to its end.
     fn run_from_mark_step(
         &mut self,
         app: &App,
@@ -307,7 +311,7 @@ impl Runner {
         }
     }
 
-    // How the row of a point goes on, which has come so far, or to this end.
+    // The rest of the row of a point that has come this far, or reached this end.
     fn rest(
         &mut self,
         app: &App,
@@ -360,7 +364,8 @@ impl Runner {
         }
     }
 
-    // The row on its way is over, went on so, and has the leg of this number: the kernels to which it came are marks now.
+    // The row on its way is over, with this rest and the leg of this number. The kernels that it
+    // reached are marks now.
     fn put_marks(&mut self, number: usize, rest: &Ahead, last: u32)
         ensures trail { self.new.trail ≡ self.old.trail }
         ensures legs { self.new.legs ≡ self.old.legs }
@@ -382,7 +387,8 @@ impl Runner {
         }
     }
 
-    // The row on its way is over, which goes on so behind the trail: it gets a leg of its own, from this place on.
+    // The row on its way is over, with this rest after the trail. It gets a leg of its own, from
+    // this place on.
     fn close(&mut self, rest: &Ahead, from: usize, last: u32) -> Result<Link, Memory>
         ensures link { IfOk result (λ link. link ≡ links.Leg (length self.old.legs.items) from) }
         ensures trail { self.new.trail ≡ self.old.trail }
@@ -403,8 +409,8 @@ impl Runner {
         Ok(Link::Leg { number, from })
     }
 
-    // The row on its way is over, which goes on so, without its events. They leave the trail, and it gets no leg: nobody will follow the
-    // link of a mark that is put here.
+    // The row on its way is over, with this rest, and its events aren't kept. They leave the trail,
+    // and it gets no leg: nothing follows the link of a mark that is put here.
     fn close_without_events(&mut self, rest: &Ahead, from: usize, last: u32)
         ensures trail { all_of self.new.trail ≡ take from (all_of self.old.trail) }
         ensures legs { self.new.legs ≡ self.old.legs }
@@ -478,8 +484,9 @@ impl Runner {
         })
     }
 
-    /// The row of a point, as far as the view shows it. Where it shows events, the row's own go to the trail. The walk goes along the base
-    /// run to the first injection. At `Err(Memory)` the runner and the walk are of no more use.
+    /// The row of a point, as far as the view shows it. If it shows events, the row's own go to the
+    /// trail. The walk goes along the base run to the first injection. At `Err(Memory)` the runner
+    /// and the walk can't be used any more.
     pub(crate) fn run(
         &mut self,
         app: &App,

@@ -36,10 +36,12 @@ impl From<ExpandFault> for ServeFault {
     }
 }
 
-// So many blocks there are for each worker at least, where there are points enough: then none waits long for the others at the end.
+// Each worker has at least this many blocks, if there are points enough: then none waits long for
+// the others at the end.
 const LEAST_BLOCKS: usize = 8;
 
-// How many points a block has: as many as are asked for, or fewer, so that there are some blocks for each of so many workers.
+// How many points a block has: as many as are asked for, or fewer, so that there are some blocks
+// for each of this many workers.
 fn points_of_a_block(options: Options, points: usize, workers: usize) -> usize
     requires { 0 < workers }
     ensures { 0 < result }
@@ -48,8 +50,9 @@ fn points_of_a_block(options: Options, points: usize, workers: usize) -> usize
     most.min(points / workers / LEAST_BLOCKS).max(1)
 }
 
-// How many steps are between two stops of the base run: as many as are asked for, and eight times as many where the report isn't a whole one.
-// There it is of no use that a row goes on as the base run does, and not as another row, so most stops would only take memory.
+// How many steps are between two stops of the base run: as many as are asked for, and eight times
+// as many if the report isn't a whole one. There it is of no use that a row goes on as the base run
+// does, and not as another row, so most stops would only take memory.
 fn steps_between_stops(options: Options, view: View) -> u32
     ensures some { 0 < result }
     ensures near { result ≤ 65536 }
@@ -62,7 +65,8 @@ fn steps_between_stops(options: Options, view: View) -> u32
     stride.clamp(1, Options::MOST_STRIDE)
 }
 
-// The report of these points, of which the first has this number. The rows are counted by a tally of its own.
+// The report of these points; the first of them has this number. The rows are counted by a tally of
+// its own.
 fn report_from<R: Threads + Wait + Sync, G: Gate + Sync>(
     rt: &R,
     alloc: Global,
@@ -115,7 +119,7 @@ fn report_of<R: Threads + Wait + Sync, G: Gate + Sync>(
     Ok(report)
 }
 
-// Makes the rows of an application, and writes the report of them, as its last deed.
+// Makes the rows of an application, and writes the report of them, as the last thing it does.
 fn serve_app<T: Threads + Wait + Sync, W: Sink, G: Gate + Sync>(
     rt: &T,
     alloc: Global,
@@ -139,10 +143,11 @@ fn serve_app<T: Threads + Wait + Sync, W: Sink, G: Gate + Sync>(
     Ok(totals)
 }
 
-/// Reads a file, runs the application that it names once for each of its points in this part of them, under its own limits, and
-/// writes what the view shows of the rows, and their totals, as its last deed: so all rows are made before the first byte goes out.
-/// Answers the totals that it wrote: they count all rows of the part, written or not. The report doesn't depend on the options. It
-/// waits for its workers.
+/// Reads a file, runs the application that it names once for each of its points in this part of
+/// them, under its own limits, and writes what the view shows of the rows, and their totals, as the
+/// last thing it does: so all rows are made before the first byte goes out. Returns the totals that
+/// it wrote: they count all rows of the part, written or not. The report doesn't depend on the
+/// options. It waits for its workers.
 ///
 /// At `Write` a beginning of the report is written. At every other error nothing is. `TooManyPoints` comes after every fault of
 /// the file; `UnknownHandler` never does.

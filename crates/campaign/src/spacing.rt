@@ -1,18 +1,21 @@
-//! How far behind its last injection a row looks for marks first, and how many steps are between two marks near it.
+//! How far after its last injection a row looks for marks first, and how many steps are between two
+//! marks near it.
 use crate::mark_steps::spacing_of;
 
-/// Where rows look: how often the widest spacing is halved, and how many eighths of it they do behind their last injection first.
+/// Where rows look: how often the widest spacing is halved, and after how many eighths of it,
+/// counted from their last injection, they look first.
 #[derive(Clone, Copy)]
 struct Plan {
     halvings: u32,
     eighths: u32,
 }
 
-// So many are tried.
+// This many are tried.
 const PLANS: usize = 8;
 
 impl Plan {
-    // What is tried. What a handler has brought about mostly fades after some steps, and a row that looks sooner finds no mark.
+    // What is tried. What a handler has brought about usually fades after some steps, and a row
+    // that looks sooner finds no mark.
     fn numbered(number: usize) -> Plan {
         let (halvings, eighths) = match number {
             0 => (0, 0),
@@ -28,32 +31,34 @@ impl Plan {
     }
 }
 
-// So often the widest spacing is halved at most.
+// The widest spacing is halved at most this often.
 const MOST_HALVINGS: u32 = 3;
 
-// After so many rows it is judged what they cost.
+// After this many rows, their cost is judged.
 const ROWS: u32 = 256;
 
-// So often as many rows look in the best way, before all are tried anew.
+// This often as many rows look in the best way, before all are tried again.
 const TURNS: u32 = 256;
 
-// So many steps cost as much as a look that finds no mark, and the one that it leaves.
+// This many steps cost as much as a look that finds no mark, and the one that it leaves.
 const MARK: u32 = 20;
 
-// Of a row no more counts than so many: few rows of a worker are run far, and it doesn't matter where these look first.
+// Of a row at most this many count: few rows of a worker are run far, and it doesn't matter where
+// these look first.
 const MOST: u32 = 512;
 
-// So many marks are kept at least: they stay in the cache that a processor has for itself.
+// This many marks are kept at least: they stay in the cache that a processor has for itself.
 const FEWEST_MARKS: u32 = 384;
 
-// So many at most: of few tasks they take some 30 MB, of 32 some 55 MB.
+// At most this many: with few tasks they take some 30 MB, with 32 some 55 MB.
 const MOST_MARKS: u32 = 8192;
 
 // One more is kept for so much that `ROWS` rows cost.
 const COST_OF_A_MARK: u32 = 16;
 
-/// How many steps are between two marks near an injection, and how far behind it a row looks for one first. Each way to look is tried with
-/// many rows. The one with which they cost least is kept for long, and then all are tried again.
+/// How many steps are between two marks near an injection, and how far after it a row looks for one
+/// first. Each way to look is tried with many rows. The one with which they cost least is kept for
+/// long, and then all are tried again.
 #[derive(Drop)]
 pub(crate) struct Spacing {
     widest: u32,
@@ -72,7 +77,8 @@ pub(crate) struct Spacing {
 }
 
 impl Spacing {
-    /// The first way that is tried: marks are widest apart, where the base run has a stop before each `stride`-th step.
+    /// The first way that is tried: marks are widest apart, if the base run has a stop before each
+    /// `stride`-th step.
     pub(crate) fn new(stride: u32) -> Spacing {
         let widest = spacing_of(stride);
         Spacing {
@@ -89,7 +95,7 @@ impl Spacing {
         }
     }
 
-    /// How many steps are between two marks near an injection, where these are closest together.
+    /// How many steps are between two marks near an injection, if these are closest together.
     pub(crate) fn closest(&self) -> u32 {
         self.widest >> MOST_HALVINGS
     }
@@ -99,18 +105,20 @@ impl Spacing {
         self.steps
     }
 
-    /// How many steps a row now does behind its last injection before it looks.
+    /// How many steps a row now does after its last injection before it looks.
     pub(crate) fn delay(&self) -> u32 {
         self.delay
     }
 
-    /// How many marks are kept at most. Where rows cost little, they come to marks that were left a moment ago, and a mark that was left long
-    /// ago is only in the way of these in a processor's cache. Where rows are run far, each mark that is found saves many steps.
+    /// How many marks are kept at most. If rows cost little, they reach marks that were left a
+    /// moment ago, and a mark that was left long ago is only in the way of these in a processor's
+    /// cache. If rows are run far, each mark that is found saves many steps.
     pub(crate) fn room(&self) -> usize {
         self.room as usize
     }
 
-    /// A row did so many steps behind its last injection, and left so many marks. After many rows it is judged what they cost.
+    /// A row did this many steps after its last injection, and left this many marks. After many
+    /// rows their cost is judged.
     pub(crate) fn count_row(&mut self, steps: u32, marks: usize) {
         let marks = (marks.min(MOST as usize) as u32).saturating_mul(MARK);
         let cost = steps.saturating_add(marks).min(MOST);

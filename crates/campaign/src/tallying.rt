@@ -16,7 +16,7 @@ const KINDS: usize = 7;
 // The kind of the points that are not reached.
 const NOT_REACHED: usize = 6;
 
-// So much a seat adds to a kind at most.
+// A seat adds at most this much to a kind.
 const MOST_ADDED: u64 = 1 << 40;
 
 // The kind of an end.
@@ -58,7 +58,7 @@ impl RowCounts {
         self.kinds[kind] += 1;
     }
 
-    /// Counts a row: to the kind of its end, and where its point is not reached, to that kind too.
+    /// Counts a row: to the kind of its end, and if its point is not reached, to that kind too.
     pub(crate) fn count(&mut self, reached: bool, end: End)
         requires room { (kind : ℕ) → kind < 7 → slice_index self.old.kinds kind + 1 ≤ 2 ^ 40 }
         ensures { (row : Row) (tally : Sheet) → row.reached ≡ reached → row.run.end ≡ end
@@ -125,7 +125,8 @@ impl AddedBefore {
         u32::try_from(more).unwrap_or(0)
     }
 
-    /// The totals of these rows, so many, that these seats, 64 at most, have counted since. No row is looked at.
+    /// The totals of these rows, this many, that these seats, 64 at most, have counted since. No
+    /// row is looked at.
     pub(crate) fn totals(&self, seats: &[TallySeat], rows: u32) -> Totals
         requires few { length seats.now ≤ 64 }
         ensures { (these : List Row) → length these ≡ rows → length these ≤ most_points

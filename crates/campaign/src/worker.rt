@@ -1,4 +1,4 @@
-//! A worker, which makes the rows of the blocks that its lane is answered.
+//! A worker, which makes the rows of the blocks that its lane returns.
 ghost use Rattle.std.specs.Prelude.{◌≡◌, ◌<◌, ◌≤◌, ◌+◌, ◌^◌, ◌++◌, ◌∷◌, ℕ, [], None, length, slice_index, sum, take, drop, IfOk, IfSome, OnOk};
 ghost use Rattle.model.specs.Application.{Limits};
 ghost use Rattle.shelf.specs.Shelves.{IsShelf};
@@ -30,7 +30,8 @@ pub(crate) struct Setup<'a> {
     pub(crate) tally: &'a Tally,
 }
 
-/// What a worker is given: its number, its lane and its seat, and the room for its rows, of which none is made.
+/// What a worker is given: its number, its lane and its seat, and the room for its rows. None is
+/// made yet.
 #[derive(Drop)]
 pub(crate) struct Job {
     pub(crate) number: usize,
@@ -39,7 +40,8 @@ pub(crate) struct Job {
     pub(crate) kept: KeptRows,
 }
 
-/// What a worker hands on when it is joined. It is refused where it, or another, found no memory; then its part is of no use.
+/// What a worker hands on when it is joined. It is refused if it, or another, found no memory; then
+/// its part is of no use.
 #[derive(Drop)]
 pub(crate) struct Done {
     pub(crate) lane: Lane,
@@ -58,7 +60,7 @@ struct Worker {
     recent: Recent,
 }
 
-// The number of the row that is kept of this point, where the one that was made last of it is found.
+// The number of the row that is kept of this point, if the one that was made last of it is found.
 fn again(kept: &KeptRows, recent: &Recent, point: &Point) -> Option<usize>
     ensures { IfSome result (IsAmong kept.now point.now) }
 {
@@ -91,7 +93,8 @@ impl Worker {
         }
     }
 
-    // Keeps the row of a point: once more that of the same point before, where it is found, otherwise it is made. Answers how it ends.
+    // Keeps the row of a point: once more that of the same point before, if it is found, otherwise
+    // it is made. Returns how it ends.
     fn keep_row(
         &mut self,
         app: &App,
@@ -120,7 +123,8 @@ impl Worker {
         Ok(end)
     }
 
-    // Makes the row of a point, and then counts it. At `Err(Memory)` the worker is of no more use.
+    // Makes the row of a point, and then counts it. At `Err(Memory)` the worker can't be used any
+    // more.
     fn add_row(
         &mut self,
         setup: &Setup<'_>,
@@ -186,8 +190,8 @@ impl Worker {
     }
 }
 
-/// Works until all blocks are handed out. Where memory is refused it raises `stop`; where that is raised, it stops at its next
-/// block.
+/// Works until all blocks are handed out. If memory is refused it raises `stop`; if that is raised,
+/// it stops at its next block.
 pub(crate) fn work<R: Wait, G: Gate>(
     rt: &R,
     alloc: Global,

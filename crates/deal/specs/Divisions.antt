@@ -16,7 +16,7 @@ IsDivision lengths = ArePositive lengths × (sum lengths < 2 ^ 64)
 abbrev pub IsBlock : List ℕ → ℕ → ℕ → ℕ → Type 0
 IsBlock lengths i first len = (i < length lengths) × (first ≡ sum (take i lengths)) × (len ≡ slice_index lengths i)
 
--- The first length of 0 is named; where there is none, the sum is wrong
+-- The first length of 0 is named; if there is none, the sum is wrong
 abbrev pub MatchBad : BadDivision → ℕ → List ℕ → Type 0
 MatchBad (ZeroLength i) total lengths =
     (i < length lengths) × (slice_index lengths i ≡ 0) × ((k : ℕ) → k < i → 0 < slice_index lengths k)

@@ -37,8 +37,8 @@ game table size lengths = record { table = table; lanes = size.lanes; rising = s
 abbrev pub sight : Game → Mark → Log → List ℕ → Sight
 sight g m own got = record { game = g; dealt = own.dealt; answered = got; seen = m.seen }
 
--- The lane counted just the blocks that it was answered, which are those that its passes took.
--- A lane alone has every block in its deque
+-- The lane counted just the blocks that were returned to it, which are those that its passes took. A lane alone has every block
+-- in its deque
 abbrev pub IsLane : Size → List ℕ → Seat (Unit {0}) Mark → Log → List Log → List ℕ → TableId → Type 0
 IsLane size lengths share own others got z =
     IsShareOf z share
@@ -53,8 +53,8 @@ IsLane size lengths share own others got z =
 abbrev pub IsDealer : Size → TableId → ℕ → Seat (Unit {0}) Mark → Type 0
 IsDealer size z left share = IsShareOf z share × (share.me.0 ≡ mark size.blocks size.lanes left 0 0 [])
 
--- The seat takes in a lane's. It then has the blocks that the lane was answered, and has seen as much.
--- With all lanes in, it has counted all
+-- The seat takes in a lane's. It then has the blocks that were returned to the lane, and has seen as much. With all lanes in, it
+-- has counted all
 abbrev pub Collects : Sight → Mark → Mark → Type 0
 Collects lane v w =
     (w.all ≡ v.all) × (w.lanes ≡ v.lanes) × (w.parts ≡ v.parts + 1)

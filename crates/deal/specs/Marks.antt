@@ -75,7 +75,7 @@ Counting s me n me' =
     (me'.0 ≡ mark me.0.all me.0.lanes me.0.parts (me.0.counted + 1) (n + 1) me.0.blocks) × (me'.1 ≡ me.1)
     × (me.0.seen ≤ n) × (n < me.0.all) × (me.0.counted ≤ n) × IsAmong me.0.all me.0.blocks
 
--- The seat saw the count. Where it represents every lane, the count is its own
+-- The seat saw the count. If it represents every lane, the count is its own
 abbrev pub Looking : Step (Unit {0}) → Me (Unit {0}) Mark → ℕ → Me (Unit {0}) Mark → Type 0
 Looking s me n me' =
     (me'.0 ≡ mark me.0.all me.0.lanes me.0.parts me.0.counted n me.0.blocks) × (me'.1 ≡ me.1)

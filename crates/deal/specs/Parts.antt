@@ -65,7 +65,7 @@ Adding s me n me' =
     (slice_set me.0.seen s.word (n + s.first)))
     × (me'.1 ≡ me.1) × (slice_index me.0.seen s.word ≤ n) × (length me.0.seen ≡ 7)
 
--- The seat saw the word. Where it represents every seat, the word is what it added
+-- The seat saw the word. If it represents every seat, the word is what it added
 abbrev pub Seeing : Step (Unit {0}) → Me (Unit {0}) Part → ℕ → Me (Unit {0}) Part → Type 0
 Seeing s me n me' =
     (me'.0 ≡ part me.0.seats me.0.parts me.0.added (slice_set me.0.seen s.word n))

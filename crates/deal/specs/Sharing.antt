@@ -18,8 +18,8 @@ pub record Game : Type 0 where
   pub rising : Bool
   pub lengths : List ℕ
 
--- What a lane has seen: its deal; the blocks that were dealt to it, and those that it was answered, both in order; and the highest
--- number of blocks handed out that it saw
+-- What a lane has seen: its deal; the blocks that were dealt to it, and those that were returned to it, both in order; and the
+-- highest number of blocks handed out that it saw
 pub record Sight : Type 0 where
   pub game : Game
   pub dealt : List ℕ
@@ -34,16 +34,15 @@ HasSeenAll lane = lane.seen ≡ length lane.game.lengths
 abbrev pub Goes : Sight → Sight → Type 0
 Goes old new = (new.game ≡ old.game) × (new.dealt ≡ old.dealt) × (old.seen ≤ new.seen)
 
--- A block is one of the division, and new to the lane. The answer may be to ask
--- again only among several lanes. Empty is answered only where every
--- block has been handed out
+-- A block is one of the division, and new to the lane. It may be asked to call again only among several lanes. Empty is returned
+-- only if every block has been handed out
 abbrev pub MatchNext : Next → Sight → Sight → Type 0
 MatchNext (Block number first len) old new =
     IsBlock new.game.lengths number first len × (times number old.answered ≡ 0) × (new.answered ≡ old.answered ++ number ∷ [])
 MatchNext Again old new = (new.answered ≡ old.answered) × (1 < new.game.lanes) × (HasSeenAll new → ⊥)
 MatchNext Empty old new = (new.answered ≡ old.answered) × HasSeenAll new
 
--- the answer is the block of this number
+-- the result is the block of this number
 abbrev pub IsTheBlock : List ℕ → ℕ → Next → Type 0
 IsTheBlock lengths number (Block i first len) = (i ≡ number) × IsBlock lengths number first len
 IsTheBlock lengths number Again = ⊥
@@ -67,7 +66,7 @@ fresh game number = record {
 abbrev pub fresh_lanes : Game → List Sight
 fresh_lanes game = map (fresh game) (range 0 game.lanes)
 
--- what each lane was answered
+-- what was returned to each lane
 abbrev pub lists_of : List Sight → List (List ℕ)
 lists_of lanes = map (λ (lane : Sight). lane.answered) lanes
 

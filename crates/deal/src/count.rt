@@ -29,7 +29,7 @@ pub struct Mark {
     pub blocks: LinkedList<u64>,
 }
 
-/// A block, and the right to be the one who has it.
+/// A block, and the right to be its only owner.
 #[derive(Drop)]
 pub struct Ticket {
     pub number: usize,
@@ -99,7 +99,7 @@ pub type Count = Table<(), Mark, Size, Counted, Global>;
 
 pub type Share = Seat<(), Mark>;
 
-/// A block that a lane takes joins its seat, and is counted. Answers the count before.
+/// A block that a lane takes joins its seat, and is counted. Returns the count before.
 pub fn hand_out(count: &Count, share: &mut Share, ticket: Ticket) -> u64
     requires share { IsShareOf count.now.shared.table_id share.old }
     requires ticket { IsTicketOf count.now.shared.table_id ticket }

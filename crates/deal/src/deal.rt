@@ -23,8 +23,8 @@ use std::sync::Arc;
 /// The blocks of a closed deal.
 #[derive(Drop)]
 pub struct Closed {
-    /// The numbers of the blocks that each lane was answered, in order, for the lanes as they were
-    /// handed back.
+    /// The numbers of the blocks that were returned to each lane, in order, for the lanes as they
+    /// were handed back.
     pub lists: Vec<Vec<usize>>,
     /// The other blocks' numbers, rising.
     pub rest: Vec<usize>,
@@ -102,10 +102,10 @@ impl Deal {
         Ok((deal, lanes))
     }
 
-    /// The blocks that each lane was answered, in order, and the others. Takes no memory.
+    /// The blocks that were returned to each lane, in order, and the others. Takes no memory.
     ///
-    /// A lane may be missing; what it was answered is then among the others. Where all lanes are
-    /// back, and one of them was answered `Empty`, there are no others.
+    /// A lane may be missing; what was returned to it is then among the others. If all lanes are
+    /// back, and one of them got `Empty`, there are no others.
     pub fn close(self, lanes: Vec<Lane>) -> Closed
         requires { AreLanesOf self lanes.items }
         ensures lists { items_of result.lists.items ≡ lists_of lanes.items }

@@ -106,7 +106,8 @@ impl Lane {
         })
     }
 
-    // The lane's seat joins its deal's. Answers the blocks that the lane was answered, in order.
+    // The lane's seat joins its deal's. Returns the blocks that were returned to the lane, in
+    // order.
     pub(crate) fn hand_back(self, dealer: &mut Share) -> Vec<usize>
         requires { IsShareOf self.game.table dealer.old × (dealer.old.me.0.all ≡ length self.game.lengths)
             × (dealer.old.me.0.lanes ≡ self.game.lanes) }

@@ -1,6 +1,6 @@
-//! What a lane answers.
+//! What a lane returns.
 
-/// What a lane's call for the next block answers.
+/// What a lane's call for the next block returns.
 #[derive(Clone, Copy, Debug, PartialEq, Eq)]
 pub enum Next {
     /// A block is the lane's, and no other's.

@@ -23,7 +23,7 @@ impl Shared {
         self.division.count() as u64
     }
 
-    /// A block, as a lane answers it.
+    /// A block, as a lane returns it.
     pub fn block(&self, number: usize) -> Next
         requires number { number < length self.now.division }
         requires starts { AreStarts self.now.division self.now.starts.items }

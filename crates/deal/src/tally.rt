@@ -124,7 +124,7 @@ impl Tally {
         see_all(&self.words, &mut seat.seat)
     }
 
-    /// What all seats added. Where not all are there, everything comes back. Takes no memory.
+    /// What all seats added. If not all are there, everything comes back. Takes no memory.
     pub fn close(self, mut seats: Vec<TallySeat>) -> Result<Counts, SeatsMissing>
         requires { AreSeatsOf self seats.items }
         ensures ok { IfOk result (λ counts. AreCounts counts.kinds seats.items) }

@@ -1,4 +1,4 @@
-//! The words of a tally, of which each is what all seats added to its kind.
+//! The words of a tally, each of which is what all seats added to its kind.
 ghost use Rattle.std.specs.Prelude.{◌≡◌, ◌+◌, ◌<◌, ◌≤◌, ◌^◌, length, slice_index, slice_set};
 ghost use Rattle.deal.specs.Parts.{both_parts, IsSeatOf};
 ghost use Rattle.deal.specs.Tallies.{RisesAt};
@@ -73,8 +73,8 @@ pub fn add_to(words: &Words, seat: &mut PartSeat, kind: usize, n: u64)
     words.shared.fetch_add::<Adds>(seat, kind, n);
 }
 
-/// The count of a kind, at least what the seat had seen. Where the seat represents all, it is what
-/// was added.
+/// The count of a kind, at least what the seat had seen. If the seat represents all, it is what was
+/// added.
 pub fn see(words: &Words, seat: &mut PartSeat, kind: usize) -> u64
     requires { IsSeatOf words.now.shared.table_id seat.old × (kind < 7) }
     ensures seat { IsSeatOf words.now.shared.table_id seat.new }

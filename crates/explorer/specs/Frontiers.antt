@@ -21,7 +21,7 @@ Plans = List (List Injection)
 
 -- ---- what plans go on to
 
--- the placements to which a plan goes on whose run is before step n, and has so many steps at most
+-- the placements to which a plan goes on, if its run is before step n and has so many steps at most
 abbrev pub placed_from : Application → Limits → (handlers : List ℕ) → (most fuel n : ℕ) → List Injection → List Placed
 placed_from app limits handlers most zero n plan = []
 placed_from app limits handlers most (suc fuel) n plan =
@@ -88,14 +88,14 @@ Settles app limits until k count least old new old_found new_found = (plans more
     → AreAt app limits k.steps k count least more → Carries app limits until old plans → IsTally all old_found
     → Settled app limits k.steps until more old new old_found new_found plans all
 
--- Plans at this kernel come to the others.
+-- Plans at this kernel are added to the others.
 abbrev pub Takes : Application → Limits → (levels until : ℕ) → Machine → (count : ℕ) → (least : List Injection) →
     (old new : Frontier) → Type 0
 Takes app limits levels until k count least old new = (handlers : List ℕ) (more : Plans) (total : List Placed)
     → AreAt app limits k.steps k count least more → Holds app limits handlers levels k.steps until old total
     → Holds app limits handlers levels k.steps until new (total ++ rests_of app limits handlers levels k.steps more)
 
--- So do the plans of this node, followed by each of these choices.
+-- The plans of this node, followed by each of these choices, are added too.
 abbrev pub TakesBy : Application → Limits → (levels until : ℕ) → Node → (nows : List (List ℕ)) → (old new : Frontier) → Type 0
 TakesBy app limits levels until node nows old new = (handlers : List ℕ) (n : ℕ) (more : Plans) (total : List Placed)
     → AreOf app limits n node more → Holds app limits handlers levels (n + 1) until old total

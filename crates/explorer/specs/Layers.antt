@@ -1,4 +1,4 @@
--- Which plans come to which kernels before a step.
+-- Which plans reach which kernels before a step.
 use Rattle.std.specs.Prelude.{◌≡◌, ◌<◌, ◌-◌, ℕ, false, List, ◌++◌, None, Contains, length, map, sum_by}
 use Rattle.std.specs.List.{AllByRecursion, AllZip, flat_map}
 use Rattle.model.specs.declared.plan.Injection.{Injection}
@@ -10,7 +10,7 @@ use Rattle.machine.specs.Can.{IsUnderWay}
 use Rattle.explorer.specs.declared.layer.Node.{Node}
 use Rattle.explorer.specs.Reordered.{IsReordered}
 
--- The runs of these plans, so many, are at this kernel before step n. This one is the least of them, and they have as many
+-- The runs of these plans, this many, are at this kernel before step n. This one is the least of them, and they have as many
 -- injections.
 pub record AreAt (app : Application) (limits : Limits) (n : ℕ) (k : Machine) (count : ℕ) (least : List Injection)
     (plans : List (List Injection)) : Type 0 where
@@ -57,6 +57,6 @@ pub record HasWay (app : Application) (limits : Limits) (k : Machine) (injection
   pub way : IsUnderWay app injections limits k
   pub below : AllByRecursion (λ (i : Injection). i.step < k.steps) injections
 
--- the choices that these injections have left, of fewer than so many
+-- the choices that these injections have left, of fewer than this many
 abbrev pub nows_of : (handlers : List ℕ) → (levels : ℕ) → List Injection → List (List ℕ)
 nows_of handlers levels plan = choices handlers (levels - 1 - length plan)

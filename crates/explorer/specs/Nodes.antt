@@ -7,7 +7,7 @@ use Rattle.machine.specs.declared.machine.Machine.{Machine}
 use Rattle.machine.specs.StandsFor.{Stands}
 use Rattle.explorer.specs.declared.layer.Node.{Node}
 
--- The node of this number has plans of so many injections, and its kernel represents each state that this one represents.
+-- The node of this number has plans of this many injections, and its kernel represents each state that this one represents.
 pub record IsAlike (nodes : List Node) (k : Machine) (count : ℕ) (number : ℕ) : Type 0 where
   pub node : Node
   pub within : number < length nodes

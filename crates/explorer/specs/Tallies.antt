@@ -11,11 +11,11 @@ pub record IsTally (all : List Placed) (found : List Found) : Type 0 where
   pub whole : AllByRecursion (λ (p : Placed). (f : Found) × Contains found f × (f.least.end ≡ p.end)) all
   pub apart : AreDistinct (map (λ (f : Found). f.least.end) found)
 
--- what these plans come to, where their runs end alike
+-- the placements of these plans, if their runs end alike
 abbrev pub ending_in : Placed → List (List Injection) → List Placed
 ending_in p plans = map (λ plan. record p { injections = plan }) plans
 
--- With plans that end alike more, so many, of which this is the least, the tally goes on.
+-- The tally after this many more plans that end alike; this is the least of them.
 abbrev pub TalliesMore : (old new : List Found) → (count : ℕ) → (least : Placed) → Type 0
 TalliesMore old new count least = (all : List Placed) (plans : List (List Injection)) → IsTally all old → count ≡ length plans
     → Contains plans least.injections → AllByRecursion (λ plan. is_less plan least.injections ≡ false) plans

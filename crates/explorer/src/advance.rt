@@ -14,8 +14,9 @@ use crate::settling::{Stepper, settle};
 use model::{App, HandlerId, Limits, Memory, Meter};
 use std::alloc::Global;
 
-// Plans whose runs are at the stepper's kernel, so many, of which this is the least, are put where they go on: those with injections left
-// to the live kernels, the others, once they have gone on up to the end of the block, to the spent ones.
+// Puts this many plans, the least of them this one, where they go on from the stepper's kernel.
+// Those with injections left go to the live kernels. The others go on up to the end of the block,
+// and then to the spent ones.
 fn keep(
     alloc: Global,
     app: &App,
@@ -97,7 +98,7 @@ fn step_by(
     )
 }
 
-// From the kernel of a node its plans go on with each of these choices, of so many handlers.
+// From the kernel of a node its plans go on with each of these choices, of this many handlers.
 fn step_by_each(
     alloc: Global,
     app: &App,

@@ -103,7 +103,7 @@ pub(crate) struct Choices {
 }
 
 impl Choices {
-    /// The choices of these handlers, up to so many at once.
+    /// The choices of these handlers, up to this many at once.
     pub(crate) fn new(alloc: Global, handlers: &[HandlerId], most: usize) -> Result<Choices, Memory>
         requires { most ≤ 3 }
         ensures levels { IfOk result (λ choices. AreLevels choices.handlers.items choices.levels.items) }
@@ -122,7 +122,7 @@ impl Choices {
     }
 }
 
-// Puts the handler followed by each of these choices behind the others.
+// Puts the handler followed by each of these choices after the others.
 fn push_all(
     alloc: Global,
     handler: HandlerId,

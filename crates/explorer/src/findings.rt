@@ -10,7 +10,8 @@ use crate::placement::Placement;
 use model::{End, Memory};
 use std::marker::Model;
 
-/// What is found of an end: how many placements have it, the least of them, and what the run with that one comes to.
+/// What is found of an end: how many placements have it, the least of them, and how the run with
+/// that one ends.
 #[derive(Drop)]
 pub struct Found {
     /// How many placements have this end.
@@ -35,7 +36,7 @@ impl Model for Found {
 }
 
 impl Found {
-    // So many placements more have its end, of which this is the least.
+    // This many more placements have its end; this is the least of them.
     fn add(&mut self, more: Found)
         requires { self.old.number + more.number < 2 ^ 128 }
         ensures { IsCounted self.old self.new more }
@@ -70,7 +71,7 @@ fn add_at(found: &mut Vec<Found>, number: usize, more: Found)
     one.add(more);
 }
 
-/// So many placements more have this end, of which this is the least.
+/// This many more placements have this end; this is the least of them.
 pub(crate) fn count_end(found: &mut Vec<Found>, more: Found) -> Result<(), Memory>
     requires { AllByRecursion (λ f. f.number + more.number < 2 ^ 128) found.old.items }
     ensures tallies { OnOk result (TalliesMore found.old.items found.new.items more.number more.least) }

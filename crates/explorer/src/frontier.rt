@@ -70,9 +70,10 @@ impl Frontier {
         swap(layer, &mut self.spent);
     }
 
-    /// How many steps the next block takes, with so many handlers. Each of its steps makes about as many spent kernels as there are live ones
-    /// for each handler, and each of these goes on for half a block. The old ones are looked for once in a block, which takes the time of
-    /// some twenty steps.
+    /// How many steps the next block takes, with this many handlers. Each of its steps makes about
+    /// as many spent kernels as there are live ones for each handler, and each of these goes on for
+    /// half a block. The old ones are looked for once in a block, which takes the time of some
+    /// twenty steps.
     pub(crate) fn block(&self, handlers: usize) -> u32
         ensures some { 0 < result }
         ensures few { result ≤ 2 * LONGEST }

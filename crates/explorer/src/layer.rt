@@ -1,4 +1,4 @@
-//! The kernels that runs have come to before a step.
+//! The kernels that runs have reached before a step.
 ghost use Rattle.std.specs.Prelude.{◌≡◌, ◌<◌, ◌+◌, ◌^◌, [], true, length, IfOk, IfSome, OnOk};
 ghost use Rattle.explorer.specs.Layers.{Gains, count_of};
 ghost use Rattle.explorer.specs.Nodes.{IsAlike, IsJoined, IsPut};
@@ -8,10 +8,11 @@ use kernel::{Kernel, Snapshot};
 use model::{App, Memory};
 use std::alloc::Global;
 
-// The number that a place has where no node is.
+// The number in a place that has no node.
 const NO_NODE: u32 = u32::MAX;
 
-/// A kernel that runs have come to before a step, with plans of as many injections: how many they are, and the least of them.
+/// A kernel that runs have reached before a step, with plans of equally many injections: how many
+/// they are, and the least of them.
 #[derive(Drop)]
 pub(crate) struct Node {
     pub(crate) kernel: Box<Snapshot>,
@@ -22,17 +23,18 @@ pub(crate) struct Node {
     after: u32,
 }
 
-/// All kernels that runs have come to before a step, and a table of guesses at where to look for one. A wrong guess costs time and memory
-/// alone.
+/// All kernels that runs have reached before a step, and a table of guesses at where to look for
+/// one. A wrong guess costs time and memory alone.
 #[derive(Drop)]
 pub(crate) struct Layer {
     pub(crate) nodes: Vec<Node>,
     heads: Vec<u32>,
-    // The memory of kernels that are of no more use.
+    // The memory of kernels that can't be used any more.
     spare: Vec<Box<Snapshot>>,
 }
 
-// A table for about so many kernels, in the memory that it has, if that suffices. If there is no memory for it, none will be found.
+// A table for about this many kernels, in the memory that it has, if that suffices. If there is no
+// memory for it, none will be found.
 fn clear_table(alloc: Global, heads: &mut Vec<u32>, about: usize) {
     let places = about.saturating_mul(2).saturating_add(8);
     if heads.len() < places {
@@ -56,7 +58,7 @@ impl Layer {
         }
     }
 
-    /// Drops its kernels, and keeps their memory for about so many others.
+    /// Drops its kernels, and keeps their memory for about this many others.
     pub(crate) fn clear(&mut self, alloc: Global, about: usize)
         ensures { self.new.nodes.items ≡ [] }
     {
@@ -83,7 +85,8 @@ impl Layer {
         }
     }
 
-    // The number of a node of this kernel, of this hint, with plans of so many injections, if one is found.
+    // The number of a node of this kernel, of this hint, with plans of this many injections, if one
+    // is found.
     fn find(&self, kernel: &Kernel, hint: u64, length: usize) -> Option<usize>
         ensures { IfSome result (IsAlike self.now.nodes.items kernel.now length) }
     {
@@ -98,7 +101,7 @@ impl Layer {
         None
     }
 
-    // To the plans of this node come others, so many, of which this is the least.
+    // Adds this many plans to those of this node; this is the least of them.
     fn join(&mut self, number: usize, count: u128, least: Placement)
         requires within { number < length self.old.nodes.items }
         requires room { count_of self.old.nodes.items + count < 2 ^ 128 }
@@ -152,7 +155,8 @@ impl Layer {
         Ok(())
     }
 
-    /// So many plans more come to this kernel, all of as many injections, of which this is the least.
+    /// This many more plans reach this kernel, all with equally many injections; this is the least
+    /// of them.
     pub(crate) fn add(
         &mut self,
         alloc: Global,

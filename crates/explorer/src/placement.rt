@@ -70,7 +70,7 @@ impl Placement {
         }
     }
 
-    /// With these handlers before this step behind them.
+    /// With these handlers, before this step, added at the end.
     pub(crate) fn followed_by(&self, step: u32, handlers: &[HandlerId]) -> Placement
         requires { length self.now + length handlers.now ≤ 3 }
         ensures { result ≡ self.now ++ definitions.before_this step handlers.now }

@@ -32,8 +32,8 @@ impl Stepper {
         }
     }
 
-    // The kernel goes on up to this step, or to the end of its run. All runs with such injections do the same. How they end is answered,
-    // if they do.
+    // The kernel goes on up to this step, or to the end of its run. All runs with such injections
+    // do the same. Returns how they end, if they do.
     fn go_far(
         &mut self,
         app: &App,
@@ -61,8 +61,9 @@ impl Stepper {
     }
 }
 
-/// Plans whose runs are at the stepper's kernel, so many, of which this is the least, go on up to this step, with no more injections: they
-/// are put to the kernels there, or, if they end before it, found with their end.
+/// This many plans, the least of them this one, go on from the stepper's kernel up to this step,
+/// with no more injections. They are put with the kernels there, or, if they end before it, counted
+/// with their end.
 pub(crate) fn settle(
     alloc: Global,
     app: &App,

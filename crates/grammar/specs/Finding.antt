@@ -1,4 +1,4 @@
--- Of what sort an object is, and how names are read where any will do.
+-- Of what sort an object is, and how names are read if any will do.
 use Rattle.std.specs.Prelude.{Bool, true, false, Some, None, if◌then◌else◌}
 use Rattle.model.specs.declared.object.ObjectKind.{ObjectKind}
 use Rattle.model.specs.declared.object.ObjectKind.TheVariants as kind

@@ -54,12 +54,12 @@ words_of text = filter is_word (slice_split (λ b. b == 32) text)
 abbrev pub is_number : Word → Bool
 is_number w = nat_lt 0 (length w) && (nat_le (length w) 10 && list_all is_ascii_digit w)
 
--- the number that a word writes, where it is one of 32 bits
+-- the number that a word writes, if it is one of 32 bits
 abbrev pub number_of : Word → Option ℕ
 number_of w =
     if is_number w && nat_le (digits_value 10 w) 4294967295 then Some (digits_value 10 w) else None
 
--- the number that a word writes, or none where it is this other word
+-- the number that a word writes, or none if it is this other word
 abbrev pub number_unless : (other : Word) → Word → Option (Option ℕ)
 number_unless other w = if bytes_eq w other then Some None else option_map Some (number_of w)
 
@@ -67,7 +67,7 @@ number_unless other w = if bytes_eq w other then Some None else option_map Some 
 abbrev pub choice_of : (first second : Word) → Word → Option Bool
 choice_of first second w = if bytes_eq w first then Some false else if bytes_eq w second then Some true else None
 
--- the action of a notify that a word says; its value is the word behind it, where it has one
+-- the action of a notify that a word says; its value is the word after it, if it has one
 abbrev pub action_of : Word → Option (NotifyAction Unit)
 action_of w =
     if bytes_eq w (codes "none") then Some notify.Nothing
@@ -84,7 +84,7 @@ pub data NameSort : Type 0 where
   OfTask : NameSort
   OfVariable : NameSort
 
--- which entry of a sort a word names, where it names one
+-- which entry of a sort a word names, if it names one
 abbrev pub Naming : Type 0
 Naming = NameSort → Word → Option ℕ
 
@@ -124,15 +124,15 @@ pub data Form (O : Type 0) : Type 0 where
   Asked : (next : AnswerCondition → Form O) → Form O
   Name : (sort : NameSort) → (next : ℕ → Form O) → Form O
 
--- how many turns a loop has, which may go on for ever
+-- how many turns a loop has, which may go on forever
 abbrev pub Turns : {O : Type 0} → (Option ℕ → Form O) → Form O
 Turns next = NumberUnless (codes "forever") next
 
--- how many ticks a call waits, which may be for ever
+-- how many ticks a call waits, which may be forever
 abbrev pub WaitTime : {O : Type 0} → (Option ℕ → Form O) → Form O
 WaitTime next = NumberUnless (codes "forever") next
 
--- this number as a value, or the last answer where there is none
+-- this number as a value, or the last answer if there is none
 abbrev pub given : Option ℕ → Value
 given None = value.Answer
 given (Some n) = value.Number n
@@ -141,7 +141,7 @@ given (Some n) = value.Number n
 abbrev pub GivenValue : {O : Type 0} → (Value → Form O) → Form O
 GivenValue next = NumberUnless (codes "answer") (λ n. next (given n))
 
--- how a text goes on behind the word of an action: with its value, where it has one
+-- how a text goes on after the word of an action: with its value, if it has one
 abbrev pub ActionValue : {O : Type 0} → (NotifyAction Value → Form O) → NotifyAction Unit → Form O
 ActionValue next notify.Nothing = next notify.Nothing
 ActionValue next (notify.SetBits u) = GivenValue (λ v. next (notify.SetBits v))
@@ -310,7 +310,7 @@ abbrev pub isr_forms : List (Word × Form IsrOp)
 isr_forms = isr_call_forms ++ value_forms isr.Value
 
 -- The first of these words write the condition, and the others are these. A word for an answer alone says what the last answer
--- is to be, and after `not` what it is not to be. After `below` and `above` there is what it is compared with.
+-- must be, and after `not` what it must not be. After `below` and `above` there is what it is compared with.
 abbrev pub WritesCondition : Naming → AnswerCondition → List Word → (others : List Word) → Type 0
 WritesCondition named (Is wanted) (w ∷ ws) others = (answer_of named w ≡ Some wanted) × (ws ≡ others)
 WritesCondition named (IsNot other) (w ∷ v ∷ ws) others = (w ≡ codes "not") × (answer_of named v ≡ Some other) × (ws ≡ others)
@@ -318,7 +318,7 @@ WritesCondition named (Below bound) (w ∷ v ∷ ws) others = (w ≡ codes "belo
 WritesCondition named (Above bound) (w ∷ v ∷ ws) others = (w ≡ codes "above") × (compared_of named v ≡ Some bound) × (ws ≡ others)
 WritesCondition named _ _ others = ⊥
 
--- The words write the arguments of the op, by this form, where names are read this way.
+-- The words write the arguments of the op, by this form, if names are read in this way.
 abbrev pub Writes : {O : Type 0} → Naming → Form O → List Word → O → Type 0
 Writes named (Done made) [] op = made ≡ op
 Writes named (Number next) (w ∷ ws) op = (n : ℕ) × (number_of w ≡ Some n) × Writes named (next n) ws op
@@ -337,7 +337,7 @@ abbrev pub WritesBy : {O : Type 0} → Naming → List (Word × Form O) → List
 WritesBy named [] ws op = ⊥
 WritesBy named (form ∷ others) ws op = Writes named form.1 ws op ⊎ WritesBy named others ws op
 
--- Words spell an op, where names are read this way: its own word, and then its arguments; its numbers are in their ranges.
+-- Words spell an op, if names are read in this way: its own word, and then its arguments; its numbers are in their ranges.
 abbrev pub Spells : Naming → Op → List Word → Type 0
 Spells named op [] = ⊥
 Spells named op (w ∷ ws) = (w ≡ word_of op) × WritesBy named forms ws op × InRange op
@@ -390,11 +390,11 @@ abbrev pub read_by : {O : Type 0} → Naming → List (Word × Form O) → Word 
 read_by named [] w ws = None
 read_by named (form ∷ others) w ws = if bytes_eq w form.0 then read named form.1 ws else read_by named others w ws
 
--- the op, where its numbers are in their ranges
+-- the op, if its numbers are in their ranges
 abbrev pub if_in_range : Op → Option Op
 if_in_range op = if is_in_range op then Some op else None
 
--- the op that words spell, where names are read this way
+-- the op that words spell, if names are read in this way
 abbrev pub op_of : Naming → List Word → Option Op
 op_of named [] = None
 op_of named (w ∷ ws) = option_and_then if_in_range (read_by named forms w ws)

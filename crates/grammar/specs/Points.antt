@@ -14,7 +14,7 @@ use Rattle.grammar.specs.declared.raw_point.RawPoint.TheVariants as raw
 use Rattle.grammar.specs.Names.{is_name, index_of}
 use Rattle.grammar.specs.Grammar.{Word, number_of}
 
--- Words spell these injections, two words each, where the handlers have these names: the number of a step up to the last one, and
+-- Words spell these injections, two words each, if the handlers have these names: the number of a step up to the last one, and
 -- the name of a handler.
 abbrev pub SpellsInjections : List Word → List Injection → List Word → Type 0
 SpellsInjections names [] [] = Unit {0}
@@ -50,7 +50,7 @@ abbrev pub raw_view : RawPoint → RawEntry
 raw_view (raw.One pairs) = RawOne (map pair_view pairs.items)
 raw_view (raw.Every handler) = RawEvery handler.now
 
--- the number of a step, where an injection may be before it
+-- the number of a step, if an injection may be before it
 abbrev pub if_step : ℕ → Option ℕ
 if_step n = if nat_le n last_point then Some n else None
 
@@ -90,7 +90,7 @@ abbrev pub is_formed : RawEntry → Bool
 is_formed (RawOne ps) = may_be_point ps
 is_formed (RawEvery name) = true
 
--- the word behind `all`, where these are two words
+-- the word after `all`, if these are two words
 abbrev pub name_of_every : List Word → Option Word
 name_of_every (w ∷ name ∷ []) = if bytes_eq w (codes "all") then Some name else None
 name_of_every ws = None
@@ -98,27 +98,27 @@ name_of_every ws = None
 abbrev pub if_named : Word → Option RawEntry
 if_named name = if is_name name then Some (RawEvery name) else None
 
--- the entry that words spell, where some handlers have its names
+-- the entry that words spell, if some handlers have its names
 abbrev pub raw_of : List Word → Option RawEntry
 raw_of ws = option_map_or if_named (name_of_every ws) (option_and_then if_point (raw_pairs ws))
 
 abbrev pub injection_at : ℕ → ℕ → Injection
 injection_at step handler = record { step = step; handler = handler }
 
--- the injection, where a handler has its name
+-- the injection, if a handler has its name
 abbrev pub known : List Word → RawPair → Option Injection
 known names p = option_map (injection_at p.step) (index_of p.handler names)
 
--- all of these injections, where handlers have their names
+-- all of these injections, if handlers have their names
 abbrev pub all_known : List Word → List RawPair → Option (List Injection)
 all_known names [] = Some []
 all_known names (p ∷ ps) = all_there (known names p) (all_known names ps)
 
--- the entry whose handlers these are, where the handlers have these names
+-- the entry whose handlers these are, if the handlers have these names
 abbrev pub entry_from : List Word → RawEntry → Option PointEntry
 entry_from names (RawOne ps) = option_map One (all_known names ps)
 entry_from names (RawEvery name) = option_map Every (index_of name names)
 
--- the entry that words spell, where the handlers have these names
+-- the entry that words spell, if the handlers have these names
 abbrev pub entry_of : List Word → List Word → Option PointEntry
 entry_of names ws = option_and_then (entry_from names) (raw_of ws)

@@ -211,8 +211,8 @@ fn value_op_after<F: Finding>(word: &[u8], words: &mut Words<'_>, finding: &F) -
     }
 }
 
-// The op of this word by the forms of suspending and resuming and of critical sections, and all behind them. Its arguments are
-// the next words.
+// The op of this word by the forms of suspending and resuming and of critical sections, and all
+// after them. Its arguments are the next words.
 fn suspension_op_after<F: Finding>(word: &[u8], words: &mut Words<'_>, finding: &F) -> Option<Op>
     // What is still to be read is whether the text ends here.
     ensures { let these = suspension_forms ++ value_forms op.Value in MatchOption result
@@ -237,7 +237,8 @@ fn suspension_op_after<F: Finding>(word: &[u8], words: &mut Words<'_>, finding: 
     }
 }
 
-// The op of this word by the forms of notifications and all behind them. Its arguments are the next words.
+// The op of this word by the forms of notifications and all after them. Its arguments are the next
+// words.
 fn notification_op_after<F: Finding>(word: &[u8], words: &mut Words<'_>, finding: &F) -> Option<Op>
     // What is still to be read is whether the text ends here.
     ensures { let these = notification_forms ++ suspension_forms ++ value_forms op.Value in MatchOption result
@@ -267,7 +268,8 @@ fn notification_op_after<F: Finding>(word: &[u8], words: &mut Words<'_>, finding
     }
 }
 
-// The op of this word by the forms of event groups and all behind them. Its arguments are the next words.
+// The op of this word by the forms of event groups and all after them. Its arguments are the next
+// words.
 fn group_op_after<F: Finding>(word: &[u8], words: &mut Words<'_>, finding: &F) -> Option<Op>
     // What is still to be read is whether the text ends here.
     ensures { let these = group_forms ++ notification_forms ++ suspension_forms ++ value_forms op.Value in MatchOption result
@@ -288,7 +290,8 @@ fn group_op_after<F: Finding>(word: &[u8], words: &mut Words<'_>, finding: &F) -
     }
 }
 
-// The op of this word by the forms of semaphores and mutexes and all behind them. Its arguments are the next words.
+// The op of this word by the forms of semaphores and mutexes and all after them. Its arguments are
+// the next words.
 fn semaphore_op_after<F: Finding>(word: &[u8], words: &mut Words<'_>, finding: &F) -> Option<Op>
     // What is still to be read is whether the text ends here.
     ensures { let these = semaphore_forms ++ group_forms ++ notification_forms ++ suspension_forms ++ value_forms op.Value in MatchOption result
@@ -310,7 +313,8 @@ fn semaphore_op_after<F: Finding>(word: &[u8], words: &mut Words<'_>, finding: &
     }
 }
 
-// The op of this word by the forms of queues that send nothing and all behind them. Its arguments are the next words.
+// The op of this word by the forms of queues that send nothing and all after them. Its arguments
+// are the next words.
 fn reading_op_after<F: Finding>(word: &[u8], words: &mut Words<'_>, finding: &F) -> Option<Op>
     // What is still to be read is whether the text ends here.
     ensures { let these = drop 3 queue_forms ++ semaphore_forms ++ group_forms ++ notification_forms ++ suspension_forms ++ value_forms op.Value in MatchOption result
@@ -331,7 +335,7 @@ fn reading_op_after<F: Finding>(word: &[u8], words: &mut Words<'_>, finding: &F)
     }
 }
 
-// The op of this word by the forms of queues and all behind them. Its arguments are the next words.
+// The op of this word by the forms of queues and all after them. Its arguments are the next words.
 fn queue_op_after<F: Finding>(word: &[u8], words: &mut Words<'_>, finding: &F) -> Option<Op>
     // What is still to be read is whether the text ends here.
     ensures { let these = queue_forms ++ semaphore_forms ++ group_forms ++ notification_forms ++ suspension_forms ++ value_forms op.Value in MatchOption result
@@ -352,7 +356,7 @@ fn queue_op_after<F: Finding>(word: &[u8], words: &mut Words<'_>, finding: &F) -
     }
 }
 
-// The op of this word by the forms of blocks and all behind them. Its arguments are the next words.
+// The op of this word by the forms of blocks and all after them. Its arguments are the next words.
 fn block_op_after<F: Finding>(word: &[u8], words: &mut Words<'_>, finding: &F) -> Option<Op>
     // What is still to be read is whether the text ends here; a number past what the code can hold is out of range.
     ensures { let these = block_forms ++ queue_forms ++ semaphore_forms ++ group_forms ++ notification_forms ++ suspension_forms ++ value_forms op.Value in MatchOption result
@@ -422,7 +426,7 @@ fn op_after<F: Finding>(word: &[u8], words: &mut Words<'_>, finding: &F) -> Opti
     }
 }
 
-/// The op that a text spells, where names are read this way; `None` where it spells none.
+/// The op that a text spells, if names are read in this way; `None` if it spells none.
 pub fn op_of<F: Finding>(text: &[u8], finding: &F) -> Option<Op>
     ensures op { result ≡ op_of (F.naming finding.now) (words_of text.now) }
     ensures range { IfSome result InRange }
@@ -564,7 +568,7 @@ fn is_isr_in_range(op: &IsrOp) -> bool
     }
 }
 
-/// The op of a handler that a text spells, where names are read this way; `None` where it spells none.
+/// The op of a handler that a text spells, if names are read in this way; `None` if it spells none.
 pub fn isr_op_of<F: Finding>(text: &[u8], finding: &F) -> Option<IsrOp>
     ensures { result ≡ isr_op_of (F.naming finding.now) (words_of text.now) }
 {

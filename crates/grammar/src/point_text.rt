@@ -13,7 +13,7 @@ use arrayvec::ArrayVec;
 // The last step before which an injection may be (profile).
 const LAST_STEP: u32 = 1_000_000;
 
-// The step that a word writes, where an injection may be before it.
+// The step that a word writes, if an injection may be before it.
 fn step_of(word: &[u8]) -> Option<u32>
     ensures step { result ≡ option_and_then if_step (number_of word.now) }
     ensures range { IfSome result (λ n. n ≤ last_point) }
@@ -36,7 +36,7 @@ fn raw_pair<'a>(word: &[u8], name: &'a [u8]) -> Option<RawInjection<'a>>
     })
 }
 
-// The injection that the next two words spell, of which one is there.
+// The injection that the next two words spell; the first of them is there.
 fn next_pair<'a>(words: &mut Words<'a>) -> Option<RawInjection<'a>>
     requires { words.old ≢ [] }
     ensures { MatchOption result (raw_pairs words.old ≡ None)
@@ -47,7 +47,7 @@ fn next_pair<'a>(words: &mut Words<'a>) -> Option<RawInjection<'a>>
     raw_pair(step, name)
 }
 
-// The injections that the words spell, where they are at most three.
+// The injections that the words spell, if they are at most three.
 fn next_pairs<'a>(words: &mut Words<'a>) -> Option<ArrayVec<RawInjection<'a>, 3>>
     ensures { MatchOption result (option_and_then if_point (raw_pairs words.old) ≡ None)
         (λ pairs. raw_pairs words.old ≡ Some (map pair_view pairs.items)) }
@@ -76,7 +76,7 @@ fn falls(pairs: &[RawInjection<'_>]) -> bool
     false
 }
 
-// The point that a text spells, where some handlers have its names.
+// The point that a text spells, if some handlers have its names.
 fn read_one(text: &[u8]) -> Option<RawPoint<'_>>
     ensures { option_map raw_view result ≡ option_and_then if_point (raw_pairs (words_of text.now)) }
 {
@@ -87,7 +87,7 @@ fn read_one(text: &[u8]) -> Option<RawPoint<'_>>
     Some(RawPoint::One(pairs))
 }
 
-// The name behind `all`, where a text is these two words.
+// The name after `all`, if a text is these two words.
 fn name_of_every(text: &[u8]) -> Option<&[u8]>
     ensures { option_map (λ name. name.now) result ≡ name_of_every (words_of text.now) }
 {
@@ -100,7 +100,8 @@ fn name_of_every(text: &[u8]) -> Option<&[u8]>
     if words.is_at_end() { Some(name) } else { None }
 }
 
-/// The entry that a text spells, where some handlers have its names; `None` where it spells none, whatever handlers there are.
+/// The entry that a text spells, if some handlers have its names; `None` if it spells none,
+/// whatever handlers there are.
 pub fn read_point(text: &[u8]) -> Option<RawPoint<'_>>
     ensures { option_map raw_view result ≡ raw_of (words_of text.now) }
 {

@@ -80,7 +80,7 @@ pub(crate) fn number_of(word: &[u8]) -> Option<u32>
     }
 }
 
-// The number that a word writes, or none where it is this other word.
+// The number that a word writes, or none if it is this other word.
 fn number_unless(word: &[u8], other: &str) -> Option<Option<u32>>
     ensures { result ≡ number_unless other.now word.now }
 {
@@ -91,7 +91,7 @@ fn number_unless(word: &[u8], other: &str) -> Option<Option<u32>>
     }
 }
 
-/// This number as a value, or the last answer where there is none.
+/// This number as a value, or the last answer if there is none.
 pub(crate) fn given(number: Option<u32>) -> Value
     ensures { result ≡ given number }
 {
@@ -217,7 +217,7 @@ impl<'a> Words<'a> {
         number_of(self.next()?)
     }
 
-    /// The number that the next word writes, or none where it is this other word.
+    /// The number that the next word writes, or none if it is this other word.
     pub(crate) fn number_unless(&mut self, other: &str) -> Option<Option<u32>>
         ensures { MatchOption result (take_by (number_unless other.now) self.old ≡ None)
             (λ n. take_by (number_unless other.now) self.old ≡ Some (n, self.new)) }

@@ -1,4 +1,4 @@
--- What doing a job comes to; the program's status and fault lines.
+-- The outcome of a job; the program's status and fault lines.
 use Rattle.std.specs.Prelude.{◌≡◌, ◌≢◌, ◌⊎◌, ◌==◌, ◌<◌, ◌≤◌, ◌*◌, ◌^◌, ℕ, length, IfSome, Bool, true, false, List, [], ◌∷◌, ◌++◌}
 use Rattle.std.specs.Prelude.{codes, decimal, Option, Some, None, Result, Ok, Err, option_map}
 use Rattle.std.specs.Io.KnownBytes.{Appends, Keeps}
@@ -38,8 +38,8 @@ Served (Campaign file view shard options quiet) streams outcome = IsServed all_p
 Served (Explore file injections handlers) streams outcome =
     ServesExploration injections (option_map (λ list. list.now) handlers) streams outcome
 
--- What doing a job comes to, over an input: what it asks for is served; or its step and its handler don't go together, and nothing
--- is written.
+-- The outcome of a job over an input: what it asks for is served; or its step and its handler don't go together, and nothing is
+-- written.
 abbrev pub Does : Job → Streams → Result Bool JobFault → Type 0
 Does job streams (Ok passes) = (is_unpaired job ≡ false) × Served job streams (Ok passes)
 Does job streams (Err (Serve fault)) = (is_unpaired job ≡ false) × Served job streams (Err fault)
@@ -53,7 +53,7 @@ Does job streams (Err Unpaired) =
 abbrev pub most_bytes : ℕ
 most_bytes = 64 * 2 ^ 20
 
--- These bytes are those of the job's file; none are read where its step and its handler don't go together.
+-- These bytes are those of the job's file; none are read if its step and its handler don't go together.
 abbrev pub ReadsFor : Job → (file : Option (List ℕ)) → (read_failed : Bool) → List ℕ → Type 0
 ReadsFor job file read_failed bytes = (read_failed ≡ false) × (is_unpaired job ≡ false → Known file bytes)
 
@@ -65,8 +65,8 @@ FailsToRead job file read_failed (Serve Read) = (is_unpaired job ≡ false) × (
 FailsToRead job file read_failed (Serve Memory) = (is_unpaired job ≡ false) × (read_failed ≡ false) × (file ≢ Some [])
 FailsToRead job file read_failed fault = ⊥
 
--- What doing a job over a file comes to. The job is done over its bytes, of which there are 64 MiB at most where all were read. Or
--- there are more, and nothing is written.
+-- The outcome of a job over a file. The job is done over its bytes; there are 64 MiB of them at most if all were read. Or there
+-- are more, and nothing is written.
 abbrev pub DoesOverFile : Job → Streams → Result Bool JobFault → Type 0
 DoesOverFile job streams (Err TooLarge) =
     (is_unpaired job ≡ false) × IfSome streams.input (λ bytes. most_bytes < length bytes) × (streams.read_failed ≡ false)
@@ -81,7 +81,7 @@ abbrev pub LacksFile : (old new : Option (List ℕ)) → (write_failed : Bool) �
 LacksFile old new write_failed outcome =
     ((outcome ≡ Err (Serve Read)) ⊎ (outcome ≡ Err (Serve Memory))) × Keeps old new × (write_failed ≡ false)
 
--- What doing a job over the file that it names comes to: one of the two, for some bytes.
+-- The outcome of a job over the file that it names: one of the two, for some bytes.
 abbrev pub OpensAndDoes : Job → (old new : Option (List ℕ)) → (write_failed : Bool) → Result Bool JobFault → Type 0
 OpensAndDoes job old new write_failed outcome =
     LacksFile old new write_failed outcome
@@ -104,7 +104,7 @@ status_of (Err (Serve Write)) = 5
 
 -- ---- the fault line
 
--- a load fault: its number, its name, and the place where the check failed
+-- a load fault: its number, its name, and the place at which the check failed
 abbrev pub load_pieces : Fault → List (List ℕ)
 load_pieces fault =
     codes "rtosim:" ∷ decimal (fault_code fault.kind) ∷ (fault_name fault.kind ++ codes ":") ∷ place_words fault.place

@@ -1,4 +1,4 @@
--- What a run of a file comes to where its end state is asked for too.
+-- The outcome of a run of a file whose end state is asked for too.
 use Rattle.std.specs.Prelude.{◌≡◌, ℕ, List, [], ◌++◌, Option, Result, if◌then◌else◌}
 use Rattle.model.specs.declared.event.End.{End}
 use Rattle.model.specs.declared.plan.Injection.{Injection}
@@ -33,6 +33,6 @@ pub record IsEndStateReportOf (asked : Option NamedPoint) (bytes report : List �
   pub ends : run.end ≡ end
   pub text : report ≡ run_text app title run ++ end_state_text app (end_state_of_run app title run)
 
--- a call that serves the run that is asked for and its end state, and answers how it ends
+-- a call that serves the run that is asked for and its end state, and returns how it ends
 abbrev pub ServesEndState : Option NamedPoint → Streams → Result End ServeFault → Type 0
 ServesEndState asked streams outcome = Serves End (IsEndStateReportOf asked) (HasFault asked) streams outcome

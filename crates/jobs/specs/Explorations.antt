@@ -12,7 +12,7 @@ use Rattle.campaign.specs.declared.file.ServeFault.TheVariants.{UnknownHandler, 
 use Rattle.campaign.specs.Named.{IsFirstUnknown}
 use Rattle.campaign.specs.Serving.{HasFileFault, IsFileOf, Serves, Streams}
 
--- These are the handlers that have the names of a list, in its order; where no list is named, they are all handlers of the file.
+-- These are the handlers that have the names of a list, in its order; if no list is named, they are all handlers of the file.
 abbrev pub AreAsked : Option (List ℕ) → Application → (handlers : List ℕ) → Type 0
 AreAsked None app handlers = (handler : ℕ) → Contains handlers handler ↔ (handler < length app.handlers)
 AreAsked (Some list) app handlers = map (handler_named app) (names_of list) ≡ map Some handlers
@@ -22,8 +22,8 @@ abbrev pub NamesUnknown : Option (List ℕ) → Application → (place : ℕ) �
 NamesUnknown None app place = ⊥
 NamesUnknown (Some list) app place = IsFirstUnknown app (names_of list) place
 
--- The bytes are a file. This is the report of what is found among all placements of at most so many injections of these handlers in
--- its application's run, under its own limits; and whether each placement passes.
+-- The bytes are a file. This is the report of what is found among all placements of at most this many injections of these
+-- handlers in its application's run, under its own limits; and whether each placement passes.
 pub record IsExplorationOf (most : ℕ) (list : Option (List ℕ)) (bytes report : List ℕ) (passes : Bool) : Type 0 where
   pub app : Application
   pub file : IsFileOf bytes app
@@ -34,12 +34,12 @@ pub record IsExplorationOf (most : ℕ) (list : Option (List ℕ)) (bytes report
   pub judged : passes ≡ list_all (λ (p : Placed). is_pass p.end) explored.all
   pub text : report ≡ exploration_text app (length explored.all) found
 
--- The bytes have this fault, where these handlers are asked for.
+-- The bytes have this fault, if these handlers are asked for.
 abbrev pub HasExploringFault : Option (List ℕ) → List ℕ → ServeFault → Type 0
 HasExploringFault list bytes (UnknownHandler place) = (app : Application) × IsFileOf bytes app × NamesUnknown list app place
 HasExploringFault list bytes fault = HasFileFault bytes fault
 
--- a call that serves what is found of a file, and answers whether each placement passes
+-- a call that serves what is found of a file, and returns whether each placement passes
 abbrev pub ServesExploration : (most : ℕ) → Option (List ℕ) → Streams → Result Bool ServeFault → Type 0
 ServesExploration most list streams outcome = Serves Bool (IsExplorationOf most list) (HasExploringFault list) streams outcome
 

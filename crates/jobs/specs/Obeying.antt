@@ -22,7 +22,7 @@ AsksForText kind = (kind ≡ DisplayHelp) ⊎ (kind ≡ DisplayVersion)
 abbrev pub IsRefusal : ErrorKind → Type 0
 IsRefusal kind = (kind ≢ DisplayHelp) × (kind ≢ DisplayVersion) × (kind ≢ OutOfMemory)
 
--- the status where a text was to be written: 5 where the writer failed
+-- the status if a text was to be written: 5 if the writer failed
 abbrev pub shown_status : (write_failed : Bool) → ℕ
 shown_status false = 0
 shown_status true = 5

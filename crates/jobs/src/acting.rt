@@ -58,9 +58,11 @@ fn name_told<'a>(job: &Job<'a>, fault: JobFault) -> &'a str
     }
 }
 
-/// The status of a job. It is 0 where its run passes, or all rows of its part of a campaign do, written or not, or the runs of all
-/// placements, and 1 where it or some of them don't. It is 2 where a step and a handler don't go together, or the handler is unknown; and 3 where the file has a fault or too
-/// many points, or can't be read. It is 4 for want of memory, and 5 where the report can't be written.
+/// The status of a job. It is 0 if its run passes, or all rows of its part of a campaign do,
+/// written or not, or the runs of all placements, and 1 if it or some of them don't. It is 2 if a
+/// step and a handler don't go together, or the handler is unknown; and 3 if the file has a fault
+/// or too many points, or can't be read. It is 4 if memory ran out, and 5 if the report can't be
+/// written.
 pub fn status_of(outcome: Result<bool, JobFault>) -> u8
     ensures { result ≡ status_of outcome }
 {
@@ -82,7 +84,7 @@ pub fn status_of(outcome: Result<bool, JobFault>) -> u8
     }
 }
 
-/// Prints a fault of words that name no job. Answers its status.
+/// Prints a fault of words that name no job. Returns its status.
 pub fn refuse<F: Sink>(faults: &mut F, fault: ServeFault) -> u8
     requires { F.has_failed faults.old ≡ false }
     ensures told { Tells (F.held faults.old) (F.held faults.new) (F.has_failed faults.new)
@@ -93,8 +95,8 @@ pub fn refuse<F: Sink>(faults: &mut F, fault: ServeFault) -> u8
     status_of(Err(JobFault::Serve(fault)))
 }
 
-/// Ends a job of this outcome: prints its fault, if it has one, and answers its status. That the line can't be put
-/// changes nothing of the status.
+/// Ends a job of this outcome: prints its fault, if it has one, and returns its status. That the
+/// line can't be put changes nothing of the status.
 pub fn conclude<F: Sink>(job: &Job<'_>, faults: &mut F, outcome: Result<bool, JobFault>) -> u8
     requires { F.has_failed faults.old ≡ false }
     ensures told { Tells (F.held faults.old) (F.held faults.new) (F.has_failed faults.new)
@@ -107,7 +109,7 @@ pub fn conclude<F: Sink>(job: &Job<'_>, faults: &mut F, outcome: Result<bool, Jo
     status_of(outcome)
 }
 
-// Serves a run. Answers whether it passes.
+// Serves a run. Returns whether it passes.
 fn serve_run_at<W: Sink>(
     alloc: Global,
     point: Option<NamedPoint<'_>>,
@@ -122,7 +124,7 @@ fn serve_run_at<W: Sink>(
     Ok(matches!(end, End::Pass))
 }
 
-// Serves a part of a campaign. Answers whether all its rows pass.
+// Serves a part of a campaign. Returns whether all its rows pass.
 fn serve_campaign<T: Threads + Wait + Sync, W: Sink, G: Gate + Sync>(
     rt: &T,
     alloc: Global,
@@ -211,7 +213,7 @@ fn act_on<T: Threads + Wait + Sync, W: Sink, F: Sink, G: Gate + Watch + Sync>(
     conclude(job, faults, outcome)
 }
 
-// All bytes of the job's file. None are read where its step and its handler don't go together.
+// All bytes of the job's file. None are read if its step and its handler don't go together.
 fn all_for<R: Source>(alloc: Global, job: &Job<'_>, reader: &mut R) -> Result<Vec<u8>, ServeFault>
     requires { R.has_failed reader.old ≡ false }
     ensures read { MatchResult result
@@ -229,8 +231,9 @@ fn all_for<R: Source>(alloc: Global, job: &Job<'_>, reader: &mut R) -> Result<Ve
     }
 }
 
-/// Does the job: reads its file from `reader`, and writes to `writer` what the job asks for. Answers the status that the
-/// program ends with, and puts the line of a fault, if any, to `faults`; that this fails changes nothing.
+/// Does the job: reads its file from `reader`, and writes to `writer` what the job asks for.
+/// Returns the status that the program ends with, and puts the line of a fault, if any, to
+/// `faults`; that this fails changes nothing.
 ///
 /// Where the job's step and its handler don't go together, nothing is read. The gate learns how far a campaign has come, unless it is
 /// quiet, or how far exploring has; no clause speaks of that. It waits for the workers of a campaign, whose threads are this runtime's.
@@ -262,7 +265,7 @@ pub fn act<T: Threads + Wait + Sync, R: Source, W: Sink, F: Sink, G: Gate + Watc
 // 64 MiB (profile).
 const MOST: usize = 67_108_864;
 
-// The same bytes as `all_for`, where they are 64 MiB at most.
+// The same bytes as `all_for`, if they are 64 MiB at most.
 fn bytes_for<R: Source>(alloc: Global, job: &Job<'_>, reader: &mut R) -> Result<Vec<u8>, JobFault>
     requires { R.has_failed reader.old ≡ false }
     ensures read { MatchResult result

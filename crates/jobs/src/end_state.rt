@@ -26,8 +26,8 @@ fn ended_run(alloc: Global, app: &App, plan: &Plan) -> Result<(Run, EndState), M
     run_to_end_state(alloc, app, plan, app.limits(), &mut Meter::new())
 }
 
-// Whether the point is reached, its row, and its end state. The base run comes first, and is the row where it ends before
-// the point's first injection.
+// Whether the point is reached, its row, and its end state. The base run comes first, and is the
+// row if it ends before the point's first injection.
 fn ended_row(alloc: Global, app: &App, point: &Point) -> Result<(bool, Run, EndState), Memory>
     ensures row { IfOk result (λ row. IsRow app.now app.now.limits point.now row.0 row.1) }
     ensures end_state { IfOk result (λ row.
@@ -68,7 +68,8 @@ fn asked_run(
     Ok((title, run, end_state))
 }
 
-// Runs an application as it is asked for, and writes the report of the run and its end state, as its last deed.
+// Runs an application as it is asked for, and writes the report of the run and its end state, as
+// the last thing it does.
 fn serve_app<W: Sink>(
     alloc: Global,
     app: &App,
@@ -85,7 +86,8 @@ fn serve_app<W: Sink>(
     Ok(run.end)
 }
 
-// Serves the run of the file of these bytes that is asked for, and its end state. Answers how it ends.
+// Serves the run of the file of these bytes that is asked for, and its end state. Returns how it
+// ends.
 fn serve_end_state<W: Sink>(
     alloc: Global,
     bytes: &[u8],
@@ -100,7 +102,7 @@ fn serve_end_state<W: Sink>(
     serve_app(alloc, &app, writer, asked)
 }
 
-/// Serves a run, and its end state. Answers whether it passes.
+/// Serves a run, and its end state. Returns whether it passes.
 pub(crate) fn serve_end_state_at<W: Sink>(
     alloc: Global,
     asked: Option<NamedPoint<'_>>,

@@ -63,7 +63,7 @@ fn handlers_named(alloc: Global, app: &App, list: &str) -> Result<Vec<HandlerId>
     Ok(handlers)
 }
 
-// The handlers of these names, where a list of them is named, otherwise all of an application.
+// The handlers of these names, if a list of them is named, otherwise all of an application.
 fn handlers_asked(
     alloc: Global,
     app: &App,
@@ -164,8 +164,9 @@ fn serve_app<W: Sink, G: Watch>(
     Ok(all_pass(found.as_slice()))
 }
 
-/// Explores the application of the file of these bytes: finds how the runs with all placements of at most so many injections of these
-/// handlers end, and writes the report. Answers whether each placement passes.
+/// Explores the application of the file of these bytes: finds how the runs with all placements of
+/// at most this many injections of these handlers end, and writes the report. Returns whether each
+/// placement passes.
 ///
 /// It is out of line, since other jobs are to take no stack for its kernel.
 #[inline(never)]

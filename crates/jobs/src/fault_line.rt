@@ -14,7 +14,8 @@ use byte_io::{Piece, Sink, write_line};
 use campaign::ServeFault;
 use script::{Fault, FaultKind, Place, PlaceWord};
 
-// The pieces of a line, of which a fault has seven at most: three of a load fault itself, and four of its place.
+// The pieces of a line. A fault has seven at most: three of a load fault itself, and four of its
+// place.
 type Pieces<'a> = ArrayVec<Piece<'a>, 7>;
 
 // The name of a load fault of this kind, and a colon.
@@ -132,8 +133,9 @@ fn pieces_of<'a>(name: &'a str, fault: JobFault) -> Pieces<'a>
     }
 }
 
-/// Puts the line of a fault, which may contain this name: of a handler that is unknown, or of a file that can't be read. Where the
-/// sink fails, or takes none of some bytes, it has taken a beginning of the line.
+/// Puts the line of a fault, which may contain this name: of a handler that is unknown, or of a
+/// file that can't be read. If the sink fails, or takes none of some bytes, it has taken a
+/// beginning of the line.
 pub fn tell<F: Sink>(faults: &mut F, name: &str, fault: JobFault)
     requires { F.has_failed faults.old ≡ false }
     ensures { Tells (F.held faults.old) (F.held faults.new) (F.has_failed faults.new)

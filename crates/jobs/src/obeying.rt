@@ -37,8 +37,8 @@ fn show<W: Sink, F: Sink>(text: &str, writer: &mut W, faults: &mut F) -> u8
     }
 }
 
-// Prints why the words are refused: the text of `clap`, which may contain the words. The status is the same where it can't
-// be put.
+// Prints why the words are refused: the text of `clap`, which may contain the words. The status is
+// the same if it can't be put.
 fn refuse_words<F: Sink>(text: &str, faults: &mut F) -> u8
     requires { F.has_failed faults.old ≡ false }
     ensures tells { Tells (F.held faults.old) (F.held faults.new) (F.has_failed faults.new)

@@ -1,4 +1,4 @@
--- The text of a row, behind its number.
+-- The text of a row, after its number.
 use Rattle.std.specs.Prelude.{ℕ, List, ◌++◌, codes, decimal}
 use Rattle.std.specs.List.{flat_map}
 use Rattle.model.specs.Application.{Application}
@@ -9,7 +9,7 @@ use Rattle.report.specs.Text.{event_text, point_text, reached_text, verdict_text
 abbrev pub number_text : (number : ℕ) → List ℕ
 number_text number = codes "row " ++ decimal number
 
--- what comes behind it, which is the same whichever number the row has
+-- what comes after it, which is the same whichever number the row has
 abbrev pub behind_number : Application → campaign.Row → List ℕ
 behind_number app row =
     codes " at " ++ point_text app row.point ++ codes ": " ++ reached_text row.reached

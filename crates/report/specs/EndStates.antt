@@ -31,7 +31,7 @@ task_line app task s = codes "state " ++ name_of app task ++ codes " " ++ situat
 abbrev pub variable_line : (variable value : ℕ) → List ℕ
 variable_line variable value = codes "variable " ++ decimal variable ++ codes " = " ++ decimal value ++ codes "\n"
 
--- a line for each of these, of which the first has this number
+-- a line for each of these; the first of them has this number
 abbrev pub numbered_lines : {X : Type 0} → (line : ℕ → X → List ℕ) → (number : ℕ) → List X → List ℕ
 numbered_lines line number [] = []
 numbered_lines line number (x ∷ xs) = line number x ++ numbered_lines line (number + 1) xs

@@ -214,7 +214,7 @@ failing_rows = record plain { ends = failing }
 abbrev pub second_half : Shard
 second_half = record { number = 2; count = 2 }
 
--- seven rows that pass, of which one is not reached
+-- seven rows that pass; one of them is not reached
 abbrev pub all_pass : Totals
 all_pass = record { rows = 7; pass = 7; check = 0; misuse = 0; ticks = 0; steps = 0; stuck = 0; not_reached = 1 }
 

@@ -23,11 +23,11 @@ found_text app f =
     ++ placement_text app f.least.injections ++ codes " in " ++ decimal f.least.steps ++ codes " steps, "
     ++ decimal f.least.ticks ++ codes " ticks\n"
 
--- the last line, where there are so many placements in all
+-- the last line, if there are this many placements in all
 abbrev pub placements_total_text : ℕ → List ℕ
 placements_total_text number = codes "total " ++ decimal number ++ codes "\n"
 
--- the report of so many placements, of which this is found
+-- the report of this many placements, if this is found among them
 abbrev pub exploration_text : Application → (number : ℕ) → List Found → List ℕ
 exploration_text app number found = flat_map (found_text app) found ++ placements_total_text number
 

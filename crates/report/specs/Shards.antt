@@ -29,7 +29,7 @@ cut_at count rows number = number * rows / count
 abbrev pub first_of : Shard → (rows : ℕ) → ℕ
 first_of shard rows = cut_at shard.count rows (shard.number - 1)
 
--- the number of the first row behind it
+-- the number of the first row after it
 abbrev pub next_of : Shard → (rows : ℕ) → ℕ
 next_of shard rows = cut_at shard.count rows shard.number
 

@@ -20,11 +20,11 @@ use Rattle.model.specs.declared.totals.Totals.{Totals}
 use Rattle.report.specs.declared.title.Title.{Title}
 use Rattle.report.specs.declared.title.Title.TheVariants.{Base, Row}
 
--- the first word of a task's op of this index; empty where no op is
+-- the first word of a task's op of this index; empty if there is no op
 abbrev pub word_at : Application → ℕ → ℕ → List ℕ
 word_at app task op_index = unwrap_or (option_map word_of (op_at app task op_index)) []
 
--- what the line of a call says before its answer
+-- what the line of a call says before its result
 abbrev pub call_front : Application → (task op_index : ℕ) → List ℕ
 call_front app task op_index =
     codes "call " ++ name_of app task ++ codes " " ++ decimal op_index ++ codes " " ++ word_at app task op_index ++ codes " = "
@@ -34,17 +34,17 @@ abbrev pub obeyed_front : Application → (task : ℕ) → (clear : Bool) → Li
 obeyed_front app task clear =
     codes "call " ++ name_of app task ++ codes " 1 " ++ (if clear then codes "clear" else codes "set") ++ codes " = "
 
--- the first word of a handler's op of this index; empty where no op is
+-- the first word of a handler's op of this index; empty if there is no op
 abbrev pub isr_word_at : Application → ℕ → ℕ → List ℕ
 isr_word_at app handler op_index = unwrap_or (option_map word_of_isr (isr_op_at app handler op_index)) []
 
--- what the line of a handler's op says before its answer
+-- what the line of a handler's op says before its result
 abbrev pub isr_front : Application → (handler op_index : ℕ) → List ℕ
 isr_front app handler op_index =
     codes "isr " ++ handler_name_of app handler ++ codes " " ++ decimal op_index ++ codes " "
     ++ isr_word_at app handler op_index ++ codes " = "
 
--- who runs: a task, or idle
+-- what runs: a task, or idle
 abbrev pub runner_text : Application → Option ℕ → List ℕ
 runner_text app None = codes "-"
 runner_text app (Some task) = name_of app task
@@ -98,7 +98,7 @@ verdict_text app ending.Stuck = codes "stuck"
 abbrev pub injection_text : Application → Injection → List ℕ
 injection_text app i = decimal i.step ++ codes " " ++ handler_name_of app i.handler
 
--- one behind another
+-- one after another
 abbrev pub next_text : Application → Injection → List ℕ
 next_text app i = codes " " ++ injection_text app i
 
@@ -134,7 +134,7 @@ run_text app title run = head_text app title run.steps run.ticks run.end ++ flat
 abbrev pub row_text : Application → (number : ℕ) → campaign.Row → List ℕ
 row_text app number row = run_text app (Row number row.point row.reached) row.run
 
--- the rows, of which the first is the one of this number
+-- the rows; the first of them has this number
 abbrev pub rows_text : Application → (number : ℕ) → List campaign.Row → List ℕ
 rows_text app number [] = []
 rows_text app number (row ∷ rows) = row_text app number row ++ rows_text app (number + 1) rows

@@ -24,11 +24,11 @@ has_end ends end = by_end ends.pass ends.check ends.misuse ends.ticks ends.steps
 abbrev pub plain : View
 plain = record { ends = every_end; heads = false }
 
--- a row that ends so is written
+-- a row that ends in this way is written
 abbrev pub shows : View → End → Bool
 shows view end = has_end view.ends end
 
--- and so are its events
+-- and its events are, too
 abbrev pub shows_events : View → End → Bool
 shows_events view end = shows view end && not view.heads
 
@@ -45,11 +45,11 @@ text_shown true false app number row = row_text app number row
 abbrev pub shown_row : Application → View → (number : ℕ) → Row → List ℕ
 shown_row app view number row = text_shown (shows view row.run.end) view.heads app number row
 
--- what is written of rows, of which the first is the one of this number
+-- what is written of rows; the first of them has this number
 abbrev pub shown_rows : Application → View → (number : ℕ) → List Row → List ℕ
 shown_rows app view number [] = []
 shown_rows app view number (row ∷ rows) = shown_row app view number row ++ shown_rows app view (number + 1) rows
 
--- The report of rows, of which the first is the one of this number. The line of the totals counts them all, written or not.
+-- The report of rows; the first of them has this number. The line of the totals counts them all, written or not.
 abbrev pub report_text : Application → View → (first : ℕ) → List Row → List ℕ
 report_text app view first rows = shown_rows app view first rows ++ total_text (totals_of rows)

@@ -5,12 +5,12 @@ use Rattle.model.specs.Application.{Application}
 use Rattle.model.specs.declared.event.Event.{Event}
 use Rattle.report.specs.Text.{event_text}
 
--- what callers see of it: the application whose runs it is of, and the bytes that are still to go out
+-- what callers see of it: the application whose runs it is of, and the bytes that have yet to go out
 pub record Report : Type 0 where
   pub app : Application
   pub page : List ℕ
 
--- what callers see of a base run's events: the application whose they are, and the events
+-- what callers see of a base run's events: their application, and the events
 pub record Events : Type 0 where
   pub app : Application
   pub events : List Event

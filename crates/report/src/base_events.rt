@@ -20,7 +20,7 @@ pub(crate) struct Spelled {
     ends: Vec<u32>,
 }
 
-/// Events in two parts: some by their text, and those behind them.
+/// Events in two parts: some by their text, and those after them.
 #[derive(Drop)]
 pub(crate) struct Tail<'a> {
     pub(crate) text: &'a [u8],
@@ -29,8 +29,9 @@ pub(crate) struct Tail<'a> {
 
 /// The events of the base run of an application, and the text of the first of them.
 ///
-/// The events of a row begin with some of these, and where it comes back to the base run they end with some, so they are spelled
-/// once for all rows: as far as there is memory for their text, and about 64 MiB of it at most. The others are spelled for each row.
+/// The events of a row begin with some of these, and if it comes back to the base run they end with
+/// some, so they are spelled once for all rows: as far as there is memory for their text, and about
+/// 64 MiB of it at most. The others are spelled for each row.
 #[derive(Drop)]
 pub struct BaseEvents<'a> {
     app: &'a App,
@@ -77,7 +78,7 @@ impl Spelled {
         Ok(())
     }
 
-    // Where the text of the first so many events ends.
+    // Where the text of this many first events ends.
     fn end_of(&self, count: usize) -> usize
         requires { count ≤ length self.now.ends.items }
         ensures { result ≡ slice_index_or (0 ∷ self.now.ends.items) count 0 }
@@ -141,7 +142,7 @@ fn spell(
 }
 
 impl<'a> BaseEvents<'a> {
-    /// The events of the base run of this application, of which none is spelled. It takes no memory.
+    /// The events of the base run of this application; none is spelled yet. It takes no memory.
     pub fn new(app: &'a App, events: &'a [Event]) -> BaseEvents<'a>
         ensures app { result.app ≡ app.now }
         ensures events { result.events ≡ events.now }

@@ -152,8 +152,9 @@ fn write_end_state<W: Sink>(
     flush(writer, &mut page)
 }
 
-/// Writes the report of a run, as `write_run` does, and behind it a line for each task, that says what it is doing at the end, one
-/// for each mutex that is held then, and one for each variable, that says what it is then.
+/// Writes the report of a run, as `write_run` does, and after it a line for each task, that says
+/// what it is doing at the end, one for each mutex that is held then, and one for each variable,
+/// that says what it is then.
 pub fn write_run_and_end_state<W: Sink>(
     writer: &mut W,
     app: &App,

@@ -84,7 +84,8 @@ fn push_placements_total(page: &mut Page, number: u128)
     page.push_array(b"\n");
 }
 
-/// Adds the line of an end that so many placements have, of which the least has these injections and this ending.
+/// Adds the line of an end that this many placements have; the least of them has these injections
+/// and this ending.
 ///
 /// At `Err` the writer failed or took none of some bytes, and it has taken a beginning of the page's bytes and the line.
 pub fn add_found<W: Sink>(

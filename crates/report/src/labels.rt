@@ -23,8 +23,9 @@ const COMMANDS: usize = 2;
 /// The fronts of lines of an application: that of a task that runs and of a task's marks at the task's number, and that of
 /// a call, of a handler's op, or of a command that a daemon has done, at a place that several share, so it says which op it is of.
 ///
-/// Each is right at all times. One that isn't there is spelled, and kept. They are where this value is, and take no
-/// memory. They are put into bytes at a place, and where they end is answered, as `byte_io::place` does it.
+/// Each is right at all times. One that isn't there is spelled, and kept. They are where this value
+/// is, and take no memory. They are put into bytes at a place, and the place after them is
+/// returned, as `byte_io::place` does.
 #[derive(Drop)]
 pub(crate) struct Labels<'a> {
     app: &'a App,
@@ -47,7 +48,7 @@ impl<'a> Model for Labels<'a> {
     ghost invariant = { λ l. AreLabels l.app.now l.runs l.marks l.calls l.isrs l.obeyed };
 }
 
-// The place of a call's label. Calls of two tasks share none, where no script is longer than 32 ops.
+// The place of a call's label. Calls of two tasks share none if no script is longer than 32 ops.
 #[inline]
 fn call_place(task: TaskId, op_index: u16) -> usize
     ensures { result < CALLS }
@@ -126,7 +127,7 @@ impl<'a> Labels<'a> {
         }
     }
 
-    /// Puts what the line of a call says before its answer.
+    /// Puts what the line of a call says before its result.
     #[inline]
     pub(crate) fn put_call(
         &mut self,
@@ -148,7 +149,7 @@ impl<'a> Labels<'a> {
         }
     }
 
-    /// Puts what the line of a handler's op says before its answer.
+    /// Puts what the line of a handler's op says before its result.
     #[inline]
     pub(crate) fn put_isr(
         &mut self,
@@ -179,7 +180,7 @@ impl<'a> Labels<'a> {
         put_isr_mark_front(bytes, at, self.app, handler)
     }
 
-    /// Puts what the line of a command that the daemon has done says before its answer.
+    /// Puts what the line of a command that the daemon has done says before its result.
     pub(crate) fn put_obeyed(
         &mut self,
         bytes: &mut [u8],

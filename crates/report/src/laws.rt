@@ -123,7 +123,8 @@ pub fn lines_of_totals()
         codes "total 4294967295: pass 1, check 20, misuse 3, ticks 40, steps 5, stuck 60, not reached 7\n" }
 {}
 
-/// The report of a campaign without points, and that of one with two, of which the second is not reached, letter by letter.
+/// The report of a campaign without points, and that of one with two, the second of which is not
+/// reached, letter by letter.
 pub fn reports_of_campaigns()
     ensures no_rows { (app : Application) → campaign_text app [] ≡
         codes "total 0: pass 0, check 0, misuse 0, ticks 0, steps 0, stuck 0, not reached 0\n" }
@@ -138,8 +139,8 @@ pub fn reports_of_campaigns()
         ++ codes "total 2: pass 2, check 0, misuse 0, ticks 0, steps 0, stuck 0, not reached 1\n" }
 {}
 
-/// The same campaign where heads alone are asked for, where rows that don't pass are, and the second of two parts of it, letter by
-/// letter.
+/// The same campaign if only heads are asked for, if only rows that don't pass are, and the second
+/// of two parts of it, letter by letter.
 pub fn reports_in_views()
     ensures heads { report_text two_marks heads_alone 0 two_rows ≡
         codes "row 0 at 0 h: pass in 1 steps, 0 ticks\n"
@@ -157,14 +158,15 @@ pub fn plain_view()
     ensures { (app : Application) (rows : List Row) → report_text app plain 0 rows ≡ campaign_text app rows }
 {}
 
-/// All rows in one part are all rows, of which the first has the number 0.
+/// All rows in one part are all rows, numbered from 0.
 pub fn undivided_rows()
     ensures rows { (rows : List Row) → part_of undivided rows ≡ rows }
     ensures first { (rows : ℕ) → first_of undivided rows ≡ 0 }
 {}
 
-/// What the reports of all parts write of their rows is, one behind the other, what the report of all rows writes, and their totals
-/// add up to its totals: in each view, and however many parts there are.
+/// What the reports of all parts write of their rows is, one after the other, what the report of
+/// all rows writes, and their totals add up to its totals: in each view, and however many parts
+/// there are.
 pub fn shards_join()
     ensures rows { (app : Application) (view : View) (rows : List Row) (count : ℕ) → 0 < count
         → flat_map (λ shard. shown_rows app view (first_of shard (length rows)) (part_of shard rows)) (shards count) ≡ shown_rows app view 0 rows }

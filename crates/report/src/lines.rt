@@ -31,8 +31,8 @@ impl<'a> Model for Lines<'a> {
     ghost view = { λ l. l.labels };
 }
 
-// Puts a number that ends a line, and the line's end. A small one is a digit at once, so that the digits that are kept stay
-// those of large ones: most answers are 0, and others are a time.
+// Puts a number that ends a line, and the line's end. A small one is a digit at once, so that the
+// digits that are kept stay those of large ones: most results are 0, and others are a time.
 #[inline]
 fn put_last(bytes: &mut [u8], at: usize, tens: &mut Tens, number: u32) -> usize
     requires { at + 16 ≤ length bytes.old }
@@ -46,7 +46,7 @@ fn put_last(bytes: &mut [u8], at: usize, tens: &mut Tens, number: u32) -> usize
     }
 }
 
-// Puts the answer `none`, and the line's end.
+// Puts the result `none`, and the line's end.
 #[inline]
 fn put_none(bytes: &mut [u8], at: usize) -> usize
     requires { at + 16 ≤ length bytes.old }

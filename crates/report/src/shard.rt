@@ -42,7 +42,7 @@ impl Shard {
     /// The most parts.
     pub const MOST: u32 = 1_000_000;
 
-    /// The part of this number, of this many parts; `None` where there is no such part.
+    /// The part of this number, of this many parts; `None` if there is no such part.
     pub fn new(number: u32, count: u32) -> Option<Shard>
         ensures known { IsSome result ↔ IsShard number count }
         ensures value { IfSome result (λ shard. shard ≡ record { number = number; count = count }) }
@@ -64,7 +64,7 @@ impl Shard {
         }
     }
 
-    /// The number of its first row, where a campaign has this many.
+    /// The number of its first row, if a campaign has this many.
     pub fn first(self, rows: usize) -> usize
         requires { rows ≤ most_points }
         ensures first { result ≡ first_of self rows }
@@ -73,7 +73,7 @@ impl Shard {
         cut_at(self.count, rows, self.number - 1)
     }
 
-    /// The number of the first row behind it.
+    /// The number of the first row after it.
     pub fn next(self, rows: usize) -> usize
         requires { rows ≤ most_points }
         ensures next { result ≡ next_of self rows }

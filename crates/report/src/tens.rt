@@ -7,8 +7,9 @@ use std::simd::prelude::*;
 
 /// All digits of a number but the last one, at the front of 16 bytes; none of a number below 10.
 ///
-/// Numbers that count up share them ten at a time. The last digit is kept apart: a copy of 16 bytes, of which one was just
-/// written, has to wait until that byte has left the processor's store buffer.
+/// Numbers that count up share them ten at a time. The last digit is kept apart: a copy of 16 bytes,
+/// one of which was just written, has to wait until that byte has left the processor's store
+/// buffer.
 #[derive(Drop)]
 pub(crate) struct Tens {
     text: [u8; 16],
@@ -37,8 +38,8 @@ const PLACES: [u8; 16] = [0, 1, 2, 3, 4, 5, 6, 7, 8, 9, 10, 11, 12, 13, 14, 15];
 
 // The text with another byte at this place.
 //
-// It is made as a whole, so that it is also stored as a whole: a copy of 16 bytes, of which one was just written, has to wait
-// until that byte has left the processor's store buffer.
+// It is made as a whole, so that it is also stored as a whole: a copy of 16 bytes, one of which
+// was just written, has to wait until that byte has left the processor's store buffer.
 fn replaced(text: &[u8; 16], at: u8, byte: u8) -> [u8; 16]
     requires { at < 16 }
     ensures { result ≡ slice_set text.now at byte }
@@ -76,7 +77,7 @@ impl Tens {
         self.first = 10 * tens as u64;
     }
 
-    // Goes on to the next ten where that changes one digit alone, and answers whether it did.
+    // Goes on to the next ten if that changes one digit alone, and returns whether it did.
     fn count_up(&mut self) -> bool
         requires { self.old + 10 < 2 ^ 32 }
         ensures counted { result ≡ true → self.new ≡ self.old + 10 }

@@ -1,6 +1,6 @@
 //! The head line of a run, into a page that has room for it, and the fronts of other lines, into bytes that have.
 //!
-//! A front is put at a place, and where it ends is answered, as `byte_io::place` does it.
+//! A front is put at a place, and the place after it is returned, as `byte_io::place` does.
 ghost use Rattle.std.specs.Prelude.{◌≡◌, ◌≤◌, ◌+◌, ◌++◌, length, take, codes, decimal, if◌then◌else◌};
 ghost use Rattle.model.specs.Words.{name_of, handler_name_of};
 ghost use Rattle.report.specs.Again.{number_text};
@@ -69,7 +69,7 @@ fn isr_word(app: &App, handler: HandlerId, op_index: u16) -> &'static [u8]
     }
 }
 
-/// Puts what the line of a call says before its answer.
+/// Puts what the line of a call says before its result.
 pub(crate) fn put_call_front(
     bytes: &mut [u8],
     at: usize,
@@ -98,7 +98,7 @@ fn command_word(clear: bool) -> &'static [u8]
     if clear { b"clear" } else { b"set" }
 }
 
-/// Puts what the line of a command that the daemon has done says before its answer.
+/// Puts what the line of a command that the daemon has done says before its result.
 pub(crate) fn put_obeyed_front(
     bytes: &mut [u8],
     at: usize,
@@ -128,7 +128,7 @@ pub(crate) fn put_mark_front(bytes: &mut [u8], at: usize, app: &App, task: TaskI
     put_text(bytes, at, b" ")
 }
 
-/// Puts what the line of a handler's op says before its answer.
+/// Puts what the line of a handler's op says before its result.
 pub(crate) fn put_isr_front(
     bytes: &mut [u8],
     at: usize,

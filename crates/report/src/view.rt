@@ -15,8 +15,8 @@ pub struct Ends {
     pub stuck: bool,
 }
 
-/// Which rows of a campaign's report are written: those that end in one of these ways. Where heads are asked for, each is its head
-/// line alone, otherwise its events follow. The totals count all rows.
+/// Which rows of a campaign's report are written: those that end in one of these ways. If heads are
+/// asked for, each is its head line alone, otherwise its events follow. The totals count all rows.
 #[derive(Clone, Copy, PartialEq, Eq)]
 pub struct View {
     pub ends: Ends,
@@ -76,7 +76,7 @@ impl View {
         }
     }
 
-    /// Whether a row that ends so is written.
+    /// Whether a row that ends in this way is written.
     pub fn shows(&self, end: End) -> bool
         ensures { result ≡ shows self.now end }
     {

@@ -22,9 +22,10 @@ const FIRST: usize = b"row 0".len();
 
 /// The report of a campaign or of one run, as it is being written: what is still to go out, and what lines have in common.
 ///
-/// It takes no memory, and is some 75 kB large: make it once for a report. Each call on a writer requires that this has not
-/// failed. At `Err` the writer failed or took none of some bytes, it has taken a beginning of what was still to go out and of
-/// what was added, and the report is of no more use.
+/// It takes no memory, and is some 75 kB large: make it once for a report. Each call on a writer
+/// requires that this has not failed. At `Err` the writer failed or took none of some bytes, it has
+/// taken a beginning of what was still to go out and of what was added, and the report can't be
+/// used any more.
 #[derive(Drop)]
 pub struct ReportWriter<'a> {
     page: Page,
@@ -81,7 +82,8 @@ fn add_events<W: Sink>(
     Ok(())
 }
 
-// Adds the lines of a base run's first events, this many, of which those that are spelled are sent as they are.
+// Adds the lines of a base run's first events, this many; those that are spelled are sent as they
+// are.
 fn add_shared<W: Sink>(
     writer: &mut W,
     page: &mut Page,
@@ -102,7 +104,8 @@ fn add_shared<W: Sink>(
     add_events(writer, page, lines, &base.events()[count..shared])
 }
 
-// Adds the lines of a base run's events from this one on, of which those that are spelled are sent as they stand.
+// Adds the lines of a base run's events from this one on; those that are spelled are sent as they
+// are.
 fn add_base_from<W: Sink>(
     writer: &mut W,
     page: &mut Page,
@@ -133,7 +136,7 @@ fn add_row_number<W: Sink>(writer: &mut W, page: &mut Page, number: u32) -> Resu
     Ok(())
 }
 
-// Adds the number of a row, and what comes behind it.
+// Adds the number of a row, and what comes after it.
 fn add_numbered<W: Sink>(
     writer: &mut W,
     page: &mut Page,
@@ -163,7 +166,7 @@ fn add_total_line<W: Sink>(
 }
 
 impl<'a> ReportWriter<'a> {
-    /// A report of runs of this application, of which nothing is written yet.
+    /// A report of runs of this application; nothing is written yet.
     pub fn new(app: &'a App) -> ReportWriter<'a>
         ensures app { result.app ≡ app.now }
         ensures page { result.page ≡ [] }
@@ -210,8 +213,8 @@ impl<'a> ReportWriter<'a> {
         add_head(writer, &mut self.page, self.lines.app(), title, ending)
     }
 
-    /// Begins the report of a row: adds its head line, which begins with the title, and the lines of the first so many events of
-    /// this base run, which is of the same application.
+    /// Begins the report of a row: adds its head line, which begins with the title, and the lines
+    /// of this many first events of this base run, which is of the same application.
     pub fn begin_row<W: Sink>(
         &mut self,
         writer: &mut W,
@@ -295,7 +298,7 @@ impl<'a> ReportWriter<'a> {
         add_total_line(writer, &mut self.page, totals)
     }
 
-    /// Forgets what is still to go out. A report that is of no more use begins anew by it.
+    /// Forgets what is still to go out. A report that can't be used any more begins anew by it.
     pub fn clear(&mut self)
         ensures app { self.new.app ≡ self.old.app }
         ensures empty { self.new.page ≡ [] }

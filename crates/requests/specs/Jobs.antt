@@ -21,7 +21,7 @@ handlers_of (Campaign file view shard options quiet) = []
 handlers_of (Explore file injections (Some names)) = names_of names.now
 handlers_of (Explore file injections None) = []
 
--- the name in this place; empty where there is none
+-- the name in this place; empty if there is none
 abbrev pub handler_of : Job → (place : ℕ) → List ℕ
 handler_of job place = name_at place (handlers_of job)
 

@@ -18,7 +18,7 @@ abbrev pub are_names : List Text → Bool
 are_names [] = true
 are_names (name ∷ names) = is_name name && (not (is_among name names) && are_names names)
 
--- the one in this place; empty where there is none
+-- the one in this place; empty if there is none
 abbrev pub name_at : ℕ → List Text → Text
 name_at place [] = []
 name_at zero (name ∷ names) = name

@@ -7,7 +7,7 @@ abbrev pub workers_for : (processors : Option ℕ) → ℕ
 workers_for None = 1
 workers_for (Some processors) = min processors 64
 
--- what a word means, after the one before it: `auto` is a number of workers where it is the value of `--workers`
+-- what a word means, after the one before it: `auto` is a number of workers if it is the value of `--workers`
 abbrev pub word_meant : (workers before word : List ℕ) → List ℕ
 word_meant workers before word =
     if bytes_eq before (codes "--workers") && bytes_eq word (codes "auto") then workers
@@ -19,11 +19,11 @@ meant_after workers before [] = []
 meant_after workers before (word ∷ words) =
     if bytes_eq word (codes "--") then word ∷ words else word_meant workers before word ∷ meant_after workers word words
 
--- what all words mean, of which the first is the program's name
+-- what all words mean; the first is the program's name
 abbrev pub all_meant : (workers : List ℕ) → (words : List (List ℕ)) → List (List ℕ)
 all_meant workers [] = []
 all_meant workers (program ∷ words) = program ∷ meant_after workers [] words
 
--- what the words mean where the program may use this many processors
+-- what the words mean if the program may use this many processors
 abbrev pub meant : (processors : Option ℕ) → (words : List (List ℕ)) → List (List ℕ)
 meant processors words = all_meant (decimal (workers_for processors)) words

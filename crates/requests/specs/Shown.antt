@@ -1,4 +1,4 @@
--- What the words of a campaign say of its report: which rows of which part are written, and what of them.
+-- What the words of a campaign say of its report: which rows of which part are written, and how much of each.
 use Rattle.std.specs.Prelude.{ℕ, ◌==◌, ◌||◌, ◌&&◌, Bool, true, false, List, [], ◌∷◌, length, nat_lt, codes, Option, Some, None}
 use Rattle.std.specs.Prelude.{option_map, if◌then◌else◌}
 use Rattle.std.specs.List.{list_all, slice_split}

@@ -79,7 +79,7 @@ only_rule = text_rule (codes "only")
 abbrev pub shard_rule : Rule
 shard_rule = text_rule (codes "shard")
 
--- a number of this range, and what it is where it isn't named
+-- a number of this range, and what it is if it isn't named
 abbrev pub option_rule : (name default : Text) → (least greatest : ℕ) → Rule
 option_rule name default least greatest = record (new_rule name) {
   long = Some name;
@@ -209,7 +209,7 @@ pub record AreOptionsOf (rows : List Row) (options : Options) : Type 0 where
   pub block : number_in (codes "block") rows ≡ Some options.block
   pub within : bad_option options.workers options.stride options.block ≡ None
 
--- the ends of the rows that are written: those of the list, where one is named, otherwise every end
+-- the ends of the rows that are written: those of the list, if one is named, otherwise every end
 abbrev pub ends_in : Option Text → Option Ends
 ends_in None = Some every_end
 ends_in (Some list) = ends_of list
@@ -220,7 +220,7 @@ view_in rows =
     option_map (λ ends. record { ends = ends; heads = is_given (first_of (codes "heads") rows) })
     (ends_in (first_of (codes "only") rows))
 
--- the shard that is named, if there is such a one; where none is, all rows in one
+-- the shard that is named, if there is such a one; if none is, all rows in one
 abbrev pub shard_of_words : Option Text → Option Shard
 shard_of_words None = Some undivided
 shard_of_words (Some text) = shard_named text
@@ -239,11 +239,11 @@ IsCampaignOf rows (Campaign file view shard options quiet) =
     × (is_given (first_of (codes "quiet") rows) ≡ quiet)
 IsCampaignOf rows (Explore file injections handlers) = ⊥
 
--- They are as many injections as the words of `explore` name, or as many as they have where these name none.
+-- They are as many injections as the words of `explore` name, or as many as they have if these name none.
 abbrev pub AreInjectionsOf : List Row → ℕ → Type 0
 AreInjectionsOf rows injections = (number_in (codes "injections") rows ≡ Some injections) × (injections ≤ most_of_point)
 
--- the list of handlers that is named, if it is one of names; where none is, there is no list
+-- the list of handlers that is named, if it is one of names; if none is, there is no list
 abbrev pub handlers_in : Option Text → Option (Option Text)
 handlers_in None = Some None
 handlers_in (Some list) = if are_names (names_of list) then Some (Some list) else None
@@ -336,12 +336,12 @@ point_faults None at handler = []
 point_faults (Some point) None None = spelled_faults (pairs_spelled point)
 point_faults (Some point) at handler = ValueValidation ∷ []
 
--- of what kind a fault is where the view or the shard is none
+-- of what kind a fault is if the view or the shard is none
 abbrev pub faults_without : Option View → Option Shard → Kinds
 faults_without (Some view) (Some shard) = []
 faults_without view shard = ValueValidation ∷ []
 
--- of what kind a fault is where the handlers are none
+-- of what kind a fault is if the handlers are none
 abbrev pub handlers_faults : Option (Option Text) → Kinds
 handlers_faults (Some handlers) = []
 handlers_faults None = ValueValidation ∷ []
@@ -359,6 +359,6 @@ value_faults (Some named) =
     else []
 
 -- Of what kinds the fault of the words may be: one of those that the command doesn't take, otherwise that of a list of ends, of a
--- shard, of handlers or of a point. There is none where they name a job.
+-- shard, of handlers or of a point. There is none if they name a job.
 abbrev pub faults_of : List (List ℕ) → Kinds
 faults_of words = or_else (fault_of rtosim_app words) (value_faults (subcommand_of rtosim_app words))

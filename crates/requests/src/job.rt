@@ -22,8 +22,8 @@ pub enum Job<'a> {
     RunUnpaired {
         file: &'a str,
     },
-    /// Write what the view shows of the campaign of this file, or of this part of it, worked off as the options say. Where it is quiet,
-    /// nobody learns how far it has come.
+    /// Write what the view shows of the campaign of this file, or of this part of it, worked off as
+    /// the options say. If it is quiet, nobody learns how far it has come.
     Campaign {
         file: &'a str,
         view: View,
@@ -31,8 +31,8 @@ pub enum Job<'a> {
         options: Options,
         quiet: bool,
     },
-    /// Write what is found among all placements of at most so many injections of these handlers, whose names are joined by commas, or of
-    /// all handlers, in the run of this file's application.
+    /// Write what is found among all placements of at most this many injections of these handlers,
+    /// whose names are joined by commas, or of all handlers, in the run of this file's application.
     Explore {
         file: &'a str,
         injections: MostInjections,
@@ -53,7 +53,8 @@ impl<'a> Job<'a> {
         }
     }
 
-    /// The name of the handler that its words name in this place, from 0; empty where they name none there.
+    /// The name of the handler that its words name in this place, from 0; empty if they name none
+    /// there.
     pub fn handler(&self, place: usize) -> &'a str
         ensures { result.now ≡ handler_of self.now place }
     {

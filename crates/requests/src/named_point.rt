@@ -25,7 +25,7 @@ impl<'a> NamedPoint<'a> {
         }
     }
 
-    /// The name of the handler in this place, from 0; empty where there are not so many injections.
+    /// The name of the handler in this place, from 0; empty if there are not that many injections.
     pub fn handler(&self, place: usize) -> &'a str
         ensures { result.now ≡ name_at place (names_in (pairs_in self.now.injections)) }
     {

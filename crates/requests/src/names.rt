@@ -18,7 +18,7 @@ fn is_among(name: &str, list: &str) -> bool
     name == rest
 }
 
-/// Whether a list is one of names, of which none is there twice.
+/// Whether a list has names alone, and none of them twice.
 pub(crate) fn are_names(list: &str) -> bool
     ensures { result ≡ are_names (names_of list.now) }
 {
@@ -35,7 +35,7 @@ pub(crate) fn are_names(list: &str) -> bool
     is_name(rest.as_bytes())
 }
 
-/// The name in this place of a list, from 0; empty where there is none.
+/// The name in this place of a list, from 0; empty if there is none.
 pub(crate) fn name_at<'a>(list: &'a str, place: usize) -> &'a str
     ensures { result.now ≡ name_at place (names_of list.now) }
 {

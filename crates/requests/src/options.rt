@@ -8,7 +8,8 @@ ghost use Rattle.requests.specs.Options.{bad_option};
 pub struct Options {
     /// How many threads work on it, 1 to 64.
     pub workers: u32,
-    /// How many steps lie between two states of the base run that are kept, 1 to 65,536. Who leaves out rows or events may keep fewer.
+    /// How many steps lie between two states of the base run that are kept, 1 to 65,536. If rows or
+    /// events are left out, fewer may be kept.
     pub stride: u32,
     /// How many points a worker takes at once at most, 1 to 1,000,000.
     pub block: u32,

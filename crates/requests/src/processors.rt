@@ -19,7 +19,7 @@ fn workers_for(processors: Option<NonZeroUsize>) -> usize
     }
 }
 
-// What a word means, after the one before it; itself where it is verbatim.
+// What a word means, after the one before it; itself if it is verbatim.
 fn word_meant(
     alloc: Global,
     workers: usize,
@@ -64,7 +64,7 @@ fn push_meant(
     Ok(())
 }
 
-/// What the words mean where the program may use this many processors. At `Err` no memory is left.
+/// What the words mean if the program may use this many processors. At `Err` no memory is left.
 pub fn meant(
     alloc: Global,
     processors: Option<NonZeroUsize>,

@@ -53,7 +53,8 @@ fn either(a: Ends, b: Ends) -> Ends
     }
 }
 
-/// The ends that the words of a list mean, which are joined by commas. `None` where one of the words means no end.
+/// The ends that the words of a list mean, which are joined by commas. `None` if one of the words
+/// means no end.
 pub(crate) fn ends_of(list: &str) -> Option<Ends>
     ensures { result ≡ ends_of list.now }
 {
@@ -66,7 +67,7 @@ pub(crate) fn ends_of(list: &str) -> Option<Ends>
     Some(either(ends, ends_named(rest)?))
 }
 
-// The number that decimal digits spell, where it is one of 32 bits.
+// The number that decimal digits spell, if it is one of 32 bits.
 fn spelled(text: &str) -> Option<u32>
     ensures some { IfSome result (λ number. spelled text.now ≡ Some number) }
     ensures none { IsNone result → (number : ℕ) → spelled text.now ≡ Some number → number < 2 ^ 32 → ⊥ }

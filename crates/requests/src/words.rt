@@ -66,7 +66,8 @@ fn valued_argument<'a>(alloc: Global, name: &'a str, value: &'a str) -> Arg<'a>
         .action(ArgAction::Set)
 }
 
-// An argument of this name that takes a number from 1 to this one, and has this value where it isn't given.
+// An argument of this name that takes a number from 1 to this one, and has this value if it isn't
+// given.
 fn number_argument<'a>(
     alloc: Global,
     name: &'a str,
@@ -320,7 +321,7 @@ fn step_of(matches: &ArgMatches<'_>) -> Option<Option<u32>>
     }
 }
 
-// The point that these words name, where a point and a handler are named or not. `None`: it is none, or one of the others is named too.
+// The point that this text spells. `None` if it spells none, or if a step or a handler is named too.
 fn point_among<'a>(
     point: &'a str,
     step: Option<u32>,
@@ -409,7 +410,8 @@ fn options_of(matches: &ArgMatches<'_>) -> Option<Options>
     Options::new(workers, stride, block).ok()
 }
 
-// The ends of the rows that are written, where a list of them is named or not.
+// The ends of the rows that are written: those of the list, or every end if no list is named. `None`
+// if a word of it is no end.
 fn ends_in(list: Option<&str>) -> Option<Ends>
     ensures { result ≡ ends_in (option_map (λ list. list.now) list.entry) }
 {
@@ -428,7 +430,7 @@ fn view_of(matches: &ArgMatches<'_>) -> Option<View>
     Some(View { ends, heads })
 }
 
-// The shard, where one is named or not.
+// The shard that is named, or all rows if none is. `None` if there is no such shard.
 fn shard_in(word: Option<&str>) -> Option<Shard>
     ensures { result ≡ shard_of_words (option_map (λ word. word.now) word.entry) }
 {
@@ -475,7 +477,7 @@ fn injections_of(matches: &ArgMatches<'_>) -> Option<MostInjections>
     }
 }
 
-// The handlers, where a list of them is named or not.
+// The list of handlers, if one is named. `None` if it isn't a list of names.
 fn handlers_in<'a>(list: Option<&'a str>) -> Option<Option<&'a str>>
     ensures { option_map (λ list. option_map (λ list. list.now) list) result ≡ handlers_in (option_map (λ list. list.now) list.entry) }
 {
@@ -596,7 +598,8 @@ pub fn job_named<'a, S: AsStr>(alloc: Global, words: &'a [S]) -> Result<Job<'a>,
     ensures memory { IfErr result (λ e. takes rtosim_app (map S.text words.entry.now) ≡ true
         → value_faults (subcommand_of rtosim_app (map S.text words.entry.now)) ≡ [] → kind_of e ≡ OutOfMemory) }
 
-    // `Ok` comes only where the words have no fault, and an error is of a kind that they have, or memory.
+    // `Ok` comes only if the words have no fault, and an error is of a kind that they have, or
+    // memory.
     ensures kinds { FailsBy (faults_of (map S.text words.entry.now)) result }
 {
     match command(alloc)?.try_get_matches_from(words) {

@@ -11,7 +11,7 @@ pub record Store : Type 0 where
   pub trail : List Event
   pub legs : List Leg
 
--- the events behind a link, over so many legs at most; those of the base run are everyone's
+-- the events that follow a link, over this many legs at most; those of the base run are everyone's
 abbrev pub told_by : (base : List Event) → Store → ℕ → Link → List Event
 told_by base store n (link.Base from) = drop from base
 told_by base store zero (link.Leg number from) = []
@@ -25,7 +25,7 @@ abbrev pub height : Link → ℕ
 height (link.Base from) = 0
 height (link.Leg number from) = number + 1
 
--- the events behind a link
+-- the events that follow a link
 abbrev pub told_at : (base : List Event) → Store → Link → List Event
 told_at base store link = told_by base store (height link) link
 
@@ -48,14 +48,14 @@ pub record IsLeg (base : List Event) (store : Store) (number : ℕ) (leg : Leg) 
 abbrev pub AreLegs : (base : List Event) → Store → Type 0
 AreLegs base store = (number : ℕ) (leg : Leg) → slice_get store.legs number ≡ Some leg → IsLeg base store number leg
 
--- Some events and some legs, or none, came behind those that were there.
+-- Some events and some legs, or none, came after those that were there.
 pub record Grows (old new : Store) : Type 0 where
   pub own : List Event
   pub trail : new.trail ≡ old.trail ++ own
   pub more : List Leg
   pub legs : new.legs ≡ old.legs ++ more
 
--- The link goes to a place that is there, and these events are behind it.
+-- The link goes to a place that is there, and these events follow it.
 pub record Tells (base : List Event) (store : Store) (link : Link) (events : List Event) : Type 0 where
   pub there : IsLink base store link
   pub are : told_at base store link ≡ events

@@ -15,7 +15,7 @@ use Rattle.rows.specs.declared.speller.Speller.{Speller}
 use Rattle.rows.specs.declared.speller.Spelling.{Spelling}
 use Rattle.rows.specs.Report.{rows_at, whole, IsSound}
 
--- The rows behind the cursor are those of its place, without the first `row` of them, and those of the places after it.
+-- The rows after the cursor are those of its place, without the first `row` of them, and those of the places after it.
 pub record IsAt (rows : Rows) (cursor : Cursor) : Type 0 where
   pub within : cursor.number ≤ length (whole rows)
   pub behind : drop cursor.number (whole rows)

@@ -13,7 +13,7 @@ use Rattle.rows.specs.declared.rows.Place.{Place}
 use Rattle.rows.specs.declared.campaign_report.Rows.{Rows}
 use Rattle.rows.specs.Links.{Store, told_at, AreLegs, IsLink}
 
--- A row that is kept begins as the base run does, with so many of its events, and goes on with those behind its link.
+-- A row that is kept begins as the base run does, with this many of its events, and goes on with those that follow its link.
 abbrev pub row_of : (base : Run) → Store → KeptRow → Row
 row_of base store kept = record {
   point = kept.point;
@@ -40,7 +40,7 @@ pub record IsKept (base : Run) (store : Store) (kept : KeptRow) : Type 0 where
 abbrev pub store_of : Part → Store
 store_of part = record { trail = all_of part.trail; legs = part.legs.items }
 
--- so many rows of a part, from the first on
+-- this many rows of a part, from the first on
 abbrev pub rows_in : Run → Part → (first count : ℕ) → List Row
 rows_in base part first count = rows_of base (store_of part) (take count (drop first part.kept))
 

@@ -14,7 +14,7 @@ pub record IsStretch (app : Application) (trail : List Event) (stretch : Stretch
   pub app_is : stretch.events.app ≡ app
   pub events_are : stretch.events.events ≡ slice_range trail stretch.first stretch.to
 
--- Behind so many of the events that were found, which are the application's, come these, and no others.
+-- After this many of the events that were found, which are the application's, come these, and no others.
 pub record IsTail (app : Application) (events : List Event) (found : Found) : Type 0 where
   pub app_is : found.events.now.app ≡ app
   pub within : found.before ≤ length found.events.now.events

@@ -11,7 +11,8 @@ use std::mem::forget;
 use std::thread;
 use std::thread::Threads;
 
-// Rows that take so many bytes at most stay in memory to the end of the program, which comes soon.
+// Rows that take this many bytes at most stay in memory to the end of the program, which comes
+// soon.
 const FEW: usize = 1 << 24;
 
 // How many bytes a row that is kept takes, and an event, or some more.
@@ -107,8 +108,9 @@ impl Report {
         &self.rows
     }
 
-    /// Gives back the memory of many rows, that of each part in a thread of its own where one can be started: for so much, the
-    /// system takes its time. Few rows stay in memory to the end of the program: to start a thread takes longer than to give them back.
+    /// Gives back the memory of many rows, that of each part in a thread of its own if one can be
+    /// started: the system takes long for so much. Few rows stay in memory to the end of the
+    /// program: to start a thread takes longer than to give them back.
     pub fn free<R: Threads + Sync>(self, rt: &R) {
         let Report { rows } = self;
         if rows.bytes() <= FEW {
@@ -123,7 +125,7 @@ impl Report {
             places: _places,
             totals: _,
         } = rows;
-        // A part that comes to no thread is given back here.
+        // A part that no thread gets is given back here.
         let _freed = thread::map_vec(rt, parts, &|_part: Part| {});
     }
 }

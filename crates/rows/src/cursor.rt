@@ -7,8 +7,9 @@ ghost use Rattle.rows.specs.Pieces.{some_of, IsAt};
 use crate::campaign_report::Rows;
 use crate::rows::Place;
 
-/// A place between the rows of a report: `number` rows are before it. Those behind it are the rows of the place of the number `place`,
-/// without the first `row` of them, and of the places after that one.
+/// A place between the rows of a report: `number` rows are before it. Those after it are the rows
+/// of the place of the number `place`, without the first `row` of them, and of the places after
+/// that one.
 #[derive(Clone, Copy)]
 pub(crate) struct Cursor {
     pub(crate) number: usize,
@@ -37,7 +38,7 @@ impl Cursor {
         }
     }
 
-    // Leaves the places that have no rows behind the cursor, and answers the one that has.
+    // Leaves the places that have no rows after the cursor, and returns the one that has.
     fn leave_ended(&mut self, rows: &Rows) -> Place
         requires sound { IsSound rows.now }
         requires at { IsAt rows.now self.old }
@@ -57,7 +58,8 @@ impl Cursor {
         place
     }
 
-    /// Goes over the next rows, as many as are in one place, and at most this many. Answers where they are.
+    /// Goes over the next rows, as many as are in one place, and at most this many. Returns where
+    /// they are.
     pub(crate) fn take(&mut self, rows: &Rows, most: usize) -> Place
         requires sound { IsSound rows.now }
         requires at { IsAt rows.now self.old }

@@ -28,14 +28,15 @@ impl Model for KeptRows {
 }
 
 impl KeptRows {
-    /// No rows yet, with room for this many where there is memory for it. Rows that needn't move as they become more leave no gaps
-    /// behind, and room that isn't used is mostly none of the machine's memory.
+    /// No rows yet, with room for this many if there is memory for it. Rows that needn't move as
+    /// they become more leave no gaps behind, and unused room usually takes none of the machine's
+    /// memory.
     pub fn with_room(alloc: Global, count: usize) -> KeptRows
         ensures { result ≡ [] }
     {
         let mut different = Vec::new(alloc);
         let mut places = Vec::new(alloc);
-        // Where there is none for all, there may be for those that come.
+        // If there is none for all, there may be for those that come.
         let _refused = different.reserve_exact(count).is_err();
         let _refused = places.reserve_exact(count).is_err();
         KeptRows { different, places }
@@ -49,7 +50,7 @@ impl KeptRows {
         self.places.len()
     }
 
-    /// The row of this number, from 0, where there are this many.
+    /// The row of this number, from 0, if there are this many.
     pub fn get(&self, number: usize) -> Option<&KeptRow>
         ensures { option_map (λ row. row.now) result ≡ slice_get self.now number }
     {

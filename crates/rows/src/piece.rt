@@ -10,10 +10,11 @@ use model::Memory;
 use report::View;
 use std::alloc::Global;
 
-// At most this many rows are taken for as long as the first of them, where the text of a piece is guessed.
+// When the text of a piece is guessed, at most this many rows are taken to be as long as the first
+// of them.
 const MOST_ALIKE: usize = 16;
 
-// So many where heads alone are written, which are all about as long.
+// This many if only heads are written, which are all of about the same length.
 const MOST_HEADS: usize = 1024;
 
 /// This many rows of a report, from the cursor on.
@@ -33,7 +34,8 @@ fn guess(rows: &Rows, place: &Place) -> usize
     requires some { 0 < place.now.count }
     ensures { 0 < result }
 {
-    // No row is looked at, also where the view shows only some: to read them all would cost more than pieces of other lengths.
+    // No row is looked at, even if the view shows only some: to read them all would cost more than
+    // pieces of other lengths.
     if rows.view.heads {
         return HEAD;
     }
@@ -68,8 +70,8 @@ impl Piece {
         }
     }
 
-    /// The rows behind the cursor whose text takes about this many bytes, or all that are left. The cursor goes over them. How long
-    /// a text is, is a guess.
+    /// The rows after the cursor whose text takes about this many bytes, or all that are left. The
+    /// cursor goes over them. How long a text is, is a guess.
     pub(crate) fn next(cursor: &mut Cursor, rows: &Rows, bytes: usize) -> Piece
         requires sound { IsSound rows.now }
         requires at { IsAt rows.now cursor.old }

@@ -23,7 +23,7 @@ use std::thread::Threads;
 // How long the known texts of a part's rows are together at most, in bytes.
 const MOST_KNOWN: usize = 1 << 18;
 
-// Rows of a part behind this many are not compared with others any more.
+// Rows of a part after this many are not compared with others any more.
 const MOST_ROWS: usize = 1 << 16;
 
 /// The text of a row, as it is under the number 0: the row of this number of a part.
@@ -41,9 +41,9 @@ pub(crate) struct Known {
     firsts: Vec<usize>,
 }
 
-/// What is known of the texts of a report's rows: that of the base run's events, with which rows begin, that of the long stretches of the
-/// rows' own events, and of those rows that come again all but their numbers. A row that comes again is spelled once, and so is a stretch
-/// that many rows have.
+/// What is known of the texts of a report's rows: that of the base run's events, with which rows
+/// begin, that of the long stretches of the rows' own events, and of those rows that come again all
+/// but their numbers. A row that comes again is spelled once, like a stretch that many rows have.
 ///
 /// Which texts are found is a guess: each is taken only for a row that is kept as the one that was spelled.
 #[derive(Drop)]
@@ -70,7 +70,7 @@ impl<'a> Model for RowTexts<'a> {
         × IfSome t.known (λ k. AllByRecursion (IsText t.events.app t.rows.now) k.texts.items) };
 }
 
-// Writes a row under the number 0, by way of this report, of which nothing is still to go out.
+// Writes a row under the number 0, by way of this report, all of whose text has gone out.
 fn write_row<W: Sink>(
     writer: &mut W,
     report: &mut ReportWriter<'_>,
@@ -129,7 +129,8 @@ fn spelled_base<'a>(alloc: Global, app: &'a App, base: &'a Run) -> BaseEvents<'a
     BaseEvents::spelled(alloc, &mut Scribe::new(app), base.events.as_slice())
 }
 
-// The long stretches of each part's trail, where rows go on alike. Otherwise most are of one row, which is as well spelled when it is written.
+// The long stretches of each part's trail, if rows go on alike. Otherwise most are of one row,
+// which is as well spelled when it is written.
 fn shared_stretches<'a, R: Threads + Sync>(
     rt: &R,
     alloc: Global,
@@ -224,7 +225,7 @@ impl<'a> RowTexts<'a> {
         }
     }
 
-    // Adds a text. Answers whether there was memory for it.
+    // Adds a text. Returns whether there was memory for it.
     fn push(&mut self, text: RowText) -> bool
         requires { IsTextOf self.old.app self.old.rows text.part text.number (bytes_of text.buffer) }
         ensures { self.new ≡ self.old }
@@ -235,7 +236,8 @@ impl<'a> RowTexts<'a> {
         }
     }
 
-    // Adds the text of a row of a part, if it is of at most this many bytes. Answers how long it is, where there was memory for it.
+    // Adds the text of a row of a part, if it is of at most this many bytes. Returns how long it
+    // is, if there was memory for it.
     fn add(
         &mut self,
         alloc: Global,
@@ -320,7 +322,7 @@ impl<'a> RowTexts<'a> {
         }
     }
 
-    /// The text under the number 0 of the row of this number of a part, where it is known.
+    /// The text under the number 0 of the row of this number of a part, if it is known.
     pub(crate) fn find(&self, part_number: usize, part: &Part, number: usize) -> Option<&[u8]>
         requires part { slice_get self.now.rows.parts.items part_number ≡ Some part.now }
         requires number { number < length part.now.kept }

@@ -4,8 +4,9 @@ use crate::link::{Leg, Link};
 use machine::Trail;
 use model::{End, Point};
 
-/// A row as it is kept: its events begin with so many of the base run's, and go on with those behind a link. Its point is reached where
-/// the base run gets beyond the step of the first injection.
+/// A row as it is kept: its events begin with this many of the base run's, and go on with those
+/// that follow a link. Its point is reached if the base run gets beyond the step of the first
+/// injection.
 #[derive(Clone, Copy)]
 pub struct KeptRow {
     pub point: Point,

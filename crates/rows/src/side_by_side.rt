@@ -20,7 +20,8 @@ use std::sync::Wait;
 use std::thread;
 use std::thread::{Threads, join_mut};
 
-// Writes the text of this piece: what was spelled, or where the buffer has failed, by way of this report.
+// Writes the text of this piece: what was spelled, or, if the buffer has failed, what this report
+// spells now.
 fn put<W: Sink>(
     text: &Spelled,
     piece: Piece,
@@ -45,10 +46,11 @@ fn put<W: Sink>(
     put_all(writer, text.buffer.bytes())
 }
 
-// Writes the texts of all pieces in their order, as they arrive at the desks, and spells pieces as long as the next text isn't
-// there. It spells by way of this report, of which nothing is still to go out, also what a speller had no memory for.
+// Writes the texts of all pieces in their order, as they arrive at the desks, and spells pieces as
+// long as the next text isn't there. It spells by way of this report, all of whose text has gone
+// out, also what a speller had no memory for.
 //
-// What others hand on is right is known only when they are done, so that is a premise.
+// That what others hand on is right is known only when they are done, so it is a premise here.
 fn write_arriving<R: Wait, W: Sink>(
     rt: &R,
     spelling: &Spelling<'_>,
@@ -93,7 +95,7 @@ fn write_arriving<R: Wait, W: Sink>(
     unreachable!()
 }
 
-// Spells pieces until none is left, by each speller in a thread of its own where one can be started.
+// Spells pieces until none is left, by each speller in a thread of its own if one can be started.
 fn spell_all<R: Threads + Wait + Sync>(rt: &R, spelling: &Spelling<'_>, spellers: &mut [Speller])
     requires spelling { IsSpelling spelling.now }
     ensures pairs { (desks : List desk.Desk) → ArePairs spellers.old desks → ArePairs spellers.new desks }
@@ -191,9 +193,9 @@ fn compare_all(own: &mut Speller, others: &mut [Speller], desks: &mut [Desk])
     compare(others, desks);
 }
 
-/// Writes the texts of all pieces, in their order. The other spellers spell in threads of their own where they can be started, and
-/// this one in this thread, which writes. What a speller has no memory for is spelled by way of this report, of which nothing is
-/// still to go out. It waits for them.
+/// Writes the texts of all pieces, in their order. The other spellers spell in threads of their own
+/// if they can be started, and this one in this thread, which writes. What a speller has no memory
+/// for is spelled by way of this report, all of whose text has gone out. It waits for them.
 pub(crate) fn write_side_by_side<R: Threads + Wait + Sync, W: Sink>(
     rt: &R,
     spelling: &Spelling<'_>,

@@ -1,4 +1,4 @@
-//! Who spells pieces of a report, and the texts that are handed on.
+//! Spellers of the pieces of a report, and the texts that they hand on.
 ghost use Rattle.std.specs.Prelude.{◌≡◌, ◌∷◌, ◌++◌, []};
 ghost use Rattle.rtrb.specs.Ring.{sent, SameProducer};
 ghost use Rattle.rows.specs.Pieces.{HasSent, IsSpelling};
@@ -16,14 +16,15 @@ use std::sync::atomic::{AtomicU64, Ordering};
 use std::thread;
 use std::time::Duration;
 
-// A thread that finds nothing to do only lets others go on, this many times. Then it sleeps, for this many microseconds at most: where the
-// writer is slow, those who wait for it keep no processor busy.
+// A thread that finds nothing to do only lets others go on, this many times. Then it sleeps, for
+// this many microseconds at most: if the writer is slow, the threads that wait for it keep no
+// processor busy.
 const MOST_YIELDS: u32 = 1000;
 
 const SLEEP: u64 = 200;
 
-/// What all share who spell: the application, the rows, what is known of their texts, the pieces, and how many of these are taken,
-/// from the first on.
+/// What all spellers share: the application, the rows, what is known of their texts, the pieces,
+/// and how many of these are taken, from the first on.
 #[derive(Drop)]
 pub(crate) struct Spelling<'a> {
     pub(crate) app: &'a App,
@@ -39,7 +40,8 @@ impl<'a> Spelling<'a> {
         self.taken.load(Ordering::SeqCst) as usize >= self.pieces.len()
     }
 
-    /// Lets others go on where this thread was not busy, and has not been this many times before. Answers how many times that is now.
+    /// Lets other threads go on if this one was not busy, and has not been this many times before.
+    /// Returns how many times that is now.
     pub(crate) fn rest_unless<R: Wait>(&self, rt: &R, busy: bool, idle: u32) -> u32 {
         if busy {
             return 0;
@@ -91,8 +93,9 @@ fn hand_on<R: Wait>(rt: &R, spelled: &mut Producer<Spelled>, text: Spelled)
 }
 
 impl Speller {
-    /// Takes the next piece, spells it and hands its text on, if a buffer is empty and a piece is left. It spells by way of this
-    /// report, of which nothing is still to go out, neither before nor afterwards. Answers whether it did.
+    /// Takes the next piece, spells it and hands its text on, if a buffer is empty and a piece is
+    /// left. It spells by way of this report, all of whose text has gone out before the call and
+    /// after it. Returns whether it did.
     pub(crate) fn spell_next<R: Wait>(
         &mut self,
         rt: &R,

@@ -15,10 +15,10 @@ use std::thread::Threads;
 // A leg of fewer events than this many is spelled for each row that goes over it. Few others go over most of those.
 const LEAST_EVENTS: usize = 64;
 
-// So many events of a part are spelled at most, which are some 100 MB of text.
+// This many events of a part are spelled at most, which are some 100 MB of text.
 const MOST_EVENTS: usize = 1 << 22;
 
-// The number that a leg has whose stretch is not spelled.
+// The number of a leg whose stretch is not spelled.
 const NO_STRETCH: u32 = u32::MAX;
 
 /// The events of a trail from one place up to another, and their text as far as there was memory for it.
@@ -29,7 +29,8 @@ pub(crate) struct Stretch<'a> {
     events: BaseEvents<'a>,
 }
 
-/// What is found of a trail up to some place: events, of which so many come before those that are looked for.
+/// What is found of a trail up to some place: events; this many of them come before those that are
+/// looked for.
 #[derive(Clone, Copy)]
 pub(crate) struct Found<'s, 'a> {
     pub(crate) events: &'s BaseEvents<'a>,
@@ -122,7 +123,8 @@ impl<'a> Stretches<'a> {
         let _refused = self.of_legs.push(number).is_err();
     }
 
-    // Spells the events of the trail between these places, where they are there. Answers whether there was memory for it.
+    // Spells the events of the trail between these places, if they are there. Returns whether there
+    // was memory for it.
     fn push(&mut self, alloc: Global, scribe: &mut Scribe<'a>, first: usize, to: usize) -> bool
         requires { scribe.old ≡ self.old.app }
         ensures scribe { scribe.new ≡ scribe.old }
@@ -172,7 +174,8 @@ fn stretches_of_part<'a>(
     Stretches::spelled(alloc, &mut scribe, app, &rows.parts[number])
 }
 
-/// The stretches of each part's long legs, part by part. Those of each are spelled in a thread of its own where one can be started.
+/// The stretches of each part's long legs, part by part. Those of each are spelled in a thread of
+/// its own if one can be started.
 pub(crate) fn stretches_of<'a, R: Threads + Sync>(
     rt: &R,
     alloc: Global,

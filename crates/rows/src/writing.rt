@@ -75,7 +75,8 @@ fn leg_at(legs: &[Leg], number: usize) -> Leg
     legs[number]
 }
 
-// Adds the lines of a trail's events between these places, which are on the leg of this number: by their text, where that is spelled.
+// Adds the lines of a trail's events between these places, which are on the leg of this number: by
+// their text, if that is spelled.
 fn add_leg<W: Sink>(
     writer: &mut W,
     text: &mut ReportWriter<'_>,
@@ -100,7 +101,7 @@ fn add_leg<W: Sink>(
     }
 }
 
-// The same, where there may be no stretches.
+// The same, if there may be no stretches.
 fn add_stretch<W: Sink>(
     writer: &mut W,
     text: &mut ReportWriter<'_>,
@@ -125,7 +126,7 @@ fn add_stretch<W: Sink>(
     }
 }
 
-// Adds the lines of the events behind a link of a part.
+// Adds the lines of the events that follow a link of a part.
 fn add_told<W: Sink>(
     writer: &mut W,
     text: &mut ReportWriter<'_>,
@@ -158,7 +159,8 @@ fn add_told<W: Sink>(
     }
 }
 
-/// Adds a row of this number to a report: its events are the first so many of the base run's, and those behind its link.
+/// Adds a row of this number to a report: its events are this many first ones of the base run, and
+/// those that follow its link.
 pub(crate) fn add_row<W: Sink>(
     writer: &mut W,
     text: &mut ReportWriter<'_>,
@@ -360,7 +362,8 @@ fn add_piece<W: Sink>(
     Ok(())
 }
 
-/// Writes the rows of a piece by way of this report, of which nothing is still to go out, neither before nor afterwards.
+/// Writes the rows of a piece by way of this report, all of whose text has gone out before the call
+/// and after it.
 pub(crate) fn write_piece<W: Sink>(
     writer: &mut W,
     text: &mut ReportWriter<'_>,
@@ -449,17 +452,18 @@ fn write_rows_by<R: Threads + Wait + Sync, W: Sink>(
     write_totals(writer, &mut text, spelling.rows)
 }
 
-// Whether the text is mostly that of long stretches which many rows have. They are written as they are; to hand on copies of them would
-// take longer than all the rest.
+// Whether most of the text is that of long stretches which many rows have. They are written as they
+// are; to hand on copies of them would take longer than all the rest.
 fn is_mostly_shared(rows: &Rows) -> bool
     requires { IsSound rows.now }
 {
     !rows.view.heads && LEAST_SHARED <= rows.base.events.len() && rows.are_alike()
 }
 
-// How long the text of a piece is, in bytes: all that are in memory at a time take some sixteenth of the rows' memory at most,
-// where a row with its leg takes some 100 bytes and each of its own events 16. They are neither so short that handing them on takes
-// time, nor too long for a processor's own cache.
+// How long the text of a piece is, in bytes: all that are in memory at a time take some sixteenth
+// of the rows' memory at most. A row with its leg takes some 100 bytes, and each of its own events
+// 16. They are neither so short that handing them on takes time, nor too long for a processor's own
+// cache.
 fn length_of_pieces(rows: &Rows, spellers: usize) -> usize
     requires some { 0 < spellers }
     requires sound { IsSound rows.now }
@@ -471,7 +475,7 @@ fn length_of_pieces(rows: &Rows, spellers: usize) -> usize
     (bytes / spellers / 4).clamp(LEAST_PIECE, MOST_PIECE)
 }
 
-// What is known of the texts of the rows; nothing, where only heads are written.
+// What is known of the texts of the rows; nothing, if only heads are written.
 fn texts_of<'a, R: Threads + Sync>(
     rt: &R,
     alloc: Global,
@@ -489,8 +493,8 @@ fn texts_of<'a, R: Threads + Sync>(
     }
 }
 
-// What several threads spell rows with, and the pieces that they spell; nothing where one thread writes all rows, or where there is no
-// memory for them.
+// What several threads spell rows with, and the pieces that they spell; nothing if one thread
+// writes all rows, or without memory for them.
 fn lanes_and_pieces(alloc: Global, rows: &Rows, threads: usize) -> Option<(Lanes, Vec<Piece>)>
     requires { IsSound rows.now }
     ensures pairs { IfSome result (λ parts. ArePairs (parts.0.own ∷ parts.0.others.items) parts.0.desks.items) }
@@ -519,9 +523,10 @@ pub fn write_report<W: Sink>(app: &App, report: &Report, writer: &mut W) -> Resu
     write_rows(app, rows, &RowTexts::new(app, rows), writer)
 }
 
-/// Writes what `write_report` writes, sooner. It takes memory for the text of the base run's events, with which rows begin, and for that
-/// of rows that come again. This many threads spell rows, at most 64, of which the calling thread is one. What it gets no memory for is
-/// spelled for each row, on this thread.
+/// Writes what `write_report` writes, sooner. It takes memory for the text of the base run's
+/// events, with which rows begin, and for that of rows that come again. This many threads spell
+/// rows, at most 64; the calling thread is one of them. What it gets no memory for is spelled for
+/// each row, on this thread.
 pub fn write_report_in_threads<R: Threads + Wait + Sync, W: Sink>(
     rt: &R,
     alloc: Global,

@@ -20,11 +20,11 @@ const ENDS: usize = 6;
 #[derive(Drop)]
 pub(crate) struct Counter<'a> {
     rt: &'a HostRuntime,
-    /// When it was made; `None` where standard error is no terminal, or there is no clock.
+    /// When it was made; `None` if standard error is no terminal, or there is no clock.
     start: Option<Instant>,
     /// How many rows there will be.
     all: AtomicU64,
-    /// How many milliseconds after the start it was shown last; 0 where it isn't shown.
+    /// How many milliseconds after the start it was shown last; 0 if it isn't shown.
     shown: AtomicU64,
 }
 

@@ -19,8 +19,9 @@ const CAMPAIGN_STACK: usize = 598_016;
 // And any other job.
 const STACK: usize = 303_104;
 
-// Takes the stack of a campaign or of what explores, and gives it back: it stays the program's. So where a limit on all memory leaves no room for it, the
-// program ends before it has done anything, and otherwise the stack need not grow later. Answers 0 or 1, by what lies at `place`.
+// Takes the stack of a campaign or of what explores, and gives it back: it stays the program's. So
+// if a limit on all memory leaves no room for it, the program ends before it has done anything, and
+// otherwise the stack need not grow later. Returns 0 or 1, by what lies at `place`.
 #[inline(never)]
 fn take_campaign_stack(place: usize) -> u8 {
     let mut stack = [0_u8; CAMPAIGN_STACK];
@@ -51,7 +52,7 @@ fn arguments(rt: &HostRuntime) -> io::Result<Vec<String>> {
     Ok(std::env::args(rt)?.collect(rt.alloc())?)
 }
 
-// Prints that the words can't be read, and answers the status.
+// Prints that the words can't be read, and returns the status.
 #[cold]
 fn refuse_words(rt: &HostRuntime, error: &io::Error) -> u8 {
     if error.kind() == io::ErrorKind::OutOfMemory {
@@ -62,7 +63,8 @@ fn refuse_words(rt: &HostRuntime, error: &io::Error) -> u8 {
     2
 }
 
-// How many processors the program may use, where a word may ask for that: the system reads files for the answer.
+// How many processors the program may use, if a word may ask for that: the system reads files for
+// the answer.
 fn processors(rt: &impl Threads, words: &[String]) -> Option<NonZeroUsize> {
     for word in words {
         if word.ends_with("auto") {

@@ -8,7 +8,7 @@ use Rattle.script.specs.declared.place.Place.{Place}
 use Rattle.script.specs.declared.place.Section.{Section}
 use Rattle.script.specs.Faults.{at_section, at_entry, fault_at, first_fault, fails_if, need}
 
--- How elements are checked: each at its place, where S is what matters of those before it.
+-- How elements are checked: each at its place; S is what matters of those before it.
 pub record Elements (S X : Type 0) : Type 0 where
   pub at : ℕ → Place
   pub fault : S → Place → X → Option Fault
@@ -33,7 +33,7 @@ abbrev pub list_of : Items → List Data
 list_of no_items = []
 list_of (item d ds) = d ∷ list_of ds
 
--- the elements, where it is an array
+-- the elements, if it is an array
 abbrev pub array_of : Data → Option (List Data)
 array_of d = option_map list_of (as_array d)
 

@@ -97,20 +97,20 @@ names_of entries =
 abbrev pub initial_values : Entries → List ℕ
 initial_values entries = map (λ (v : VariableEntry). v.initial) entries.variables
 
--- the daemon's queue, where there is a daemon
+-- the daemon's queue, if there is a daemon
 abbrev pub command_queue : Option DaemonEntry → List ObjectKind
 command_queue None = []
 command_queue (Some d) = kind.Queue d.size ∷ []
 
--- all objects: those of the sections, and behind them the daemon's queue
+-- all objects: those of the sections, and after them the daemon's queue
 abbrev pub all_objects : Entries → List ObjectKind
 all_objects entries = map (λ (o : ObjectEntry). o.kind) entries.objects ++ command_queue entries.daemon
 
--- the daemon's number, where there is a daemon: it is the task behind those of the section
+-- the daemon's number, if there is a daemon: it is the task after those of the section
 abbrev pub daemon_of : Entries → Option ℕ
 daemon_of entries = option_map (λ (d : DaemonEntry). length entries.tasks) entries.daemon
 
--- The application has these objects, this many event groups, this many variables, this many tasks of the file, and a daemon where
+-- The application has these objects, this many event groups, this many variables, this many tasks of the file, and a daemon if
 -- these have one.
 pub record HasEntries (app : Application) (entries : Entries) : Type 0 where
   pub objects : app.objects ≡ all_objects entries

@@ -125,11 +125,11 @@ first_fault [] = None
 first_fault (None ∷ checks) = first_fault checks
 first_fault ((Some fault) ∷ checks) = Some fault
 
--- the check that finds this fault where the test is true
+-- the check that finds this fault if the test is true
 abbrev pub fails_if : Bool → Fault → Option Fault
 fails_if b fault = if b then Some fault else None
 
--- the check that finds this fault where there is nothing, and otherwise checks what there is
+-- the check that finds this fault if there is nothing, and otherwise checks what there is
 abbrev pub need : {X : Type 0} → Fault → Option X → (X → Option Fault) → Option Fault
 need fault None check = Some fault
 need fault (Some x) check = check x
@@ -142,13 +142,13 @@ required p k check ms = need (fault_at Missing (at_key p k)) (get_member (key_wo
 abbrev pub optional : Place → Key → (Place → Data → Option Fault) → Members → Option Fault
 optional p k check ms = option_and_then (check (at_key p k)) (get_member (key_word k) ms)
 
--- What was read is this value where the check finds nothing, and otherwise the fault that it finds.
+-- What was read is this value if the check finds nothing, and otherwise the fault that it finds.
 abbrev pub Judges : {X : Type 0} → Result X Fault → Option Fault → X → Type 0
 Judges (Ok x) check value = (check ≡ None) × (x ≡ value)
 Judges (Err fault) check value = check ≡ Some fault
 
--- What a call that takes memory made is this value where the check finds nothing, unless memory is refused, and otherwise the
--- fault that the check finds, whatever memory is left.
+-- What a call that takes memory made is this value if the check finds nothing, unless memory is refused, and otherwise the fault
+-- that the check finds, whatever memory is left.
 abbrev pub Loads : {X : Type 0} → Result X LoadError → Option Fault → X → Type 0
 Loads (Ok x) check value = (check ≡ None) × (x ≡ value)
 Loads (Err error.Memory) check value = check ≡ None

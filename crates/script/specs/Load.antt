@@ -18,8 +18,8 @@ use Rattle.script.specs.Ops.{handler_ops_fault, scripts_fault, with_isr_ops, all
 use Rattle.script.specs.Interrupts.{interrupts_fault, interrupts_named}
 use Rattle.script.specs.Points.{campaign_fault, campaign_named}
 
--- the most ticks and steps that a file may ask for, except for the ticks of one that is tickless,
--- and where it says nothing (profile)
+-- the most ticks and steps that a file may ask for, except for the ticks of one that is tickless; and the limits of a file that
+-- says nothing (profile)
 abbrev pub most_limit : ℕ
 most_limit = 1000000
 
@@ -36,7 +36,7 @@ limits_fault tickless d =
     ∷ optional p key.Steps (number_fault 1 most_limit) ms
     ∷ []))
 
--- the limits, where there are any
+-- the limits, if there are any
 abbrev pub limits_named : Option Data → Limits
 limits_named d = record {
   ticks = number_or most_limit (member_of key.Ticks (option_and_then as_table d));

@@ -31,7 +31,7 @@ abbrev pub allows : List ObjectEntry → ℕ → Access Value → Bool
 allows objects object access = option_map_or (λ (o : ObjectEntry). fits o.kind access) (slice_get objects object) false
 
 -- What distinguishes the ops of tasks from those of handlers: which words spell which op, whether the daemon has to do it, and
--- whether an object allows it; what it is to the blocks of its script; and which op its text is where these blocks are open.
+-- whether an object allows it; what it is to the blocks of its script; and which op its text is if these blocks are open.
 pub record Ops (O : Type 0) : Type 0 where
   pub of_words : Naming → List Word → Option O
   pub is_command : O → Bool
@@ -64,7 +64,7 @@ task_ops = record {
   ending = ending;
 }
 
--- the ops of handlers, where each `end` is that of an `if`
+-- the ops of handlers; each `end` is that of an `if`
 abbrev pub handler_ops : Ops IsrOp
 handler_ops = record {
   of_words = isr_op_of;
@@ -76,11 +76,11 @@ handler_ops = record {
 
 -- ---- one op
 
--- the op of a value that is a text, where names are read this way
+-- the op of a value that is a text, if names are read in this way
 abbrev pub op_in : {O : Type 0} → Ops O → Naming → Data → Option O
 op_in ops named d = option_and_then (λ text. ops.of_words named (words_of text)) (as_str d)
 
--- what it is to the blocks of its script, where these are open
+-- what it is to the blocks of its script, if these are open
 abbrev pub edge_in : {O : Type 0} → Ops O → List Block → O → Edge
 edge_in ops blocks op = ops.edge_of (ops.ending blocks op)
 
@@ -122,7 +122,7 @@ script_fault ops entries p ds = first_fault (
 abbrev pub ops_named : {O : Type 0} → Ops O → Entries → List Data → List O
 ops_named ops entries ds = filter_map (op_in ops (among entries)) ds
 
--- the script of a task that they spell, where each `end` is that of the block that it ends
+-- the script of a task that they spell; each `end` is that of the block that it ends
 abbrev pub script_named : Entries → List Data → List Op
 script_named entries ds = with_ends [] (ops_named task_ops entries ds)
 
@@ -156,12 +156,12 @@ with_script entries t = record {
   script = script_named entries t.script;
 }
 
--- the daemon as a task, where there is one: without an end it asks for a command of the queue of this number, and does it
+-- the daemon as a task, if there is one: without an end it asks for a command of the queue of this number, and does it
 abbrev pub daemon_task : (commands : ℕ) → Option DaemonEntry → List Definition
 daemon_task commands None = []
 daemon_task commands (Some d) =
     record { name = d.name; priority = d.priority; endless = true; script = NextCommand commands ∷ Obey ∷ [] } ∷ []
 
--- all tasks: those of the section, and behind them the daemon, whose queue is behind the objects of the sections
+-- all tasks: those of the section, and after them the daemon, whose queue is after the objects of the sections
 abbrev pub all_tasks : Entries → List Definition
 all_tasks entries = map (with_script entries) entries.tasks ++ daemon_task (length entries.objects) entries.daemon

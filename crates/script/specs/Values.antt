@@ -1,5 +1,5 @@
--- What is at the keys of a document, with its checks: numbers, booleans, names and texts.
--- Where a check fails the value is a default, which no one sees.
+-- What is at the keys of a document, with its checks: numbers, booleans, names and texts. If a check fails the value is a
+-- default, which nobody sees.
 use Rattle.std.specs.Prelude.{ℕ, ℤ, pos, negsuc, Bool, false, not, ◌||◌, nat_lt, List, [], ◌∷◌, Option, Some, None, is_none}
 use Rattle.std.specs.Prelude.{option_map, option_and_then, unwrap_or}
 use Rattle.std.specs.List.{list_any}
@@ -21,7 +21,7 @@ use Rattle.script.specs.Arrays.{Elements, alike, array_fault, elements_of}
 abbrev pub data_of : Option (Bor Value) → Option Data
 data_of value = option_map (λ v. view v.now) value
 
--- what is at a key of a table, where it is one
+-- what is at a key of a table, if it is one
 abbrev pub member_of : Key → Option Members → Option Data
 member_of k members = option_and_then (get_member (key_word k)) members
 
@@ -40,7 +40,7 @@ abbrev pub integer_named : Option ℤ → ℕ
 integer_named (Some (pos n)) = n
 integer_named _ = 0
 
--- the number, or the default where it is left out
+-- the number, or the default if it is left out
 abbrev pub number_or : ℕ → Option Data → ℕ
 number_or default None = default
 number_or default (Some d) = integer_named (as_integer d)
@@ -55,7 +55,7 @@ number_named k ms = number_or 0 (member_of k ms)
 abbrev pub boolean_fault : Place → Data → Option Fault
 boolean_fault p d = fails_if (is_none (as_bool d)) (fault_at WrongKind p)
 
--- which one, or false where it is left out
+-- which one, or false if it is left out
 abbrev pub boolean_named : Option Data → Bool
 boolean_named d = unwrap_or (option_and_then as_bool d) false
 

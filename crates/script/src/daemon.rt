@@ -84,7 +84,7 @@ pub(crate) fn daemon<'a>(
 
 // ---- what it adds to the application, so that only memory may be wanting
 
-/// The objects, and behind them the daemon's queue, if there is a daemon.
+/// The objects, and after them the daemon's queue, if there is a daemon.
 pub(crate) fn all_objects(
     alloc: Global,
     entries: &NamedEntries<'_>,
@@ -126,7 +126,8 @@ fn task(
     Ok(TaskDefinition::new(name, daemon.priority, true, script))
 }
 
-/// The tasks with their scripts, whose blocks are closed, and behind them the daemon, if there is one.
+/// The tasks with their scripts, whose blocks are closed, and after them the daemon, if there is
+/// one.
 pub(crate) fn all_tasks(
     alloc: Global,
     entries: &NamedEntries<'_>,

@@ -174,8 +174,8 @@ pub trait FromDocument: Sized {
     // What a document names in which no check fails.
     ghost named_by: { Members → Self };
 
-    /// What the document names, or the fault of the first of its checks that fails, whatever memory is left;
-    /// `Memory` only where no check fails.
+    /// What the document names, or the fault of the first of its checks that fails, whatever memory
+    /// is left; `Memory` only if no check fails.
     fn from_document(alloc: Global, document: &Table) -> Result<Self, LoadError>
         ensures { Loads result
             (fault_in (table_view document.now)) (named_by (table_view document.now)) };

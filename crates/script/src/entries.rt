@@ -153,7 +153,7 @@ impl NamedEntries<'_> {
         self.tasks.as_slice().len() >= MOST_TASKS
     }
 
-    /// The number of the daemon, which is the task behind the others. There is room for it.
+    /// The number of the daemon, which is the task after the others. There is room for it.
     pub(crate) fn daemon_number(&self) -> Option<TaskId>
         requires { IfSome self.now.daemon (λ d. length self.now.tasks.items < most_tasks) }
         ensures { result ≡ daemon_of (entries_view self.now) }
@@ -166,7 +166,7 @@ impl NamedEntries<'_> {
         }
     }
 
-    /// The number of the daemon's queue, which is the object behind the others.
+    /// The number of the daemon's queue, which is the object after the others.
     pub(crate) fn commands(&self) -> ObjectId
         ensures { result ≡ length (entries_view self.now).objects }
     {

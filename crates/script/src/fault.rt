@@ -26,7 +26,7 @@ pub enum FaultKind {
     OverwriteLength,
     /// More entries than there may be.
     TooMany,
-    /// A command of a handler, where there is no daemon.
+    /// A command of a handler, if there is no daemon.
     NoDaemon,
 }
 

@@ -2,13 +2,13 @@
 use arrayvec::ArrayVec;
 use model::App;
 
-/// An event group, of which the file has only the name.
+/// An event group. The file has only its name.
 #[derive(Drop)]
 pub(crate) struct NamedGroup<'a> {
     pub(crate) name: &'a str,
 }
 
-// What is in an array of event groups where none has been put yet.
+// What an array of event groups has in a place that is still free.
 impl Default for NamedGroup<'_> {
     fn default() -> Self {
         NamedGroup { name: "" }

@@ -13,7 +13,7 @@ pub(crate) struct NamedObject<'a> {
     pub(crate) ghost formed: { IsObjectKind kind } by { IsObjectKind-prop kind },
 }
 
-// What is in an array of objects where none has been put yet.
+// What an array of objects has in a place that is still free.
 impl Default for NamedObject<'_> {
     fn default() -> Self {
         NamedObject {

@@ -13,7 +13,7 @@ pub(crate) struct NamedVariable<'a> {
     pub(crate) initial: u32,
 }
 
-// What is in an array of variables where none has been put yet.
+// What an array of variables has in a place that is still free.
 impl Default for NamedVariable<'_> {
     fn default() -> Self {
         NamedVariable {

@@ -33,7 +33,7 @@ pub(crate) trait TextOp: Copy {
     // What distinguishes it from the other kind.
     ghost ops: { Ops Self };
 
-    /// The op that a text spells, where names are read this way.
+    /// The op that a text spells, if names are read in this way.
     fn of_text<F: Finding>(text: &[u8], finding: &F) -> Option<Self>
         ensures { result ≡ ops.of_words (F.naming finding.now) (words_of text.now) };
 
@@ -41,11 +41,11 @@ pub(crate) trait TextOp: Copy {
     fn is_command(&self) -> bool
         ensures { result ≡ ops.is_command self.now };
 
-    /// Whether the object of which it speaks allows it.
+    /// Whether the object that it names allows it.
     fn is_allowed(&self, objects: &[NamedObject<'_>]) -> bool
         ensures { result ≡ ops.is_allowed (map object_view objects.now) self.now };
 
-    /// What it is to the blocks of its script, where these are open.
+    /// What it is to the blocks of its script, if these are open.
     fn edge_in(&self, blocks: &OpenBlocks) -> Edge
         ensures { result ≡ edge_in ops blocks.now self.now };
 }
@@ -115,15 +115,15 @@ impl TextOp for IsrOp {
 
 // ---- the checks, which take no memory
 
-// The op that a value spells, where names are read this way.
+// The op that a value spells, if names are read in this way.
 fn op_in<O: TextOp, F: Finding>(value: &Value, finding: &F) -> Option<O>
     ensures { result ≡ op_in O.ops (F.naming finding.now) (view value.now) }
 {
     O::of_text(value.as_str()?.as_bytes(), finding)
 }
 
-// Goes past the op that a value spells, where these blocks are open. Its names are those of entries, which allow it; there is a
-// daemon if it is a command; and it is allowed there.
+// Goes past the op that a value spells, if these blocks are open. Its names are those of entries,
+// which allow it; there is a daemon if it is a command; and it is allowed there.
 fn pass_op<O: TextOp>(
     entries: &NamedEntries<'_>,
     blocks: &mut OpenBlocks,

@@ -18,7 +18,7 @@ use model::{App, Injection, Point, PointEntry};
 use std::alloc::Global;
 use toml::{Table, Value};
 
-// The injections, where there are handlers of their names.
+// The injections, if there are handlers of their names.
 fn injections(
     pairs: &[RawInjection<'_>],
     entries: &NamedEntries<'_>,
@@ -35,12 +35,12 @@ fn injections(
     Some(injections)
 }
 
-// The point of these injections, where there are handlers of their names.
+// The point of these injections, if there are handlers of their names.
 fn point_of(pairs: &[RawInjection<'_>], entries: &NamedEntries<'_>) -> Option<Point>
     requires { may_be_point (map pair_view pairs.now) ≡ true }
     ensures { result ≡ all_known (isr_names (entries_view entries.now)) (map pair_view pairs.now) }
 {
-    // Mostly it is one, which needs no list.
+    // Usually it is one, which needs no list.
     if let [pair] = pairs {
         return Some(Point::one(pair.step, handler_among(entries, pair.handler)?));
     }
@@ -48,7 +48,7 @@ fn point_of(pairs: &[RawInjection<'_>], entries: &NamedEntries<'_>) -> Option<Po
     Point::new(injections.as_slice()).ok()
 }
 
-// The entry, where there are handlers of its names.
+// The entry, if there are handlers of its names.
 fn known_entry(raw: &RawPoint<'_>, entries: &NamedEntries<'_>) -> Option<PointEntry>
     requires { is_formed (raw_view raw.now) ≡ true }
     ensures { result ≡ entry_from (isr_names (entries_view entries.now)) (raw_view raw.now) }
@@ -104,7 +104,8 @@ fn check_all(values: &[Value], place: Place, entries: &NamedEntries<'_>) -> Resu
     Ok(())
 }
 
-// Each of these entries in order, for which room is made at once; where it is refused, they are checked all the same.
+// Each of these entries in order, for which room is made at once; if it is refused, they are
+// checked all the same.
 fn points_of(
     alloc: Global,
     values: &[Value],
@@ -122,7 +123,8 @@ fn points_of(
     Ok(push_all(points, values, place, entries)?)
 }
 
-/// The points of a document, in its order. Each text is read once. Where memory is refused, they are still checked.
+/// The points of a document, in its order. Each text is read once. If memory is refused, they are
+/// still checked.
 #[tactic(auto, unfolding(crate::specs::Points::campaign_fault, crate::specs::Points::campaign_named))]
 pub(crate) fn points(
     alloc: Global,

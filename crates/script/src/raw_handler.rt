@@ -15,7 +15,7 @@ pub(crate) struct RawHandler<'a> {
     pub(crate) ghost few: { length ops.now ≤ most_handler_ops },
 }
 
-// What is in an array of handlers where none has been put yet.
+// What an array of handlers has in a place that is still free.
 impl Default for RawHandler<'_> {
     fn default() -> Self {
         RawHandler { name: "", ops: &[] }

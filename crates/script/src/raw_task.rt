@@ -17,7 +17,7 @@ pub(crate) struct RawTask<'a> {
     pub(crate) ghost few: { length script.now ≤ most_ops },
 }
 
-// What is in an array of tasks where none has been put yet.
+// What an array of tasks has in a place that is still free.
 impl Default for RawTask<'_> {
     fn default() -> Self {
         RawTask {

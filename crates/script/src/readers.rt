@@ -181,7 +181,8 @@ fn tasks<'a>(document: &'a Table, earlier: &NamedEntries<'_>) -> Result<RawTasks
     whole_section(&TaskReader(earlier), Section::Task, document)
 }
 
-/// The entries of a document that have names, of which at least one is a task. There is room for one more where there is a daemon.
+/// The entries of a document that have names; at least one of them is a task. There is room for one
+/// more if there is a daemon.
 #[tactic(auto, unfolding(crate::specs::Load::entries_fault, crate::specs::Load::entries_of))]
 pub(crate) fn named_entries(document: &Table) -> Result<NamedEntries<'_>, Fault>
     ensures checks { Judges (seen entries_view result)

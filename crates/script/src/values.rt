@@ -78,7 +78,7 @@ fn number(value: &Value, place: Place, least: u32, most: u32) -> Result<u32, Fau
     Ok(number as u32)
 }
 
-/// A number of this range, or the default where there is none.
+/// A number of this range, or the default if there is none.
 pub(crate) fn optional_long_number(
     value: Option<&Value>,
     place: Place,
@@ -141,7 +141,7 @@ pub(crate) fn required_number(
 
 // ---- booleans
 
-/// A boolean; false where there is none.
+/// A boolean; false if there is none.
 pub(crate) fn optional_boolean(value: Option<&Value>, place: Place) -> Result<bool, Fault>
     ensures { Judges result
         (option_and_then (boolean_fault place) (data_of value.entry)) (boolean_named (data_of value.entry)) }

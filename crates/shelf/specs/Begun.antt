@@ -9,8 +9,8 @@ use Rattle.machine.specs.declared.machine.Machine.{Machine}
 use Rattle.machine.specs.Can.{IsUnderWay}
 use Rattle.shelf.specs.declared.row.RowBeginning.{RowBeginning}
 
--- The kernel has come along the row of this point beyond its first injection, and where the row goes on, beyond its last one. The
--- row's events from the first one on came behind the others that were kept; those before it are the base run's.
+-- The kernel has come along the row of this point beyond its first injection, and if the row goes on, beyond its last one. The
+-- row's events from the first one on came after the others that were kept; those before it are the base run's.
 pub record HasBegun (app : Application) (point : List Injection) (limits : Limits)
     (k : Machine) (old new : List Event) (beginning : RowBeginning) : Type 0 where
   pub way : IsUnderWay app point limits k

@@ -6,13 +6,13 @@ use Rattle.machine.specs.declared.machine.Machine.{Machine}
 use Rattle.kernel.specs.Rests.{IsRest}
 use Rattle.shelf.specs.declared.stops.Stop.{Stop}
 
--- Each run that comes to this kernel, and into which nothing is injected from there on, goes on as the base run does behind so many
--- of its events.
+-- Each run that reaches this kernel, and into which nothing is injected from there on, goes on as the base run does after this
+-- many of its events.
 pub record JoinsBase (app : Application) (limits : Limits) (base : Run) (k : Machine) (before : ℕ) : Type 0 where
   pub within : before ≤ length base.events
   pub rest : IsRest app limits k (record base { events = drop before base.events })
 
--- It does so at each of these stops, behind the events that the base run had reported by then.
+-- It does so at each of these stops, after the events that the base run had reported by then.
 abbrev pub AreRests : Application → Limits → Run → List Stop → Type 0
 AreRests app limits base stops =
     (number : ℕ) → IfSome (slice_get stops number) (λ (stop : Stop). JoinsBase app limits base stop.kernel stop.before)

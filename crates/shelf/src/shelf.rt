@@ -45,7 +45,7 @@ impl Shelf {
     /// `stride`-th step: 1 to 65,536. Each of these snapshots takes some 3 kB, 112 bytes for each task, and four for each item
     /// that the queues of the application can hold.
     ///
-    /// `Memory` is answered only where a growth was refused.
+    /// `Memory` is returned only if a growth was refused.
     pub fn make(alloc: Global, app: &App, limits: Limits, stride: u32) -> Result<Shelf, Memory>
         requires apart { 0 < stride }
         requires near { stride ≤ 65536 }
@@ -106,8 +106,9 @@ impl Shelf {
         self.base.events.len()
     }
 
-    /// How many events the base run had reported at the stop where this kernel is, of this hint, if it is found to be at one. Each
-    /// run that comes to this kernel, and into which nothing is injected from there on, goes on as the base run does behind these.
+    /// How many events the base run had reported at the stop where this kernel is, of this hint, if
+    /// it is found to be at one. Each run that reaches this kernel, and into which nothing is
+    /// injected from there on, goes on as the base run does after these.
     pub fn known(&self, kernel: &Kernel, hint: u64) -> Option<usize>
         requires apart { 0 < self.now.stride }
         ensures joins { IfSome result (λ before. (app : Application) → IsShelf app self.now
@@ -121,8 +122,8 @@ impl Shelf {
         }
     }
 
-    /// Makes the kernel that of the stop before the first injection of a point that the base run reaches, and answers how many events
-    /// the base run had reported by then.
+    /// Makes the kernel that of the stop before the first injection of a point that the base run
+    /// reaches, and returns how many events the base run had reported by then.
     fn go_to_stop(&self, app: &App, point: &Point, kernel: &mut Kernel) -> usize
         requires shelf { IsShelf app.now self.now }
         requires reached { first_step point.now < self.now.base.steps }
@@ -195,9 +196,10 @@ impl Shelf {
     /// nearer. So most points that come in order take few steps that aren't their rows' own. The meter, which is below 2^62, rises by the
     /// steps on that way and those of the row from the injection on.
     ///
-    /// `Err(Memory)` is returned only if a growth was refused, so never if the row reports nothing. The meter has then risen by no more
-    /// than the way and the row's steps from that injection on. The trail then has those events that it had, and some more after them, and
-    /// the walk is of no more use.
+    /// `Err(Memory)` is returned only if a growth was refused, so never if the row reports nothing.
+    /// The meter has then risen by no more than the way and the row's steps from that injection on.
+    /// The trail then has those events that it had, and some more after them, and the walk can't be
+    /// used any more.
     pub fn begin_row_after(
         &self,
         app: &App,

@@ -11,8 +11,9 @@ ghost use Rattle.shelf.specs.Walks.{IsWalk};
 use kernel::{Kernel, StepLog, Trail, go_far};
 use model::{App, End, Limits, Memory, Meter};
 
-/// A kernel that goes along the base run, from the first injection of one point to that of the next, and how many events that run has
-/// reported before it. Where points come in order, it does each step of the base run once for all of them.
+/// A kernel that goes along the base run, from the first injection of one point to that of the
+/// next, and how many events that run has reported before it. If points come in order, it does each
+/// step of the base run once for all of them.
 #[derive(Drop)]
 pub struct Walk {
     pub(crate) kernel: Kernel,
