@@ -124,7 +124,7 @@ fn found_while_watched<W: Watch>(
 /// these limits: of each end that some placement has how many have it, and the least of them. In which order the handlers are named, and
 /// whether twice, makes no difference. There are fewer than 2^128 placements in all. Meanwhile `watch` learns how far this has come.
 ///
-/// `Memory` is answered only where a growth was refused.
+/// `Memory` is returned only if a growth was refused.
 pub fn explore<W: Watch>(
     alloc: Global,
     app: &App,

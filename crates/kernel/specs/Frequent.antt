@@ -3,7 +3,7 @@ use Rattle.std.specs.Prelude.{Bool, true, false}
 use Rattle.model.specs.declared.op.Op.{Op}
 use Rattle.model.specs.declared.op.Op.TheVariants.{Work, Await, Do, SetBits, WaitBits, Notify, AwaitNotification, End, If, Value}
 
--- an op whose code stands in the step itself
+-- an op whose code is part of the step itself
 abbrev pub is_frequent : Op → Bool
 is_frequent (Work ticks) = true
 is_frequent (Await object access ticks) = true
