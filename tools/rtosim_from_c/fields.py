@@ -80,15 +80,17 @@ class Fields:
         """The members that a task or a handler gives values, and those whose address is taken."""
         written: Set[str] = set()
         addressed: Set[str] = set()
-        for name in self.running:
-            for node in trees.walk(self.unit.functions[name].body):
+        for name, definition in self.unit.functions.items():
+            for node in trees.walk(definition.body):
                 target = node.lvalue if trees.kind(node) == "Assignment" else node.expr if trees.kind(node) == "UnaryOp" else None
                 if trees.kind(target) != "StructRef":
                     continue
-                if trees.kind(node) == "Assignment" or node.op in STEPS:
-                    written.add(target.field.name)
-                elif node.op == "&":
+                if trees.kind(node) == "UnaryOp" and node.op == "&":
                     addressed.add(target.field.name)
+                elif name in self.running and (trees.kind(node) == "Assignment" or node.op in STEPS):
+                    written.add(target.field.name)
+        addressed |= {it.expr.field.name for one in self.unit.globals.values() for it in trees.walk(one)
+                      if trees.kind(it) == "UnaryOp" and it.op == "&" and trees.kind(it.expr) == "StructRef"}
         return written | addressed, addressed
 
     def assignments(self) -> Tuple[Dict[str, List[Assigned]], Dict[str, List[Assigned]]]:
@@ -172,6 +174,7 @@ class Fields:
             return False
         self.read.add(member)
         self.of_globals.add(member)
+        self.unit.silent.clear()
         self.version += 1
         return True
 
