@@ -44,6 +44,8 @@ class Fields:
         self.unit = unit
         # counts what is learned while functions are followed: those that were followed before are followed anew
         self.version = 0
+        self.found: Dict[Tuple[str, int], Union[None, Lost, Value, Member]] = {}
+        self.kept_found: Dict[str, Union[None, Content, Lost]] = {}
         self.unfollowed: Dict[str, Lost] = {}
         self.lost_members: Dict[str, Lost] = {}
         self.running: FrozenSet[str] = frozenset(unit.reached([it.function for it in (*unit.tasks, *unit.handlers)])) - set(SETUP)
@@ -117,6 +119,11 @@ class Fields:
 
     def of(self, name: str) -> Union[None, Lost, Value, Member]:
         """What a member is: a constant, a variable, or why it isn't known. None if it is left out."""
+        if (name, self.version) not in self.found:
+            self.found[name, self.version] = self.of_member(name)
+        return self.found[name, self.version]
+
+    def of_member(self, name: str) -> Union[None, Lost, Value, Member]:
         declaration = self.unit.reset.declaration(name)
         type_ = self.unit.constants.type_of(declaration) if declaration is not None and "." in name else None
         member = name.split(".")[-1]
@@ -186,6 +193,11 @@ class Fields:
 
     def kept(self, name: str) -> Union[None, Content, Lost]:
         """What a handle or a pointer always is, or why that isn't known; None if nothing is said of it."""
+        if name not in self.kept_found:
+            self.kept_found[name] = self.kept_in(name)
+        return self.kept_found[name]
+
+    def kept_in(self, name: str) -> Union[None, Content, Lost]:
         declaration = self.unit.reset.declaration(name)
         type_ = self.unit.constants.type_of(declaration) if declaration is not None else ""
         if type_ != "a pointer" and not (isinstance(type_, str) and type_.startswith("handle")):
