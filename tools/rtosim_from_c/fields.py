@@ -165,7 +165,8 @@ class Fields:
         """Doesn't follow any member of these names; false if there is none that was followed."""
         new = (names & self.of_globals) - self.lost_members.keys()
         for it in new:
-            self.lost_members[it] = Lost(f"`{it}` isn't followed: line {line} writes a member of this name by a pointer that isn't known", instead=ONE_TARGET)
+            why = f"`{it}` isn't followed: line {line} writes a member of this name by a pointer that isn't known"
+            self.lost_members[it] = Lost(why, instead=ONE_TARGET)
         self.version += bool(new)
         return bool(new)
 
@@ -216,7 +217,8 @@ class Fields:
         if first is None or is_null(first):
             return Lost(f"`{name}` is given its value by a task or a handler, in line {line}, so it isn't known from reset on",
                         instead="the same in `main` or an init function, before the scheduler starts")
-        return Lost(f"`{name}` has another value from line {line} on, and it is followed only if it has one", instead="a variable for each of them")
+        return Lost(f"`{name}` has another value from line {line} on, and it is followed only if it has one",
+                    instead="a variable for each of them")
 
     def contents(self, function: str, node: object, seen: FrozenSet[str] = frozenset()) -> Optional[List[Content]]:
         """What an expression may be, by all calls of its function; None if that isn't known. What is created is no change."""
@@ -240,7 +242,9 @@ class Fields:
             return [handle]
         names = [it for it in self.unit.given.names(function, node) if self.is_global(function, it)]
         values = [self.unit.reset.value(it) for it in names]
-        return None if not values or any(it is None or it_changes(self, one) for it, one in zip(values, names)) else [it for it in values if it is not None]
+        if any(it is None or it_changes(self, one) for it, one in zip(values, names)):
+            return None
+        return [it for it in values if it is not None] or None
 
     def given(self, function: str, node: object) -> Iterator[Tuple[str, object]]:
         """What the parameter, or the local, of this name is given."""
@@ -255,8 +259,9 @@ class Fields:
 
     def tasks_given(self, function: str, node: object) -> Optional[List[str]]:
         """The tasks whose handle an expression is; None if it isn't known to be one."""
-        found = self.contents(function, node)
-        return [it.name for it in found if isinstance(it, Handle)] if found and all(isinstance(it, Handle) and it.kind == "task" for it in found) else None
+        found = self.contents(function, node) or []
+        tasks = [it.name for it in found if isinstance(it, Handle) and it.kind == "task"]
+        return tasks if tasks and len(tasks) == len(found) else None
 
 
 def it_changes(fields: Fields, name: str) -> bool:

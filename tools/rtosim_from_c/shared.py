@@ -115,7 +115,8 @@ class Shared(Structures):
         why = number.among(path.state.answers).lost() if isinstance(number, Value) else None
         if why is not None and why.local is None:
             line = self.place(node).line
-            self.unit.fields.unfollow(where.name, Lost(f"`{where.name}` isn't known: line {line} gives it a value, and {why.why}", instead=why.instead))
+            reason = f"`{where.name}` isn't known: line {line} gives it a value, and {why.why}"
+            self.unit.fields.unfollow(where.name, Lost(reason, instead=why.instead))
             raise Escaped()
         self.store(stored, self.fitted(number, stored.type, node, path), node, path)
         return the_answer(stored.type, path.state.answers)
@@ -212,7 +213,8 @@ class Shared(Structures):
             if where is None:
                 continue
             line, name = self.place(call).line, trees.called(call)
-            why = Lost(f"`{where.name}` isn't followed: in line {line} {name} is given its address", instead=f"the body of {name}, or `const` in its prototype if it changes nothing")
+            why = Lost(f"`{where.name}` isn't followed: in line {line} {name} is given its address",
+                       instead=f"the body of {name}, or `const` in its prototype if it changes nothing")
             if self.unit.fields.unfollow(where.name, why):
                 raise Escaped()
 
