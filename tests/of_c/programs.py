@@ -238,7 +238,7 @@ class Programs:
             return self.one_of(
                 f"bump(&{whole}, {self.number()});", f"{local} = total(&{whole});", f"{{ struct fields copy = {whole}; copy.d++; {whole} = copy; }}",
                 f"{{ struct fields *f = &{whole}; f->{self.one_of('c', 'd', 'e', 'in.x')} {self.one_of('=', '+=', '^=')} {local}; }}", f"pair = {whole}.in;",
-                f"memset(&{whole}, 0, sizeof({whole}));", f"{whole}.in = pair;", f"xQueueSend(pairs, &{whole}.in, 0);", f"{{ uint8_t *c = &{whole}.c; *c += 2; }}",
+                f"memset(&{whole}, 0, sizeof({whole}));", f"{whole}.in = pair;", f"xQueueSend(pairs, &{whole}.in, 0);", f"xQueueReceive(box, &{whole}.c, {self.one_of(*WAITS)});", f"{{ uint8_t *c = &{whole}.c; *c += 2; }}",
                 f"if ({whole}.c == {whole}.e) rtosim_mark(3);", f"ok = &{whole} == same(&{whole});",
             )
         return self.one_of(

@@ -13,7 +13,7 @@ from .integers import INT, UNSIGNED, Integer
 from .paths import Path
 from .refusals import Lost, LostUse, Place, Refusal
 from .values import (LOST, NUMBER, Address, Handle, Known, Nothing, Piece, Reference, Stamp, Value, constant, converted, is_received, lost,
-                     the_answer)
+                     steady, the_answer)
 
 FOREVER = 4294967295
 KINDS = {
@@ -119,7 +119,9 @@ class Api(Expressions):
         key = f"call@{self.spot(node)}"
 
         def of_part(fork: Path) -> None:
-            self.put(key, self.made(call, values, nodes, node, fork), node, fork)
+            # an op for an item takes the answer, so what depends on that is a constant before
+            now = {argument: steady(it.among(fork.state.answers)) if isinstance(it, Value) else it for argument, it in values.items()}
+            self.put(key, self.made(call, now, nodes, node, fork), node, fork)
         self.meet(path, lambda end: self.split(path, parts, lambda fork: (of_part(fork), end(fork)), node))
         return self.taken(key, path, node)
 

@@ -44,6 +44,8 @@ class Fields:
         self.unit = unit
         # counts what is learned while functions are followed: those that were followed before are followed anew
         self.version = 0
+        self.found: Dict[Tuple[str, int], Union[None, Lost, Value, Member]] = {}
+        self.kept_found: Dict[str, Union[None, Content, Lost]] = {}
         self.unfollowed: Dict[str, Lost] = {}
         self.lost_members: Dict[str, Lost] = {}
         self.running: FrozenSet[str] = frozenset(unit.reached([it.function for it in (*unit.tasks, *unit.handlers)])) - set(SETUP)
@@ -80,15 +82,17 @@ class Fields:
         """The members that a task or a handler gives values, and those whose address is taken."""
         written: Set[str] = set()
         addressed: Set[str] = set()
-        for name in self.running:
-            for node in trees.walk(self.unit.functions[name].body):
+        for name, definition in self.unit.functions.items():
+            for node in trees.walk(definition.body):
                 target = node.lvalue if trees.kind(node) == "Assignment" else node.expr if trees.kind(node) == "UnaryOp" else None
                 if trees.kind(target) != "StructRef":
                     continue
-                if trees.kind(node) == "Assignment" or node.op in STEPS:
-                    written.add(target.field.name)
-                elif node.op == "&":
+                if trees.kind(node) == "UnaryOp" and node.op == "&":
                     addressed.add(target.field.name)
+                elif name in self.running and (trees.kind(node) == "Assignment" or node.op in STEPS):
+                    written.add(target.field.name)
+        addressed |= {it.expr.field.name for one in self.unit.globals.values() for it in trees.walk(one)
+                      if trees.kind(it) == "UnaryOp" and it.op == "&" and trees.kind(it.expr) == "StructRef"}
         return written | addressed, addressed
 
     def assignments(self) -> Tuple[Dict[str, List[Assigned]], Dict[str, List[Assigned]]]:
@@ -115,6 +119,11 @@ class Fields:
 
     def of(self, name: str) -> Union[None, Lost, Value, Member]:
         """What a member is: a constant, a variable, or why it isn't known. None if it is left out."""
+        if (name, self.version) not in self.found:
+            self.found[name, self.version] = self.of_member(name)
+        return self.found[name, self.version]
+
+    def of_member(self, name: str) -> Union[None, Lost, Value, Member]:
         declaration = self.unit.reset.declaration(name)
         type_ = self.unit.constants.type_of(declaration) if declaration is not None and "." in name else None
         member = name.split(".")[-1]
@@ -156,7 +165,8 @@ class Fields:
         """Doesn't follow any member of these names; false if there is none that was followed."""
         new = (names & self.of_globals) - self.lost_members.keys()
         for it in new:
-            self.lost_members[it] = Lost(f"`{it}` isn't followed: line {line} writes a member of this name by a pointer that isn't known", instead=ONE_TARGET)
+            why = f"`{it}` isn't followed: line {line} writes a member of this name by a pointer that isn't known"
+            self.lost_members[it] = Lost(why, instead=ONE_TARGET)
         self.version += bool(new)
         return bool(new)
 
@@ -172,6 +182,7 @@ class Fields:
             return False
         self.read.add(member)
         self.of_globals.add(member)
+        self.unit.silent.clear()
         self.version += 1
         return True
 
@@ -183,6 +194,11 @@ class Fields:
 
     def kept(self, name: str) -> Union[None, Content, Lost]:
         """What a handle or a pointer always is, or why that isn't known; None if nothing is said of it."""
+        if name not in self.kept_found:
+            self.kept_found[name] = self.kept_in(name)
+        return self.kept_found[name]
+
+    def kept_in(self, name: str) -> Union[None, Content, Lost]:
         declaration = self.unit.reset.declaration(name)
         type_ = self.unit.constants.type_of(declaration) if declaration is not None else ""
         if type_ != "a pointer" and not (isinstance(type_, str) and type_.startswith("handle")):
@@ -201,7 +217,8 @@ class Fields:
         if first is None or is_null(first):
             return Lost(f"`{name}` is given its value by a task or a handler, in line {line}, so it isn't known from reset on",
                         instead="the same in `main` or an init function, before the scheduler starts")
-        return Lost(f"`{name}` has another value from line {line} on, and it is followed only if it has one", instead="a variable for each of them")
+        return Lost(f"`{name}` has another value from line {line} on, and it is followed only if it has one",
+                    instead="a variable for each of them")
 
     def contents(self, function: str, node: object, seen: FrozenSet[str] = frozenset()) -> Optional[List[Content]]:
         """What an expression may be, by all calls of its function; None if that isn't known. What is created is no change."""
@@ -225,7 +242,9 @@ class Fields:
             return [handle]
         names = [it for it in self.unit.given.names(function, node) if self.is_global(function, it)]
         values = [self.unit.reset.value(it) for it in names]
-        return None if not values or any(it is None or it_changes(self, one) for it, one in zip(values, names)) else [it for it in values if it is not None]
+        if any(it is None or it_changes(self, one) for it, one in zip(values, names)):
+            return None
+        return [it for it in values if it is not None] or None
 
     def given(self, function: str, node: object) -> Iterator[Tuple[str, object]]:
         """What the parameter, or the local, of this name is given."""
@@ -240,8 +259,9 @@ class Fields:
 
     def tasks_given(self, function: str, node: object) -> Optional[List[str]]:
         """The tasks whose handle an expression is; None if it isn't known to be one."""
-        found = self.contents(function, node)
-        return [it.name for it in found if isinstance(it, Handle)] if found and all(isinstance(it, Handle) and it.kind == "task" for it in found) else None
+        found = self.contents(function, node) or []
+        tasks = [it.name for it in found if isinstance(it, Handle) and it.kind == "task"]
+        return tasks if tasks and len(tasks) == len(found) else None
 
 
 def it_changes(fields: Fields, name: str) -> bool:

@@ -36,6 +36,18 @@ class Given:
         index = self.constants.value(node.subscript) if name == "ArrayRef" else None
         return [f"{it}[{index.constant()}]" for it in self.names(function, node.name)] if index is not None else []
 
+    def beside(self, function: str) -> List[str]:
+        """The globals whose addresses a call without a body is given beside this function: it is called back with them."""
+        found: List[str] = []
+        for name, it in self.functions.items():
+            for node in trees.walk(it.body):
+                called = trees.called(node)
+                words = trees.arguments(node) if called and called not in self.functions and called not in TASK_CREATORS else []
+                named = [one.expr if trees.kind(one) == "UnaryOp" else trees.plain(one) for one in words]
+                if any(trees.kind(one) == "ID" and one.name == function for one in named):
+                    found += [place for one in words for place in self.leads_to(name, one)]
+        return list(dict.fromkeys(found))
+
     def leads_to(self, function: str, pointer: object, seen: FrozenSet[str] = frozenset()) -> List[str]:
         """The globals to which a pointer leads: that of which it is the address, or what the local or the parameter of this name is given."""
         pointer = trees.plain(pointer)

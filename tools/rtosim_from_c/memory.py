@@ -17,7 +17,7 @@ from .paths import Path
 from .refusals import Lost, LostUse
 from .statements import MIRRORED
 from .unit import GLOBAL, Handler, Task, Unit
-from .values import ANSWER, LOST, NUMBER, Handle, Known, Piece, Stored, Value, binary, constant, converted, lost, the_answer
+from .values import ANSWER, LOST, NUMBER, Handle, Known, Piece, Stored, Value, binary, constant, converted, lost, steady, the_answer
 
 SIZE = 1 << 32
 SIGN = 1 << 31
@@ -442,12 +442,6 @@ def never_negative(value: Known, path: Path) -> bool:
         return not value.type.is_signed and value.type.bits < UNSIGNED.bits
     numbers = [it.numbers() for it in value.among(path.state.answers).pieces]
     return all(it is not None and bool(it) and it.least() >= 0 and it.greatest() <= INT.greatest for it in numbers)
-
-
-def steady(value: Known) -> Known:
-    """A constant, whatever is answered later; any other value as it is."""
-    number = value.constant() if isinstance(value, Value) else None
-    return value if number is None else constant(number, value.type)
 
 
 def numbers_in_memory(type_: Integer) -> Answers:

@@ -180,7 +180,8 @@ class Reset:
 
     # -- statements
 
-    def follow(self, function: str, values: List[Optional[Content]], caller: Called, arguments: Optional[List[object]] = None) -> Optional[Content]:
+    def follow(self, function: str, values: List[Optional[Content]], caller: Called,
+               arguments: Optional[List[object]] = None) -> Optional[Content]:
         """Follows a call, and returns what the function does."""
         definition = self.unit.functions[function]
         if self.depth >= MOST_DEPTH:
@@ -481,7 +482,8 @@ class Reset:
         for it in self.leaves(name):
             declaration = self.declaration(it)
             if declaration is not None and isinstance(self.unit.constants.type_of(declaration), Integer):
-                self.cells[it] = NotKnown(f"{function or 'a function'} is given its address before the scheduler starts", self.unit.place(node))
+                why = f"{function or 'a function'} is given its address before the scheduler starts"
+                self.cells[it] = NotKnown(why, self.unit.place(node))
 
 
 def known(value: Value) -> Optional[Value]:

@@ -1,9 +1,12 @@
 """Global structures: an integer member is a variable, as a global is, if each access of it is followed. The key of their addresses says so."""
 from dataclasses import replace
-from typing import Iterator, Optional, Union
+from typing import Dict, Iterator, Optional, Union
 
 from . import trees
 from .addresses import SOMEWHERE, Escaped, shown
+from .answers import NUMBERS
+from .calls import Argument, Call
+from .expressions import not_set
 from .fields import Member
 from .integers import INT
 from .paths import Path
@@ -115,7 +118,8 @@ class Shared(Structures):
         why = number.among(path.state.answers).lost() if isinstance(number, Value) else None
         if why is not None and why.local is None:
             line = self.place(node).line
-            self.unit.fields.unfollow(where.name, Lost(f"`{where.name}` isn't known: line {line} gives it a value, and {why.why}", instead=why.instead))
+            reason = f"`{where.name}` isn't known: line {line} gives it a value, and {why.why}"
+            self.unit.fields.unfollow(where.name, Lost(reason, instead=why.instead))
             raise Escaped()
         self.store(stored, self.fitted(number, stored.type, node, path), node, path)
         return the_answer(stored.type, path.state.answers)
@@ -189,15 +193,44 @@ class Shared(Structures):
     def item(self, value: Known, queue: Handle, node: object, path: Path) -> str:
         if not is_shared(value):
             return super().item(value, queue, node, path)
-        members = [it for it in self.leaves(value) if self.unit.fields.is_integer(it.name)]
-        named = [it for it in members if it.name.split(".")[-1] in self.unit.directives.items]
-        if not members:
+        member = self.carried_of_global(value)
+        if member is None:
             return super().item(value, queue, node, path)
-        member = (named or members)[0]
         if self.unit.fields.is_read(member.name):
             raise Escaped()
         self.note(node, f"of `{value.name}` the queue has `{member.name.split('.')[-1]}`")
         return self.item_of(self.content(member, node, path), queue, node, path)
+
+    def carried_of_global(self, where: Address) -> Optional[Address]:
+        """The integer of a global structure that a queue passes."""
+        members = [it for it in self.leaves(where) if self.unit.fields.is_integer(it.name)]
+        named = [it for it in members if it.name.split(".")[-1] in self.unit.directives.items]
+        return (named or members or [None])[0]
+
+    def answered(self, call: Call, values: Dict[Argument, Known], texts: Dict[str, str], node: object, path: Path) -> Known:
+        storage = values.get(Argument.STORAGE)
+        member = self.carried_of_global(storage) if is_shared(storage) else None
+        if member is None:
+            return super().answered(call, values, texts, node, path)
+        for it in self.leaves(storage):
+            why = f"`{it.name}` isn't known: of a structure a queue has one number, and line {self.place(node).line} receives one"
+            instead = "/* rtosim: item NAME */ for another member, outside of functions, or a queue of numbers"
+            if it != member and self.unit.fields.is_integer(it.name) and self.unit.fields.unfollow(it.name, Lost(why, instead=instead)):
+                raise Escaped()
+        if isinstance(self.member_of_global(member), Value):
+            self.unit.fields.is_written(member.name)
+            raise Escaped()
+        key, stored = f"received@{self.spot(node)}", self.variable_at(member)
+        self.types[key] = self.unit.constants.type_of(self.unit.reset.declaration(member.name))
+        path.state = path.state.with_local(key, not_set(self.types[key]))
+        found = super().answered(call, {**values, Argument.STORAGE: Reference(key)}, texts, node, path)
+        path.state = path.state.without(key)
+
+        def keep(fork: Path) -> None:
+            self.op(f"store {stored.name} answer", node, fork)
+        if stored is not None:
+            self.meet(path, lambda end: self.branch(path, NUMBERS, lambda fork: (keep(fork), end(fork)), end, node))
+        return found
 
     # -- where addresses go
 
@@ -212,7 +245,8 @@ class Shared(Structures):
             if where is None:
                 continue
             line, name = self.place(call).line, trees.called(call)
-            why = Lost(f"`{where.name}` isn't followed: in line {line} {name} is given its address", instead=f"the body of {name}, or `const` in its prototype if it changes nothing")
+            why = Lost(f"`{where.name}` isn't followed: in line {line} {name} is given its address",
+                       instead=f"the body of {name}, or `const` in its prototype if it changes nothing")
             if self.unit.fields.unfollow(where.name, why):
                 raise Escaped()
 

@@ -136,9 +136,11 @@ class Structures(Memory):
         of_members = trees.in_order(given, [it.name.split(".")[-1] for it in members])
         for it in members:
             node, key = of_members.get(it.name.split(".")[-1]), self.field(it)
-            if key is None and list(self.inner(it)) and node is not None and trees.kind(node) != "InitList" and not self.unit.is_zero(node, given):
+            is_structure = key is None and bool(list(self.inner(it)))
+            is_whole = node is not None and trees.kind(node) != "InitList" and not self.unit.is_zero(node, given)
+            if is_structure and is_whole:
                 self.begin_with(it, node, path)
-            elif key is None and list(self.inner(it)):
+            elif is_structure:
                 self.begin(it, node.exprs if trees.kind(node) == "InitList" else [], path)
             elif key is None and node is not None:
                 self.let_addresses_go(node, path)

@@ -129,8 +129,10 @@ class Translation(Handles):
     def check_size(self, items: Sequence[Item], lines: List[Line]) -> None:
         most = MOST_OPS[self.is_handler]
         if len(lines) > most:
-            raise Refusal(lines[most].place, f"{self.owner.name} would need {len(lines)} ops, and {most} are the most",
-                          "fewer calls, or loops whose turns are all the same")
+            instead = "fewer calls, or loops whose turns are all the same"
+            if self.is_handler:
+                instead = "less in the handler: a task that it wakes may compute and test as well; --ignore NAME for variables on which nothing depends"
+            raise Refusal(lines[most].place, f"{self.owner.name} would need {len(lines)} ops, and {most} are the most", instead)
         self.check_depth(items, 0, 0)
 
     def check_depth(self, items: Sequence[Item], loops: int, blocks: int) -> None:

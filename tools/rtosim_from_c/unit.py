@@ -304,14 +304,18 @@ class Unit:
             self.handlers.append(Handler(function, self.names.name("handler", shown), place, self.only_global(function)))
 
     def only_global(self, function: str) -> Optional[Known]:
-        """What a handler's first parameter leads to, if the file has one structure of that type alone."""
+        """What a handler's first parameter leads to, if it is passed with the handler, or the file has one structure of that type."""
         parameters = trees.parameters_of(self.functions[function])
         type_ = parameters[0].type if parameters else None
-        whole = self.constants.structure(type_.type) if trees.kind(type_) == "PtrDecl" else None
-        found = self.constants.instances(whole, self.globals) if whole is not None else []
+        if trees.kind(type_) != "PtrDecl":
+            return None
+        whole, why = self.constants.structure(type_.type), "it is passed with this function"
+        found = self.given.beside(function)
+        if whole is not None and not found:
+            found, why = self.constants.instances(whole, self.globals), "no other structure has this type"
         if len(found) != 1:
             return None
-        self.notes.append(Note(self.place(parameters[0]), f"`{parameters[0].name}` is `&{found[0]}`: no other structure has this type"))
+        self.notes.append(Note(self.place(parameters[0]), f"`{parameters[0].name}` is `&{found[0]}`: {why}"))
         return self.followed(Address(found[0]))
 
     def find_tasks(self) -> None:

@@ -145,6 +145,12 @@ def constant(number: int, type_: Integer = INT) -> Value:
     return Value(type_, (Piece(NONE, GREATEST, NUMBER, type_.wrapped(number)),))
 
 
+def steady(value: Known) -> Known:
+    """A constant, whatever is answered later; any other value as it is."""
+    number = value.constant() if isinstance(value, Value) else None
+    return value if number is None else constant(number, value.type)
+
+
 def lost(type_: Integer, why: Lost) -> Value:
     return Value(type_, (Piece(NONE, GREATEST, LOST, 0, why),))
 

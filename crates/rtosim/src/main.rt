@@ -14,10 +14,10 @@ use std::process::ExitCode;
 use std::thread::{Threads, available_parallelism};
 
 // This many bytes of stack a campaign takes at most, and what explores less, and some more.
-const CAMPAIGN_STACK: usize = 598_016;
+const CAMPAIGN_STACK: usize = 614_400;
 
 // And any other job.
-const STACK: usize = 303_104;
+const STACK: usize = 323_584;
 
 // Takes the stack of a campaign or of what explores, and gives it back: it stays the program's. So
 // if a limit on all memory leaves no room for it, the program ends before it has done anything, and
