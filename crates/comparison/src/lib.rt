@@ -5,8 +5,6 @@
 #[cfg(test)]
 mod campaigns;
 #[cfg(test)]
-mod explored;
-#[cfg(test)]
 mod file;
 #[cfg(test)]
 mod gates;
