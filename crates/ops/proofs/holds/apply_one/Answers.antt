@@ -2,7 +2,7 @@ use Rattle.std.proofs.Common.{ap, sym, ◌∙◌, arith, refl}
 use Rattle.clock.specs.Timeline.{Timeline}
 use Rattle.sched.proofs.Standing.{none_suspends}
 use Rattle.ops.proofs.Held.{released, applied_now}
-use Rattle.ops.proofs.suspension.apply_one.Goals as goal
+use Rattle.ops.proofs.holds.apply_one.Goals as goal
 
 pub advance-requires : goal.advance-requires
 advance-requires c =

@@ -3,7 +3,7 @@ use Rattle.model.specs.Time.{apply_held}
 use Rattle.machine.specs.StandsFor.{At}
 use Rattle.ops.proofs.Calling.{leaves_same, leaves_both}
 use Rattle.ops.proofs.Held.{can_apply, held_left, applied_more}
-use Rattle.ops.proofs.suspension.apply_held.Goals as goal
+use Rattle.ops.proofs.holds.apply_held.Goals as goal
 
 pub loop-init : goal.loop-init
 loop-init c = record { does = λ log s h. h; leaves = leaves_same c.args.machine.now }
