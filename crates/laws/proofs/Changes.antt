@@ -197,7 +197,7 @@ module _ {P : State → Type 0} {stamps answers : ℕ → Bool} {x : ℕ} {store
       let t : State = record s { suspensions = s.suspensions - 1 } in
       let less : P t = four.framed s t refl refl refl (inl refl) (λ _. refl, λ _ k. k) h in
       by_test (eqb s.suspensions 1)
-      (λ q. rw q (kept-applied s.held_ticks t less))
+      (λ q. rw q (kept-applied four s.held_ticks t less))
       (λ q. rw q less)
 
   kept-judge : (i op_index : ℕ) (s : State) → P s → P (judge i op_index s)

@@ -10,6 +10,7 @@ ghost use Rattle.ops.specs.Can.{CanGoOn, CanLeave, CanSetBits, CanTry};
 
 use crate::calls::go_on_waiting;
 use crate::event_groups::begin_set;
+use crate::holds::end_hold;
 use crate::queues::fulfil;
 use machine::{Log, Machine};
 use model::{Access, App, Command, GroupId, ObjectId, Phase, TaskId};

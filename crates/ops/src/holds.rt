@@ -50,14 +50,14 @@ pub(crate) fn release(machine: &mut Machine)
 /// A call lets go of the scheduler, and goes on with this phase: who was woken meanwhile is Ready, and then the ticks that came
 /// meanwhile are applied.
 #[inline(always)]
-pub(crate) fn end_hold(machine: &mut Machine, task: TaskId, phase: Phase)
+pub(crate) fn end_hold(machine: &mut Machine, task: TaskId, next: Phase)
     requires can { CanLeave machine.old task }
-    requires off { phase ≢ phase.Place }
-    ensures does { Moves machine.old machine.new (waiting.end_hold task phase) }
+    requires off { next ≢ phase.Place }
+    ensures does { Moves machine.old machine.new (waiting.end_hold task next) }
     ensures depth { machine.new.sched.depth ≡ 0 }
     ensures runs { Runs machine.old task → Runs machine.new task }
 {
     machine.sched.unhold();
-    machine.set_wait(task, phase, false);
+    machine.set_wait(task, next, false);
     release(machine);
 }

@@ -10,13 +10,14 @@ loop-init c = record { does = λ log s h. h; leaves = leaves_same c.args.machine
 
 pub apply_one-requires-clause-some : goal.apply_one-requires-clause-some
 apply_one-requires-clause-some c =
-    let left = held_left c.args.machine.now c.loop.machine c.requires.can c.loop.counter c.loop.invariant.does in
+    let left = held_left c.args.machine.now c.loop.machine c.requires.can c.loop.counter c.loop.invariant.does c.loop.invariant.leaves in
     let l = c.loop-test.true in
     let e = c.held-end.ensures.held in
     omega arith
 
 pub apply_one-requires-clause-can : goal.apply_one-requires-clause-can
-apply_one-requires-clause-can c = can_apply c.args.machine.now c.loop.machine c.requires.can c.loop.counter c.loop.invariant.does
+apply_one-requires-clause-can c =
+    can_apply c.args.machine.now c.loop.machine c.requires.can c.loop.counter c.loop.invariant.does c.loop.invariant.leaves
 
 pub loop-preserved : goal.loop-preserved
 loop-preserved c = record {
