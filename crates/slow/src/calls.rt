@@ -270,7 +270,6 @@ impl SlowKernel {
 
     fn leave(&mut self, id: TaskId) {
         let call = self.task(id).call;
-        self.is_held = false;
         self.set_call(
             id,
             Call {
@@ -279,6 +278,7 @@ impl SlowKernel {
                 ..call
             },
         );
+        self.end_hold();
         if call.has_waited {
             self.choose();
         } else {

@@ -1,6 +1,6 @@
 -- What the daemon's ops keep.
 use Rattle.std.proofs.Common.{◌≡◌, ◌<◌, ℕ, Bool, true, false, List, [], ◌∷◌, length, Option, Some, None, refl, ap, sym, subst, ◌∙◌}
-use Rattle.std.proofs.Common.{arith, get_or-set_same}
+use Rattle.std.proofs.Common.{arith}
 use Rattle.std.specs.Option.{IfSome}
 use Rattle.model.specs.declared.op.Op.{Op}
 use Rattle.model.specs.declared.op.Op.TheVariants.{NextCommand, Obey}
@@ -11,7 +11,7 @@ use Rattle.model.specs.declared.event.What.TheVariants as what
 use Rattle.model.specs.Application.{Application, commands_of, op_at}
 use Rattle.model.specs.Blocks.{loops_in}
 use Rattle.model.specs.Scripts.{IsDaemon, IsWellFormed, fits_object}
-use Rattle.model.specs.State.{State, Task, task_at, status_at, progress_at, call_at, bits_at, no_task}
+use Rattle.model.specs.State.{State, Task, task_at, status_at, progress_at, call_at, bits_at}
 use Rattle.model.specs.Switching.{is_ready, write}
 use Rattle.model.specs.Waiting.{end_hold}
 use Rattle.model.specs.Objects.{possible, answer_to, fulfil}

@@ -3,11 +3,10 @@ use Rattle.model.specs.declared.op.Op.TheVariants.{Value}
 use Rattle.model.specs.declared.value.ValueOp.{ValueOp}
 use Rattle.model.specs.Ops.{calculate, store}
 use Rattle.model.specs.Values.{answer_of, number_of}
-use Rattle.std.proofs.Common.{◌≡◌, ◌≢◌, ◌<◌, ◌+◌, ◌-◌, ◌||◌, ◌⊎◌, inl, inr, ℕ, zero, suc, Bool, true, false, eqb, leb, List}
+use Rattle.std.proofs.Common.{◌≡◌, ◌<◌, ◌+◌, ◌-◌, ◌||◌, ◌⊎◌, inl, inr, ℕ, Bool, true, false, eqb, leb, List}
 use Rattle.std.proofs.Common.{[], ◌∷◌, length, Option, Some, None, refl, ap, sym, subst, ◌∙◌, arith, get_or-set_same}
-use Rattle.std.proofs.Common.{get_or-set_other, drop}
-use Rattle.std.specs.List.{AllByRecursion, filter}
-use Rattle.std.specs.Option.{is_some, option_eq}
+use Rattle.std.proofs.Common.{drop}
+use Rattle.std.specs.Option.{is_some}
 use Rattle.std.proofs.lemmas.Option.{slice_get_past}
 use Rattle.model.specs.declared.op.Op.{Op}
 use Rattle.model.specs.declared.op.Op.TheVariants.{Work, Delay, DelayUntil, Yield, Time, Mark, Expect, Repeat, End, If, Else, EndIf}
@@ -22,14 +21,13 @@ use Rattle.model.specs.declared.answer.AnswerCondition.{AnswerCondition}
 use Rattle.model.specs.Answers.{holds}
 use Rattle.model.specs.Blocks.{jump_from}
 use Rattle.model.specs.Application.{Application, script_of, op_at, op_count, interrupts_at}
-use Rattle.model.specs.State.{State, Task, Progress, Status, Ready, Awake, Waiting, Asleep, WaitingForBits, WaitingForNotification}
-use Rattle.model.specs.State.{Suspended, Ended, ticket_if_ready, wake_time_of, task_at, status_at, progress_at, object_at, bits_at}
+use Rattle.model.specs.State.{State, Task, Progress}
+use Rattle.model.specs.State.{ticket_if_ready, task_at, progress_at, object_at, bits_at}
 use Rattle.model.specs.State.{with_bits, for_each, printed, no_task, notification_at, with_notification}
-use Rattle.model.specs.Order.{Entry, tasks_of}
-use Rattle.model.specs.Switching.{make_ready, is_ready, slice, preempt, is_scheduler_suspended, is_critical, is_held}
+use Rattle.model.specs.Switching.{is_ready, slice, preempt, is_scheduler_suspended, is_critical, is_held}
 use Rattle.model.specs.Switching.{is_held_by_task}
 use Rattle.model.specs.Switching.{unless_held, write}
-use Rattle.model.specs.Time.{wake_due, due, is_due, delayed_list, advance, increment_tick, apply_one, apply_held}
+use Rattle.model.specs.Time.{increment_tick}
 use Rattle.model.specs.Ops.{go_to, moved_to, answer, use_up, expect, open_loop, next_turn, turn, close_turn, branch, skip_branch}
 use Rattle.model.specs.Ops.{leave_loop, stamp, since, with_sections}
 use Rattle.model.specs.Groups.{bits_without, clear}
@@ -37,7 +35,6 @@ use Rattle.model.specs.Notifications.{clear_answer, cleared, clear_notification}
 use Rattle.model.specs.Suspension.{suspend_all, resume_scheduler, resume_all}
 use Rattle.model.specs.Handlers.{handle, interrupt, tick_interrupt}
 use Rattle.model.specs.Step.{act, may_switch}
-use Rattle.model.proofs.Unlocking.{current-all_ready}
 use Rattle.model.proofs.Sorting.{by_test}
 use Rattle.model.proofs.Lists.{eqb-same}
 use Rattle.soundness.proofs.Frames.{keeps-answer}

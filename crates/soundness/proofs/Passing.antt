@@ -365,7 +365,8 @@ elapsed-tick app s = (keeps-tick app s).elapsed ∙ by_test (holds_ticks s) (λ 
 pub hold-tick : (app : Application) (s : State) → hold_of (tick_interrupt app s) ≡ hold_of s
 hold-tick app s = (keeps-tick app s).hold ∙ by_test (holds_ticks s) (λ t. rw t refl) (λ t. rw t refl)
 
-pub suspension-tick : (app : Application) (s : State) → holds_ticks s ≡ false → suspension_of (tick_interrupt app s) ≡ suspension_of s
+pub suspension-tick : (app : Application) (s : State) → holds_ticks s ≡ false
+    → suspension_of (tick_interrupt app s) ≡ suspension_of s
 suspension-tick app s none = (keeps-tick app s).suspension ∙ rw none refl
 
 pub held-tick : (app : Application) (s : State) → (tick_interrupt app s).held_ticks ≤ s.held_ticks + 1

@@ -409,7 +409,8 @@ module _ (app : Application) (formed : IsWellFormed app) where
             absurd (cc) in
             subst (λ u. IsState app (go_on i Leave u)) (sym opened_is)
             (in_hold opened i left_task (subst (λ x. IsSound app x (with_task i left_task opened)) (sym kept) sound_left)
-            runs_opened l1 hold refl (λ e. absurd (cc)) set_not off_opened (by_none s opened kept_opened.suspension (calm_held app s h held)))
+            runs_opened l1 hold refl (λ e. absurd (cc)) set_not off_opened
+            (by_none s opened kept_opened.suspension (calm_held app s h held)))
 
         pub unlocked_held : (go_on i Leave (unlock s)).call_hold ≡ true
         unlocked_held =

@@ -1,6 +1,6 @@
 -- What the ticks that were held make of the tasks when they are applied.
-use Rattle.std.proofs.Common.{◌≡◌, ◌≢◌, ◌+◌, ◌-◌, ℕ, zero, suc, true, eqb, List, [], ◌∷◌, Some, refl, ap, subst, ◌∙◌, get_or-set_other}
-use Rattle.std.proofs.Common.{sym}
+use Rattle.std.proofs.Common.{◌≡◌, ◌≢◌, ◌+◌, ◌-◌, ℕ, zero, suc, true, eqb, List, [], ◌∷◌, Some, refl, ap, subst, ◌∙◌}
+use Rattle.std.proofs.Common.{get_or-set_other, sym}
 use Rattle.std.specs.List.{AllByRecursion, filter}
 use Rattle.std.specs.Option.{is_some, option_eq}
 use Rattle.model.specs.State.{State, Task, Status, Ready, Awake, Waiting, Asleep, WaitingForBits, WaitingForNotification, Suspended}

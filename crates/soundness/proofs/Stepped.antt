@@ -65,8 +65,8 @@ use Rattle.soundness.proofs.Sound.{logged, settled, preempted, resourced}
 use Rattle.soundness.proofs.Handled.{and_left, and_right, idled, handled_between}
 use Rattle.soundness.proofs.Trying.{tried}
 use Rattle.soundness.proofs.Called.{dated, dated_at, phase_free, course_of_one}
-use Rattle.soundness.proofs.Phases.{free, unsuspended, calm_free, none_above, calm_where, calm_held, let_go_of, decided, decided_held, placed}
-use Rattle.soundness.proofs.Phases.{unlocked, unlocked_held, left, left_hold, left_calm}
+use Rattle.soundness.proofs.Phases.{free, unsuspended, calm_free, none_above, calm_where, calm_held, let_go_of, decided}
+use Rattle.soundness.proofs.Phases.{decided_held, placed, unlocked, unlocked_held, left, left_hold, left_calm}
 use Rattle.soundness.proofs.Bits.{answered_bits, final_done, set_begun, begun_held, wait_begun, waits_held, set_ended, wait_left}
 use Rattle.soundness.proofs.Notified.{notification_put, notification_wait_ended, notification_wait_begun, notification_wait_held}
 use Rattle.soundness.proofs.Daemon.{command_taken, cleared_by_daemon, set_ended_by_daemon}

@@ -10,7 +10,8 @@ loop-init c = record { does = λ log s h. h; leaves = leaves_same c.args.machine
 
 pub apply_one-requires-clause-some : goal.apply_one-requires-clause-some
 apply_one-requires-clause-some c =
-    let left = held_left c.args.machine.now c.loop.machine c.requires.can c.loop.counter c.loop.invariant.does c.loop.invariant.leaves in
+    let left =
+    held_left c.args.machine.now c.loop.machine c.requires.can c.loop.counter c.loop.invariant.does c.loop.invariant.leaves in
     let l = c.loop-test.true in
     let e = c.held-end.ensures.held in
     omega arith

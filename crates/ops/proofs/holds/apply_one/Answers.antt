@@ -1,4 +1,4 @@
-use Rattle.std.proofs.Common.{ap, sym, ◌∙◌, arith, refl}
+use Rattle.std.proofs.Common.{ap, arith, refl}
 use Rattle.clock.specs.Timeline.{Timeline}
 use Rattle.machine.proofs.Waking.{ticks_not_held}
 use Rattle.ops.proofs.Held.{released, applied_now}
@@ -22,7 +22,8 @@ pub returns-clause-does : goal.returns-clause-does
 returns-clause-does c = λ log s h.
     let some = c.requires.some in
     let e = h.stands.rest.clock.age in
-    applied_now c.advance.new.self log s (ticks_not_held c.args.machine.now.sched s h.stands.sched c.requires.can.depth) (omega arith)
+    applied_now c.advance.new.self log s
+    (ticks_not_held c.args.machine.now.sched s h.stands.sched c.requires.can.depth) (omega arith)
     (c.advance.ensures.does log _
     (released c.args.machine.now log s h c.release.new.self (c.release.ensures.stands s h.stands.rest.clock)))
 

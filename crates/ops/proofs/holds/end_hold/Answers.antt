@@ -1,5 +1,4 @@
 use Rattle.std.proofs.Common.{◌≡◌, ◌+◌, ◌<◌, ◌^◌, ℕ, true, false, ap, refl, subst, sym, ◌∙◌, arith}
-use Rattle.model.specs.State.{State}
 use Rattle.sched.specs.StandsFor as sched
 use Rattle.machine.specs.declared.machine.Machine.{Machine}
 use Rattle.machine.specs.StandsFor.{progress_in}
@@ -18,16 +17,18 @@ release-requires c =
     let there = freed c.args.machine.now c.set_wait.new.self s.log s (record { stands = h; log = refl })
     c.args.task can c.unhold.new.self unhold c.unhold.ensures.current
     (progress_in c.args.machine.now.progress c.args.task) refl c.args.next c.requires.off c.set_wait.ensures in
-    record { can = record {
-      agrees = (_, there.stands);
-      free = ap (λ (k : Machine). k.objects.lock) c.set_wait.ensures ∙ can.free;
-      age = subst (λ (n : ℕ). n < 2 ^ 62) (sym (ap (λ (k : Machine). k.clock.age + k.clock.held) c.set_wait.ensures)) can.age;
-      depth =
-          let e = ap (λ (k : Machine). k.sched.depth) c.set_wait.ensures in
-          let d = c.unhold.ensures.depth in
-          let one = can.held in
-          omega arith;
-    } }
+    record {
+      can = record {
+        agrees = (_, there.stands);
+        free = ap (λ (k : Machine). k.objects.lock) c.set_wait.ensures ∙ can.free;
+        age = subst (λ (n : ℕ). n < 2 ^ 62) (sym (ap (λ (k : Machine). k.clock.age + k.clock.held) c.set_wait.ensures)) can.age;
+        depth =
+            let e = ap (λ (k : Machine). k.sched.depth) c.set_wait.ensures in
+            let d = c.unhold.ensures.depth in
+            let one = can.held in
+            omega arith;
+      };
+    }
 
 pub returns-clause-does : goal.returns-clause-does
 returns-clause-does c = λ log s h.

@@ -1,5 +1,4 @@
-use Rattle.std.proofs.Common.{◌∙◌, refl, sym, arith}
-use Rattle.ops.proofs.Calling.{leaves_same}
+use Rattle.std.proofs.Common.{refl, arith}
 use Rattle.ops.proofs.Held.{none_to_apply, runs_released}
 use Rattle.ops.proofs.holds.release.Goals as goal
 

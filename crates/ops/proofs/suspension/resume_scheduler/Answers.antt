@@ -1,4 +1,4 @@
-use Rattle.std.proofs.Common.{◌≡◌, ◌∙◌, refl, sym, arith}
+use Rattle.std.proofs.Common.{◌≡◌, ◌∙◌, refl, arith}
 use Rattle.ops.proofs.Held.{with_suspensions, last_resumed, more_resumed, in_force}
 use Rattle.ops.proofs.suspension.resume_scheduler.Goals as goal
 
