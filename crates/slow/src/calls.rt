@@ -270,6 +270,7 @@ impl SlowKernel {
 
     fn leave(&mut self, id: TaskId) {
         let call = self.task(id).call;
+        self.is_held = false;
         self.set_call(
             id,
             Call {
@@ -278,7 +279,6 @@ impl SlowKernel {
                 ..call
             },
         );
-        self.end_hold();
         if call.has_waited {
             self.choose();
         } else {

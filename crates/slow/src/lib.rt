@@ -119,7 +119,7 @@ pub struct Tally {
     pub locked_resumes: u32,
     /// A task was resumed before the end of a sleep by `delay_until`.
     pub cut_off_sleeps: u32,
-    /// Ticks were held; base interrupts came at such ticks; tasks became Ready while the scheduler was suspended.
+    /// Ticks came while the scheduler was suspended; base interrupts at such ticks; tasks that became Ready meanwhile.
     pub held_ticks: u32,
     pub held_interrupts: u32,
     pub held_wakes: u32,
@@ -236,7 +236,7 @@ pub struct SlowKernel {
     current: Option<TaskId>,
     /// Whether a call holds the scheduler.
     is_held: bool,
-    /// How many `suspend_all` are in force, and how many ticks are held.
+    /// How many `suspend_all` are in force, and how many ticks have come since the first of them.
     suspensions: u32,
     held_ticks: u32,
     /// How many critical sections are open, and which handlers were injected meanwhile and haven't come yet.
@@ -499,7 +499,7 @@ impl SlowKernel {
     /// switch for all of it, if there may be one.
     fn tick(&mut self, app: &App) {
         self.elapsed = self.elapsed.wrapping_add(1);
-        if self.is_held || self.is_scheduler_suspended() {
+        if self.is_scheduler_suspended() {
             self.hold_tick();
         } else {
             self.advance();

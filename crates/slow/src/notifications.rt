@@ -220,8 +220,8 @@ impl SlowKernel {
                 }
             }
             Phase::Leave => {
+                self.is_held = false;
                 self.set_phase(id, Phase::Try);
-                self.end_hold();
                 self.choose();
             }
             _ => self.end_notice_wait(app, id, wait),

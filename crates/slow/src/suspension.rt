@@ -107,24 +107,10 @@ impl SlowKernel {
         self.suspensions > 0
     }
 
-    /// A tick comes while a call or a `suspend_all` holds the scheduler.
+    /// A tick comes while the scheduler is suspended.
     pub(super) fn hold_tick(&mut self) {
         self.held_ticks = self.held_ticks.wrapping_add(1);
         count_if(&mut self.tally.held_ticks, true);
-    }
-
-    /// The ticks that were held come, one by one.
-    fn release(&mut self) {
-        for _ in 0..self.held_ticks {
-            self.advance();
-        }
-        self.held_ticks = 0;
-    }
-
-    /// A call holds the scheduler no more.
-    pub(super) fn end_hold(&mut self) {
-        self.is_held = false;
-        self.release();
     }
 
     /// `suspend_all`.
@@ -133,7 +119,7 @@ impl SlowKernel {
         self.answer(app, id, Some(0));
     }
 
-    /// `resume_all`. After the last one the ticks that were held come, and then a task of higher priority runs,
+    /// `resume_all`. After the last one the ticks that were held come, one by one, and then a task of higher priority runs,
     /// if there is one; equals take no turns.
     pub(super) fn resume_all(&mut self, app: &App, id: TaskId) {
         self.suspensions = self.suspensions.wrapping_sub(1);
@@ -141,7 +127,10 @@ impl SlowKernel {
             self.answer(app, id, Some(0));
             return;
         }
-        self.release();
+        for _ in 0..self.held_ticks {
+            self.advance();
+        }
+        self.held_ticks = 0;
         self.answer(app, id, Some(0));
         self.preempt();
     }

@@ -93,7 +93,7 @@ impl SlowKernel {
         if self.task(id).call.phase == Phase::Start {
             self.begin_set(id, group, mask);
         } else {
-            self.end_hold();
+            self.is_held = false;
             self.answer(app, id, Some(self.bits(group)));
             self.preempt();
         }
@@ -158,8 +158,8 @@ impl SlowKernel {
             }
             Phase::Start => self.begin_wait(id, group, condition, ticks),
             Phase::Leave => {
+                self.is_held = false;
                 self.set_phase(id, Phase::Try);
-                self.end_hold();
                 self.choose();
             }
             _ => self.end_wait(app, id, group, condition),
