@@ -235,7 +235,7 @@ fn all_for<R: Source>(alloc: Global, job: &Job<'_>, reader: &mut R) -> Result<Ve
 /// Returns the status that the program ends with, and puts the line of a fault, if any, to
 /// `faults`; that this fails changes nothing.
 ///
-/// Where the job's step and its handler don't go together, nothing is read. The gate learns how far a campaign has come, unless it is
+/// If the job's step and its handler don't go together, nothing is read. The gate learns how far a campaign has come, unless it is
 /// quiet, or how far exploring has; no clause speaks of that. It waits for the workers of a campaign, whose threads are this runtime's.
 pub fn act<T: Threads + Wait + Sync, R: Source, W: Sink, F: Sink, G: Gate + Watch + Sync>(
     rt: &T,
@@ -285,7 +285,7 @@ fn bytes_for<R: Source>(alloc: Global, job: &Job<'_>, reader: &mut R) -> Result<
     }
 }
 
-// Does the job over its file, which `reader` gives. Nothing is read where its step and its handler don't go together.
+// Does the job over its file, which `reader` gives. Nothing is read if its step and its handler don't go together.
 fn act_over_file<T: Threads + Wait + Sync, R: Source, W: Sink, F: Sink, G: Gate + Watch + Sync>(
     rt: &T,
     alloc: Global,
@@ -326,7 +326,7 @@ fn fault_of(error: &io::Error) -> ServeFault
 
 /// Opens the file of the job, and does the job over it and the two sinks. At most 64 MiB of it are read (profile): of a larger file, or
 /// of a device that has no end, this is the fault. A file that can't be opened is one that can't be
-/// read, also where the job's step and handler don't go together. The contract says of the file's bytes that there are such;
+/// read, even if the job's step and handler don't go together. The contract says of the file's bytes that there are such;
 /// that they are those of the file, the tests show.
 pub fn open_and_act<T: Threads + Wait + Files + Sync, W: Sink, F: Sink, G: Gate + Watch + Sync>(
     rt: &T,

@@ -145,7 +145,7 @@ fn all_pass(found: &[Found]) -> bool
     found.iter().all(|one| matches!(one.end, End::Pass))
 }
 
-// Explores an application, and writes the report of what is found, as its last deed. Answers whether each placement passes.
+// Explores an application, and writes the report of what is found, as its last deed. Returns whether each placement passes.
 fn serve_app<W: Sink, G: Watch>(
     alloc: Global,
     app: &App,

@@ -119,7 +119,7 @@ fn obey_meant<T: Threads + Wait + Files + Sync, W: Sink, F: Sink, G: Gate + Watc
 
 /// Does what the words ask for: a job over the two sinks, or to show help or the version, or to say why they are refused. The first of
 /// them is the name of the program. `auto` as the value of `--workers` means as many workers as there are processors that the
-/// program may use, 64 at most, and 1 where the system doesn't say how many. The gate learns how far a campaign has come, unless
+/// program may use, 64 at most, and 1 if the system doesn't say how many. The gate learns how far a campaign has come, unless
 /// the words ask for quiet, or how far exploring has. It waits for the workers of a campaign, whose threads are this runtime's, as the files are.
 pub fn obey<T: Threads + Wait + Files + Sync, W: Sink, F: Sink, G: Gate + Watch + Sync>(
     rt: &T,
