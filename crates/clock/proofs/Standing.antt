@@ -13,7 +13,7 @@ use Rattle.model.specs.State.{Ended, for_each}
 use Rattle.model.specs.State.{no_task, status_at, task_at, progress_at, call_at, with_call, take_ticket, ticket_if_ready, ticket_of}
 use Rattle.model.specs.State.{wake_time_of, with_status}
 use Rattle.model.specs.Order.{Entry, Key, entry, key, list_by, put, tasks_of}
-use Rattle.model.specs.Switching.{is_ready, is_scheduler_suspended, make_ready}
+use Rattle.model.specs.Switching.{holds_ticks, is_ready, make_ready}
 use Rattle.model.specs.Time.{advance, delayed_key, due, increment_tick, jump, sleep, wake_due}
 use Rattle.model.specs.Invariant.{HasTicketBelow, AllTicketsBelow, IsTable}
 use Rattle.model.proofs.Sorting.{IsAfterEntry, by_test, put_last}
@@ -405,7 +405,7 @@ due_next old new s ds a h = due_jump 1 old new s ds a h
 
 -- a tick comes and isn't held
 pub stands_advanced : (old new : Timeline) (s : State) (ds : List ℕ) → Advances old new ds
-    → StandsFor old s → is_scheduler_suspended s ≡ false → StandsFor new (increment_tick s)
+    → StandsFor old s → holds_ticks s ≡ false → StandsFor new (increment_tick s)
 unfolding increment_tick advance jump wake_due
 stands_advanced old new s ds a h free = rw free (stands_jumped 1 old new s ds a h)
 
@@ -415,7 +415,7 @@ holding t held = record t { held = held }
 
 -- a tick comes and is held
 pub stands_held : (t : Timeline) (s : State) → StandsFor t s
-    → is_scheduler_suspended s ≡ true → StandsFor (holding t (t.held + 1)) (increment_tick s)
+    → holds_ticks s ≡ true → StandsFor (holding t (t.held + 1)) (increment_tick s)
 unfolding increment_tick
 stands_held t s h on =
     let age = h.age in

@@ -4,7 +4,7 @@ ghost use Rattle.lists.specs.Lists.{insert_sorted, without, Each};
 ghost use Rattle.model.specs.State.{State, Suspended, printed, status_at, wake_time_of, with_status};
 ghost use Rattle.model.specs.Order.{tasks_of};
 ghost use Rattle.model.specs.Switching as switching;
-ghost use Rattle.model.specs.Switching.{is_scheduler_suspended};
+ghost use Rattle.model.specs.Switching.{holds_ticks};
 ghost use Rattle.model.specs.Time as time;
 ghost use Rattle.clock.specs.Timeline.{is_asleep, first_time, Advances, Jumps};
 ghost use Rattle.clock.specs.StandsFor.{StandsFor, StandsBefore, before_held, at_next_tick, at_jump};
@@ -172,13 +172,13 @@ impl Clock {
         self.held
     }
 
-    /// Holds a tick that comes while the scheduler is suspended: it waits to be applied, and the time stays
+    /// Holds a tick that comes while a call or a `suspend_all` holds the scheduler: it waits to be applied, and the time stays
     /// (`xTaskIncrementTick`). Before the call less than 4294967295 ticks are held.
     pub fn hold_tick(&mut self)
         requires { self.old.held < 4294967295 }
         ensures held { self.new ≡ record self.old { held = self.old.held + 1 } }
-        // In the definitions, where a `suspend_all` is in force, the tick has come.
-        ensures stands { (s : State) → StandsFor self.old s → is_scheduler_suspended s ≡ true
+        // In the definitions, where ticks are held, this one has come.
+        ensures stands { (s : State) → StandsFor self.old s → holds_ticks s ≡ true
             → StandsFor self.new (time.increment_tick s) }
     {
         self.held += 1;
@@ -288,8 +288,8 @@ impl Clock {
         // They are those whom the definitions have due then.
         ensures due { (s : State) → StandsFor self.old s
             → result.items ≡ tasks_of (time.due (at_next_tick s)) }
-        // Once they are Ready too, the tick has come, where no `suspend_all` is in force.
-        ensures woken { (s : State) → StandsFor self.old s → is_scheduler_suspended s ≡ false
+        // Once they are Ready too, the tick has come, where ticks aren't held.
+        ensures woken { (s : State) → StandsFor self.old s → holds_ticks s ≡ false
             → StandsFor self.new (time.increment_tick s) }
     {
         let mut due = Due::new();
@@ -303,7 +303,7 @@ impl Clock {
         ensures advances { Advances self.old self.new due.new.items }
         ensures due { (s : State) → StandsFor self.old s
             → due.new.items ≡ tasks_of (time.due (at_next_tick s)) }
-        ensures woken { (s : State) → StandsFor self.old s → is_scheduler_suspended s ≡ false
+        ensures woken { (s : State) → StandsFor self.old s → holds_ticks s ≡ false
             → StandsFor self.new (time.increment_tick s) }
     {
         due.clear();
@@ -331,7 +331,7 @@ impl Clock {
         // In the definitions nobody is due then either, and the tick has come.
         ensures due { (s : State) → result ≡ true → StandsFor self.old s
             → [] ≡ tasks_of (time.due (at_next_tick s)) }
-        ensures woken { (s : State) → result ≡ true → StandsFor self.old s → is_scheduler_suspended s ≡ false
+        ensures woken { (s : State) → result ≡ true → StandsFor self.old s → holds_ticks s ≡ false
             → StandsFor self.new (time.increment_tick s) }
     {
         if self.tick == u32::MAX {
@@ -374,7 +374,7 @@ impl Clock {
         ensures advances { Advances self.old self.new [] }
         // In the definitions nobody is due then, and the tick has come.
         ensures due { (s : State) → StandsFor self.old s → [] ≡ tasks_of (time.due (at_next_tick s)) }
-        ensures woken { (s : State) → StandsFor self.old s → is_scheduler_suspended s ≡ false
+        ensures woken { (s : State) → StandsFor self.old s → holds_ticks s ≡ false
             → StandsFor self.new (time.increment_tick s) }
     {
         self.age += 1;

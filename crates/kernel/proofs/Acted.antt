@@ -69,7 +69,7 @@ can_tick_still app k new c depth clock objects suspensions deed does = record {
     agrees = agrees_after k new [] [] c.advance.agrees deed (λ s h. does [] s h);
     free = ap (λ (q : Objects). q.lock) objects ∙ c.advance.free;
     age = let e = ap (λ (t : Timeline). t.age) clock in let l = c.advance.age in omega arith;
-    awake = suspensions ∙ c.advance.awake;
+    depth = depth ∙ c.advance.depth;
   };
   depth = depth ∙ c.depth;
   objects = λ o a fit. subst (λ (q : Objects). HasRoom q o a) (sym objects) (c.objects o a fit);

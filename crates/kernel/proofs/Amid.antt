@@ -21,7 +21,7 @@ use Rattle.model.specs.declared.call.Phase.{Phase}
 use Rattle.model.specs.declared.call.Phase.TheVariants.{Start, Try, Decide, Place, Unlock, Leave}
 use Rattle.model.specs.Answers.{holds}
 use Rattle.model.specs.Groups.{answer_bits, begin_bits_wait, bits_left, check, final_bits, is_met, wait_bits, wait_for_bits, want}
-use Rattle.model.specs.Waiting.{end_hold, set_deadline}
+use Rattle.model.specs.Waiting.{end_hold, let_go, set_deadline}
 use Rattle.std.specs.Option.{option_eq}
 use Rattle.model.specs.Application.{Application, Limits, op_at, op_count}
 use Rattle.model.specs.State.{State, Task, Progress, no_task, bits_at, call_at, progress_at, status_at, task_at, with_bits}
@@ -51,7 +51,7 @@ use Rattle.kernel.specs.Over.{is_over}
 use Rattle.kernel.proofs.Ending.{begun, begun_with_none, stepped}
 use Rattle.kernel.proofs.Left.{on_if_ready}
 use Rattle.kernel.proofs.Running.{told_after}
-use Rattle.kernel.proofs.Silent.{not_over_by, on-choose}
+use Rattle.kernel.proofs.Silent.{not_over_by, on-applied, on-choose}
 use Rattle.machine.proofs.Pending.{none_by}
 use Rattle.machine.specs.Can.{NonePends}
 
@@ -201,7 +201,8 @@ other-wait_bits app i group c ticks Decide s j apart on = other-final app i grou
 other-wait_bits app i group c ticks Place s j apart on = other-final app i group c (call_at s i).kept s j apart on
 other-wait_bits app i group c ticks Unlock s j apart on = other-final app i group c (call_at s i).kept s j apart on
 other-wait_bits app i group c ticks Leave s j apart on =
-    on-choose (end_hold i Try s) j (other-with_call (record s { call_hold = false }) i _ j apart on)
+    on-choose (end_hold i Try s) j
+    (on-applied s.held_ticks (let_go i Try s) j (other-with_call (record s { call_hold = false }) i _ j apart on))
 
 other-act : (app : Application) (i : ℕ) (op : Op) (s : State) → may_stay_amid op ≡ true → EndsNoOther i s (act app i op s)
 unfolding expect open_loop close_turn branch skip_branch leave_loop stamp since calculate

@@ -175,6 +175,12 @@ short : (ticks : Option ℕ) → is_wait ticks ≡ true → IsShort ticks
 short None t = tt
 short (Some n) t = let l = ltb-true n 4294967295 t in omega arith
 
+left_unlocked : (hold : Hold) (way : Course) → IsPhaseOf hold way Leave → hold.locked ≡ None
+left_unlocked hold InOne p = absurd p
+left_unlocked hold (OnObject object) p = p.1
+left_unlocked hold UntilWoken p = p.1
+left_unlocked hold ToSetBits p = p.1
+
 unlocked : (lock : Option Lock) (locked : Option ℕ) → locked_by lock ≡ locked → locked ≡ None → lock ≡ None
 unlocked None locked e none = refl
 unlocked (Some l) locked e none = let f = e ∙ none in absurd (cc)
@@ -246,7 +252,7 @@ module _ (app : Application) (formed : IsWellFormed app) (k : Machine) (state : 
                 agrees = (state, placed free);
                 free = no_lock free;
                 age = let l = early in let f = elapsed_is k state stands in omega arith;
-                awake = awake;
+                depth = not_held free;
               };
           depth = not_held free;
           objects = rooms;
@@ -269,14 +275,26 @@ module _ (app : Application) (formed : IsWellFormed app) (k : Machine) (state : 
     held_in phase e t = sym running.holding ∙ ap holds e ∙ t
 
     -- where every task is placed
-    in_call : (phase : Phase) → (call_at state task).phase ≡ phase → phase ≢ Place → IsInCall k task
-    in_call phase e off = by_stands stands where
-      by_stands : Stands k state → IsInCall k task
-      by_stands (Placed h) = record { current = runs; agrees = (state, h) }
+    in_place : (phase : Phase) → (call_at state task).phase ≡ phase → phase ≢ Place → StandsFor k state
+    in_place phase e off = by_stands stands where
+      by_stands : Stands k state → StandsFor k state
+      by_stands (Placed h) = h
       by_stands (Placing other list b) =
           let one : other ≡ task = same_Some other task (sym b.current ∙ on) in
           let there : (call_at state task).phase ≡ Place = subst (λ (i : ℕ). (call_at state i).phase ≡ Place) one b.phase in
           absurd (off (sym e ∙ there))
+
+    in_call : (phase : Phase) → (call_at state task).phase ≡ phase → phase ≢ Place → IsInCall k task
+    in_call phase e off = record { current = runs; agrees = (state, in_place phase e off) }
+
+    -- who is to let go of the scheduler has locked nothing
+    none_locked : (call_at state task).phase ≡ Leave → k.objects.lock ≡ None
+    none_locked e =
+        let there : IsPhaseOf (hold_of state) (course (op_at app task (progress_at state task).op_index)) Leave =
+        subst (IsPhaseOf (hold_of state) (course (op_at app task (progress_at state task).op_index))) e
+        (reached.sound.calls task).phase in
+        unlocked k.objects.lock state.locked (in_place Leave e (λ q. absurd (cc))).rest.objects.locked
+        (left_unlocked (hold_of state) (course (op_at app task (progress_at state task).op_index)) there)
 
     module _ (op : Op) (is : op_at app task (progress_in k.progress task).op_index ≡ Some op) where
       at_op : op_at app task (progress_at state task).op_index ≡ Some op
@@ -358,7 +376,13 @@ module _ (app : Application) (formed : IsWellFormed app) (k : Machine) (state : 
 
       can_leave : k.sched.suspensions ≡ 0 → (call_at state task).phase ≡ Leave → CanLeave k task
       can_leave awake e =
-          record { call = in_call Leave e (λ q. absurd (cc)); held = held_once awake (held_in Leave e refl); awake = awake }
+          record {
+            call = in_call Leave e (λ q. absurd (cc));
+            held = held_once awake (held_in Leave e refl);
+            awake = awake;
+            free = none_locked e;
+            age = let l = early in let f = elapsed_is k state stands in omega arith;
+          }
 
     -- a call on an object that waits there, at most for this many ticks
     module _ (object : ℕ) (access : Access ℕ) (ticks : Option ℕ) (op : Op)

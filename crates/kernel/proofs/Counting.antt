@@ -27,8 +27,8 @@ use Rattle.model.specs.Answers.{holds}
 use Rattle.model.specs.Application.{Application, Limits, op_at}
 use Rattle.model.specs.State.{State, progress_at, call_at, object_at, bits_at, notification_at, with_notification, for_one, printed}
 use Rattle.model.specs.Order.{tasks_of}
-use Rattle.model.specs.Switching.{preempt, slice, settle, is_scheduler_suspended, unless_held, write}
-use Rattle.model.specs.Waiting.{awakened, wait_in, set_deadline, is_expired, end_hold, unlock_object, unlock}
+use Rattle.model.specs.Switching.{preempt, slice, settle, holds_ticks, unless_held, write}
+use Rattle.model.specs.Waiting.{awakened, wait_in, set_deadline, is_expired, let_go, end_hold, unlock_object, unlock}
 use Rattle.model.specs.Time.{advance, increment_tick, jump, apply_one, apply_held}
 use Rattle.model.specs.Ops.{answer, use_up, expect, with_sections}
 use Rattle.model.specs.Objects.{possible}
@@ -70,13 +70,28 @@ steps-decide i o a s = by_test (possible s o a || is_expired s i)
     (λ t. rw t refl)
     (λ t. rw t (keeps-inherit i o s).steps)
 
+-- ---- ticks that were held
+
+steps-applied : (s : State) → (apply_one s).steps ≡ s.steps
+unfolding apply_one advance
+steps-applied s = (keeps-wake_due (record s { time = s.time + 1; held_ticks = s.held_ticks - 1 })).steps
+
+steps-applies : (n : ℕ) (s : State) → (apply_held n s).steps ≡ s.steps
+steps-applies zero s = refl
+steps-applies (suc n) s = steps-applies n (apply_one s) ∙ steps-applied s
+
+steps-end_hold : (i : ℕ) (phase : Phase) (s : State) → (end_hold i phase s).steps ≡ s.steps
+steps-end_hold i phase s = steps-applies s.held_ticks (let_go i phase s)
+
+-- ---- the calls
+
 steps-leave_call : (i : ℕ) (s : State) → (leave_call i s).steps ≡ s.steps
 unfolding leave_call
 steps-leave_call i s =
     let free : State = end_hold i Try s in
     by_test (call_at s i).waits
-    (λ t. rw t (keeps-choose free).steps)
-    (λ t. rw t (keeps-preempt free).steps)
+    (λ t. rw t ((keeps-choose free).steps ∙ steps-end_hold i Try s))
+    (λ t. rw t ((keeps-preempt free).steps ∙ steps-end_hold i Try s))
 
 steps-await : (app : Application) (i o : ℕ) (a : Access ℕ) (ticks : Option ℕ) (phase : Phase) (s : State)
     → (await app i o a ticks phase s).steps ≡ s.steps
@@ -98,7 +113,7 @@ steps-end_set : (app : Application) (i : ℕ) (s : State)
 steps-end_set app i s =
     let free : State = end_hold i Start s in
     let told : State = answer app i (call_at s i).kept free in
-    (keeps-preempt told).steps ∙ (keeps-answer app i (call_at s i).kept free).steps
+    (keeps-preempt told).steps ∙ (keeps-answer app i (call_at s i).kept free).steps ∙ steps-end_hold i Start s
 
 steps-set_bits : (app : Application) (i group mask : ℕ) (phase : Phase) (s : State)
     → (set_bits app i group mask phase s).steps ≡ s.steps
@@ -119,7 +134,7 @@ steps-check app i group c ticks s = by_test (is_met (bits_at s group) c || optio
 steps-wait_bits : (app : Application) (i group : ℕ) (c : Condition) (ticks : Option ℕ) (phase : Phase) (s : State)
     → (wait_bits app i group c ticks phase s).steps ≡ s.steps
 steps-wait_bits app i group c ticks Start s = steps-check app i group c ticks s
-steps-wait_bits app i group c ticks Leave s = (keeps-choose (end_hold i Try s)).steps
+steps-wait_bits app i group c ticks Leave s = (keeps-choose (end_hold i Try s)).steps ∙ steps-end_hold i Try s
 steps-wait_bits app i group c ticks Try s = (lasts-final_bits app i group c (call_at s i).kept s).steps
 steps-wait_bits app i group c ticks Decide s = (lasts-final_bits app i group c (call_at s i).kept s).steps
 steps-wait_bits app i group c ticks Place s = (lasts-final_bits app i group c (call_at s i).kept s).steps
@@ -140,7 +155,7 @@ steps-await_notification : (app : Application) (i : ℕ) (wait : NotificationWai
     → (await_notification app i wait ticks phase s).steps ≡ s.steps
 steps-await_notification app i wait ticks Start s =
     steps-check_notification app i wait ticks (with_notification i (entered wait (notification_at s i)) s)
-steps-await_notification app i wait ticks Leave s = (keeps-choose (end_hold i Try s)).steps
+steps-await_notification app i wait ticks Leave s = (keeps-choose (end_hold i Try s)).steps ∙ steps-end_hold i Try s
 steps-await_notification app i wait ticks Try s = (keeps-end_notification_wait app i wait s).steps
 steps-await_notification app i wait ticks Decide s = (keeps-end_notification_wait app i wait s).steps
 steps-await_notification app i wait ticks Place s = (keeps-end_notification_wait app i wait s).steps
@@ -158,7 +173,7 @@ steps-end_command : (app : Application) (i group : ℕ) (s : State) → (end_set
 steps-end_command app i group s =
     let free : State = end_hold i Start s in
     let told : State = obeyed app i false (bits_at s group) free in
-    (keeps-preempt told).steps ∙ (keeps-obeyed app i false (bits_at s group) free).steps
+    (keeps-preempt told).steps ∙ (keeps-obeyed app i false (bits_at s group) free).steps ∙ steps-end_hold i Start s
 
 steps-obey : (app : Application) (i : ℕ) (c : Command) (phase : Phase) (s : State) → (obey app i c phase s).steps ≡ s.steps
 steps-obey app i c Start s = by_test c.clear
@@ -180,7 +195,7 @@ steps-expect app i condition s = by_test (holds s.variables condition (progress_
 
 steps-increment : (s : State) → (increment_tick s).steps ≡ s.steps
 unfolding increment_tick advance
-steps-increment s = by_test (is_scheduler_suspended s)
+steps-increment s = by_test (holds_ticks s)
     (λ t. rw t refl)
     (λ t. rw t (keeps-wake_due (record s { time = s.time + 1; elapsed = s.elapsed + 1 })).steps)
 
@@ -201,14 +216,6 @@ steps-idle app limits s =
     ∙ (keeps-wake_due
     (record s { time = s.time + ticks_ahead app limits s; elapsed = s.elapsed + ticks_ahead app limits s })).steps)
     (steps-tick app s)
-
-steps-applied : (s : State) → (apply_one s).steps ≡ s.steps
-unfolding apply_one advance
-steps-applied s = (keeps-wake_due (record s { time = s.time + 1; held_ticks = s.held_ticks - 1 })).steps
-
-steps-applies : (n : ℕ) (s : State) → (apply_held n s).steps ≡ s.steps
-steps-applies zero s = refl
-steps-applies (suc n) s = steps-applies n (apply_one s) ∙ steps-applied s
 
 steps-resumes : (s : State) → (resume_scheduler s).steps ≡ s.steps
 unfolding resume_scheduler

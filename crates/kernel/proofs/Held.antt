@@ -23,12 +23,12 @@ use Rattle.model.specs.declared.op.Op.TheVariants.{AwaitNotification, ClearNotif
 use Rattle.model.specs.declared.op.Op.TheVariants.{SuspendAll, ResumeAll, EnterCritical, ExitCritical, NextCommand, Obey}
 use Rattle.model.specs.Application.{Application}
 use Rattle.model.specs.State.{State, status_at, progress_at}
-use Rattle.model.specs.Switching.{is_critical, is_held, is_held_by_task, is_scheduler_suspended, slice}
+use Rattle.model.specs.Switching.{is_critical, is_held, is_held_by_task, is_scheduler_suspended, holds_ticks, slice}
 use Rattle.model.specs.Time.{increment_tick}
 use Rattle.model.specs.Handlers.{interrupt, tick_interrupt}
 use Rattle.model.specs.Step.{act_by_value, act_unless, end_misuse, is_barred, is_ended, own_misuse, judge, may_switch, misuse}
 use Rattle.model.specs.Step.{misused}
-use Rattle.soundness.proofs.Settled.{when_held, neither, unlike}
+use Rattle.soundness.proofs.Settled.{when_held, neither, ticks_held_by_task, unlike}
 use Rattle.soundness.proofs.Judging.{misuse_calm, not_barred, switches_not, takes_hold}
 use Rattle.sched.specs.StandsFor as sched
 use Rattle.sched.specs.StandsFor.{depth_of, task_holds_of}
@@ -45,13 +45,13 @@ use Rattle.machine.proofs.Acting.{stopped_at}
 use Rattle.ops.proofs.Held.{with_ticks}
 use Rattle.kernel.proofs.Bounds.{holds_by_some}
 
--- Tasks hold the scheduler more often than by critical sections, so a `suspend_all` is in force.
+-- Tasks hold the scheduler more often than by critical sections, so a `suspend_all` is in force, and ticks are held.
 pub suspended_by : (k : Machine) (log : List Event) (s : State) → At k log s → k.sections < k.sched.suspensions
-    → is_scheduler_suspended s ≡ true
+    → holds_ticks s ≡ true
 suspended_by k log s h some =
     let all : k.sched.suspensions ≡ task_holds_of s = h.stands.sched.suspensions in
     let open_ : k.sections ≡ s.sections = h.stands.rest.sections in
-    lt-ltb 0 s.suspensions (omega arith)
+    ticks_held_by_task s (lt-ltb 0 s.suspensions (omega arith))
 
 module _ (k : Machine) (log : List Event) (s : State) (h : At k log s) where
   -- a tick is held
@@ -59,7 +59,7 @@ module _ (k : Machine) (log : List Event) (s : State) (h : At k log s) where
       → At (record k { clock = t }) log (increment_tick s)
   unfolding increment_tick
   tick_held t some on =
-      let is : is_scheduler_suspended s ≡ true = suspended_by k log s h some in
+      let is : holds_ticks s ≡ true = suspended_by k log s h some in
       rw is (with_ticks k log s h t (s.elapsed + 1) (s.held_ticks + 1) (rw is at on))
 
 -- ---- who came to its end

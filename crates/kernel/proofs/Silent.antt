@@ -2,7 +2,7 @@
 use Rattle.kernel.proofs.Valued.{acts_past}
 use Rattle.model.specs.Step.{act_by_value}
 use Rattle.std.proofs.Common.{◌≡◌, ◌||◌, ◌&&◌, leb, ℕ, true, false, eqb, ltb, List, [], ◌∷◌, ◌++◌, Option, Some, None, refl}
-use Rattle.std.proofs.Common.{ap, sym, subst, ◌∙◌}
+use Rattle.std.proofs.Common.{ap, sym, subst, ◌∙◌, ◌+◌, ◌-◌, zero, suc}
 use Rattle.std.specs.Option.{is_some, option_eq}
 use Rattle.model.specs.declared.event.End.{End}
 use Rattle.model.specs.declared.op.Access.{Access}
@@ -22,6 +22,7 @@ use Rattle.model.specs.State.{with_call, for_one, for_each, no_task, notificatio
 use Rattle.model.specs.Order.{tasks_of}
 use Rattle.model.specs.Switching.{is_ready, is_same, is_off, choice, make_ready, to_back, dispatch, choose, settle, is_held}
 use Rattle.model.specs.Switching.{is_held_by_task, unless_held}
+use Rattle.model.specs.Time.{wake_due, due, advance, apply_one, apply_held}
 use Rattle.model.specs.Waiting.{awakened, is_expired, set_deadline, wait_in, unlock_object, unlock}
 use Rattle.model.specs.Objects.{list_for, possible}
 use Rattle.model.specs.Mutexes.{set_priority, raise, inherits, inherit_from, inherit}
@@ -71,6 +72,14 @@ on-all_ready [] s j on = on
 on-all_ready (i ∷ js) s j on = on-all_ready js (make_ready i s) j (on-make_ready s i j on)
 
 -- ---- one who will wait for a mutex lends its priority
+
+-- nor do ticks that were held
+pub on-applied : (n : ℕ) (s : State) → EndsNobody s (apply_held n s)
+unfolding apply_one advance wake_due
+on-applied zero s j on = on
+on-applied (suc n) s j on =
+    let later : State = record s { time = s.time + 1; held_ticks = s.held_ticks - 1 } in
+    on-applied n (apply_one s) j (on-all_ready (tasks_of (due later)) later j on)
 
 on-to_back : (s : State) (i : ℕ) → EndsNobody s (to_back i s)
 unfolding to_back

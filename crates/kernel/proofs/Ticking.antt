@@ -15,7 +15,7 @@ use Rattle.model.specs.declared.op.Op.TheVariants.{Work}
 use Rattle.model.specs.Application.{Application, Definition, Interrupt, Limits, is_any_awaited, op_at, interrupts_at}
 use Rattle.model.specs.Coming.{AreComing}
 use Rattle.model.specs.State.{State, Task, Progress, no_progress, progress_at}
-use Rattle.model.specs.Switching.{is_held_by_task, is_ready, slice, settle, unless_held}
+use Rattle.model.specs.Switching.{holds_ticks, is_held_by_task, is_ready, slice, settle, unless_held}
 use Rattle.model.specs.Time.{increment_tick}
 use Rattle.model.specs.Ops.{use_up}
 use Rattle.model.specs.Handlers.{interrupt, tick_interrupt}
@@ -42,11 +42,10 @@ use Rattle.machine.proofs.Either.{any, current_is, elapsed_is, steps_are, stoppe
 use Rattle.kernel.proofs.Ending.{all_meant, begun, ends_not, is_everybody_ended, not_over_by, not_passed, on_by, stepped, stuck_by}
 use Rattle.kernel.proofs.Left.{any_left}
 use Rattle.machine.proofs.Switches.{settled_either, settled_idle, settled_on, unheld_by}
-use Rattle.machine.proofs.Waking.{groups-jumped, objects-jumped, sched-jumped, woken}
+use Rattle.machine.proofs.Waking.{groups-jumped, objects-jumped, sched-jumped, ticks_not_held, woken}
 use Rattle.machine.proofs.Pending.{none_by}
 use Rattle.soundness.proofs.Pending.{begun_alone}
 use Rattle.sched.specs.StandsFor.{task_holds_of}
-use Rattle.sched.proofs.Standing.{none_suspends}
 
 -- ---- nothing is held
 
@@ -59,9 +58,6 @@ placed_by k s z (Placing task list b) =
     let e : k.sched.depth ≡ task_holds_of s + 1 =
     b.sched.depth ∙ ap (λ (h : Bool). task_holds_of s + (if h then 1 else 0)) b.held in
     absurd (omega arith)
-
-none_suspended : (k : Machine) (s : State) → k.sched.depth ≡ 0 → StandsFor k s → s.suspensions ≡ 0
-none_suspended k s z h = none_suspends s (zero_left (task_holds_of s) (if s.call_hold then 1 else 0) (sym h.sched.depth ∙ z))
 
 no_task_suspends : (k : Machine) (s : State) → k.sched.depth ≡ 0 → StandsFor k s → is_held_by_task s ≡ false
 no_task_suspends k s z h =
@@ -146,14 +142,14 @@ uninterrupted app s none = rw none refl
 module _ (app : Application) (k : Machine) (z : k.sched.depth ≡ 0) (calm : k.sched.pending ≡ []) (steady : is_steady k.sched ≡ true)
     (none : interrupts_at app (k.clock.age + k.clock.held + 1) ≡ []) (clock : Timeline) (a : Advances k.clock clock []) where
   module _ (log : List Event) (s : State) (h : At k log s) where
-    free : s.suspensions ≡ 0
-    free = none_suspended k s z h.stands
+    free : holds_ticks s ≡ false
+    free = ticks_not_held k.sched s h.stands.sched z
 
     come : At (record k { clock = clock }) log (increment_tick s)
     come =
         woken k log s h [] k.sched k.objects clock k.groups (due_next k.clock clock s [] a h.stands.rest.clock)
         (sched-jumped k log s h 1) (objects-jumped k log s h 1) (groups-jumped k log s h 1)
-        (stands_advanced k.clock clock s [] a h.stands.rest.clock (rw free refl)) free
+        (stands_advanced k.clock clock s [] a h.stands.rest.clock free) free
 
     elapsed_next : (increment_tick s).elapsed ≡ k.clock.age + k.clock.held + 1
     elapsed_next = let e = come.stands.rest.clock.age in let f = a.age in let g = a.held in omega arith

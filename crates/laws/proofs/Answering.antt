@@ -1,6 +1,6 @@
 -- What a task has of its last answer while a call goes on.
 use Rattle.std.proofs.Common.{◌≡◌, ◌<◌, ◌+◌, ◌||◌, ℕ, eqb, ltb, length, List, [], ◌∷◌, ◌++◌, Option, Some, None, refl, ap, sym}
-use Rattle.std.proofs.Common.{◌∙◌, arith, true, false}
+use Rattle.std.proofs.Common.{◌∙◌, ◌-◌, arith, true, false, zero, suc}
 use Rattle.std.specs.Option.{option_map}
 use Rattle.model.specs.declared.call.CallProgress.{CallProgress}
 use Rattle.model.specs.declared.call.Phase.{Phase}
@@ -19,7 +19,8 @@ use Rattle.model.specs.State.{State, Progress, Ready, Status, Waiting, Task, cal
 use Rattle.model.specs.State.{progress_at, status_at, take_ticket, task_at, with_call, with_object, with_task}
 use Rattle.model.specs.Switching.{choice, choose, dispatch, is_outranked, is_ready, is_same, make_ready, preempt, to_back, write}
 use Rattle.model.specs.Switching.{yield_now}
-use Rattle.model.specs.Waiting.{awake_status, awakened, end_hold, is_expired, is_locked, set_deadline, unlock}
+use Rattle.model.specs.Time.{wake_due, due, advance, apply_one, apply_held}
+use Rattle.model.specs.Waiting.{awake_status, awakened, end_hold, is_expired, let_go, is_locked, set_deadline, unlock}
 use Rattle.model.specs.Waiting.{unlock_object, wait_in}
 use Rattle.model.specs.Waiting.{waiters, wake_best, wake_one}
 use Rattle.model.proofs.Sorting.{by_test}
@@ -111,6 +112,13 @@ module _ (i : ℕ) where
       (λ o.
       same-all_ready (tasks_of (awakened s (ToReceive o)) ++ tasks_of (awakened s (ToSend o))) (record s { locked = None }))
 
+  same-applied : (n : ℕ) (s : State) → Same s (apply_held n s)
+  unfolding apply_one advance wake_due
+  same-applied zero s = refl
+  same-applied (suc n) s =
+      let later : State = record s { time = s.time + 1; held_ticks = s.held_ticks - 1 } in
+      same-applied n (apply_one s) ∙ same-all_ready (tasks_of (due later)) later
+
   -- ---- deeds that leave its last answer
 
   abbrev SameAnswer : State → State → Type 0
@@ -192,7 +200,9 @@ module _ (i : ℕ) where
   unfolding leave_call
   answer-leave_call s =
       let free : State = end_hold i Try s in
-      let same : SameAnswer s free = answer-with_call (record s { call_hold = false }) i _ in
+      let same : SameAnswer s free =
+      alike (let_go i Try s) free (same-applied s.held_ticks (let_go i Try s))
+      ∙ answer-with_call (record s { call_hold = false }) i _ in
       by_test (call_at s i).waits
       (λ t. rw t (alike free (choose free) (same-choose free) ∙ same))
       (λ t. rw t (alike free (preempt free) (same-preempt free) ∙ same))

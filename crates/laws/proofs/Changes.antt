@@ -30,9 +30,9 @@ use Rattle.model.specs.declared.event.Misuse.{Misuse}
 use Rattle.model.specs.Blocks.{jump_from}
 use Rattle.model.specs.Application.{Application, Limits, commands_of, op_at, ops_of, interrupts_at, script_of}
 use Rattle.model.specs.Switching.{make_ready, choice, preempt, slice, settle, unless_held, write, is_held, is_critical}
-use Rattle.model.specs.Switching.{is_scheduler_suspended}
+use Rattle.model.specs.Switching.{holds_ticks}
 use Rattle.model.specs.Objects.{answer_to, attempt}
-use Rattle.model.specs.Time.{wake_due, advance, increment_tick, jump, apply_one, apply_held}
+use Rattle.model.specs.Time.{wake_due, advance, increment_tick, jump}
 use Rattle.model.specs.declared.plan.Injection.{Injection}
 use Rattle.model.specs.declared.op.IsrOp.{IsrOp}
 use Rattle.model.specs.declared.op.IsrOp.TheVariants as isr_op
@@ -49,7 +49,7 @@ use Rattle.soundness.proofs.Settled.{when_held, when_free}
 use Rattle.laws.specs.Notifications.{takes_notification}
 use Rattle.laws.proofs.Staying.{Remains, Stays, Stops, left_by_op}
 use Rattle.laws.proofs.Sleeping.{NoneBetween, none_in_one, none_ahead}
-use Rattle.laws.proofs.Deeds.{Keeping, kept-all_ready, kept-answer, kept-attempt, kept-await, kept-await_notification}
+use Rattle.laws.proofs.Deeds.{Keeping, kept-all_ready, kept-answer, kept-applied, kept-attempt, kept-await, kept-await_notification}
 use Rattle.laws.proofs.Deeds.{kept-branch, kept-clear_notification, kept-delay, kept-delay_until, kept-do_now, kept-expect}
 use Rattle.laws.proofs.Deeds.{kept-fail, kept-give_mutex, kept-go_to, kept-leave_loop, kept-next_command, kept-notify}
 use Rattle.laws.proofs.Deeds.{kept-obey, kept-preempt, kept-replied, kept-resume, kept-set_bits, kept-settle, kept-since}
@@ -158,7 +158,7 @@ module _ {P : State → Type 0} {stamps answers : ℕ → Bool} {x : ℕ} {store
   unfolding increment_tick advance
   kept-increment s h =
       let t : State = record s { elapsed = s.elapsed + 1 } in
-      by_test (is_scheduler_suspended s)
+      by_test (holds_ticks s)
       (λ u. rw u (four.framed s (record t { held_ticks = s.held_ticks + 1 }) refl refl refl (inl refl) (λ _. refl, λ _ k. k) h))
       (λ u. rw u (four.passed 1 t (none_in_one t) (four.framed s t refl refl refl (inl refl) (λ _. refl, λ _ k. k) h)))
 
@@ -191,21 +191,13 @@ module _ {P : State → Type 0} {stamps answers : ℕ → Bool} {x : ℕ} {store
 
   -- ---- the scheduler suspended and resumed
 
-  kept-applied : (n : ℕ) (s : State) → P s → P (apply_held n s)
-  unfolding apply_one advance
-  kept-applied zero s h = h
-  kept-applied (suc n) s h =
-      let t : State = record s { held_ticks = s.held_ticks - 1 } in
-      kept-applied n (apply_one s) (four.passed 1 t (none_in_one t)
-      (four.framed s t refl refl refl (inl refl) (λ _. refl, λ _ k. k) h))
-
   kept-resume_scheduler : (s : State) → P s → P (resume_scheduler s)
   unfolding resume_scheduler
   kept-resume_scheduler s h =
       let t : State = record s { suspensions = s.suspensions - 1 } in
       let less : P t = four.framed s t refl refl refl (inl refl) (λ _. refl, λ _ k. k) h in
       by_test (eqb s.suspensions 1)
-      (λ q. rw q (kept-applied s.held_ticks t less))
+      (λ q. rw q (kept-applied four s.held_ticks t less))
       (λ q. rw q less)
 
   kept-judge : (i op_index : ℕ) (s : State) → P s → P (judge i op_index s)

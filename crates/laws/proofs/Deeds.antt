@@ -2,7 +2,7 @@
 use Rattle.model.specs.declared.event.End.TheVariants.{Check}
 use Rattle.model.proofs.Lists.{eqb-refl}
 use Rattle.std.proofs.Common.{[], drop, ◌-◌, min, ◌≡◌, ◌≢◌, ◌<◌, ◌+◌, ◌||◌, ℕ, true, false, eqb, leb, ltb, inl, inr, List, ◌∷◌}
-use Rattle.std.proofs.Common.{Option, Some, None, refl, sym, subst, ◌∙◌, arith}
+use Rattle.std.proofs.Common.{Option, Some, None, refl, sym, subst, ◌∙◌, arith, zero, suc}
 use Rattle.std.specs.Prelude.{Bool, ◌++◌}
 use Rattle.std.specs.Option.{IfSome, option_eq}
 use Rattle.std.proofs.lemmas.Bool.{ltb-true}
@@ -38,12 +38,12 @@ use Rattle.model.specs.Order.{tasks_of, task_of, first}
 use Rattle.model.specs.Switching.{make_ready, to_back, dispatch, choose, choice, is_same, is_ready, yield_now, is_outranked}
 use Rattle.model.specs.Switching.{is_sharing, preempt, slice, settle, is_off, write}
 use Rattle.model.specs.Waiting.{waiters, awakened, awake_status, is_locked, wake_one, wake_best, wait_in, set_deadline}
-use Rattle.model.specs.Waiting.{is_expired, end_hold, unlock_object, unlock}
+use Rattle.model.specs.Waiting.{is_expired, let_go, end_hold, unlock_object, unlock}
 use Rattle.model.specs.Objects.{possible, answer_to, object_after, list_woken, list_for, fulfil, attempt}
 use Rattle.model.specs.Mutexes.{set_priority, mutexes_held, raise, inherit_from, inherit, fall_back, after_timeout, disinherit}
 use Rattle.model.specs.Mutexes.{give_mutex}
 use Rattle.model.specs.Calls.{try, lock, decide, leave_call, await, do_now}
-use Rattle.model.specs.Time.{wake_due, sleep, set_previous_wake}
+use Rattle.model.specs.Time.{wake_due, advance, apply_one, apply_held, sleep, set_previous_wake}
 use Rattle.model.specs.Ops.{go_to, called, answer, use_up, delay, delay_until, expect, next_turn, turn, branch, leave_loop}
 use Rattle.model.specs.Ops.{stamp, since, fail}
 use Rattle.model.specs.declared.call.Condition.{Condition}
@@ -58,7 +58,7 @@ use Rattle.laws.specs.Notifications.{is_last_phase, takes_notification}
 use Rattle.laws.proofs.Staying.{AreLeft, Remains, Stays, StaysPending, Stops, begun_later, dated_later, expired_inherited}
 use Rattle.laws.proofs.Staying.{is_failed_check, or_false_right, pending_apart, pending_by, pending_entered, same_awake}
 use Rattle.laws.proofs.Staying.{still_to_come, stops-fail}
-use Rattle.laws.proofs.Sleeping.{NoneBetween}
+use Rattle.laws.proofs.Sleeping.{NoneBetween, none_in_one}
 
 -- ---- the changes that each deed is made of
 
@@ -361,11 +361,27 @@ module _ {P : State → Type 0} {stamps answers : ℕ → Bool} {x : ℕ} {store
       (record s { locked = None }) (four.framed s (record s { locked = None }) refl refl refl (inl refl) (λ _. refl, λ _ k. k) k))
       h
 
+  -- ---- a hold ends
+
+  -- the held ticks are applied
+  pub kept-applied : (n : ℕ) (s : State) → P s → P (apply_held n s)
+  unfolding apply_one advance
+  kept-applied zero s h = h
+  kept-applied (suc n) s h =
+      let t : State = record s { held_ticks = s.held_ticks - 1 } in
+      kept-applied n (apply_one s) (four.passed 1 t (none_in_one t)
+      (four.framed s t refl refl refl (inl refl) (λ _. refl, λ _ k. k) h))
+
+  kept-end_hold : (i : ℕ) (phase : Phase) (s : State) → P s → P (end_hold i phase s)
+  kept-end_hold i phase s h =
+      let t : State = record s { call_hold = false } in
+      kept-applied s.held_ticks (let_go i phase s)
+      (kept-with_call i _ t (four.framed s t refl refl refl (inl refl) (λ _. refl, λ _ k. k) h))
+
   kept-leave_call : (i : ℕ) (s : State) → P s → P (leave_call i s)
   unfolding leave_call
   kept-leave_call i s h =
-      let t : State = record s { call_hold = false } in
-      let free : P (end_hold i Try s) = kept-with_call i _ t (four.framed s t refl refl refl (inl refl) (λ _. refl, λ _ k. k) h) in
+      let free : P (end_hold i Try s) = kept-end_hold i Try s h in
       by_test (call_at s i).waits
       (λ q. rw q (kept-choose (end_hold i Try s) free))
       (λ q. rw q (kept-preempt (end_hold i Try s) free))
@@ -428,11 +444,6 @@ module _ {P : State → Type 0} {stamps answers : ℕ → Bool} {x : ℕ} {store
       let t : State = record s { call_hold = true } in
       kept-with_call i _ _ (kept-with_call i _ _
       (kept-set group mask t (four.framed s t refl refl refl (inl refl) (λ _. refl, λ _ k. k) h)))
-
-  kept-end_hold : (i : ℕ) (phase : Phase) (s : State) → P s → P (end_hold i phase s)
-  kept-end_hold i phase s h =
-      let t : State = record s { call_hold = false } in
-      kept-with_call i _ t (four.framed s t refl refl refl (inl refl) (λ _. refl, λ _ k. k) h)
 
   kept-end_set : (app : Application) (i : ℕ) → answers i ≡ true → (s : State) → P s
       → P (preempt (answer app i (call_at s i).kept (end_hold i Start s)))

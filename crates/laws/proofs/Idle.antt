@@ -33,7 +33,7 @@ use Rattle.model.specs.Application.{Application, Limits, interrupts_at, op_at}
 use Rattle.model.specs.State.{State, Progress, task_at, progress_at, call_at, bits_at, go_on, for_each, for_one}
 use Rattle.model.specs.Order.{Entry, first, task_of, tasks_of}
 use Rattle.model.specs.Switching.{to_back, dispatch, choose, choice, is_same, is_ready, ready_list, ready_key, yield_now, is_above}
-use Rattle.model.specs.Switching.{is_outranked, is_sharing, preempt, slice, settle, is_off, is_held, is_scheduler_suspended}
+use Rattle.model.specs.Switching.{is_outranked, is_sharing, preempt, slice, settle, is_off, is_held, holds_ticks}
 use Rattle.model.specs.Waiting.{wait_in, set_deadline, is_expired, end_hold, unlock_object, unlock}
 use Rattle.model.specs.Objects.{possible, answer_to, list_for}
 use Rattle.model.specs.Mutexes.{inherit, after_timeout, give_mutex}
@@ -145,7 +145,7 @@ current-increment : (s : State) → (increment_tick s).current ≡ s.current
 unfolding increment_tick advance wake_due
 current-increment s =
     let later : State = record s { time = s.time + 1; elapsed = s.elapsed + 1 } in
-    by_test (is_scheduler_suspended s) (λ t. rw t refl) (λ t. rw t (current-all_ready later (tasks_of (due later))))
+    by_test (holds_ticks s) (λ t. rw t refl) (λ t. rw t (current-all_ready later (tasks_of (due later))))
 
 current-told : (app : Application) (s : State) → (interrupt app (increment_tick s)).current ≡ s.current
 unfolding interrupt

@@ -8,7 +8,7 @@ use Rattle.std.proofs.lemmas.Bool.{leb-true, lt-ltb, ltb-true}
 use Rattle.std.proofs.lemmas.List.Elements.{Contains-append_cases}
 use Rattle.model.specs.Application.{Application, Interrupt, Limits}
 use Rattle.model.specs.State.{State, Task, wake_time_of, status_at, no_task}
-use Rattle.model.specs.Switching.{slice, unless_held, is_scheduler_suspended}
+use Rattle.model.specs.Switching.{slice, unless_held, holds_ticks}
 use Rattle.model.specs.Time.{advance, increment_tick, jump}
 use Rattle.model.specs.Handlers.{interrupt, tick_interrupt, idle, ticks_ahead, ticks_to_wake, ticks_to_interrupt}
 use Rattle.model.proofs.Sorting.{by_test}
@@ -119,7 +119,7 @@ none_past a elapsed xs ys (i ∷ is) h =
 
 come-time : (s : State) → (increment_tick s).time ≤ s.time + 1
 unfolding increment_tick advance
-come-time s = by_test (is_scheduler_suspended s)
+come-time s = by_test (holds_ticks s)
     (λ t. rw t (omega arith))
     (λ t. rw t (let e = (keeps-wake_due (record s { time = s.time + 1; elapsed = s.elapsed + 1 })).time in omega arith))
 

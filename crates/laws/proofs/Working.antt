@@ -26,7 +26,7 @@ one-act app i op s = by_op (λ op. (act app i op s).elapsed ≤ s.elapsed + 1)
 one-act_unless : (app : Application) (i : ℕ) (kind : Option Misuse) (op : Op) (s : State)
     → (act_unless app i kind op s).elapsed ≤ s.elapsed + 1
 one-act_unless app i None op s =
-    let e = (judged i (progress_at s i).op_index (act_by_value app i op s)).elapsed in
+    let e = (judged i (progress_at s i).op_index (act_by_value app i op s)).lasts.elapsed in
     let one : (act_by_value app i op s).elapsed ≤ s.elapsed + 1 =
     by_value (λ t. t.elapsed ≤ s.elapsed + 1) app i op s (omega arith) (one-act app i op s) in
     omega arith

@@ -2,11 +2,14 @@
 ghost use Rattle.std.specs.Prelude.{◌≡◌, ◌<◌, ◌≤◌, ◌+◌, ◌⊎◌, ℕ, filter_map, map, true, false, List, Some, None, IfSome};
 ghost use Rattle.std.specs.List.{AllByRecursion, Contains};
 ghost use Rattle.std.specs.Option.{is_some};
+ghost use Rattle.model.specs.declared.call.Phase.{Phase};
 ghost use Rattle.model.specs.declared.plan.Injection.{Injection};
 ghost use Rattle.model.specs.Application.{Application, Interrupt, Limits, definition_of};
 ghost use Rattle.model.specs.Scripts.{IsWellFormed};
 ghost use Rattle.model.specs.State.{State, Task, status_at, task_at, ticket_of, wake_time_of};
-ghost use Rattle.model.specs.Switching.{choice, is_held, is_ready, is_outranked};
+ghost use Rattle.model.specs.Switching.{choice, holds_ticks, is_held, is_ready, is_outranked};
+ghost use Rattle.model.specs.Time.{increment_tick};
+ghost use Rattle.model.specs.Waiting.{end_hold};
 ghost use Rattle.model.specs.Handlers.{idle, inject, tick_interrupt};
 ghost use Rattle.model.specs.Step.{before_step, step};
 ghost use Rattle.model.specs.Run.{state_after};
@@ -125,4 +128,15 @@ pub fn priorities_are_at_least_those_of_the_file()
 pub fn no_switch_while_held()
     ensures { (app : Application) (handler : ℕ) (s : State) → is_held s ≡ true
         → (inject app handler s).current ≡ s.current }
+{}
+
+/// A tick that comes while a call or a `suspend_all` holds the scheduler is held: it is an elapsed tick, but the time stays, and so
+/// nobody wakes. Where a call lets go of the scheduler, the held ticks are part of the time, and none is held any more.
+pub fn held_ticks_wait_for_the_release()
+    ensures held { (s : State) → holds_ticks s ≡ true
+        → ((increment_tick s).elapsed ≡ s.elapsed + 1) × ((increment_tick s).time ≡ s.time)
+        × ((increment_tick s).tasks ≡ s.tasks) }
+    ensures released { (task : ℕ) (phase : Phase) (s : State)
+        → ((end_hold task phase s).elapsed ≡ s.elapsed) × ((end_hold task phase s).time ≡ s.time + s.held_ticks)
+        × ((end_hold task phase s).held_ticks ≡ 0) }
 {}

@@ -3,6 +3,7 @@ use Rattle.std.proofs.Common.{None, Some, ◌≡◌, ◌≢◌, ◌<◌, ◌+◌
 use Rattle.std.proofs.Common.{take, drop, refl, ap, sym, subst, ◌∙◌, arith}
 use Rattle.std.specs.List.{AllByRecursion, IsDistinct, filter}
 use Rattle.std.specs.Option.{option_eq}
+use Rattle.std.specs.Prelude.{nat_lt}
 use Rattle.std.proofs.lemmas.List.{take_more}
 use Rattle.model.specs.declared.event.Event.{Event}
 use Rattle.model.specs.State.{State, Task, Status, Ready, Awake, Waiting, WaitingForBits, WaitingForNotification, Asleep, Suspended}
@@ -10,18 +11,20 @@ use Rattle.model.specs.State.{Ended, wake_time_of}
 use Rattle.model.specs.State.{task_at, status_at, progress_at, for_each, no_task}
 use Rattle.model.specs.Suspension.{can_resume}
 use Rattle.model.specs.Order.{Entry, tasks_of}
-use Rattle.model.specs.Switching.{make_ready, is_scheduler_suspended}
+use Rattle.model.specs.Switching.{make_ready, holds_ticks}
 use Rattle.model.specs.Time.{delayed_key, delayed_list, is_due, due, wake_due, advance, increment_tick, jump}
 use Rattle.model.proofs.Sorting.{by_test}
 use Rattle.model.proofs.Lists.{eqb-refl}
 use Rattle.model.proofs.Chosen.{each-end, list_within}
 use Rattle.model.proofs.Tables.{each-set}
 use Rattle.soundness.proofs.Frames.{keeps-all_ready}
+use Rattle.soundness.proofs.Settled.{nothing_holds, ticks_free}
 use Rattle.lists.specs.Lists.{Each}
 use Rattle.sched.specs.StandsFor as sched
 use Rattle.sched.specs.Schedule as schedule
 use Rattle.sched.specs.Schedule.{Schedule}
 use Rattle.sched.proofs.LinedUp.{ready_woken}
+use Rattle.sched.proofs.Standing.{held_by_depth}
 use Rattle.clock.specs.StandsFor as clock
 use Rattle.clock.specs.StandsFor.{at_next_tick, at_jump}
 use Rattle.clock.specs.Timeline.{Timeline, Jumps, is_asleep}
@@ -168,9 +171,11 @@ pub kept-all_ready : (is : List ℕ) (s : State) → kept_of (for_each make_read
 kept-all_ready [] s = refl
 kept-all_ready (i ∷ is) s = kept-all_ready is (make_ready i s)
 
--- Where no `suspend_all` is in force the scheduler isn't suspended.
-pub unsuspended_by : (s : State) → s.suspensions ≡ 0 → is_scheduler_suspended s ≡ false
-unsuspended_by s none = rw none refl
+-- Where nothing holds the scheduler no tick is held.
+pub ticks_not_held : (v : Schedule) (s : State) → sched.StandsFor v s → v.depth ≡ 0 → holds_ticks s ≡ false
+ticks_not_held v s h none =
+    let off = nothing_holds s (held_by_depth s ∙ ap (λ (n : ℕ). nat_lt 0 n) (sym h.depth ∙ none)) in
+    ticks_free s off.0 off.1
 
 -- The scheduler and the clock have done their part.
 module _ (k : Machine) (log : List Event) (s : State) (h : At k log s) (ticks : ℕ) where
@@ -218,7 +223,7 @@ module _ (k : Machine) (log : List Event) (s : State) (h : At k log s) where
       → ds ≡ tasks_of (due (at_next_tick s)) → sched.StandsFor v (for_each make_ready ds (at_next_tick s))
       → objects.StandsFor q None (for_each make_ready ds (at_next_tick s))
       → groups.StandsFor g (for_each make_ready ds (at_next_tick s)) → clock.StandsFor t (increment_tick s)
-      → s.suspensions ≡ 0 → At (record k { sched = v; clock = t; objects = q; groups = g }) log (increment_tick s)
+      → holds_ticks s ≡ false → At (record k { sched = v; clock = t; objects = q; groups = g }) log (increment_tick s)
   unfolding increment_tick advance jump
   woken ds v q t g is ready left bits awake none =
       let come : increment_tick s ≡ jump 1 s = rw none refl in

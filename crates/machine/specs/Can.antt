@@ -37,7 +37,7 @@ pub record CanAdvance (k : Machine) : Type 0 where
   pub agrees : Agrees k
   pub free : k.objects.lock ≡ None
   pub age : k.clock.age < 2 ^ 62
-  pub awake : k.sched.suspensions ≡ 0
+  pub depth : k.sched.depth ≡ 0
 
 -- It can rise by this many at once: before the last of them nobody's wake time comes.
 pub record CanJump (ticks : ℕ) (k : Machine) : Type 0 where

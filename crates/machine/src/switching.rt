@@ -168,7 +168,7 @@ impl Machine {
         }
     }
 
-    /// A tick of the clock, where no `suspend_all` is in force: who is due becomes Ready, in the order in which they began to sleep.
+    /// A tick of the clock, where nothing holds the scheduler: who is due becomes Ready, in the order in which they began to sleep.
     // The step is twice in the program, so the compiler doesn't inline this by itself.
     #[inline(always)]
     pub fn advance(&mut self)

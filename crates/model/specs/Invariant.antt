@@ -19,7 +19,7 @@ use Rattle.model.specs.Scripts.{priorities}
 use Rattle.model.specs.State.{State, Task, Source, Progress, Object, Status, Wait, Waiting, Awake, Asleep, Suspended, Ended}
 use Rattle.model.specs.State.{wait_if_awake}
 use Rattle.model.specs.State.{ticket_of, task_at, status_at, progress_at, call_at, object_at}
-use Rattle.model.specs.Switching.{is_ready, is_held, is_held_by_task, is_scheduler_suspended}
+use Rattle.model.specs.Switching.{is_ready, is_held, is_held_by_task, holds_ticks}
 use Rattle.model.specs.Waiting.{is_locked}
 use Rattle.model.specs.Objects.{list_for}
 
@@ -221,8 +221,8 @@ pub record IsState (app : Application) (s : State) : Type 0 where
   pub locked : s.call_hold ≡ false → s.locked ≡ None
   -- while a task holds the scheduler no call does
   pub apart : is_held_by_task s ≡ true → s.call_hold ≡ false
-  -- ticks are held only then
-  pub held : is_scheduler_suspended s ≡ false → s.held_ticks ≡ 0
+  -- ticks are held only while a call or a `suspend_all` holds the scheduler
+  pub held : holds_ticks s ≡ false → s.held_ticks ≡ 0
 
 -- No source is pending.
 abbrev pub IsNonePending : State → Type 0

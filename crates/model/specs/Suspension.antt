@@ -5,7 +5,7 @@ use Rattle.model.specs.declared.call.Phase.TheVariants.{Try, Decide}
 use Rattle.model.specs.Application.{Application}
 use Rattle.model.specs.State.{State, Progress, Status, Suspended, Ended, status_at, progress_at, with_status, with_progress}
 use Rattle.model.specs.Switching.{make_ready, preempt, unless_held}
-use Rattle.model.specs.Time.{apply_held}
+use Rattle.model.specs.Time.{release}
 use Rattle.model.specs.Ops.{answer, one_if}
 
 -- ---- tasks
@@ -62,7 +62,7 @@ suspend_all app task s = answer app task (Some 0) (record s { suspensions = s.su
 unfoldable pub resume_scheduler : State → State
 resume_scheduler s =
     let t : State = record s { suspensions = s.suspensions - 1 } in
-    if s.suspensions == 1 then apply_held s.held_ticks t else t
+    if s.suspensions == 1 then release t else t
 
 -- That is done, and after the last a higher task may run (`xTaskResumeAll`); it answers 0 (profile).
 unfoldable pub resume_all : Application → ℕ → State → State

@@ -5,7 +5,7 @@ use Rattle.std.specs.Option.{option_eq}
 use Rattle.model.specs.State.{State, Task, Asleep, ticket_of, wake_time_of, status_at, progress_at, take_ticket, with_progress}
 use Rattle.model.specs.State.{for_each}
 use Rattle.model.specs.Order.{Key, Entry, key, list_by, tasks_of}
-use Rattle.model.specs.Switching.{is_ready, make_ready, is_scheduler_suspended}
+use Rattle.model.specs.Switching.{is_ready, make_ready, holds_ticks}
 
 -- ---- who is due
 
@@ -36,11 +36,12 @@ wake_due s = for_each make_ready (tasks_of (due s)) s
 unfoldable pub advance : State → State
 advance s = wake_due (record s { time = s.time + 1 })
 
--- One tick comes. Time advances; while a `suspend_all` is in force, the tick is held instead (`xTaskIncrementTick`).
+-- One tick comes. Time advances; while a call or a `suspend_all` holds the scheduler, the tick is held instead
+-- (`xTaskIncrementTick`).
 unfoldable pub increment_tick : State → State
 increment_tick s =
     let t : State = record s { elapsed = s.elapsed + 1 } in
-    if is_scheduler_suspended s then record t { held_ticks = s.held_ticks + 1 } else advance t
+    if holds_ticks s then record t { held_ticks = s.held_ticks + 1 } else advance t
 
 -- This many ticks come at once, before the last of which nobody is due: idle slept through them (`vTaskStepTick`).
 unfoldable pub jump : ℕ → State → State
@@ -50,10 +51,15 @@ jump ticks s = wake_due (record s { time = s.time + ticks; elapsed = s.elapsed +
 unfoldable pub apply_one : State → State
 apply_one s = advance (record s { held_ticks = s.held_ticks - 1 })
 
--- This many are, one after another (in `xTaskResumeAll`).
+-- This many are, one after another.
 abbrev pub apply_held : ℕ → State → State
 apply_held zero s = s
 apply_held (suc n) s = apply_held n (apply_one s)
+
+-- All are: who holds the scheduler has let go of it (in `xTaskResumeAll`). Who was woken meanwhile is Ready before those whom
+-- these ticks wake.
+abbrev pub release : State → State
+release s = apply_held s.held_ticks s
 
 -- ---- sleep
 

@@ -9,6 +9,7 @@ use Rattle.model.specs.State.{State, Task, Status, Waiting, Awake, Wait, wait_if
 use Rattle.model.specs.State.{take_ticket, with_status, call_at, with_call, for_one, for_each}
 use Rattle.model.specs.Order.{Key, Entry, key, list_by, tasks_of, first, task_of}
 use Rattle.model.specs.Switching.{make_ready, is_same}
+use Rattle.model.specs.Time.{release}
 
 -- ---- the lists of those who wait
 
@@ -52,9 +53,13 @@ abbrev pub is_expired : State → ℕ → Bool
 is_expired s task = unwrap_or (option_map (λ deadline. nat_le deadline s.time) (call_at s task).deadline) false
 
 -- The task's call holds the scheduler no more, and goes on with this phase.
-abbrev pub end_hold : ℕ → Phase → State → State
-end_hold task phase s =
+abbrev pub let_go : ℕ → Phase → State → State
+let_go task phase s =
     with_call task (record (call_at s task) { phase = phase; waits = false }) (record s { call_hold = false })
+
+-- That is done, and the ticks that came meanwhile are applied (`xTaskResumeAll`).
+abbrev pub end_hold : ℕ → Phase → State → State
+end_hold task phase s = release (let_go task phase s)
 
 -- ---- a wait ends
 

@@ -13,7 +13,7 @@ use Rattle.model.specs.declared.event.Event.{Event}
 use Rattle.model.specs.State.{State, Task, Progress, Waiting, Wait, wait_if_awake, task_at, status_at, progress_at, call_at}
 use Rattle.model.specs.State.{with_task, go_on, no_task}
 use Rattle.model.specs.Switching.{is_ready}
-use Rattle.model.specs.Waiting.{wait_in, is_expired, end_hold}
+use Rattle.model.specs.Waiting.{wait_in, is_expired, let_go}
 use Rattle.model.specs.Objects.{possible, list_for}
 use Rattle.model.specs.Calls.{lock, decide}
 use Rattle.model.specs.Mutexes.{inherit}
@@ -426,7 +426,7 @@ module _ (k new : Machine) (log : List Event) (s : State) (h : At k log s) (i : 
   same : v ≡ progress_at s i
   same = view ∙ h.stands.rest.progress i
 
-  pub freed : At new log (end_hold i phase s)
+  pub freed : At new log (let_go i phase s)
   freed =
       recalled (record k { sched = w }) new log (record s { call_hold = false })
       (hold_at false k log s h w (unhold
@@ -435,9 +435,6 @@ module _ (k new : Machine) (log : List Event) (s : State) (h : At k log s) (i : 
       (runs ∙ c.call.current)
       (record v.call { phase = phase; waits = false }) (record (call_at s i) { phase = phase; waits = false })
       is (ap (λ (p : Progress). record p.call { phase = phase; waits = false }) same) off (λ _. refl)
-
-  pub waited : (call_at s i).waits ≡ v.call.waits
-  waited = ap (λ (p : Progress). p.call.waits) (sym same)
 
 -- There are three phases in which a call reports nothing.
 pub none_else : (phase : Phase) → IsSilent phase → phase ≢ Decide → phase ≢ Place → phase ≢ Unlock → ⊥

@@ -1,23 +1,28 @@
--- While a `suspend_all` is in force: what its calls make of the states that the kernel represents.
+-- While the scheduler is held, and when it is released: what that makes of the states that the kernel represents.
 use Rattle.std.proofs.Common.{◌≡◌, ◌≢◌, ◌<◌, ◌+◌, ◌-◌, ℕ, zero, suc, true, false, List, Option, Some, None, refl, ap, sym, subst}
-use Rattle.std.proofs.Common.{◌∙◌, arith, ap₂}
+use Rattle.std.proofs.Common.{◌∙◌, arith, length, get_or-set_same, ltb}
+use Rattle.std.specs.Option.{is_some}
 use Rattle.std.proofs.lemmas.Bool.{eq-eqb, ne_eqb, lt-ltb}
 use Rattle.model.specs.declared.event.Event.{Event}
 use Rattle.model.specs.Application.{Application}
-use Rattle.model.specs.State.{State}
-use Rattle.model.specs.Switching.{is_held, is_scheduler_suspended, preempt}
-use Rattle.model.specs.Time.{increment_tick, advance, apply_one, apply_held}
+use Rattle.model.specs.State.{State, Task, Progress, ticket_if_ready, task_at, progress_at, call_at, no_task}
+use Rattle.model.specs.declared.call.Phase.{Phase}
+use Rattle.model.specs.Waiting.{let_go, end_hold}
+use Rattle.model.specs.Switching.{is_held, is_held_by_task, is_ready, holds_ticks, preempt}
+use Rattle.model.specs.Time.{increment_tick, advance, apply_one, apply_held, release}
 use Rattle.model.specs.Ops.{answer}
 use Rattle.model.specs.Suspension.{resume_scheduler, resume_all}
 use Rattle.model.specs.Invariant.{Hold, Suspension}
 use Rattle.soundness.proofs.Frames.{keeps-answer}
-use Rattle.soundness.proofs.Settled.{when_free, when_held}
+use Rattle.soundness.proofs.Settled.{no_task_holds, when_free, when_held}
 use Rattle.soundness.proofs.Passing.{applies}
 use Rattle.soundness.proofs.Going.{current-resumed, resumed_apart}
+use Rattle.soundness.proofs.Released.{applied_apart, current-applied}
 use Rattle.sched.specs.StandsFor as sched
 use Rattle.sched.specs.StandsFor.{depth_of, task_holds_of}
 use Rattle.sched.specs.Schedule.{Schedule}
 use Rattle.sched.proofs.Standing.{held_by_depth}
+use Rattle.sched.proofs.Standing as on_sched
 use Rattle.clock.specs.StandsFor as clock
 use Rattle.clock.specs.StandsFor.{before_held}
 use Rattle.clock.specs.Timeline.{Timeline}
@@ -25,9 +30,9 @@ use Rattle.objects.specs.declared.lock.Lock.{Lock}
 use Rattle.objects.specs.Objects.{locked_by}
 use Rattle.groups.proofs.Kept as bits_kept
 use Rattle.machine.specs.declared.machine.Machine.{Machine}
-use Rattle.machine.specs.StandsFor.{StandsFor, At, Moves}
+use Rattle.machine.specs.StandsFor.{StandsFor, At, Moves, progress_in}
 use Rattle.ops.specs.Can.{CanApply}
-use Rattle.machine.specs.Can.{Runs}
+use Rattle.machine.specs.Can.{Leaves, Runs}
 use Rattle.machine.proofs.Parts.{rest_unseen, rest_with_clock, same_parts, sched-same}
 use Rattle.ops.proofs.Suspending.{ready_by, runs_by}
 
@@ -79,13 +84,12 @@ module _ (k : Machine) (log : List Event) (s : State) (h : At k log s) where
   released t on = with_ticks t (s.elapsed - 1) (s.held_ticks - 1) on
 
 -- and when it comes now, it is applied
-pub applied_now : (new : Machine) (log : List Event) (s : State) → s.suspensions ≡ 0
+pub applied_now : (new : Machine) (log : List Event) (s : State) → holds_ticks s ≡ false
     → 0 < s.elapsed → At new log (increment_tick (before_held s)) → At new log (apply_one s)
 unfolding increment_tick apply_one
 applied_now new log s none some h =
-    let off : is_scheduler_suspended s ≡ false = rw none refl in
     let same : s.elapsed - 1 + 1 ≡ s.elapsed = omega arith in
-    let come : At new log (advance (record s { elapsed = s.elapsed - 1 + 1; held_ticks = s.held_ticks - 1 })) = rw off at h in
+    let come : At new log (advance (record s { elapsed = s.elapsed - 1 + 1; held_ticks = s.held_ticks - 1 })) = rw none at h in
     subst (λ (n : ℕ). At new log (advance (record s { elapsed = n; held_ticks = s.held_ticks - 1 }))) same come
 
 -- ---- the held ticks are applied one after another
@@ -94,7 +98,7 @@ unlocked : (lock : Option Lock) → locked_by lock ≡ None → lock ≡ None
 unlocked None e = refl
 unlocked (Some l) e = absurd (cc)
 
-module _ (k now : Machine) (can : CanApply k) (n : ℕ) (does : Moves k now (λ s. apply_held n s)) where
+module _ (k now : Machine) (can : CanApply k) (n : ℕ) (does : Moves k now (λ s. apply_held n s)) (leaves : Leaves k now) where
   abbrev first : State
   first = can.agrees.0
 
@@ -122,10 +126,7 @@ module _ (k now : Machine) (can : CanApply k) (n : ℕ) (does : Moves k now (λ 
         let c = can.agrees.1.rest.clock.age in
         let d = can.age in
         omega arith;
-    awake =
-        there.stands.sched.suspensions
-        ∙ ap₂ (λ (a b : ℕ). a + b) (applies n first).suspensions (applies n first).sections
-        ∙ sym can.agrees.1.sched.suspensions ∙ can.awake;
+    depth = leaves.depth ∙ can.depth;
   }
 
 one_later : (n : ℕ) (s : State) → apply_one (apply_held n s) ≡ apply_held (suc n) s
@@ -136,11 +137,59 @@ pub applied_more : (now : Machine) (log : List Event) (n : ℕ) (s : State)
     → At now log (apply_one (apply_held n s)) → At now log (apply_held (n + 1) s)
 applied_more now log n s h = let same : n + 1 ≡ suc n = omega arith in rw same (subst (At now log) (one_later n s) h)
 
+-- ---- a hold ends
+
+-- Where nothing holds the scheduler no task does.
+pub unheld_by_tasks : (k : Machine) (s : State) → StandsFor k s → k.sched.depth ≡ 0 → is_held_by_task s ≡ false
+unheld_by_tasks k s h none =
+    no_task_holds s (held_by_depth s ∙ ap (λ (n : ℕ). ltb 0 n) (sym h.sched.depth ∙ none))
+
+-- Where none is held there is nothing to apply.
+pub none_to_apply : (k : Machine) (log : List Event) (s : State) → At k log s → k.clock.held ≡ 0 → At k log (release s)
+none_to_apply k log s h none =
+    subst (λ (n : ℕ). At k log (apply_held n s)) (sym (sym h.stands.rest.clock.held ∙ none)) h
+
+-- Who runs goes on.
+pub runs_released : (k new : Machine) (i : ℕ) (s : State) → Runs k i → StandsFor k s → StandsFor new (release s) → Runs new i
+runs_released k new i s r h g =
+    runs_by k new i s (release s) r h g (current-applied s.held_ticks s) (applied_apart s.held_ticks s i (ready_by k s i r h))
+
+-- The task of the call goes on with this phase.
+module _ (s : State) (i : ℕ) (phase : Phase) (l : i < length s.tasks) where
+  abbrev freed_task : Task
+  freed_task =
+      record (task_at s i)
+      { progress = record (progress_at s i) { call = record (call_at s i) { phase = phase; waits = false } } }
+
+  freed_at : task_at (let_go i phase s) i ≡ freed_task
+  freed_at = get_or-set_same s.tasks i freed_task no_task l
+
+  ended_at : is_ready s i ≡ true → task_at (end_hold i phase s) i ≡ freed_task
+  ended_at r =
+      let ready : is_ready (let_go i phase s) i ≡ true = ap (λ (u : Task). is_some (ticket_if_ready u.status)) freed_at ∙ r in
+      applied_apart s.held_ticks (let_go i phase s) i ready ∙ freed_at
+
+  pub runs_on : (k new : Machine) → Runs k i → StandsFor k s → StandsFor new (end_hold i phase s) → Runs new i
+  runs_on k new r h g =
+      let at = ended_at (ready_by k s i r h) in
+      record {
+        current = g.sched.current ∙ current-applied s.held_ticks (let_go i phase s) ∙ sym h.sched.current ∙ r.current;
+        ready =
+            on_sched.ready_same new.sched (end_hold i phase s) i g.sched
+            ∙ ap (λ (u : Task). is_some (ticket_if_ready u.status)) at
+            ∙ sym (on_sched.ready_same k.sched s i h.sched) ∙ r.ready;
+        op_index =
+            let e : (progress_in new.progress i).op_index ≡ (progress_in k.progress i).op_index =
+            ap (λ (p : Progress). p.op_index) (g.rest.progress i) ∙ ap (λ (u : Task). u.progress.op_index) at
+            ∙ sym (ap (λ (p : Progress). p.op_index) (h.rest.progress i)) in
+            rw e r.op_index;
+      }
+
 -- ---- `resume_all`
 
 module _ (app : Application) (new : Machine) (log : List Event) (s : State) where
   -- after the last
-  pub last_resumed : s.suspensions ≡ 1 → At new log (apply_held s.held_ticks (record s { suspensions = s.suspensions - 1 }))
+  pub last_resumed : s.suspensions ≡ 1 → At new log (release (record s { suspensions = s.suspensions - 1 }))
       → At new log (resume_scheduler s)
   unfolding resume_scheduler
   last_resumed e h = rw (eq-eqb s.suspensions 1 e) h

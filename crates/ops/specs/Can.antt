@@ -51,7 +51,7 @@ pub record CanApply (k : Machine) : Type 0 where
   pub agrees : Agrees k
   pub free : k.objects.lock ≡ None
   pub age : k.clock.age + k.clock.held < 2 ^ 62
-  pub awake : k.sched.suspensions ≡ 0
+  pub depth : k.sched.depth ≡ 0
 
 -- A tick interrupt can come.
 pub record CanTick (app : Application) (k : Machine) : Type 0 where
@@ -103,6 +103,9 @@ pub record CanLeave (k : Machine) (task : ℕ) : Type 0 where
   pub call : IsInCall k task
   pub held : k.sched.depth ≡ 1
   pub awake : k.sched.suspensions ≡ 0
+  -- and the ticks that came meanwhile can be applied
+  pub free : k.objects.lock ≡ None
+  pub age : k.clock.age + k.clock.held < 2 ^ 62
 
 -- What the call can do next in this phase.
 abbrev pub CanGoOn : Machine → ℕ → ℕ → Access ℕ → Option ℕ → Phase → Type 0

@@ -16,6 +16,7 @@ ghost use Rattle.ops.specs.InCall.{IsSilent, Remains};
 ghost use Rattle.machine.specs.Can.{Agrees, IsInCall};
 ghost use Rattle.ops.specs.Can.{CanTry, CanDecide, CanPlace, CanLeave, CanGoOn};
 
+use crate::holds::end_hold;
 use crate::mutexes::{after_timeout, inherit};
 use crate::queues::{fulfil, refusal};
 use crate::values::{begins_without_item, call_with_number, fail_check};
@@ -186,9 +187,8 @@ pub fn leave_call<L: Log>(machine: &mut Machine, task: TaskId, log: &mut L)
     requires can { CanLeave machine.old task }
     ensures { Does 1 machine.old (L.logged log.old) machine.new (L.logged log.new) (leave_call task) }
 {
-    machine.sched.unhold();
     let waits = machine.progress(task).call.waits;
-    machine.set_wait(task, Phase::Try, false);
+    end_hold(machine, task, Phase::Try);
     if waits {
         machine.choose(log);
     } else {

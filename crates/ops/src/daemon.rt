@@ -10,6 +10,7 @@ ghost use Rattle.ops.specs.Can.{CanGoOn, CanLeave, CanSetBits, CanTry};
 
 use crate::calls::go_on_waiting;
 use crate::event_groups::begin_set;
+use crate::holds::end_hold;
 use crate::queues::fulfil;
 use machine::{Log, Machine};
 use model::{Access, App, Command, GroupId, ObjectId, Phase, TaskId};
@@ -97,9 +98,8 @@ pub fn end_set_by_daemon<L: Log>(
     ensures { Does 2 machine.old (L.logged log.old) machine.new (L.logged log.new)
         (end_set_by_daemon app.now task group) }
 {
-    machine.sched.unhold();
     let bits = machine.groups.bits(group);
-    machine.set_wait(task, Phase::Start, false);
+    end_hold(machine, task, Phase::Start);
     machine.obeyed(app, task, false, bits, log);
     machine.preempt(log);
 }

@@ -18,6 +18,7 @@ ghost use Rattle.ops.specs.Can.{CanDecide, CanLeave, CanSetBits, CanAwaitEvent, 
 ghost use Rattle.ops.specs.InCall.{IsUnmet, Remains, TakesHold};
 ghost use Rattle.ops.specs.declared.event_groups.BitsWait.TheVariants as wait;
 
+use crate::holds::end_hold;
 use groups::Met;
 use machine::{Log, Machine, place_sleeper_for, wake_all};
 use model::{App, Condition, GroupId, Phase, TaskId};
@@ -138,9 +139,8 @@ pub fn end_set<L: Log>(machine: &mut Machine, app: &App, task: TaskId, log: &mut
     ensures { Does 2 machine.old (L.logged log.old) machine.new (L.logged log.new)
         (λ s. preempt (answer app.now task (call_at s task).kept (end_hold task phase.Start s))) }
 {
-    machine.sched.unhold();
     let left = machine.progress(task).call.kept;
-    machine.set_wait(task, Phase::Start, false);
+    end_hold(machine, task, Phase::Start);
     machine.answer_given(app, task, left, log);
     machine.preempt(log);
 }
@@ -257,8 +257,7 @@ pub fn leave_bits_wait<L: Log>(machine: &mut Machine, task: TaskId, log: &mut L)
     ensures { Does 1 machine.old (L.logged log.old) machine.new (L.logged log.new)
         (λ s. choose (end_hold task phase.Try s)) }
 {
-    machine.sched.unhold();
-    machine.set_wait(task, Phase::Try, false);
+    end_hold(machine, task, Phase::Try);
     machine.choose(log);
 }
 

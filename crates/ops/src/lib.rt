@@ -8,6 +8,7 @@ pub mod calls;
 pub mod critical;
 pub mod daemon;
 pub mod event_groups;
+mod holds;
 pub mod mutexes;
 pub mod notifications;
 pub mod queues;

@@ -2,13 +2,13 @@
 ghost use Rattle.std.specs.Prelude.{◌≡◌, ◌<◌, ◌≤◌, ◌+◌, None};
 ghost use Rattle.model.specs.declared.op.Op.TheVariants as op;
 ghost use Rattle.model.specs.State.{State, status_at};
-ghost use Rattle.model.specs.Time as time;
 ghost use Rattle.model.specs.Suspension as definitions;
 ghost use Rattle.model.specs.Step.{act};
 ghost use Rattle.machine.specs.StandsFor.{Does, Moves, MovesAny, Stands, StandsFor};
 ghost use Rattle.machine.specs.Can.{Leaves, Runs, StandsForSome};
-ghost use Rattle.ops.specs.Can.{Can, CanApply, CanHold};
+ghost use Rattle.ops.specs.Can.{Can, CanHold};
 
+use crate::holds::release;
 use machine::{Log, Machine, one_if};
 use model::{App, TaskId};
 
@@ -106,28 +106,6 @@ pub fn suspend_all<L: Log>(machine: &mut Machine, app: &App, task: TaskId, log: 
     machine.answer(app, task, 0, log);
 }
 
-/// A tick that was held is applied.
-fn apply_one(machine: &mut Machine)
-    requires some { 0 < machine.old.clock.held }
-    requires can { CanApply machine.old }
-    ensures does { Moves machine.old machine.new time.apply_one }
-    ensures leaves { Leaves machine.old machine.new }
-{
-    machine.clock.release();
-    machine.advance();
-}
-
-/// The ticks that are held are applied, one after another.
-fn apply_held(machine: &mut Machine)
-    requires can { CanApply machine.old }
-    ensures does { Moves machine.old machine.new (λ s. time.apply_held s.held_ticks s) }
-    ensures leaves { Leaves machine.old machine.new }
-{
-    for _ in 0..machine.clock.held() {
-        apply_one(machine);
-    }
-}
-
 /// One `suspend_all` less is in force; after the last the held ticks are applied.
 // It is in `resume_all` alone.
 #[inline(always)]
@@ -140,7 +118,7 @@ fn resume_scheduler(machine: &mut Machine, app: &App, task: TaskId)
 {
     machine.sched.resume_all();
     if machine.sched.suspensions() == 0 {
-        apply_held(machine);
+        release(machine);
     }
 }
 

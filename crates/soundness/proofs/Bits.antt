@@ -16,7 +16,7 @@ use Rattle.model.specs.State.{Ended, Wait, ticket_if_ready, ticket_if_for_bits, 
 use Rattle.model.specs.State.{with_task, with_bits, go_on, take_ticket, no_task}
 use Rattle.model.specs.Order.{Key, Entry, key, tasks_of}
 use Rattle.model.specs.Switching.{make_ready, is_ready, choose}
-use Rattle.model.specs.Waiting.{set_deadline, end_hold}
+use Rattle.model.specs.Waiting.{set_deadline, let_go, end_hold}
 use Rattle.model.specs.Ops.{answer}
 use Rattle.model.specs.Groups.{is_met, bits_without, bits_left, want, keep_answer, bits_key, waiters_for_bits, is_met_for, met_by}
 use Rattle.model.specs.Groups.{wake_with_bits, bits_set, set, begin_set, clear, answer_bits, wait_for_bits, left_by, wake_all}
@@ -32,7 +32,8 @@ use Rattle.soundness.proofs.Frames.{Keeps, keeps_both, keeps-set, keeps-with_cal
 use Rattle.soundness.proofs.Sound.{CanBeReady, can_still, framed, otherwise, changed, taken, kept_free, made_ready, answered}
 use Rattle.soundness.proofs.Sound.{chosen, ready_reckoned}
 use Rattle.soundness.proofs.Called.{went_on, dated, dated_at}
-use Rattle.soundness.proofs.Phases.{free, unsuspended, in_hold, others_free, held_by_all, hold_ended}
+use Rattle.soundness.proofs.Released.{applied_apart}
+use Rattle.soundness.proofs.Phases.{free, unsuspended, calm_free, in_hold, others_free, held_by_all, hold_ended}
 
 -- ---- who may be woken
 
@@ -289,7 +290,7 @@ module _ (app : Application) (formed : IsWellFormed app) where
         (record (task_at t i) { progress = record (progress_at t i) { call = record (call_at t i) { phase = Leave } } })
         (subst (λ x. IsSound app x (go_on i Leave t)) (sym same) after) (st.current ∙ runs) (rw st.tasks l)
         (ap (λ (x : Hold). x.held) same) refl (λ e. absurd (cc)) (λ e. setting (ap course (sym op_is) ∙ e))
-        (λ j ne. ap holds (st.phase j) ∙ others_free app formed s h none j) (k.suspension ∙ calm)
+        (λ j ne. ap holds (st.phase j) ∙ others_free app formed s h none j) (calm_free t (k.suspension ∙ calm))
 
     pub set_begun : (group mask : ℕ) → course (Some op) ≡ ToSetBits → IsState app (begin_set i group mask s)
     unfolding begin_set
@@ -357,14 +358,24 @@ listless op until (Some w) e h = let f = h.list in absurd (cc)
 
 module _ (app : Application) (formed : IsWellFormed app) (s : State) (i : ℕ) (h : IsState app s)
     (runs : s.current ≡ Some i) (l : i < length s.tasks) (unlocked : s.locked ≡ None) where
-  pub set_ended : (group mask : ℕ) → op_at app i (progress_at s i).op_index ≡ Some (SetBits group mask)
-      → IsSound app free (answer app i (call_at s i).kept (end_hold i Start s))
-  set_ended group mask is =
-      let ended : State = end_hold i Start s in
-      let t : Task =
+  -- the task that ends a set, which is Ready
+  abbrev pub ended_task : Task
+  ended_task =
       record (task_at s i)
-      { progress = record (progress_at s i) { call = record (call_at s i) { phase = Start; waits = false } } } in
-      let at : task_at ended i ≡ t = get_or-set_same s.tasks i t no_task l in
+      { progress = record (progress_at s i) { call = record (call_at s i) { phase = Start; waits = false } } }
+
+  -- is as it was also when the held ticks have been applied
+  pub ended_at : is_ready s i ≡ true → task_at (end_hold i Start s) i ≡ ended_task
+  ended_at r =
+      let at : task_at (let_go i Start s) i ≡ ended_task = get_or-set_same s.tasks i ended_task no_task l in
+      let ready : is_ready (let_go i Start s) i ≡ true = ap (λ (u : Task). is_some (ticket_if_ready u.status)) at ∙ r in
+      applied_apart s.held_ticks (let_go i Start s) i ready ∙ at
+
+  pub set_ended : (group mask : ℕ) → op_at app i (progress_at s i).op_index ≡ Some (SetBits group mask)
+      → is_ready s i ≡ true → IsSound app free (answer app i (call_at s i).kept (end_hold i Start s))
+  set_ended group mask is r =
+      let ended : State = end_hold i Start s in
+      let at : task_at ended i ≡ ended_task = ended_at r in
       let none : wait_of (status_at s i) ≡ None =
       listless (op_at app i (progress_at s i).op_index) (call_at s i).deadline
       (wait_of (status_at s i)) (ap list_of_op is) (h.sound.calls i).wait in

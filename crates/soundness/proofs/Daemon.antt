@@ -1,6 +1,6 @@
 -- What the daemon's ops keep.
 use Rattle.std.proofs.Common.{◌≡◌, ◌<◌, ℕ, Bool, true, false, List, [], ◌∷◌, length, Option, Some, None, refl, ap, sym, subst, ◌∙◌}
-use Rattle.std.proofs.Common.{arith, get_or-set_same}
+use Rattle.std.proofs.Common.{arith}
 use Rattle.std.specs.Option.{IfSome}
 use Rattle.model.specs.declared.op.Op.{Op}
 use Rattle.model.specs.declared.op.Op.TheVariants.{NextCommand, Obey}
@@ -11,7 +11,7 @@ use Rattle.model.specs.declared.event.What.TheVariants as what
 use Rattle.model.specs.Application.{Application, commands_of, op_at}
 use Rattle.model.specs.Blocks.{loops_in}
 use Rattle.model.specs.Scripts.{IsDaemon, IsWellFormed, fits_object}
-use Rattle.model.specs.State.{State, Task, task_at, status_at, progress_at, call_at, bits_at, no_task}
+use Rattle.model.specs.State.{State, Task, task_at, status_at, progress_at, call_at, bits_at}
 use Rattle.model.specs.Switching.{is_ready, write}
 use Rattle.model.specs.Waiting.{end_hold}
 use Rattle.model.specs.Objects.{possible, answer_to, fulfil}
@@ -24,7 +24,7 @@ use Rattle.soundness.proofs.InScripts.{known_at}
 use Rattle.soundness.proofs.Sound.{logged, preempted, plain, restarted}
 use Rattle.soundness.proofs.Called.{spared_fulfil, fulfilled, went_on}
 use Rattle.soundness.proofs.Phases.{free, hold_ended}
-use Rattle.soundness.proofs.Bits.{bits_put, listless}
+use Rattle.soundness.proofs.Bits.{bits_put, ended_at, ended_task, listless}
 
 none_open : (loops : List Loop) → length loops ≡ 0 → loops ≡ []
 none_open [] e = refl
@@ -77,13 +77,11 @@ module _ (app : Application) (formed : IsWellFormed app) (hold : Hold) where
 module _ (app : Application) (formed : IsWellFormed app) (s : State) (i : ℕ) (h : IsState app s)
     (runs : s.current ≡ Some i) (l : i < length s.tasks) (unlocked : s.locked ≡ None) where
   pub set_ended_by_daemon : (bits : ℕ) → op_at app i (progress_at s i).op_index ≡ Some Obey
-      → IsSound app free (obeyed app i false bits (end_hold i Start s))
-  set_ended_by_daemon bits is =
+      → is_ready s i ≡ true → IsSound app free (obeyed app i false bits (end_hold i Start s))
+  set_ended_by_daemon bits is r =
       let ended : State = end_hold i Start s in
-      let t : Task =
-      record (task_at s i)
-      { progress = record (progress_at s i) { call = record (call_at s i) { phase = Start; waits = false } } } in
-      let at : task_at ended i ≡ t = get_or-set_same s.tasks i t no_task l in
+      let at : task_at ended i ≡ ended_task app formed s i h runs l unlocked =
+      ended_at app formed s i h runs l unlocked r in
       let none : wait_of (status_at s i) ≡ None =
       listless (op_at app i (progress_at s i).op_index) (call_at s i).deadline
       (wait_of (status_at s i)) (ap list_of_op is) (h.sound.calls i).wait in

@@ -3,11 +3,10 @@ use Rattle.model.specs.declared.op.Op.TheVariants.{Value}
 use Rattle.model.specs.declared.value.ValueOp.{ValueOp}
 use Rattle.model.specs.Ops.{calculate, store}
 use Rattle.model.specs.Values.{answer_of, number_of}
-use Rattle.std.proofs.Common.{◌≡◌, ◌≢◌, ◌<◌, ◌+◌, ◌-◌, ◌||◌, ◌⊎◌, inl, inr, ℕ, zero, suc, Bool, true, false, eqb, leb, List}
+use Rattle.std.proofs.Common.{◌≡◌, ◌<◌, ◌+◌, ◌-◌, ◌||◌, ◌⊎◌, inl, inr, ℕ, Bool, true, false, eqb, leb, List}
 use Rattle.std.proofs.Common.{[], ◌∷◌, length, Option, Some, None, refl, ap, sym, subst, ◌∙◌, arith, get_or-set_same}
-use Rattle.std.proofs.Common.{get_or-set_other, drop}
-use Rattle.std.specs.List.{AllByRecursion, filter}
-use Rattle.std.specs.Option.{is_some, option_eq}
+use Rattle.std.proofs.Common.{drop}
+use Rattle.std.specs.Option.{is_some}
 use Rattle.std.proofs.lemmas.Option.{slice_get_past}
 use Rattle.model.specs.declared.op.Op.{Op}
 use Rattle.model.specs.declared.op.Op.TheVariants.{Work, Delay, DelayUntil, Yield, Time, Mark, Expect, Repeat, End, If, Else, EndIf}
@@ -22,14 +21,13 @@ use Rattle.model.specs.declared.answer.AnswerCondition.{AnswerCondition}
 use Rattle.model.specs.Answers.{holds}
 use Rattle.model.specs.Blocks.{jump_from}
 use Rattle.model.specs.Application.{Application, script_of, op_at, op_count, interrupts_at}
-use Rattle.model.specs.State.{State, Task, Progress, Status, Ready, Awake, Waiting, Asleep, WaitingForBits, WaitingForNotification}
-use Rattle.model.specs.State.{Suspended, Ended, ticket_if_ready, wake_time_of, task_at, status_at, progress_at, object_at, bits_at}
+use Rattle.model.specs.State.{State, Task, Progress}
+use Rattle.model.specs.State.{ticket_if_ready, task_at, progress_at, object_at, bits_at}
 use Rattle.model.specs.State.{with_bits, for_each, printed, no_task, notification_at, with_notification}
-use Rattle.model.specs.Order.{Entry, tasks_of}
-use Rattle.model.specs.Switching.{make_ready, is_ready, slice, preempt, is_scheduler_suspended, is_critical, is_held}
+use Rattle.model.specs.Switching.{is_ready, slice, preempt, is_scheduler_suspended, is_critical, is_held}
 use Rattle.model.specs.Switching.{is_held_by_task}
 use Rattle.model.specs.Switching.{unless_held, write}
-use Rattle.model.specs.Time.{wake_due, due, is_due, delayed_list, advance, increment_tick, apply_one, apply_held}
+use Rattle.model.specs.Time.{increment_tick}
 use Rattle.model.specs.Ops.{go_to, moved_to, answer, use_up, expect, open_loop, next_turn, turn, close_turn, branch, skip_branch}
 use Rattle.model.specs.Ops.{leave_loop, stamp, since, with_sections}
 use Rattle.model.specs.Groups.{bits_without, clear}
@@ -37,12 +35,12 @@ use Rattle.model.specs.Notifications.{clear_answer, cleared, clear_notification}
 use Rattle.model.specs.Suspension.{suspend_all, resume_scheduler, resume_all}
 use Rattle.model.specs.Handlers.{handle, interrupt, tick_interrupt}
 use Rattle.model.specs.Step.{act, may_switch}
-use Rattle.model.proofs.Unlocking.{current-all_ready}
 use Rattle.model.proofs.Sorting.{by_test}
 use Rattle.model.proofs.Lists.{eqb-same}
 use Rattle.soundness.proofs.Frames.{keeps-answer}
-use Rattle.soundness.proofs.Settled.{when_held, held_as_it_was, held_by_task}
+use Rattle.soundness.proofs.Settled.{when_held, held_as_it_was, held_by_task, ticks_held_by_task}
 use Rattle.soundness.proofs.Passing.{is_instant, held-told}
+use Rattle.soundness.proofs.Released.{applied_apart, current-applied}
 use Rattle.soundness.proofs.Handled.{Spares, spares, spares_both, spares-handle}
 
 pub suspended_held : (s : State) → is_scheduler_suspended s ≡ true → is_held_by_task s ≡ true
@@ -113,7 +111,7 @@ module _ (app : Application) (i : ℕ) where
   unfolding tick_interrupt increment_tick
   ticked_on s on g =
       let come : State = record s { elapsed = s.elapsed + 1; held_ticks = s.held_ticks + 1 } in
-      let same : increment_tick s ≡ come = rw on refl in
+      let same : increment_tick s ≡ come = rw (ticks_held_by_task s on) refl in
       let told : State = interrupt app come in
       let sp : Spares come told = spares-interrupt come in
       let held : is_held (interrupt app (increment_tick s)) ≡ true = held-told app s ∙ held_by_task s (suspended_held s on) in
@@ -277,48 +275,7 @@ module _ (app : Application) (i : ℕ) where
 
 -- ---- a `suspend_all` taken back
 
-ready_not_due : (now : ℕ) (u : Status) → is_some (ticket_if_ready u) ≡ true → option_eq eqb (wake_time_of u) (Some now) ≡ true → ⊥
-ready_not_due now (Ready n) r t = absurd (cc)
-ready_not_due now (Awake w) r t = absurd (cc)
-ready_not_due now (Waiting w) r t = absurd (cc)
-ready_not_due now (Asleep v n) r t = absurd (cc)
-ready_not_due now (WaitingForBits g m d) r t = absurd (cc)
-ready_not_due now (WaitingForNotification m d) r t = absurd (cc)
-ready_not_due now Suspended r t = absurd (cc)
-ready_not_due now Ended r t = absurd (cc)
-
-due_apart : (s : State) (i : ℕ) → is_ready s i ≡ true → (es : List Entry)
-    → AllByRecursion (λ j. j ≢ i) (tasks_of (filter (is_due s) es))
-due_apart s i r [] = tt
-due_apart s i r (e ∷ es) = by_test (is_due s e)
-    (λ t.
-    rw t (
-      (λ same.
-          ready_not_due s.time (status_at s i) r
-          (subst (λ k. option_eq eqb (wake_time_of (status_at s k)) (Some s.time) ≡ true) same t)),
-      due_apart s i r es,
-    ))
-    (λ t. rw t (due_apart s i r es))
-
-all_but : (js : List ℕ) (i : ℕ) (s : State) → AllByRecursion (λ j. j ≢ i) js → task_at (for_each make_ready js s) i ≡ task_at s i
-all_but [] i s h = refl
-all_but (j ∷ js) i s h =
-    all_but js i (make_ready j s) h.1
-    ∙ get_or-set_other s.tasks j i (record (task_at s j) { status = Ready s.next_ticket }) no_task (λ e. h.0 (sym e))
-
-one_apart : (s : State) (i : ℕ) → is_ready s i ≡ true → task_at (apply_one s) i ≡ task_at s i
-unfolding apply_one advance wake_due
-one_apart s i r =
-    let t : State = record s { time = s.time + 1; held_ticks = s.held_ticks - 1 } in
-    all_but (tasks_of (due t)) i t (due_apart t i r (delayed_list t))
-
--- ticks that were held leave a Ready task as it is
-pub applied_apart : (n : ℕ) (s : State) (i : ℕ) → is_ready s i ≡ true → task_at (apply_held n s) i ≡ task_at s i
-applied_apart zero s i r = refl
-applied_apart (suc n) s i r =
-    let one = one_apart s i r in
-    applied_apart n (apply_one s) i (ap (λ (u : Task). is_some (ticket_if_ready u.status)) one ∙ r) ∙ one
-
+-- It leaves a Ready task as it is,
 pub resumed_apart : (s : State) (i : ℕ) → is_ready s i ≡ true → task_at (resume_scheduler s) i ≡ task_at s i
 unfolding resume_scheduler
 resumed_apart s i r = by_test (eqb s.suspensions 1)
@@ -326,13 +283,6 @@ resumed_apart s i r = by_test (eqb s.suspensions 1)
     (λ t. rw t refl)
 
 -- and the same task runs
-pub current-applied : (n : ℕ) (s : State) → (apply_held n s).current ≡ s.current
-unfolding apply_one advance wake_due
-current-applied zero s = refl
-current-applied (suc n) s =
-    let later : State = record s { time = s.time + 1; held_ticks = s.held_ticks - 1 } in
-    current-applied n (apply_one s) ∙ current-all_ready later (tasks_of (due later))
-
 pub current-resumed : (s : State) → (resume_scheduler s).current ≡ s.current
 unfolding resume_scheduler
 current-resumed s = by_test (eqb s.suspensions 1)

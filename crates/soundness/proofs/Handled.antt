@@ -41,7 +41,7 @@ use Rattle.model.specs.Order.{Entry, first, task_of}
 use Rattle.model.specs.Ops.{one_if, fail}
 use Rattle.model.specs.Notifications.{notify_with_number, notified, notify_answer, wake_notified, notify}
 use Rattle.model.specs.Suspension.{can_resume, phase_resumed, resumed, resume}
-use Rattle.model.specs.Switching.{make_ready, is_ready, is_scheduler_suspended, is_held, is_held_by_task, slice, unless_held, write}
+use Rattle.model.specs.Switching.{make_ready, is_ready, holds_ticks, is_held, is_held_by_task, slice, unless_held, write}
 use Rattle.model.specs.Waiting.{waiters, awake_status, is_locked, wake_one, wake_best}
 use Rattle.model.specs.Time.{advance, increment_tick, jump}
 use Rattle.model.specs.Objects.{possible, answer_to, object_after, list_woken, list_for, fulfil, attempt}
@@ -55,7 +55,7 @@ use Rattle.model.proofs.Sorting.{by_test}
 use Rattle.model.proofs.Lists.{HasKey, list_has}
 use Rattle.model.proofs.Tables.{each-set}
 use Rattle.model.proofs.Unlocking.{is_locked-own}
-use Rattle.soundness.proofs.Settled.{when_held, when_free, held_as_it_was}
+use Rattle.soundness.proofs.Settled.{when_held, when_free, held_as_it_was, ticks_as_they_were}
 use Rattle.soundness.proofs.InScripts.{isr_known}
 use Rattle.soundness.proofs.Frames.{Keeps, keeps, keeps_both, keeps-with_task, keeps-take_ticket, keeps-with_object, keeps-wake_one}
 use Rattle.soundness.proofs.Frames.{keeps-fail, keeps-isr, keeps-handle, keeps-write, keeps-with_notification}
@@ -208,7 +208,7 @@ module _ (app : Application) (formed : IsWellFormed app) (hold : Hold) where
 
   incremented : (s : State) → IsSound app hold s → IsSound app hold (increment_tick s)
   unfolding increment_tick advance
-  incremented s h = by_test (is_scheduler_suspended s)
+  incremented s h = by_test (holds_ticks s)
       (λ t. rw t (held_up app formed hold s h))
       (λ t. rw t (woken app formed hold (record s { time = s.time + 1; elapsed = s.elapsed + 1 }) (later app formed hold 1 s h)))
 
@@ -686,8 +686,8 @@ module _ (app : Application) (formed : IsWellFormed app) (s t : State)
   same_held : t.call_hold ≡ s.call_hold
   same_held = ap (λ (x : Hold). x.held) sp.kept.hold
 
-  same_suspended : is_scheduler_suspended t ≡ is_scheduler_suspended s
-  same_suspended = ap (λ (x : Suspension). ltb 0 x.suspensions) sp.kept.suspension
+  same_ticks : holds_ticks t ≡ holds_ticks s
+  same_ticks = ticks_as_they_were s t sp.kept.hold sp.kept.suspension
 
   same_by_task : is_held_by_task t ≡ is_held_by_task s
   same_by_task = ap (λ (x : Suspension). ltb 0 x.suspensions || ltb 0 x.sections) sp.kept.suspension
@@ -747,7 +747,7 @@ module _ (app : Application) (formed : IsWellFormed app) (s t : State)
     alone = λ i on. sp.current ∙ h.alone i (sym (sp.holding i) ∙ on);
     locked = λ none. ap (λ (x : Hold). x.locked) sp.kept.hold ∙ h.locked (sym same_held ∙ none);
     apart = λ on. same_held ∙ h.apart (sym same_by_task ∙ on);
-    held = λ off. ap (λ (x : Suspension). x.held_ticks) sp.kept.suspension ∙ h.held (sym same_suspended ∙ off);
+    held = λ off. ap (λ (x : Suspension). x.held_ticks) sp.kept.suspension ∙ h.held (sym same_ticks ∙ off);
   }
 
 -- a handler that comes between two steps

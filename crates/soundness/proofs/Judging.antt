@@ -23,7 +23,7 @@ use Rattle.model.specs.Invariant.{Suspension, suspension_of}
 use Rattle.model.proofs.Sorting.{by_test}
 use Rattle.soundness.proofs.Settled.{unlike, neither, by_section}
 use Rattle.soundness.proofs.Frames.{keeps-use_up}
-use Rattle.soundness.proofs.Passing.{Lasts, by_op, lasts-act, sections-tick, suspensions-tick}
+use Rattle.soundness.proofs.Passing.{Ends, ends_by, by_op, lasts-act, sections-tick, suspensions-tick}
 
 -- ---- a judgement
 
@@ -55,10 +55,10 @@ by_judgement P i op_index s h m = by_test (is_held_by_task s)
     (λ on. subst P (sym (not_ended i op_index s on)) h))
     (λ free. subst P (sym (judged_calm i op_index s free)) h)
 
-pub judged : (i op_index : ℕ) (s : State) → Lasts s (judge i op_index s)
+pub judged : (i op_index : ℕ) (s : State) → Ends s (judge i op_index s)
 judged i op_index s =
-    let same : Lasts s s = record { elapsed = refl; suspension = refl; sources = refl } in
-    by_judgement (Lasts s) i op_index s same (λ kind. record { elapsed = refl; suspension = refl; sources = refl })
+    by_judgement (Ends s) i op_index s (ends_by s s refl refl refl refl)
+    (λ kind. ends_by s (misused i op_index kind s) refl refl refl refl)
 
 -- ---- where no task holds the scheduler
 
@@ -80,7 +80,9 @@ calm_still app i op s free = by_op
     (λ m ne. let f : Some NotSuspended ≡ None = rw off.0 at m in absurd (cc))
     (λ m ne. unlike ne)
     (λ m ne. let f : Some NotCritical ≡ None = rw off.1 at m in absurd (cc))
-    (λ op t m ne. by_suspension s (act app i op s) (lasts-act app i op s t).suspension ∙ free)
+    (λ op t m ne.
+    let k = lasts-act app i op s t in
+    ap₂ (λ (a b : ℕ). ltb 0 a || ltb 0 b) k.suspensions k.sections ∙ free)
     op where
       off : (is_scheduler_suspended s ≡ false) × (is_critical s ≡ false)
       off = neither s free

@@ -1,5 +1,6 @@
 pub mod Frames
 pub mod Passing
+pub mod Released
 pub mod Judging
 pub mod Moving
 pub mod InScripts

@@ -34,7 +34,7 @@ moves-act_unless : (app : Application) (limits : Limits) (i : ℕ) (kind : Optio
 moves-act_unless app limits i None op s =
     let t : State = act_by_value app i op s in
     let j = judged i (progress_at s i).op_index t in
-    let e = j.elapsed in
+    let e = j.lasts.elapsed in
     let f : (judge i (progress_at s i).op_index t).suspensions ≡ t.suspensions =
     ap (λ (x : Suspension). x.suspensions) j.suspension in
     let a : t.elapsed ≤ s.elapsed + 1 =
@@ -92,7 +92,7 @@ moves-act_current app limits (Some i) s = moves-act_if app limits i (op_at app i
 sources-act_unless : (app : Application) (i : ℕ) (kind : Option Misuse) (op : Op) (s : State)
     → (act_unless app i kind op s).sources ≡ s.sources
 sources-act_unless app i None op s =
-    (judged i (progress_at s i).op_index (act_by_value app i op s)).sources
+    (judged i (progress_at s i).op_index (act_by_value app i op s)).lasts.sources
     ∙ by_value (λ t. t.sources ≡ s.sources) app i op s refl (sources-act app i op s)
 sources-act_unless app i (Some kind) op s = refl
 

@@ -5,7 +5,7 @@ use Rattle.model.specs.declared.event.End.TheVariants.{Check}
 use Rattle.model.specs.Step.{act_by_value, call_with_number, notify_by_number, lacks_value}
 use Rattle.model.specs.Values.{number_of}
 use Rattle.soundness.proofs.Frames.{keeps-calculate}
-use Rattle.std.proofs.Common.{Bool, ap, ◌≡◌, ◌≤◌, ◌+◌, ◌-◌, ◌<◌, ◌||◌, ℕ, zero, suc, true, false, eqb, min}
+use Rattle.std.proofs.Common.{Bool, ap, ap₂, ◌≡◌, ◌≤◌, ◌+◌, ◌-◌, ◌<◌, ◌||◌, ℕ, zero, suc, true, false, eqb, min}
 use Rattle.std.proofs.Common.{fold, List, [], ◌∷◌, ◌++◌, Option, Some, None, refl, ◌∙◌, arith, length}
 use Rattle.std.specs.Prelude.{if◌then◌else◌}
 use Rattle.std.specs.Option.{option_eq}
@@ -29,9 +29,10 @@ use Rattle.model.specs.Answers.{holds}
 use Rattle.model.specs.Application.{Application, Limits}
 use Rattle.model.specs.State.{State, progress_at, call_at, object_at, bits_at, notification_at, with_notification, for_one, printed}
 use Rattle.model.specs.Order.{tasks_of}
-use Rattle.model.specs.Switching.{choose, preempt, slice, is_scheduler_suspended, is_held}
+use Rattle.model.specs.Switching.{choose, preempt, slice, holds_ticks, is_held}
 use Rattle.model.specs.Switching.{unless_held, write}
 use Rattle.model.specs.Waiting.{awakened, wait_in, set_deadline, is_expired, end_hold, unlock_object, unlock}
+use Rattle.model.specs.Waiting.{let_go}
 use Rattle.model.specs.Time.{advance, increment_tick, jump, apply_one, apply_held}
 use Rattle.model.specs.Ops.{answer, use_up, expect, with_sections}
 use Rattle.model.specs.Objects.{possible}
@@ -55,26 +56,110 @@ use Rattle.soundness.proofs.Frames.{keeps-answer_bits, keeps-call_suspend, keeps
 use Rattle.soundness.proofs.Frames.{keeps-clear_by_daemon, keeps-interrupt, keeps-call_notify, keeps-end_notification_wait}
 use Rattle.soundness.proofs.Frames.{keeps-clear_notification}
 
--- ---- a call in its phases lets no time pass
+-- ---- ticks that were held
 
--- No tick comes, as many `suspend_all` are in force, as many ticks are held, as many critical sections are open, and what is kept
--- of
+-- a held tick more is applied
+applied : (s : State) → Keeps (record s { time = s.time + 1; held_ticks = s.held_ticks - 1 }) (apply_one s)
+unfolding apply_one advance
+applied s = keeps-wake_due (record s { time = s.time + 1; held_ticks = s.held_ticks - 1 })
+
+-- when this many have been applied
+pub record Applies (n : ℕ) (old new : State) : Type 0 where
+  pub elapsed : new.elapsed ≡ old.elapsed
+  pub hold : hold_of new ≡ hold_of old
+  pub suspensions : new.suspensions ≡ old.suspensions
+  pub held : new.held_ticks ≡ old.held_ticks - n
+  pub sections : new.sections ≡ old.sections
+  pub sources : new.sources ≡ old.sources
+  pub tasks : length new.tasks ≡ length old.tasks
+
+pub applies : (n : ℕ) (s : State) → Applies n s (apply_held n s)
+applies zero s =
+    record {
+      elapsed = refl;
+      hold = refl;
+      suspensions = refl;
+      held = omega arith;
+      sections = refl;
+      sources = refl;
+      tasks = refl;
+    }
+applies (suc n) s =
+    let k = applied s in
+    let h = applies n (apply_one s) in
+    let one : (apply_one s).held_ticks ≡ s.held_ticks - 1 = ap (λ (x : Suspension). x.held_ticks) k.suspension in
+    record {
+      elapsed = h.elapsed ∙ k.elapsed;
+      hold = h.hold ∙ k.hold;
+      suspensions = h.suspensions ∙ ap (λ (x : Suspension). x.suspensions) k.suspension;
+      held = let e = h.held in omega arith;
+      sections = h.sections ∙ ap (λ (x : Suspension). x.sections) k.suspension;
+      sources = h.sources ∙ k.sources;
+      tasks = h.tasks ∙ k.tasks;
+    }
+
+-- ---- a call in its phases lets no tick pass
+
+-- No tick comes, and no more are held; as many `suspend_all` are in force, as many critical sections are open, and what is kept of
 -- the interrupt sources stays.
 pub record Lasts (old new : State) : Type 0 where
   pub elapsed : new.elapsed ≡ old.elapsed
-  pub suspension : suspension_of new ≡ suspension_of old
+  pub suspensions : new.suspensions ≡ old.suspensions
+  pub held : new.held_ticks ≤ old.held_ticks
+  pub sections : new.sections ≡ old.sections
   pub sources : new.sources ≡ old.sources
 
+lasts_by : (s t : State) → t.elapsed ≡ s.elapsed → suspension_of t ≡ suspension_of s → t.sources ≡ s.sources → Lasts s t
+lasts_by s t elapsed suspension sources =
+    let held : t.held_ticks ≡ s.held_ticks = ap (λ (x : Suspension). x.held_ticks) suspension in
+    record {
+      elapsed = elapsed;
+      suspensions = ap (λ (x : Suspension). x.suspensions) suspension;
+      held = omega arith;
+      sections = ap (λ (x : Suspension). x.sections) suspension;
+      sources = sources;
+    }
+
 pub lasts : (s t : State) → Keeps s t → Lasts s t
-lasts s t k = record { elapsed = k.elapsed; suspension = k.suspension; sources = k.sources }
+lasts s t k = lasts_by s t k.elapsed k.suspension k.sources
 
 lasts_both : (a b c : State) → Lasts a b → Keeps b c → Lasts a c
-lasts_both a b c h k = record {
-  elapsed = k.elapsed ∙ h.elapsed;
-  suspension = k.suspension ∙ h.suspension;
-  sources =
-      k.sources ∙ h.sources;
-}
+lasts_both a b c h k =
+    let still : c.held_ticks ≡ b.held_ticks = ap (λ (x : Suspension). x.held_ticks) k.suspension in
+    let less = h.held in
+    record {
+      elapsed = k.elapsed ∙ h.elapsed;
+      suspensions = ap (λ (x : Suspension). x.suspensions) k.suspension ∙ h.suspensions;
+      held = omega arith;
+      sections = ap (λ (x : Suspension). x.sections) k.suspension ∙ h.sections;
+      sources = k.sources ∙ h.sources;
+    }
+
+-- where a call lets go of the scheduler
+lasts-end_hold : (i : ℕ) (phase : Phase) (s : State) → Lasts s (end_hold i phase s)
+lasts-end_hold i phase s =
+    let k = applies s.held_ticks (let_go i phase s) in
+    let less = k.held in
+    record {
+      elapsed = k.elapsed;
+      suspensions = k.suspensions;
+      held = omega arith;
+      sections = k.sections;
+      sources = k.sources;
+    }
+
+-- After that no tick is held.
+pub suspension-end_hold : (i : ℕ) (phase : Phase) (s : State) → suspension_of (end_hold i phase s) ≡ record
+    { suspensions = s.suspensions; held_ticks = 0; sections = s.sections }
+suspension-end_hold i phase s =
+    let k = applies s.held_ticks (let_go i phase s) in
+    let none : (end_hold i phase s).held_ticks ≡ 0 = let e = k.held in omega arith in
+    ap₂ (λ (a b : ℕ). record { suspensions = a; held_ticks = b; sections = (end_hold i phase s).sections }) k.suspensions none
+    ∙ ap (λ (n : ℕ). record { suspensions = s.suspensions; held_ticks = 0; sections = n }) k.sections
+
+pub hold-end_hold : (i : ℕ) (phase : Phase) (s : State) → hold_of (end_hold i phase s) ≡ record
+    { held = false; locked = s.locked }
+hold-end_hold i phase s = (applies s.held_ticks (let_go i phase s)).hold
 
 pub lasts-unlock : (s : State) → Lasts s (unlock s)
 unfolding unlock
@@ -84,19 +169,19 @@ lasts-unlock s = by_locked s.locked where
   by_locked (Some o) =
       let k =
       keeps-all_ready (tasks_of (awakened s (ToReceive o)) ++ tasks_of (awakened s (ToSend o))) (record s { locked = None }) in
-      record { elapsed = k.elapsed; suspension = k.suspension; sources = k.sources }
+      lasts_by s _ k.elapsed k.suspension k.sources
 
 pub lasts-decide : (i o : ℕ) (a : Access ℕ) (s : State) → Lasts s (decide i o a s)
 unfolding decide wait_in
 lasts-decide i o a s = by_test (possible s o a || is_expired s i)
-    (λ t. rw t (record { elapsed = refl; suspension = refl; sources = refl }))
-    (λ t. rw t (let k = keeps-inherit i o s in record { elapsed = k.elapsed; suspension = k.suspension; sources = k.sources }))
+    (λ t. rw t (lasts_by s _ refl refl refl))
+    (λ t. rw t (let k = keeps-inherit i o s in lasts_by s _ k.elapsed k.suspension k.sources))
 
 pub lasts-leave_call : (i : ℕ) (s : State) → Lasts s (leave_call i s)
 unfolding leave_call
 lasts-leave_call i s =
     let free : State = end_hold i Try s in
-    let ended : Lasts s free = record { elapsed = refl; suspension = refl; sources = refl } in
+    let ended : Lasts s free = lasts-end_hold i Try s in
     by_test (call_at s i).waits
     (λ t. rw t (lasts_both s free (choose free) ended (keeps-choose free)))
     (λ t. rw t (lasts_both s free (preempt free) ended (keeps-preempt free)))
@@ -108,27 +193,27 @@ lasts-await app i o a ticks Start s =
     lasts s _ (keeps_both s t _ (keeps-set_deadline i ticks s) (keeps-try app i o a t))
 lasts-await app i o a ticks Try s = lasts s _ (keeps-try app i o a s)
 lasts-await app i o a ticks Decide s = lasts-decide i o a s
-lasts-await app i o a ticks Place s = record { elapsed = refl; suspension = refl; sources = refl }
+lasts-await app i o a ticks Place s = lasts_by s _ refl refl refl
 lasts-await app i o a ticks Unlock s = let k = lasts-unlock s in record {
   elapsed = k.elapsed;
-  suspension = k.suspension;
-  sources =
-      k.sources;
+  suspensions = k.suspensions;
+  held = k.held;
+  sections = k.sections;
+  sources = k.sources;
 }
 lasts-await app i o a ticks Leave s = lasts-leave_call i s
 
 pub lasts-begin_set : (i group mask : ℕ) (s : State) → Lasts s (begin_set i group mask s)
 unfolding begin_set
 lasts-begin_set i group mask s =
-    let k = keeps-set group mask (record s { call_hold = true }) in
-    record { elapsed = k.elapsed; suspension = k.suspension; sources = k.sources }
+    let k = keeps-set group mask (record s { call_hold = true }) in lasts_by s _ k.elapsed k.suspension k.sources
 
 pub lasts-end_set : (app : Application) (i : ℕ) (s : State)
     → Lasts s (preempt (answer app i (call_at s i).kept (end_hold i Start s)))
 lasts-end_set app i s =
     let free : State = end_hold i Start s in
     let told : State = answer app i (call_at s i).kept free in
-    lasts_both s free (preempt told) (record { elapsed = refl; suspension = refl; sources = refl })
+    lasts_both s free (preempt told) (lasts-end_hold i Start s)
     (keeps_both free told (preempt told) (keeps-answer app i (call_at s i).kept free) (keeps-preempt told))
 
 lasts-set_bits : (app : Application) (i group mask : ℕ) (phase : Phase) (s : State) → Lasts s (set_bits app i group mask phase s)
@@ -144,7 +229,7 @@ pub lasts-check : (app : Application) (i group : ℕ) (c : Condition) (ticks : O
 unfolding check begin_bits_wait wait_for_bits set_deadline
 lasts-check app i group c ticks s = by_test (is_met (bits_at s group) c || option_eq eqb ticks (Some 0))
     (λ t. rw t (lasts s _ (keeps-answer_bits app i group c s)))
-    (λ t. rw t (record { elapsed = refl; suspension = refl; sources = refl }))
+    (λ t. rw t (lasts_by s _ refl refl refl))
 
 pub lasts-final_bits : (app : Application) (i group : ℕ) (c : Condition) (kept : Option ℕ) (s : State)
     → Keeps s (final_bits app i group c kept s)
@@ -154,8 +239,7 @@ lasts-final_bits app i group c (Some bits) s = keeps-answer app i (Some bits) s
 -- a wait until one is woken goes on
 lasts-held_no_more : (i : ℕ) (s : State) → Lasts s (choose (end_hold i Try s))
 lasts-held_no_more i s =
-    let k = keeps-choose (end_hold i Try s) in
-    record { elapsed = k.elapsed; suspension = k.suspension; sources = k.sources }
+    lasts_both s (end_hold i Try s) (choose (end_hold i Try s)) (lasts-end_hold i Try s) (keeps-choose (end_hold i Try s))
 
 lasts-wait_bits : (app : Application) (i group : ℕ) (c : Condition) (ticks : Option ℕ) (phase : Phase) (s : State)
     → Lasts s (wait_bits app i group c ticks phase s)
@@ -171,13 +255,19 @@ pub lasts-check_notification : (app : Application) (i : ℕ) (wait : Notificatio
 unfolding check_notification begin_notification_wait wait_for_notification set_deadline
 lasts-check_notification app i wait ticks s = by_test (is_there wait (notification_at s i) || option_eq eqb ticks (Some 0))
     (λ t. rw t (lasts s _ (keeps-end_notification_wait app i wait s)))
-    (λ t. rw t (record { elapsed = refl; suspension = refl; sources = refl }))
+    (λ t. rw t (lasts_by s _ refl refl refl))
 
 lasts-await_notification : (app : Application) (i : ℕ) (wait : NotificationWait) (ticks : Option ℕ) (phase : Phase) (s : State)
     → Lasts s (await_notification app i wait ticks phase s)
 lasts-await_notification app i wait ticks Start s =
     let k = lasts-check_notification app i wait ticks (with_notification i (entered wait (notification_at s i)) s) in
-    record { elapsed = k.elapsed; suspension = k.suspension; sources = k.sources }
+    record {
+      elapsed = k.elapsed;
+      suspensions = k.suspensions;
+      held = k.held;
+      sections = k.sections;
+      sources = k.sources;
+    }
 lasts-await_notification app i wait ticks Leave s = lasts-held_no_more i s
 lasts-await_notification app i wait ticks Try s = lasts s _ (keeps-end_notification_wait app i wait s)
 lasts-await_notification app i wait ticks Decide s = lasts s _ (keeps-end_notification_wait app i wait s)
@@ -196,7 +286,7 @@ pub lasts-end_command : (app : Application) (i group : ℕ) (s : State) → Last
 lasts-end_command app i group s =
     let free : State = end_hold i Start s in
     let told : State = obeyed app i false (bits_at s group) free in
-    lasts_both s free (preempt told) (record { elapsed = refl; suspension = refl; sources = refl })
+    lasts_both s free (preempt told) (lasts-end_hold i Start s)
     (keeps_both free told (preempt told) (keeps-obeyed app i false (bits_at s group) free) (keeps-preempt told))
 
 lasts-obey : (app : Application) (i : ℕ) (c : Command) (phase : Phase) (s : State) → Lasts s (obey app i c phase s)
@@ -209,37 +299,43 @@ lasts-obey app i c Place s = lasts-end_command app i c.group s
 lasts-obey app i c Unlock s = lasts-end_command app i c.group s
 lasts-obey app i c Leave s = lasts-end_command app i c.group s
 
--- the other op that may change nothing of a task, and yet does something
+-- An op that ends in the phase in which it begins leaves what is held as it is, and the held ticks too.
 pub record Ends (old new : State) : Type 0 where
   pub lasts : Lasts old new
   pub hold : hold_of new ≡ hold_of old
+  pub suspension : suspension_of new ≡ suspension_of old
+
+pub ends_by : (s t : State) → t.elapsed ≡ s.elapsed → suspension_of t ≡ suspension_of s → t.sources ≡ s.sources
+    → hold_of t ≡ hold_of s → Ends s t
+ends_by s t elapsed suspension sources hold =
+    record { lasts = lasts_by s t elapsed suspension sources; hold = hold; suspension = suspension }
 
 ends : (s t : State) → Keeps s t → Ends s t
-ends s t k = record { lasts = lasts s t k; hold = k.hold }
+ends s t k = ends_by s t k.elapsed k.suspension k.sources k.hold
 
 ends-expect : (app : Application) (i : ℕ) (condition : AnswerCondition) (s : State) → Ends s (expect app i condition s)
 unfolding expect
 ends-expect app i condition s = by_test (holds s.variables condition (progress_at s i).answer)
     (λ t. rw t (ends s _ (keeps-go_to app i ((progress_at s i).op_index + 1) (progress_at s i) s)))
-    (λ t. rw t (record { lasts = record { elapsed = refl; suspension = refl; sources = refl }; hold = refl }))
+    (λ t. rw t (ends_by s _ refl refl refl refl))
 
 -- ---- the tick: it alone lets time pass
 
 -- a tick that has come, and has not been acted upon
 abbrev pub tick_come : State → State
 tick_come s =
-    if is_scheduler_suspended s
+    if holds_ticks s
     then record s { elapsed = s.elapsed + 1; held_ticks = s.held_ticks + 1 }
     else record s { time = s.time + 1; elapsed = s.elapsed + 1 }
 
 keeps-increment : (s : State) → Keeps (tick_come s) (increment_tick s)
 unfolding increment_tick advance
-keeps-increment s = by_test (is_scheduler_suspended s)
+keeps-increment s = by_test (holds_ticks s)
     (λ t. rw t (keeps (record s { elapsed = s.elapsed + 1; held_ticks = s.held_ticks + 1 })))
     (λ t. rw t (keeps-wake_due (record s { time = s.time + 1; elapsed = s.elapsed + 1 })))
 
 pub hold-increment : (s : State) → hold_of (increment_tick s) ≡ hold_of s
-hold-increment s = (keeps-increment s).hold ∙ by_test (is_scheduler_suspended s) (λ t. rw t refl) (λ t. rw t refl)
+hold-increment s = (keeps-increment s).hold ∙ by_test (holds_ticks s) (λ t. rw t refl) (λ t. rw t refl)
 
 -- from when it has come on, no more time passes
 keeps-tick : (app : Application) (s : State) → Keeps (tick_come s) (tick_interrupt app s)
@@ -256,7 +352,7 @@ held-told app s =
     let come : State = increment_tick s in
     let told : State = interrupt app come in
     let k : Keeps (tick_come s) told = keeps_both (tick_come s) come told (keeps-increment s) (keeps-interrupt app come) in
-    held_as_it_was (tick_come s) told k.hold k.suspension ∙ still (is_scheduler_suspended s) where
+    held_as_it_was (tick_come s) told k.hold k.suspension ∙ still (holds_ticks s) where
       still : (b : Bool)
           → is_held (if b then record s { elapsed = s.elapsed + 1; held_ticks = s.held_ticks + 1 }
           else record s { time = s.time + 1; elapsed = s.elapsed + 1 }) ≡ is_held s
@@ -264,12 +360,13 @@ held-told app s =
       still false = refl
 
 pub elapsed-tick : (app : Application) (s : State) → (tick_interrupt app s).elapsed ≡ s.elapsed + 1
-elapsed-tick app s = (keeps-tick app s).elapsed ∙ by_test (is_scheduler_suspended s) (λ t. rw t refl) (λ t. rw t refl)
+elapsed-tick app s = (keeps-tick app s).elapsed ∙ by_test (holds_ticks s) (λ t. rw t refl) (λ t. rw t refl)
 
 pub hold-tick : (app : Application) (s : State) → hold_of (tick_interrupt app s) ≡ hold_of s
-hold-tick app s = (keeps-tick app s).hold ∙ by_test (is_scheduler_suspended s) (λ t. rw t refl) (λ t. rw t refl)
+hold-tick app s = (keeps-tick app s).hold ∙ by_test (holds_ticks s) (λ t. rw t refl) (λ t. rw t refl)
 
-pub suspension-tick : (app : Application) (s : State) → s.suspensions ≡ 0 → suspension_of (tick_interrupt app s) ≡ suspension_of s
+pub suspension-tick : (app : Application) (s : State) → holds_ticks s ≡ false
+    → suspension_of (tick_interrupt app s) ≡ suspension_of s
 suspension-tick app s none = (keeps-tick app s).suspension ∙ rw none refl
 
 pub held-tick : (app : Application) (s : State) → (tick_interrupt app s).held_ticks ≤ s.held_ticks + 1
@@ -277,21 +374,21 @@ held-tick app s =
     let e : (tick_interrupt app s).held_ticks ≡ (tick_come s).held_ticks =
     ap (λ (x : Suspension). x.held_ticks) (keeps-tick app s).suspension in
     let come : (tick_come s).held_ticks ≤ s.held_ticks + 1 =
-    by_test (is_scheduler_suspended s) (λ t. rw t (omega arith)) (λ t. rw t (omega arith)) in
+    by_test (holds_ticks s) (λ t. rw t (omega arith)) (λ t. rw t (omega arith)) in
     omega arith
 
 pub suspensions-tick : (app : Application) (s : State) → (tick_interrupt app s).suspensions ≡ s.suspensions
 suspensions-tick app s =
     ap (λ (x : Suspension). x.suspensions) (keeps-tick app s).suspension
-    ∙ by_test (is_scheduler_suspended s) (λ t. rw t refl) (λ t. rw t refl)
+    ∙ by_test (holds_ticks s) (λ t. rw t refl) (λ t. rw t refl)
 
 pub sections-tick : (app : Application) (s : State) → (tick_interrupt app s).sections ≡ s.sections
 sections-tick app s =
     ap (λ (x : Suspension). x.sections) (keeps-tick app s).suspension
-    ∙ by_test (is_scheduler_suspended s) (λ t. rw t refl) (λ t. rw t refl)
+    ∙ by_test (holds_ticks s) (λ t. rw t refl) (λ t. rw t refl)
 
 pub sources-tick : (app : Application) (s : State) → (tick_interrupt app s).sources ≡ s.sources
-sources-tick app s = (keeps-tick app s).sources ∙ by_test (is_scheduler_suspended s) (λ t. rw t refl) (λ t. rw t refl)
+sources-tick app s = (keeps-tick app s).sources ∙ by_test (holds_ticks s) (λ t. rw t refl) (λ t. rw t refl)
 
 -- ---- a jump: idle lets several ticks pass
 
@@ -365,7 +462,7 @@ hold-idle app limits s =
     (keeps-jumped app (ticks_ahead app limits s) s).hold (hold-tick app s)
 
 pub suspension-idle : (app : Application) (limits : Limits) (s : State)
-    → s.suspensions ≡ 0 → suspension_of (idle app limits s) ≡ suspension_of s
+    → holds_ticks s ≡ false → suspension_of (idle app limits s) ≡ suspension_of s
 unfolding idle
 suspension-idle app limits s none =
     either_way (λ t. suspension_of t ≡ suspension_of s) app.tickless
@@ -400,46 +497,6 @@ held-idle app limits s =
     (held-tick app s)
 
 -- ---- the scheduler suspended and resumed
-
--- a held tick more is applied
-applied : (s : State) → Keeps (record s { time = s.time + 1; held_ticks = s.held_ticks - 1 }) (apply_one s)
-unfolding apply_one advance
-applied s = keeps-wake_due (record s { time = s.time + 1; held_ticks = s.held_ticks - 1 })
-
--- when this many have been applied
-pub record Applies (n : ℕ) (old new : State) : Type 0 where
-  pub elapsed : new.elapsed ≡ old.elapsed
-  pub hold : hold_of new ≡ hold_of old
-  pub suspensions : new.suspensions ≡ old.suspensions
-  pub held : new.held_ticks ≡ old.held_ticks - n
-  pub sections : new.sections ≡ old.sections
-  pub sources : new.sources ≡ old.sources
-  pub tasks : length new.tasks ≡ length old.tasks
-
-pub applies : (n : ℕ) (s : State) → Applies n s (apply_held n s)
-applies zero s =
-    record {
-      elapsed = refl;
-      hold = refl;
-      suspensions = refl;
-      held = omega arith;
-      sections = refl;
-      sources = refl;
-      tasks = refl;
-    }
-applies (suc n) s =
-    let k = applied s in
-    let h = applies n (apply_one s) in
-    let one : (apply_one s).held_ticks ≡ s.held_ticks - 1 = ap (λ (x : Suspension). x.held_ticks) k.suspension in
-    record {
-      elapsed = h.elapsed ∙ k.elapsed;
-      hold = h.hold ∙ k.hold;
-      suspensions = h.suspensions ∙ ap (λ (x : Suspension). x.suspensions) k.suspension;
-      held = let e = h.held in omega arith;
-      sections = h.sections ∙ ap (λ (x : Suspension). x.sections) k.suspension;
-      sources = h.sources ∙ k.sources;
-      tasks = h.tasks ∙ k.tasks;
-    }
 
 -- one `suspend_all` less, and after the last no tick is held
 pub record Resumes (old new : State) : Type 0 where
@@ -591,7 +648,7 @@ by_op P w s r e x f (NextCommand o) = f (NextCommand o) refl
 by_op P w s r e x f Obey = f Obey refl
 
 -- an instant op in one phase
-ends-act : (app : Application) (i : ℕ) (op : Op) (s : State)
+pub ends-act : (app : Application) (i : ℕ) (op : Op) (s : State)
     → is_instant op ≡ true → course (Some op) ≡ InOne → Ends s (act app i op s)
 ends-act app i (Work n) s t w = absurd (cc)
 ends-act app i (Delay n) s t w = ends s _ (keeps-delay app i n s)
@@ -601,7 +658,7 @@ ends-act app i Time s t w = ends s _ (keeps-answer app i (Some (printed s.time))
 ends-act app i (Mark value) s t w =
     let n : ℕ = number_of s.variables (progress_at s i).answer value in
     let k = keeps-go_to app i ((progress_at s i).op_index + 1) (progress_at s i) (write (what.Mark i n) s) in
-    record { lasts = record { elapsed = k.elapsed; suspension = k.suspension; sources = k.sources }; hold = k.hold }
+    ends_by s _ k.elapsed k.suspension k.sources k.hold
 ends-act app i (Expect c) s t w = ends-expect app i c s
 ends-act app i (Repeat n) s t w = ends s _ (keeps-open_loop app i n s)
 ends-act app i End s t w = ends s _ (keeps-close_turn app i s)
@@ -703,8 +760,7 @@ suspensions-act app i op s = by_op (λ op. (act app i op s).suspensions ≤ s.su
     (let e = (opens app i (s.sections + 1) s).suspensions in omega arith)
     (let e = (opens app i (s.sections - 1) s).suspensions in omega arith)
     (λ op t.
-    let e : (act app i op s).suspensions ≡ s.suspensions =
-    ap (λ (x : Suspension). x.suspensions) (lasts-act app i op s t).suspension in
+    let e : (act app i op s).suspensions ≡ s.suspensions = (lasts-act app i op s t).suspensions in
     omega arith)
     op
 
@@ -720,8 +776,7 @@ held-act app i op s = by_op (λ op. (act app i op s).held_ticks ≤ s.held_ticks
     (let e = (opens app i (s.sections + 1) s).held in omega arith)
     (let e = (opens app i (s.sections - 1) s).held in omega arith)
     (λ op t.
-    let e : (act app i op s).held_ticks ≡ s.held_ticks =
-    ap (λ (x : Suspension). x.held_ticks) (lasts-act app i op s t).suspension in
+    let e : (act app i op s).held_ticks ≤ s.held_ticks = (lasts-act app i op s t).held in
     omega arith)
     op
 
@@ -745,7 +800,8 @@ task_holds-act app i op s = by_op (λ op. task_holds (act app i op s) ≤ task_h
     (let e = (opens app i (s.sections + 1) s).suspensions in let f = (opens app i (s.sections + 1) s).sections in omega arith)
     (let e = (opens app i (s.sections - 1) s).suspensions in let f = (opens app i (s.sections - 1) s).sections in omega arith)
     (λ op t.
-    let e : task_holds (act app i op s) ≡ task_holds s = task_holds_by s (act app i op s) (lasts-act app i op s t).suspension in
+    let k = lasts-act app i op s t in
+    let e : task_holds (act app i op s) ≡ task_holds s = ap₂ (λ (a b : ℕ). a + b) k.suspensions k.sections in
     omega arith)
     op
 

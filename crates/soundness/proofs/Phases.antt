@@ -15,7 +15,7 @@ use Rattle.model.specs.Scripts.{IsWellFormed}
 use Rattle.model.specs.State.{State, Task, Progress, Wait, Waiting, ticket_if_ready, wait_if_awake, task_at, status_at, progress_at}
 use Rattle.model.specs.State.{call_at, with_task, go_on, for_each, for_one, no_task}
 use Rattle.model.specs.Switching.{is_ready, make_ready, is_held_by_task}
-use Rattle.model.specs.Waiting.{is_locked, wait_in, is_expired, end_hold, unlock_object, unlock}
+use Rattle.model.specs.Waiting.{is_locked, wait_in, is_expired, let_go, end_hold, unlock_object, unlock}
 use Rattle.model.specs.Objects.{list_for, possible}
 use Rattle.model.specs.Calls.{lock, decide, leave_call}
 use Rattle.model.specs.Mutexes.{inherit}
@@ -26,7 +26,9 @@ use Rattle.model.proofs.Tables.{ticket_at, each-set_but}
 use Rattle.model.proofs.Unlocking.{opened_by, none_left, still_at, current-all_ready, none_awake}
 use Rattle.soundness.proofs.Sound.{framed, all_made_ready, chosen, preempted}
 use Rattle.soundness.proofs.Frames.{Keeps, keeps-inherit, keeps-all_ready, keeps-choose, keeps-preempt}
-use Rattle.soundness.proofs.Settled.{neither, unlike}
+use Rattle.soundness.proofs.Settled.{neither, ticks_held_by_call, unlike}
+use Rattle.soundness.proofs.Passing.{suspension-end_hold, hold-end_hold}
+use Rattle.soundness.proofs.Suspending.{all_applied}
 use Rattle.soundness.proofs.Unlocked.{opened_can, unlocked_by}
 use Rattle.soundness.proofs.Inheriting.{Reranks, reranks-inherit, inherited}
 use Rattle.soundness.proofs.Called.{went_on, began, phase_free, call_apart, rehung, reheld}
@@ -54,11 +56,21 @@ calm_where s free none =
     ap₂ (λ (a b : ℕ). record { suspensions = a; held_ticks = b; sections = s.sections }) (none_above s.suspensions off.0) none
     ∙ ap (λ (n : ℕ). record { suspensions = 0; held_ticks = 0; sections = n }) (none_above s.sections off.1)
 
--- while a call holds the scheduler
-pub calm_held : (app : Application) (s : State) → IsState app s → s.call_hold ≡ true → suspension_of s ≡ unsuspended
-calm_held app s h held =
-    let off : is_held_by_task s ≡ false = by_test (is_held_by_task s) (λ t. unlike (sym held ∙ h.apart t)) (λ t. t) in
-    calm_where s off (h.held (neither s off).0)
+-- While a call holds the scheduler no task does.
+pub calm_held : (app : Application) (s : State) → IsState app s → s.call_hold ≡ true → is_held_by_task s ≡ false
+calm_held app s h held = by_test (is_held_by_task s) (λ t. unlike (sym held ∙ h.apart t)) (λ t. t)
+
+-- Where none does, it is as before where as many `suspend_all` are in force, and as many sections are open.
+by_none : (s t : State) → suspension_of t ≡ suspension_of s → is_held_by_task s ≡ false → is_held_by_task t ≡ false
+by_none s t same free = ap (λ (x : Suspension). ltb 0 x.suspensions || ltb 0 x.sections) same ∙ free
+
+-- A call lets go of the scheduler: nothing holds it then, and no tick is held.
+pub let_go_of : (s : State) (i : ℕ) (phase : Phase) → is_held_by_task s ≡ false → suspension_of (end_hold i phase s) ≡ unsuspended
+let_go_of s i phase free =
+    let off = neither s free in
+    suspension-end_hold i phase s
+    ∙ ap₂ (λ (a b : ℕ). record { suspensions = a; held_ticks = 0; sections = b }) (none_above s.suspensions off.0)
+    (none_above s.sections off.1)
 
 module _ (app : Application) (formed : IsWellFormed app) where
   -- the running task goes on in a phase that holds the scheduler
@@ -66,7 +78,7 @@ module _ (app : Application) (formed : IsWellFormed app) where
       → s.current ≡ Some i → i < length s.tasks → s.call_hold ≡ true
       → holds t.progress.call.phase ≡ true → (t.progress.call.phase ≡ Place → IsPlacing s.time t (wait_of t.status))
       → (course (op_at app i t.progress.op_index) ≡ ToSetBits → is_some (ticket_if_ready t.status) ≡ true)
-      → ((j : ℕ) → j ≢ i → holds (call_at s j).phase ≡ false) → suspension_of s ≡ unsuspended → IsState app (with_task i t s)
+      → ((j : ℕ) → j ≢ i → holds (call_at s j).phase ≡ false) → is_held_by_task s ≡ false → IsState app (with_task i t s)
   in_hold s i t h runs l held phase placing setting others calm =
       let at : task_at (with_task i t s) i ≡ t = get_or-set_same s.tasks i t no_task l in
       let H : Task → Type 0 = λ u. holds u.progress.call.phase ≡ s.call_hold in
@@ -84,8 +96,8 @@ module _ (app : Application) (formed : IsWellFormed app) where
         });
         alone = each-set_but no_task P s.tasks i t l (λ _. runs) (λ j ne on. let off = others j ne in absurd (cc));
         locked = λ none. absurd (cc);
-        apart = λ t. unlike (sym t ∙ calm_free s calm);
-        held = λ _. ap (λ (x : Suspension). x.held_ticks) calm;
+        apart = λ t. unlike (sym t ∙ calm);
+        held = λ off. unlike (sym (ticks_held_by_call s held) ∙ off);
       }
 
   -- ---- Decide
@@ -130,7 +142,7 @@ module _ (app : Application) (formed : IsWellFormed app) where
         (record (task_at s i) { progress = record (progress_at s i) { call = record (call_at s i) { phase = Unlock } } })
         (went_on app formed locking t i Unlock h1 (phase_there Unlock (refl, refl))) runs l refl refl
         (λ e. absurd (cc)) (λ e. let f : OnObject o ≡ ToSetBits = sym way ∙ ap course (sym is) ∙ e in absurd (cc))
-        (λ j ne. others_free s h none j) calm
+        (λ j ne. others_free s h none j) (calm_free t calm)
 
     -- what the task is when it has begun to wait
     waiting_task : Task
@@ -214,7 +226,7 @@ module _ (app : Application) (formed : IsWellFormed app) where
         sym way ∙ ap course (sym is) ∙ sym (ap (λ (u : Task). course (op_at app i u.progress.op_index)) begun_at) ∙ e in
         absurd (cc))
         (λ j ne. subst (λ (u : Task). holds u.progress.call.phase ≡ false) (sym (begun_others j ne)) (others_free s h none j))
-        (begun_calm ∙ calm)
+        (calm_free t (begun_calm ∙ calm))
 
   module _ (s : State) (i o : ℕ) (a : Access ℕ) (op : Op) (h : IsSound app (hold_of s) s)
       (none : s.call_hold ≡ false) (unlocked : s.locked ≡ None) (calm : suspension_of s ≡ unsuspended)
@@ -265,9 +277,9 @@ module _ (app : Application) (formed : IsWellFormed app) where
         (λ t. t)
 
     -- where nothing is locked any more
-    pub hold_ended : s.locked ≡ None → (phase : Phase)
-        → IsPhaseOf free (course (op_at app i (progress_at s i).op_index)) phase → IsSound app free (end_hold i phase s)
-    hold_ended leaves phase fits =
+    let_go_there : s.locked ≡ None → (phase : Phase)
+        → IsPhaseOf free (course (op_at app i (progress_at s i).op_index)) phase → IsSound app free (let_go i phase s)
+    let_go_there leaves phase fits =
         let s1 : State = record s { call_hold = false } in
         let t : Task =
         record (task_at s i)
@@ -284,6 +296,12 @@ module _ (app : Application) (formed : IsWellFormed app) where
           h.sound.priorities i,
         )
         (λ j ne. call_apart (hold_of s) free s.time _ (task_at s j) (only j ne) (none j) (h.sound.calls j))
+
+    -- and the held ticks have been applied
+    pub hold_ended : s.locked ≡ None → (phase : Phase)
+        → IsPhaseOf free (course (op_at app i (progress_at s i).op_index)) phase → IsSound app free (end_hold i phase s)
+    hold_ended leaves phase fits =
+        all_applied app formed free s.held_ticks (let_go i phase s) (let_go_there leaves phase fits) (omega arith)
 
   -- ---- Place
 
@@ -391,7 +409,8 @@ module _ (app : Application) (formed : IsWellFormed app) where
             absurd (cc) in
             subst (λ u. IsState app (go_on i Leave u)) (sym opened_is)
             (in_hold opened i left_task (subst (λ x. IsSound app x (with_task i left_task opened)) (sym kept) sound_left)
-            runs_opened l1 hold refl (λ e. absurd (cc)) set_not off_opened (kept_opened.suspension ∙ calm_held app s h held))
+            runs_opened l1 hold refl (λ e. absurd (cc)) set_not off_opened
+            (by_none s opened kept_opened.suspension (calm_held app s h held)))
 
         pub unlocked_held : (go_on i Leave (unlock s)).call_hold ≡ true
         unlocked_held =
@@ -424,7 +443,16 @@ module _ (app : Application) (formed : IsWellFormed app) where
         pub left_hold : hold_of (leave_call i s) ≡ free
         unfolding leave_call ended
         left_hold =
-            let same : hold_of ended ≡ free = ap (λ l. record { held = false; locked = l }) leaves in
+            let same : hold_of ended ≡ free =
+            hold-end_hold i Try s ∙ ap (λ l. record { held = false; locked = l }) leaves in
             by_test (call_at s i).waits
             (λ t. rw t ((keeps-choose ended).hold ∙ same))
             (λ t. rw t ((keeps-preempt ended).hold ∙ same))
+
+        pub left_calm : suspension_of (leave_call i s) ≡ unsuspended
+        unfolding leave_call ended
+        left_calm =
+            let none : suspension_of ended ≡ unsuspended = let_go_of s i Try (calm_held app s h held) in
+            by_test (call_at s i).waits
+            (λ t. rw t ((keeps-choose ended).suspension ∙ none))
+            (λ t. rw t ((keeps-preempt ended).suspension ∙ none))

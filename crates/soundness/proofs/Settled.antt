@@ -10,7 +10,7 @@ use Rattle.model.specs.State.{Ended, ticket_if_ready, task_at, for_one}
 use Rattle.model.specs.Order.{Key, Entry, key, first, task_of}
 use Rattle.model.specs.Switching.{ready_key, ready_list, is_ready, to_back, choice, is_same, choose, dispatch, yield_now}
 use Rattle.model.specs.Switching.{is_outranked, preempt, is_off, settle, is_held, is_held_by_task, unless_held}
-use Rattle.model.specs.Switching.{is_scheduler_suspended, is_critical}
+use Rattle.model.specs.Switching.{is_scheduler_suspended, is_critical, holds_ticks}
 use Rattle.model.specs.Invariant.{Hold, hold_of, Suspension, suspension_of}
 use Rattle.model.specs.declared.plan.Injection.{Injection}
 use Rattle.model.specs.Step.{act_current, before_step, step, ready_at_reset, reset}
@@ -106,6 +106,34 @@ nothing_holds s = by_three s.call_hold (is_scheduler_suspended s) (is_critical s
   by_three false false true e = absurd (cc)
   by_three false true c e = absurd (cc)
   by_three true b c e = absurd (cc)
+
+-- whether ticks are held, by what holds the scheduler
+abbrev ticks_held_by : Hold → Suspension → Bool
+ticks_held_by hold x = hold.held || ltb 0 x.suspensions
+
+-- Where the same holds it, they are held as they were.
+pub ticks_as_they_were : (s t : State) → hold_of t ≡ hold_of s → suspension_of t ≡ suspension_of s → holds_ticks t ≡ holds_ticks s
+ticks_as_they_were s t hold suspension = ap₂ ticks_held_by hold suspension
+
+-- A call that holds the scheduler holds ticks, and so does a `suspend_all`.
+pub ticks_held_by_call : (s : State) → s.call_hold ≡ true → holds_ticks s ≡ true
+ticks_held_by_call s held = rw held refl
+
+pub ticks_held_by_task : (s : State) → is_scheduler_suspended s ≡ true → holds_ticks s ≡ true
+ticks_held_by_task s = by_two s.call_hold (is_scheduler_suspended s) where
+  by_two : (a b : Bool) → b ≡ true → (a || b) ≡ true
+  by_two true b e = refl
+  by_two false b e = e
+
+-- Where neither does, none are held, and where none are, neither does.
+pub ticks_free : (s : State) → s.call_hold ≡ false → is_scheduler_suspended s ≡ false → holds_ticks s ≡ false
+ticks_free s none off = rw none off
+
+pub nothing_holds_ticks : (s : State) → holds_ticks s ≡ false → (s.call_hold ≡ false) × (is_scheduler_suspended s ≡ false)
+nothing_holds_ticks s = by_two s.call_hold (is_scheduler_suspended s) where
+  by_two : (a b : Bool) → (a || b) ≡ false → (a ≡ false) × (b ≡ false)
+  by_two true b e = absurd (cc)
+  by_two false b e = (refl, e)
 
 -- A task that holds the scheduler holds it, and where none does, and no call, nothing holds it.
 pub held_by_task : (s : State) → is_held_by_task s ≡ true → is_held s ≡ true

@@ -32,6 +32,7 @@ use Rattle.model.specs.Scripts.{IsWellFormed, fits_object, is_wait}
 use Rattle.model.specs.State.{State, Source, task_at, progress_at, status_at, call_at, bits_at, source_at, go_on, for_each}
 use Rattle.model.specs.State.{notification_at, with_notification}
 use Rattle.model.specs.Switching.{choose, is_ready, preempt, settle, is_scheduler_suspended, is_critical, is_held, is_held_by_task}
+use Rattle.model.specs.Switching.{holds_ticks}
 use Rattle.model.specs.Switching.{unless_held}
 use Rattle.model.specs.Waiting.{set_deadline, end_hold, unlock}
 use Rattle.model.specs.Ops.{answer, use_up, with_sections}
@@ -51,12 +52,12 @@ use Rattle.model.proofs.Lists.{eqb-same}
 use Rattle.model.proofs.Statuses.{ready_free}
 use Rattle.soundness.proofs.Settled.{IsSettled, settled-settle, settled-preempt, when_held, when_free, held_by_call, held_by_none}
 use Rattle.soundness.proofs.Settled.{nothing_holds, unlike, held_by_task, held_by_neither, no_task_holds, neither, by_suspending}
-use Rattle.soundness.proofs.Settled.{section_holds}
+use Rattle.soundness.proofs.Settled.{section_holds, ticks_as_they_were, ticks_free, nothing_holds_ticks}
 use Rattle.soundness.proofs.InScripts.{script_formed, range_at, known_at}
 use Rattle.soundness.proofs.Frames.{keeps-settle, keeps-choose, keeps-answer, keeps-answer_bits, keeps-try, keeps-set_deadline}
 use Rattle.soundness.proofs.Frames.{keeps-end_notification_wait, keeps-use_up, keeps-preempt, keeps-take_command, keeps-obeyed}
 use Rattle.soundness.proofs.Frames.{keeps-clear_by_daemon}
-use Rattle.soundness.proofs.Passing.{is_instant, lasts-act, lasts-leave_call, lasts-end_set, lasts-end_command, lasts-final_bits}
+use Rattle.soundness.proofs.Passing.{is_instant, ends-act, lasts-final_bits, hold-end_hold}
 use Rattle.soundness.proofs.Passing.{hold-idle, suspension-idle, hold-act, suspension-tick, suspensions-tick, suspends-all}
 use Rattle.soundness.proofs.Passing.{resumes-all, Opens, opens}
 use Rattle.soundness.proofs.Judging.{judged_held, judged_calm, not_ended, misuse_calm, not_barred, switches_not}
@@ -64,8 +65,8 @@ use Rattle.soundness.proofs.Sound.{logged, settled, preempted, resourced}
 use Rattle.soundness.proofs.Handled.{and_left, and_right, idled, handled_between}
 use Rattle.soundness.proofs.Trying.{tried}
 use Rattle.soundness.proofs.Called.{dated, dated_at, phase_free, course_of_one}
-use Rattle.soundness.proofs.Phases.{free, unsuspended, calm_free, none_above, calm_where, calm_held, decided, decided_held, placed}
-use Rattle.soundness.proofs.Phases.{unlocked, unlocked_held, left, left_hold}
+use Rattle.soundness.proofs.Phases.{free, unsuspended, calm_free, none_above, calm_where, calm_held, let_go_of, decided}
+use Rattle.soundness.proofs.Phases.{decided_held, placed, unlocked, unlocked_held, left, left_hold, left_calm}
 use Rattle.soundness.proofs.Bits.{answered_bits, final_done, set_begun, begun_held, wait_begun, waits_held, set_ended, wait_left}
 use Rattle.soundness.proofs.Notified.{notification_put, notification_wait_ended, notification_wait_begun, notification_wait_held}
 use Rattle.soundness.proofs.Daemon.{command_taken, cleared_by_daemon, set_ended_by_daemon}
@@ -93,7 +94,7 @@ module _ (app : Application) (formed : IsWellFormed app) where
         alone = λ j t. let f = off j in absurd (cc);
         locked = λ _. unlocked_;
         apart = λ _. none;
-        held = ticks;
+        held = λ off. ticks (nothing_holds_ticks s off).1;
       } where
         by_current : (r : Option ℕ) → IsOn s r → s.call_hold ≡ false
             → ((j : ℕ) → holds (call_at s j).phase ≡ false) → RunsIn app s r
@@ -157,7 +158,8 @@ module _ (app : Application) (formed : IsWellFormed app) where
     no_call_holds = (nothing_holds s none).0
 
     calm_now : suspension_of s ≡ unsuspended
-    calm_now = calm_where s (no_task_holds s none) (h.held (nothing_holds s none).1)
+    calm_now =
+        let off = nothing_holds s none in calm_where s (no_task_holds s none) (h.held (ticks_free s off.0 off.1))
 
   hold_none : (s : State) → IsState app s → s.call_hold ≡ false → hold_of s ≡ free
   hold_none s h none =
@@ -205,10 +207,7 @@ module _ (app : Application) (formed : IsWellFormed app) where
     -- where nothing holds it
     module _ (none : s.call_hold ≡ false) (off : is_held_by_task s ≡ false) where
       calm : suspension_of s ≡ unsuspended
-      calm = calm_where s off (h.held (neither s off).0)
-
-      suspensions_none : s.suspensions ≡ 0
-      suspensions_none = ap (λ (x : Suspension). x.suspensions) calm
+      calm = calm_where s off (h.held (ticks_free s none (neither s off).0))
 
       rested : (op : Op) → op_at app i (progress_at s i).op_index ≡ Some op → course (Some op) ≡ InOne
           → suspension_of (act app i op s) ≡ suspension_of s → IsState app (unless_held settle (act app i op s))
@@ -219,14 +218,15 @@ module _ (app : Application) (formed : IsWellFormed app) where
 
       instant : (op : Op) → op_at app i (progress_at s i).op_index ≡ Some op → course (Some op) ≡ InOne
           → is_instant op ≡ true → IsState app (unless_held settle (act app i op s))
-      instant op is w t = rested op is w (lasts-act app i op s t).suspension
+      instant op is w t = rested op is w (ends-act app i op s t w).suspension
 
       worked : (n : ℕ) → op_at app i (progress_at s i).op_index ≡ Some (Work n)
           → IsState app (unless_held settle (act app i (Work n) s))
       worked n is =
-          let k = (keeps-use_up app i n s).suspension in
-          rested (Work n) is refl
-          (suspension-tick app (use_up app i n s) (ap (λ (x : Suspension). x.suspensions) k ∙ suspensions_none) ∙ k)
+          let k = keeps-use_up app i n s in
+          let free_ : holds_ticks (use_up app i n s) ≡ false =
+          ticks_as_they_were s (use_up app i n s) k.hold k.suspension ∙ ticks_free s none (neither s off).0 in
+          rested (Work n) is refl (suspension-tick app (use_up app i n s) free_ ∙ k.suspension)
 
       suspended_first : op_at app i (progress_at s i).op_index ≡ Some SuspendAll
           → IsState app (unless_held settle (act app i SuspendAll s))
@@ -250,7 +250,7 @@ module _ (app : Application) (formed : IsWellFormed app) where
           (hold-act app i EnterCritical s refl ∙ hold_none s h none)
           (section_holds (act app i EnterCritical s)
           (let e = one.sections in lt-ltb 0 (act app i EnterCritical s).sections (omega arith)))
-          (λ no. one.held ∙ h.held (neither s off).0) (k.current ∙ on) k.goes
+          (λ no. one.held ∙ h.held (ticks_free s none (neither s off).0)) (k.current ∙ on) k.goes
 
       -- ---- a call on an object
 
@@ -445,7 +445,7 @@ module _ (app : Application) (formed : IsWellFormed app) where
             let held = held_in Leave e refl in
             settled_at_rest _ (left app formed s i o h on there on_object held e)
             (left_hold app formed s i o h on there on_object held e)
-            ((lasts-leave_call i s).suspension ∙ calm_held app s h held)
+            (left_calm app formed s i o h on there on_object held e)
 
       -- the phase that is next, of a call on an object
       next : (o : ℕ) (v : Access value.Value) (ticks : Option ℕ) → op_at app i (progress_at s i).op_index ≡ Some (Await o v ticks)
@@ -477,13 +477,15 @@ module _ (app : Application) (formed : IsWellFormed app) where
       next_of_obey c is Leave e =
           let held = held_in Leave e refl in
           let at : IsPhaseOf (hold_of s) ToSetBits Leave = phase_of Obey is Leave e in
+          let r : is_ready s i ≡ true = running.setting held (ap course is) in
           let ended : State = end_hold i Start s in
           let done : State = obeyed app i false (bits_at s c.group) ended in
-          let same : hold_of ended ≡ free = ap (λ l. record { held = false; locked = l }) at.1 in
+          let k = keeps-obeyed app i false (bits_at s c.group) ended in
+          let same : hold_of ended ≡ free = hold-end_hold i Start s ∙ ap (λ l. record { held = false; locked = l }) at.1 in
           settled_at_rest (preempt done)
-          (preempted app formed free done (set_ended_by_daemon app formed s i h on there at.1 (bits_at s c.group) is))
-          ((keeps-preempt done).hold ∙ (keeps-obeyed app i false (bits_at s c.group) ended).hold ∙ same)
-          ((lasts-end_command app i c.group s).suspension ∙ calm_held app s h held)
+          (preempted app formed free done (set_ended_by_daemon app formed s i h on there at.1 (bits_at s c.group) is r))
+          ((keeps-preempt done).hold ∙ k.hold ∙ same)
+          ((keeps-preempt done).suspension ∙ k.suspension ∙ let_go_of s i Start (calm_held app s h held))
       next_of_obey c is Try e = absurd (phase_of Obey is Try e)
       next_of_obey c is Decide e = absurd (phase_of Obey is Decide e)
       next_of_obey c is Place e = absurd (phase_of Obey is Place e)
@@ -496,11 +498,14 @@ module _ (app : Application) (formed : IsWellFormed app) where
       next_of_set g m is Leave e =
           let held = held_in Leave e refl in
           let at : IsPhaseOf (hold_of s) ToSetBits Leave = phase_of (SetBits g m) is Leave e in
+          let r : is_ready s i ≡ true = running.setting held (ap course is) in
           let done : State = answer app i (call_at s i).kept (end_hold i Start s) in
-          let same : hold_of (end_hold i Start s) ≡ free = ap (λ l. record { held = false; locked = l }) at.1 in
-          settled_at_rest (preempt done) (preempted app formed free done (set_ended app formed s i h on there at.1 g m is))
-          ((keeps-preempt done).hold ∙ (keeps-answer app i (call_at s i).kept (end_hold i Start s)).hold ∙ same)
-          ((lasts-end_set app i s).suspension ∙ calm_held app s h held)
+          let k = keeps-answer app i (call_at s i).kept (end_hold i Start s) in
+          let same : hold_of (end_hold i Start s) ≡ free =
+          hold-end_hold i Start s ∙ ap (λ l. record { held = false; locked = l }) at.1 in
+          settled_at_rest (preempt done) (preempted app formed free done (set_ended app formed s i h on there at.1 g m is r))
+          ((keeps-preempt done).hold ∙ k.hold ∙ same)
+          ((keeps-preempt done).suspension ∙ k.suspension ∙ let_go_of s i Start (calm_held app s h held))
       next_of_set g m is Try e = absurd (phase_of (SetBits g m) is Try e)
       next_of_set g m is Decide e = absurd (phase_of (SetBits g m) is Decide e)
       next_of_set g m is Place e = absurd (phase_of (SetBits g m) is Place e)
@@ -514,11 +519,11 @@ module _ (app : Application) (formed : IsWellFormed app) where
           let at : IsPhaseOf (hold_of s) UntilWoken Leave =
           subst (λ c. IsPhaseOf (hold_of s) c Leave) way (phase_of op is Leave e) in
           let ended : State = end_hold i Try s in
-          let same : hold_of ended ≡ free = ap (λ l. record { held = false; locked = l }) at.1 in
+          let same : hold_of ended ≡ free = hold-end_hold i Try s ∙ ap (λ l. record { held = false; locked = l }) at.1 in
           let fits : IsPhaseOf free (course (op_at app i (progress_at s i).op_index)) Try =
           subst (λ c. IsPhaseOf free c Try) (sym (ap course is ∙ way)) tt in
           settled_at_rest (choose ended) (wait_left app formed s i h on there at.1 fits)
-          ((keeps-choose ended).hold ∙ same) ((keeps-choose ended).suspension ∙ calm_held app s h held)
+          ((keeps-choose ended).hold ∙ same) ((keeps-choose ended).suspension ∙ let_go_of s i Try (calm_held app s h held))
 
       -- of a wait for bits
       next_of_wait : (g : ℕ) (c : Condition) (ticks : Option ℕ) → op_at app i (progress_at s i).op_index ≡ Some (WaitBits g c ticks)
@@ -656,15 +661,16 @@ module _ (app : Application) (formed : IsWellFormed app) where
             one = subst (Opens n s) (sym same) (opens app i n s)
 
             ticks : is_scheduler_suspended (act app i op s) ≡ false → (act app i op s).held_ticks ≡ 0
-            ticks off = one.held ∙ h.held (ap (λ (x : ℕ). ltb 0 x) (sym one.suspensions) ∙ off)
+            ticks off = one.held ∙ h.held (ticks_free s none_holds (ap (λ (x : ℕ). ltb 0 x) (sym one.suspensions) ∙ off))
 
       continued : (op : Op) → op_at app i (progress_at s i).op_index ≡ Some op → course (Some op) ≡ InOne
           → may_switch op ≡ false → is_instant op ≡ true → IsState app (unless_held settle (act app i op s))
       continued op is w q t =
-          let same = (lasts-act app i op s t).suspension in
+          let same = (ends-act app i op s t w).suspension in
           goes_on op is w (ap (λ (x : Suspension). ltb 0 x.suspensions || ltb 0 x.sections) same ∙ held)
           (λ off.
-          ap (λ (x : Suspension). x.held_ticks) same ∙ h.held (ap (λ (x : Suspension). ltb 0 x.suspensions) (sym same) ∙ off))
+          ap (λ (x : Suspension). x.held_ticks) same
+          ∙ h.held (ticks_free s none_holds (ap (λ (x : Suspension). ltb 0 x.suspensions) (sym same) ∙ off)))
           (acted_on app i op s q t there (ready_at op none_holds is))
 
       -- what has no place in a section is done in none
@@ -742,7 +748,7 @@ module _ (app : Application) (formed : IsWellFormed app) where
       let off : s.call_hold ≡ false = no_call_holds s h none in
       settled_at_rest _ (idled app formed free limits s (sound_free s h off) (h.locked off))
       (hold-idle app limits s ∙ hold_none s h off)
-      (suspension-idle app limits s (ap (λ (x : Suspension). x.suspensions) (calm_now s h none)) ∙ calm_now s h none)
+      (suspension-idle app limits s (ticks_free s off (nothing_holds s none).1) ∙ calm_now s h none)
   current_done limits s (Some i) h on = act_if_done s i h on (op_at app i (progress_at s i).op_index) refl
 
   -- ---- handlers before a step

@@ -1,6 +1,5 @@
 use Rattle.std.proofs.Common.{◌∙◌, refl, subst}
-use Rattle.machine.specs.StandsFor.Stands.{Placed}
-use Rattle.machine.proofs.Either.{not_by_task}
+use Rattle.ops.proofs.Held.{unheld_by_tasks}
 use Rattle.model.specs.declared.op.Op.TheVariants.{SuspendAll}
 use Rattle.model.specs.State.{Progress}
 use Rattle.model.specs.Step.{act, judge}
@@ -15,7 +14,7 @@ returns g c = record {
       At c.judge.new.machine (g.L.Log.logged c.suspend_all.new.log).told
       (judge c.args.task p.op_index (act c.args.app.now c.args.task SuspendAll s)) in
       acted_at c.args.app.now c.judge.new.machine _ s c.args.task SuspendAll (no_misuse s c.args.task SuspendAll
-      (not_by_task c.args.machine.now s (Placed h.stands) c.requires.can.tick.advance.awake) refl)
+      (unheld_by_tasks c.args.machine.now s h.stands c.requires.can.tick.depth) refl)
       (subst P (c.behind-machine.view_is ∙ c.progress.ensures ∙ h.stands.rest.progress c.args.task)
       (c.judge.ensures _ _ (c.suspend_all.ensures.at s h)));
   few = c.suspend_all.ensures.few;

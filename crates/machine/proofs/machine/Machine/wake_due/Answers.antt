@@ -5,8 +5,7 @@ use Rattle.model.specs.Time.{due}
 use Rattle.clock.specs.StandsFor.{at_next_tick}
 use Rattle.objects.specs.Items.{object_in}
 use Rattle.objects.specs.Objects.{CanHold}
-use Rattle.sched.proofs.Standing.{none_suspends}
-use Rattle.machine.proofs.Waking.{to_wake, due_there, sched-jumped, objects-jumped, groups-jumped, unsuspended_by, woken}
+use Rattle.machine.proofs.Waking.{to_wake, due_there, sched-jumped, objects-jumped, groups-jumped, ticks_not_held, woken}
 use Rattle.machine.proofs.machine.Machine.wake_due.Goals as goal
 
 pub make_all_ready-requires-clause-free : goal.make_all_ready-requires-clause-free
@@ -25,10 +24,10 @@ returns-clause-does c = λ log s h.
     (objects-jumped c.args.self.now log s h 1) (rw is (due_there (at_next_tick s))) in
     let gone =
     c.make_all_ready.ensures.gone (at_next_tick s) (groups-jumped c.args.self.now log s h 1) (rw is (due_there (at_next_tick s))) in
-    let none = none_suspends s (sym h.stands.sched.suspensions ∙ c.requires.awake) in
+    let none = ticks_not_held c.args.self.now.sched s h.stands.sched c.requires.depth in
     woken c.args.self.now log s h c.as_slice.result.now c.make_all_ready.new.sched
     c.make_all_ready.new.objects c.advance_into.new.self c.make_all_ready.new.groups is ready
-    left gone (c.advance_into.ensures.woken s h.stands.rest.clock (unsuspended_by s none)) none
+    left gone (c.advance_into.ensures.woken s h.stands.rest.clock none) none
 
 pub returns-clause-leaves : goal.returns-clause-leaves
 returns-clause-leaves c = record {

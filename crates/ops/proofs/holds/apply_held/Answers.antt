@@ -3,20 +3,22 @@ use Rattle.model.specs.Time.{apply_held}
 use Rattle.machine.specs.StandsFor.{At}
 use Rattle.ops.proofs.Calling.{leaves_same, leaves_both}
 use Rattle.ops.proofs.Held.{can_apply, held_left, applied_more}
-use Rattle.ops.proofs.suspension.apply_held.Goals as goal
+use Rattle.ops.proofs.holds.apply_held.Goals as goal
 
 pub loop-init : goal.loop-init
 loop-init c = record { does = λ log s h. h; leaves = leaves_same c.args.machine.now }
 
 pub apply_one-requires-clause-some : goal.apply_one-requires-clause-some
 apply_one-requires-clause-some c =
-    let left = held_left c.args.machine.now c.loop.machine c.requires.can c.loop.counter c.loop.invariant.does in
+    let left =
+    held_left c.args.machine.now c.loop.machine c.requires.can c.loop.counter c.loop.invariant.does c.loop.invariant.leaves in
     let l = c.loop-test.true in
     let e = c.held-end.ensures.held in
     omega arith
 
 pub apply_one-requires-clause-can : goal.apply_one-requires-clause-can
-apply_one-requires-clause-can c = can_apply c.args.machine.now c.loop.machine c.requires.can c.loop.counter c.loop.invariant.does
+apply_one-requires-clause-can c =
+    can_apply c.args.machine.now c.loop.machine c.requires.can c.loop.counter c.loop.invariant.does c.loop.invariant.leaves
 
 pub loop-preserved : goal.loop-preserved
 loop-preserved c = record {

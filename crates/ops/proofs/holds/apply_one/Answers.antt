@@ -1,8 +1,8 @@
-use Rattle.std.proofs.Common.{ap, sym, ◌∙◌, arith, refl}
+use Rattle.std.proofs.Common.{ap, arith, refl}
 use Rattle.clock.specs.Timeline.{Timeline}
-use Rattle.sched.proofs.Standing.{none_suspends}
+use Rattle.machine.proofs.Waking.{ticks_not_held}
 use Rattle.ops.proofs.Held.{released, applied_now}
-use Rattle.ops.proofs.suspension.apply_one.Goals as goal
+use Rattle.ops.proofs.holds.apply_one.Goals as goal
 
 pub advance-requires : goal.advance-requires
 advance-requires c =
@@ -15,14 +15,15 @@ advance-requires c =
       agrees = (_, back.stands);
       free = can.free;
       age = let e = ap (λ (t : Timeline). t.age) c.release.ensures.released in let l = can.age in omega arith;
-      awake = can.awake;
+      depth = can.depth;
     }
 
 pub returns-clause-does : goal.returns-clause-does
 returns-clause-does c = λ log s h.
     let some = c.requires.some in
     let e = h.stands.rest.clock.age in
-    applied_now c.advance.new.self log s (none_suspends s (sym h.stands.sched.suspensions ∙ c.requires.can.awake)) (omega arith)
+    applied_now c.advance.new.self log s
+    (ticks_not_held c.args.machine.now.sched s h.stands.sched c.requires.can.depth) (omega arith)
     (c.advance.ensures.does log _
     (released c.args.machine.now log s h c.release.new.self (c.release.ensures.stands s h.stands.rest.clock)))
 
