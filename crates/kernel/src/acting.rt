@@ -189,19 +189,19 @@ pub(crate) fn act<L: Log>(
         Op::SetBits(group, mask) => {
             return Following::letting_go_if(set_bits(machine, app, task, group, mask, log));
         }
-        Op::WaitBits(group, condition, ticks) => {
+        Op::WaitBits(group, ref condition, ref ticks) => {
             return Following::behind_wait(wait_bits(
-                machine, app, task, group, condition, ticks, log,
+                machine, app, task, group, condition, *ticks, log,
             ));
         }
         Op::End => return Following::op_if(close_turn(machine, app, task)),
         Op::If(condition) => return Following::op_if(branch(machine, app, task, condition)),
-        Op::Value(op) => return Following::answered_if(calculate(machine, app, task, op, log)),
+        Op::Value(ref op) => return Following::answered_if(calculate(machine, app, task, op, log)),
         Op::Do(object, access) => do_by_value(machine, app, task, object, access, log),
-        Op::Notify(other, action) => call_notify(machine, app, task, other, action, log),
-        Op::AwaitNotification(wait, ticks) => {
+        Op::Notify(other, ref action) => call_notify(machine, app, task, other, action, log),
+        Op::AwaitNotification(ref wait, ref ticks) => {
             return Following::letting_go_if(await_notification(
-                machine, app, task, wait, ticks, log,
+                machine, app, task, wait, *ticks, log,
             ));
         }
         _ => return act_seldom(machine, app, task, op, log),

@@ -181,7 +181,7 @@ fn act_on<L: Log>(machine: &mut Machine, app: &App, task: TaskId, op: &Op, log: 
         Op::Mark(value) => {
             mark(machine, app, task, value, log);
         }
-        Op::Value(op) => {
+        Op::Value(ref op) => {
             calculate(machine, app, task, op, log);
         }
         Op::Stamp => {

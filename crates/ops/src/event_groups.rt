@@ -184,23 +184,23 @@ fn begin_bits_wait(
     machine: &mut Machine,
     task: TaskId,
     group: GroupId,
-    condition: Condition,
+    condition: &Condition,
     ticks: Option<u32>,
 )
     requires can { CanDecide machine.old task }
     requires short { IsShort ticks }
     requires some { ticks ≢ Some 0 }
     requires time { machine.old.clock.now + 2 ^ 32 < 2 ^ 63 }
-    ensures does { Moves machine.old machine.new (definitions.begin_bits_wait task group condition ticks) }
+    ensures does { Moves machine.old machine.new (definitions.begin_bits_wait task group condition.now ticks) }
     ensures remains { Remains machine.old machine.new task }
     ensures held { machine.new.sched.depth ≡ 1 }
     ensures reached { (progress_in machine.new.progress task).call.phase ≡ phase.Leave }
 {
     machine.sched.hold();
     machine.set_deadline(task, ticks);
-    machine.want(task, condition);
+    machine.want(task, *condition);
     machine.sched.block(task);
-    machine.groups.place(task, group, condition);
+    machine.groups.place(task, group, *condition);
     place_sleeper_for(&mut machine.clock, ticks, task);
     machine.set_phase(task, Phase::Leave);
 }
@@ -227,7 +227,7 @@ fn check_bits<L: Log>(
     app: &App,
     task: TaskId,
     group: GroupId,
-    condition: Condition,
+    condition: &Condition,
     ticks: Option<u32>,
     log: &mut L,
 ) -> bool
@@ -236,13 +236,13 @@ fn check_bits<L: Log>(
     requires short { IsShort ticks }
     requires time { machine.old.clock.now + 2 ^ 32 < 2 ^ 63 }
     ensures does { Does 1 machine.old (L.logged log.old) machine.new (L.logged log.new)
-        (definitions.check app.now task group condition ticks) }
+        (definitions.check app.now task group condition.now ticks) }
     ensures takes { result ≡ true → TakesHold machine.old machine.new task }
-    ensures unmet { result ≡ true → IsUnmet machine.old group condition ticks }
+    ensures unmet { result ≡ true → IsUnmet machine.old group condition.now ticks }
     ensures silent { result ≡ true → L.logged log.new ≡ L.logged log.old }
 {
-    if need_not_wait_for_bits(machine, group, &condition, ticks) {
-        answer_bits(machine, app, task, group, &condition, log);
+    if need_not_wait_for_bits(machine, group, condition, ticks) {
+        answer_bits(machine, app, task, group, condition, log);
         return false;
     }
     begin_bits_wait(machine, task, group, condition, ticks);
@@ -337,7 +337,7 @@ pub fn wait_bits<L: Log>(
     app: &App,
     task: TaskId,
     group: GroupId,
-    condition: Condition,
+    condition: &Condition,
     ticks: Option<u32>,
     log: &mut L,
 ) -> BitsWait
@@ -345,12 +345,12 @@ pub fn wait_bits<L: Log>(
     requires can { CanAwaitEvent machine.old task ticks
         (progress_in machine.old.progress task).call.phase }
     ensures does { DoesAny 2 machine.old (L.logged log.old) machine.new (L.logged log.new)
-        (act app.now task (op.WaitBits group condition ticks)) }
+        (act app.now task (op.WaitBits group condition.now ticks)) }
     ensures amid { result ≡ wait.Answered → IsPlaced machine.old machine.new task }
     ensures runs { result ≡ wait.Answered → Runs machine.old task }
     ensures start { result ≡ wait.Begun → (progress_in machine.old.progress task).call.phase ≡ phase.Start }
     ensures takes { result ≡ wait.Begun → TakesHold machine.old machine.new task }
-    ensures unmet { result ≡ wait.Begun → IsUnmet machine.old group condition ticks }
+    ensures unmet { result ≡ wait.Begun → IsUnmet machine.old group condition.now ticks }
     ensures silent { result ≡ wait.Begun → L.logged log.new ≡ L.logged log.old }
 {
     match machine.progress(task).call.phase {
@@ -361,6 +361,6 @@ pub fn wait_bits<L: Log>(
             leave_bits_wait(machine, task, log);
             BitsWait::Other
         }
-        _ => BitsWait::answered_if(finish_wait(machine, app, task, group, &condition, log)),
+        _ => BitsWait::answered_if(finish_wait(machine, app, task, group, condition, log)),
     }
 }

@@ -77,13 +77,13 @@ pub fn call_notify<L: Log>(
     app: &App,
     task: TaskId,
     other: TaskId,
-    action: NotifyAction<Value>,
+    action: &NotifyAction<Value>,
     log: &mut L,
 )
     requires room { 2 ≤ (L.logged log.old).room }
-    requires can { Can app.now machine.old task (op.Notify other action) }
+    requires can { Can app.now machine.old task (op.Notify other action.now) }
     ensures { Does 2 machine.old (L.logged log.old) machine.new (L.logged log.new)
-        (act_by_value app.now task (op.Notify other action)) }
+        (act_by_value app.now task (op.Notify other action.now)) }
 {
     let last = machine.progress(task).answer;
     if action.lacks_value(last) {
@@ -102,13 +102,13 @@ fn end_notification_wait<L: Log>(
     machine: &mut Machine,
     app: &App,
     task: TaskId,
-    wait: NotificationWait,
+    wait: &NotificationWait,
     log: &mut L,
 )
     requires room { 1 ≤ (L.logged log.old).room }
     requires runs { Runs machine.old task }
     ensures { Does 1 machine.old (L.logged log.old) machine.new (L.logged log.new)
-        (definitions.end_notification_wait app.now task wait) }
+        (definitions.end_notification_wait app.now task wait.now) }
 {
     let notification = machine.notification(task);
     machine.set_notification(task, wait.left(notification));
@@ -138,11 +138,11 @@ fn begin_notification_wait(machine: &mut Machine, task: TaskId, ticks: Option<u3
 fn need_not_wait(
     machine: &Machine,
     task: TaskId,
-    wait: NotificationWait,
+    wait: &NotificationWait,
     ticks: Option<u32>,
 ) -> bool
     ensures needs { (s : State) → StandsFor machine.now s
-        → result ≡ (definitions.is_there wait (notification_at s task) || option_eq nat_eq ticks (Some 0)) }
+        → result ≡ (definitions.is_there wait.now (notification_at s task) || option_eq nat_eq ticks (Some 0)) }
     ensures some { result ≡ false → ticks ≢ Some 0 }
 {
     wait.is_there(machine.notification(task)) || ticks == Some(0)
@@ -153,7 +153,7 @@ fn check_notification<L: Log>(
     machine: &mut Machine,
     app: &App,
     task: TaskId,
-    wait: NotificationWait,
+    wait: &NotificationWait,
     ticks: Option<u32>,
     log: &mut L,
 ) -> bool
@@ -162,10 +162,10 @@ fn check_notification<L: Log>(
     requires short { IsShort ticks }
     requires time { machine.old.clock.now + 2 ^ 32 < 2 ^ 63 }
     ensures does { Does 1 machine.old (L.logged log.old) machine.new (L.logged log.new)
-        (definitions.check_notification app.now task wait ticks) }
+        (definitions.check_notification app.now task wait.now ticks) }
     ensures takes { result ≡ true → TakesHold machine.old machine.new task }
     ensures unmet { result ≡ true → (s : State) → StandsFor machine.old s
-        → (definitions.is_there wait (notification_at s task) || option_eq nat_eq ticks (Some 0)) ≡ false }
+        → (definitions.is_there wait.now (notification_at s task) || option_eq nat_eq ticks (Some 0)) ≡ false }
     ensures silent { result ≡ true → L.logged log.new ≡ L.logged log.old }
 {
     if need_not_wait(machine, task, wait, ticks) {
@@ -183,17 +183,17 @@ pub fn await_notification<L: Log>(
     machine: &mut Machine,
     app: &App,
     task: TaskId,
-    wait: NotificationWait,
+    wait: &NotificationWait,
     ticks: Option<u32>,
     log: &mut L,
 ) -> bool
     requires room { 2 ≤ (L.logged log.old).room }
     requires can { CanAwaitEvent machine.old task ticks (progress_in machine.old.progress task).call.phase }
     ensures does { DoesAny 2 machine.old (L.logged log.old) machine.new (L.logged log.new)
-        (act app.now task (op.AwaitNotification wait ticks)) }
+        (act app.now task (op.AwaitNotification wait.now ticks)) }
     ensures start { result ≡ true → (progress_in machine.old.progress task).call.phase ≡ phase.Start }
     ensures takes { result ≡ true → TakesHold machine.old machine.new task }
-    ensures unmet { result ≡ true → IsUnnotified machine.old task wait ticks }
+    ensures unmet { result ≡ true → IsUnnotified machine.old task wait.now ticks }
     ensures silent { result ≡ true → L.logged log.new ≡ L.logged log.old }
 {
     match machine.progress(task).call.phase {

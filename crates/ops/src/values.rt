@@ -79,21 +79,21 @@ pub fn calculate<L: Log>(
     machine: &mut Machine,
     app: &App,
     task: TaskId,
-    values: ValueOp,
+    values: &ValueOp,
     log: &mut L,
 ) -> bool
     requires room { 1 ≤ (L.logged log.old).room }
     requires runs { Runs machine.old task }
     ensures does { Does 1 machine.old (L.logged log.old) machine.new (L.logged log.new)
-        (act_by_value app.now task (op.Value values)) }
+        (act_by_value app.now task (op.Value values.now)) }
     ensures amid { result ≡ true → IsPlaced machine.old machine.new task }
 {
-    let Some(number) = answer_of(machine, task, values) else {
+    let Some(number) = answer_of(machine, task, *values) else {
         fail_check(machine, task);
         return false;
     };
-    if let ValueOp::Store(_, _) = values {
-        machine.store(values, Some(number));
+    if let ValueOp::Store(_, _) = *values {
+        machine.store(*values, Some(number));
         machine.answer(app, task, number, log);
         false
     } else {

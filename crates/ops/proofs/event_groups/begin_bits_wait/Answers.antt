@@ -19,7 +19,7 @@ place-requires c =
     let w =
     wanting c.args.machine.now s.log s (record { stands = h; log = refl }) c.args.task c.requires.can c.hold.new.self
     c.hold.ensures.calm c.hold.ensures.schedule (λ free. c.hold.ensures.stands s h.sched free) c.set_deadline.new.self
-    c.args.ticks c.set_deadline.ensures.does c.set_deadline.ensures.parts.0 c.want.new.self c.args.condition c.want.ensures in
+    c.args.ticks c.set_deadline.ensures.does c.set_deadline.ensures.parts.0 c.want.new.self c.args.condition.now c.want.ensures in
     record { free = w.free }
 
 pub place_sleeper_for-requires-clause-awake : goal.place_sleeper_for-requires-clause-awake
@@ -29,7 +29,7 @@ place_sleeper_for-requires-clause-awake c =
     let w =
     wanting c.args.machine.now s.log s (record { stands = h; log = refl }) c.args.task c.requires.can c.hold.new.self
     c.hold.ensures.calm c.hold.ensures.schedule (λ free. c.hold.ensures.stands s h.sched free) c.set_deadline.new.self
-    c.args.ticks c.set_deadline.ensures.does c.set_deadline.ensures.parts.0 c.want.new.self c.args.condition c.want.ensures in
+    c.args.ticks c.set_deadline.ensures.does c.set_deadline.ensures.parts.0 c.want.new.self c.args.condition.now c.want.ensures in
     w.awake
 
 pub returns-clause-does : goal.returns-clause-does
@@ -39,9 +39,9 @@ returns-clause-does c = λ log s h.
     let w =
     wanting c.args.machine.now log s h i c.requires.can c.hold.new.self c.hold.ensures.calm c.hold.ensures.schedule
     (λ free. c.hold.ensures.stands s h.stands.sched free) c.set_deadline.new.self c.args.ticks
-    c.set_deadline.ensures.does c.set_deadline.ensures.parts.0 c.want.new.self c.args.condition c.want.ensures in
+    c.set_deadline.ensures.does c.set_deadline.ensures.parts.0 c.want.new.self c.args.condition.now c.want.ensures in
     let deadline = ap (λ (x : Machine). (progress_in x.progress i).call.deadline) c.want.ensures
-    ∙ deadline_in (Some c.args.condition) c.set_deadline.new.self.progress i
+    ∙ deadline_in (Some c.args.condition.now) c.set_deadline.new.self.progress i
     ∙ c.set_deadline.ensures.deadline in
     let now = ap (λ (x : Machine). x.clock.now) c.want.ensures ∙ ap (λ (t : Timeline). t.now) c.set_deadline.ensures.clock in
     let until = ap (λ (m : ℕ). option_map (λ n. m + n) c.args.ticks) now ∙ sym deadline in
@@ -60,7 +60,7 @@ returns-clause-reached c =
     let w =
     wanting c.args.machine.now s.log s (record { stands = h; log = refl }) i c.requires.can c.hold.new.self
     c.hold.ensures.calm c.hold.ensures.schedule (λ free. c.hold.ensures.stands s h.sched free) c.set_deadline.new.self
-    c.args.ticks c.set_deadline.ensures.does c.set_deadline.ensures.parts.0 c.want.new.self c.args.condition c.want.ensures in
+    c.args.ticks c.set_deadline.ensures.does c.set_deadline.ensures.parts.0 c.want.new.self c.args.condition.now c.want.ensures in
     let there : i < length c.want.new.self.progress =
     (let n = w.at.stands.rest.full in let few = w.at.stands.sched.table.few in
     let m = within c.want.new.self s.log _ w.at i w.runs in omega arith) in

@@ -6,7 +6,7 @@ pub returns-then-need_not_wait_for_bits-clause-does : goal.returns-then-need_not
 returns-then-need_not_wait_for_bits-clause-does g c = record {
   at = λ s h.
       checked c.args.app.now c.answer_bits.new.machine (g.L.Log.logged c.answer_bits.new.log).told
-      s c.args.task c.args.group c.args.condition c.args.ticks
+      s c.args.task c.args.group c.args.condition.now c.args.ticks
       (sym (c.if-need_not_wait_for_bits.ensures.needs s h.stands)) (c.answer_bits.ensures.at s h);
   few = c.answer_bits.ensures.few;
   before = c.answer_bits.ensures.before;
@@ -16,7 +16,7 @@ pub returns-clause-does : goal.returns-clause-does
 returns-clause-does g c = record {
   at = λ s h.
       checked_not c.args.app.now c.begin_bits_wait.new.machine (g.L.Log.logged c.args.log.now).told
-      s c.args.task c.args.group c.args.condition c.args.ticks
+      s c.args.task c.args.group c.args.condition.now c.args.ticks
       (sym (c.if-need_not_wait_for_bits.ensures.needs s h.stands)) (c.begin_bits_wait.ensures.does _ s h);
   few = omega arith;
   before = refl;

@@ -20,7 +20,7 @@ returns-in-Start-clause-does g c =
     let new = c.check_bits.new.machine in
     let log = g.L.Log.logged c.args.log.now in
     let after = g.L.Log.logged c.check_bits.new.log in
-    wait_in_phase c.args.app.now old new log after c.args.task c.args.group c.args.condition c.args.ticks Start e
+    wait_in_phase c.args.app.now old new log after c.args.task c.args.group c.args.condition.now c.args.ticks Start e
     (does_more 1 2 old new log after _ (omega arith) (does_any 1 old new log after _ can.0.agrees c.check_bits.ensures.does))
 
 pub leave_bits_wait-requires : goal.leave_bits_wait-requires
@@ -39,7 +39,7 @@ returns-in-Leave-clause-does g c =
     let new = c.leave_bits_wait.new.machine in
     let log = g.L.Log.logged c.args.log.now in
     let after = g.L.Log.logged c.leave_bits_wait.new.log in
-    wait_in_phase c.args.app.now old new log after c.args.task c.args.group c.args.condition c.args.ticks Leave e
+    wait_in_phase c.args.app.now old new log after c.args.task c.args.group c.args.condition.now c.args.ticks Leave e
     (does_more 1 2 old new log after _ (omega arith) (does_any 1 old new log after _ can.call.agrees c.leave_bits_wait.ensures))
 
 pub finish_wait-requires : goal.finish_wait-requires
@@ -62,7 +62,7 @@ returns-in_default-clause-does g c =
     let log = g.L.Log.logged c.args.log.now in
     let after = g.L.Log.logged c.finish_wait.new.log in
     wait_at_last c.args.app.now old new log after c.args.task c.args.group
-    c.args.condition c.args.ticks _ e c.in_default.not-Start c.in_default.not-Leave
+    c.args.condition.now c.args.ticks _ e c.in_default.not-Start c.in_default.not-Leave
     (does_more 1 2 old new log after _ (omega arith) (does_any 1 old new log after _ agrees c.finish_wait.ensures.does))
 
 pub returns-in_default-clause-runs : goal.returns-in_default-clause-runs

@@ -40,13 +40,13 @@ returns-in-Start-clause-does g c =
     let new = c.check_notification.new.machine in
     let log = g.L.Log.logged c.args.log.now in
     let after = g.L.Log.logged c.check_notification.new.log in
-    notice_in_phase c.args.app.now old new log after i c.args.wait c.args.ticks Start e
+    notice_in_phase c.args.app.now old new log after i c.args.wait.now c.args.ticks Start e
     (does_more 1 2 old new log after _ (omega arith) (does_any 1 old new log after _ can.agrees (record {
       at = λ s h.
-          let same : c.entered.result ≡ entered c.args.wait (notification_at s i) =
-          c.entered.ensures ∙ ap (entered c.args.wait) (c.notification-notification.ensures.state s (Placed h.stands)) in
+          let same : c.entered.result ≡ entered c.args.wait.now (notification_at s i) =
+          c.entered.ensures ∙ ap (entered c.args.wait.now) (c.notification-notification.ensures.state s (Placed h.stands)) in
           subst (λ (n : Notification).
-          At new after.told (check_notification c.args.app.now i c.args.wait c.args.ticks (with_notification i n s))) same
+          At new after.told (check_notification c.args.app.now i c.args.wait.now c.args.ticks (with_notification i n s))) same
           (c.check_notification.ensures.does.at _ (c.set_notification.ensures.does _ s h));
       few = c.check_notification.ensures.does.few;
       before = c.check_notification.ensures.does.before;
@@ -68,7 +68,7 @@ returns-in-Leave-clause-does g c =
     let new = c.leave_bits_wait.new.machine in
     let log = g.L.Log.logged c.args.log.now in
     let after = g.L.Log.logged c.leave_bits_wait.new.log in
-    notice_in_phase c.args.app.now old new log after c.args.task c.args.wait c.args.ticks Leave e
+    notice_in_phase c.args.app.now old new log after c.args.task c.args.wait.now c.args.ticks Leave e
     (does_more 1 2 old new log after _ (omega arith) (does_any 1 old new log after _ can.call.agrees c.leave_bits_wait.ensures))
 
 pub end_notification_wait-requires : goal.end_notification_wait-requires
@@ -90,7 +90,7 @@ returns-in_default-clause-does g c =
     let new = c.end_notification_wait.new.machine in
     let log = g.L.Log.logged c.args.log.now in
     let after = g.L.Log.logged c.end_notification_wait.new.log in
-    notice_at_last c.args.app.now old new log after c.args.task c.args.wait c.args.ticks _ e
+    notice_at_last c.args.app.now old new log after c.args.task c.args.wait.now c.args.ticks _ e
     c.in_default.not-Start c.in_default.not-Leave
     (does_more 1 2 old new log after _ (omega arith) (does_any 1 old new log after _ agrees c.end_notification_wait.ensures))
 
@@ -115,9 +115,9 @@ returns-in-Start-clause-takes g c = λ waits.
 pub returns-in-Start-clause-unmet : goal.returns-in-Start-clause-unmet
 returns-in-Start-clause-unmet g c = λ waits s h.
     let i = c.args.task in
-    let same : c.entered.result ≡ entered c.args.wait (notification_at s i) =
-    c.entered.ensures ∙ ap (entered c.args.wait) (c.notification-notification.ensures.state s (Placed h)) in
+    let same : c.entered.result ≡ entered c.args.wait.now (notification_at s i) =
+    c.entered.ensures ∙ ap (entered c.args.wait.now) (c.notification-notification.ensures.state s (Placed h)) in
     let there = (c.set_notification.ensures.does _ s (record { stands = h; log = refl })).stands in
     subst (λ (n : Notification).
-    (is_there c.args.wait (notification_at (with_notification i n s) i) || option_eq eqb c.args.ticks (Some 0)) ≡ false) same
+    (is_there c.args.wait.now (notification_at (with_notification i n s) i) || option_eq eqb c.args.ticks (Some 0)) ≡ false) same
     (c.check_notification.ensures.unmet waits _ there)

@@ -6,7 +6,7 @@ pub returns-then-need_not_wait-clause-does : goal.returns-then-need_not_wait-cla
 returns-then-need_not_wait-clause-does g c = record {
   at = λ s h.
       over_at c.args.app.now c.end_notification_wait.new.machine (g.L.Log.logged c.end_notification_wait.new.log).told
-      s c.args.task c.args.wait c.args.ticks (sym (c.if-need_not_wait.ensures.needs s h.stands))
+      s c.args.task c.args.wait.now c.args.ticks (sym (c.if-need_not_wait.ensures.needs s h.stands))
       (c.end_notification_wait.ensures.at s h);
   few = c.end_notification_wait.ensures.few;
   before = c.end_notification_wait.ensures.before;
@@ -16,7 +16,7 @@ pub returns-clause-does : goal.returns-clause-does
 returns-clause-does g c = record {
   at = λ s h.
       waiting_at c.args.app.now c.begin_notification_wait.new.machine (g.L.Log.logged c.args.log.now).told
-      s c.args.task c.args.wait c.args.ticks (sym (c.if-need_not_wait.ensures.needs s h.stands))
+      s c.args.task c.args.wait.now c.args.ticks (sym (c.if-need_not_wait.ensures.needs s h.stands))
       (c.begin_notification_wait.ensures.does _ s h);
   few = omega arith;
   before = refl;

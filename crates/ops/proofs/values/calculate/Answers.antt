@@ -14,7 +14,7 @@ pub returns-in-Store-clause-does : goal.returns-in-Store-clause-does
 returns-in-Store-clause-does g c = record {
   at = λ s h.
       stores_at c.args.app.now c.answer.new.self (g.L.Log.logged c.answer.new.log).told s c.args.task c.in-Some.number
-      c.args.values (c.in-Some.ensures s (Placed h.stands)) (c.answer.ensures.does.at _ (c.store.ensures.does _ s h));
+      c.args.values.now (c.in-Some.ensures s (Placed h.stands)) (c.answer.ensures.does.at _ (c.store.ensures.does _ s h));
   few = c.answer.ensures.does.few;
   before = c.answer.ensures.does.before;
 }
@@ -24,7 +24,7 @@ returns-in_default-values g c = record {
   does = record {
     at = λ s h.
         answers_at c.args.app.now c.answer-in_default-values.new.self (g.L.Log.logged c.answer-in_default-values.new.log).told s
-        c.args.task c.in-Some.number c.args.values c.in_default-values.not-Store (c.in-Some.ensures s (Placed h.stands))
+        c.args.task c.in-Some.number c.args.values.now c.in_default-values.not-Store (c.in-Some.ensures s (Placed h.stands))
         (c.answer-in_default-values.ensures.does.at s h);
     few = c.answer-in_default-values.ensures.does.few;
     before = c.answer-in_default-values.ensures.does.before;
