@@ -21,6 +21,7 @@ pub mod Going
 pub mod Obeyed
 pub mod Acted
 pub mod Stepped
+pub mod Ticked
 pub mod Reached
 pub mod Idling
 pub mod Pending

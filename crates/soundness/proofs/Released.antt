@@ -21,7 +21,7 @@ ready_not_due now (WaitingForNotification m d) r t = absurd (cc)
 ready_not_due now Suspended r t = absurd (cc)
 ready_not_due now Ended r t = absurd (cc)
 
-due_apart : (s : State) (i : ℕ) → is_ready s i ≡ true → (es : List Entry)
+pub due_apart : (s : State) (i : ℕ) → is_ready s i ≡ true → (es : List Entry)
     → AllByRecursion (λ j. j ≢ i) (tasks_of (filter (is_due s) es))
 due_apart s i r [] = tt
 due_apart s i r (e ∷ es) = by_test (is_due s e)
@@ -34,7 +34,7 @@ due_apart s i r (e ∷ es) = by_test (is_due s e)
     ))
     (λ t. rw t (due_apart s i r es))
 
-all_but : (js : List ℕ) (i : ℕ) (s : State) → AllByRecursion (λ j. j ≢ i) js → task_at (for_each make_ready js s) i ≡ task_at s i
+pub all_but : (js : List ℕ) (i : ℕ) (s : State) → AllByRecursion (λ j. j ≢ i) js → task_at (for_each make_ready js s) i ≡ task_at s i
 all_but [] i s h = refl
 all_but (j ∷ js) i s h =
     all_but js i (make_ready j s) h.1

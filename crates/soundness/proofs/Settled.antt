@@ -9,7 +9,7 @@ use Rattle.model.specs.State.{State, Status, Ready, Awake, Waiting, Asleep, Wait
 use Rattle.model.specs.State.{Ended, ticket_if_ready, task_at, for_one}
 use Rattle.model.specs.Order.{Key, Entry, key, first, task_of}
 use Rattle.model.specs.Switching.{ready_key, ready_list, is_ready, to_back, choice, is_same, choose, dispatch, yield_now}
-use Rattle.model.specs.Switching.{is_outranked, preempt, is_off, settle, is_held, is_held_by_task, unless_held}
+use Rattle.model.specs.Switching.{is_outranked, is_sharing, preempt, slice, is_off, settle, is_held, is_held_by_task, unless_held}
 use Rattle.model.specs.Switching.{is_scheduler_suspended, is_critical, holds_ticks}
 use Rattle.model.specs.Invariant.{Hold, hold_of, Suspension, suspension_of}
 use Rattle.model.specs.declared.plan.Injection.{Injection}
@@ -61,6 +61,12 @@ settled-settle s = by_test (is_off s s.current)
 pub settled-preempt : (s : State) → IsSettled s → IsSettled (preempt s)
 unfolding preempt yield_now
 settled-preempt s h = by_test (is_outranked s)
+    (λ t. rw t (settled-choose (for_one to_back s.current s)))
+    (λ t. rw t h)
+
+pub settled-slice : (s : State) → IsSettled s → IsSettled (slice s)
+unfolding slice yield_now
+settled-slice s h = by_test (is_outranked s || is_sharing s)
     (λ t. rw t (settled-choose (for_one to_back s.current s)))
     (λ t. rw t h)
 

@@ -154,18 +154,18 @@ module _ (app : Application) (formed : IsWellFormed app) where
 
   -- where nothing holds the scheduler
   module _ (s : State) (h : IsState app s) (none : is_held s ≡ false) where
-    no_call_holds : s.call_hold ≡ false
+    pub no_call_holds : s.call_hold ≡ false
     no_call_holds = (nothing_holds s none).0
 
-    calm_now : suspension_of s ≡ unsuspended
+    pub calm_now : suspension_of s ≡ unsuspended
     calm_now =
         let off = nothing_holds s none in calm_where s (no_task_holds s none) (h.held (ticks_free s off.0 off.1))
 
-  hold_none : (s : State) → IsState app s → s.call_hold ≡ false → hold_of s ≡ free
+  pub hold_none : (s : State) → IsState app s → s.call_hold ≡ false → hold_of s ≡ free
   hold_none s h none =
       ap (λ l. record { held = s.call_hold; locked = l }) (h.locked none) ∙ ap (λ b. record { held = b; locked = None }) none
 
-  sound_free : (s : State) → IsState app s → s.call_hold ≡ false → IsSound app free s
+  pub sound_free : (s : State) → IsState app s → s.call_hold ≡ false → IsSound app free s
   sound_free s h none = subst (λ x. IsSound app x s) (hold_none s h none) h.sound
 
   -- a step that changes no more than the end
