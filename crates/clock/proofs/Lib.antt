@@ -6,3 +6,4 @@ pub mod Taking
 pub mod Unmoved
 pub mod Nearest
 pub mod WakeTicks
+pub mod Unslept

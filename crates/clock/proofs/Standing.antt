@@ -31,7 +31,7 @@ use Rattle.lists.specs.Lists.{Each, EachOnce, IsSorted, has_node, insert_sorted,
 use Rattle.lists.proofs.Entries.{EachOnce-insert_sorted, EachOnce-without, IsSorted-insert_sorted, IsSorted-without, Each-imp}
 use Rattle.lists.proofs.Entries.{apart_from_test, has_node-other, has_node-same, has_node-without_other, has_or_not}
 use Rattle.lists.proofs.Entries.{insert_sorted-after, insert_sorted-before, without-apart, without-same}
-use Rattle.clock.specs.Timeline.{Advances, Jumps, Timeline, all_until, is_asleep}
+use Rattle.clock.specs.Timeline.{Advances, Jumps, Timeline, all_until, is_asleep, timeline_of}
 use Rattle.clock.specs.StandsFor.{StandsFor, StandsBefore, before_held, at_next_tick, at_jump, at_time, tasks_at, with_deadline}
 
 -- the tasks that sleep until a time
@@ -413,6 +413,13 @@ stands_advanced old new s ds a h free = rw free (stands_jumped 1 old new s ds a 
 abbrev pub holding : Timeline → ℕ → Timeline
 holding t held = record t { held = held }
 
+-- Another number is held, which is made of the one before.
+pub held_now : (ls : List (List (ℕ × ℕ))) (age base tick current overflow held n : ℕ) (old : Timeline)
+    → timeline_of ls age held base tick current overflow ≡ old → (f : ℕ → ℕ) → n ≡ f held
+    → timeline_of ls age n base tick current overflow ≡ holding old (f old.held)
+held_now ls age base tick current overflow held n old is f e =
+    ap (λ (m : ℕ). timeline_of ls age m base tick current overflow) e ∙ ap (λ (t : Timeline). holding t (f t.held)) is
+
 -- a tick comes and is held
 pub stands_held : (t : Timeline) (s : State) → StandsFor t s
     → holds_ticks s ≡ true → StandsFor (holding t (t.held + 1)) (increment_tick s)
@@ -426,6 +433,23 @@ stands_held t s h on =
       sorted = h.sorted;
       once = h.once;
       delayed = h.delayed;
+      table = record { tickets = h.table.tickets; few = h.table.few; current = h.table.current; holders = h.table.holders };
+    })
+
+-- so it does while a task is still to be placed
+pub before_tick_held : (t : Timeline) (s : State) (task : ℕ) (deadline : Option ℕ) → StandsBefore task deadline t s
+    → holds_ticks s ≡ true → StandsBefore task deadline (holding t (t.held + 1)) (increment_tick s)
+unfolding increment_tick
+before_tick_held t s task deadline h on =
+    let age = h.age in
+    rw on (record {
+      now = h.now;
+      age = omega (arith, age);
+      held = ap (λ (n : ℕ). n + 1) h.held;
+      sorted = h.sorted;
+      once = h.once;
+      delayed = h.delayed;
+      awake = h.awake;
       table = record { tickets = h.table.tickets; few = h.table.few; current = h.table.current; holders = h.table.holders };
     })
 

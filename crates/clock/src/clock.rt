@@ -22,6 +22,47 @@ pub struct Mark {
     pub moment: u64,
 }
 
+/// How many ticks are held, 0 to 2^62.
+#[derive(Clone, Copy, PartialEq, Eq)]
+struct HeldTicks {
+    number: u64,
+}
+
+// Clauses see the number.
+impl Model for HeldTicks {
+    ghost use Rattle.std.specs.Prelude.{ℕ, ◌≤◌, ◌^◌};
+
+    ghost Value = { ℕ };
+
+    ghost view = { λ held. held.number };
+
+    ghost invariant = { λ held. held.number ≤ 2 ^ 62 };
+
+    ghost inverse = { λ number. record { number = number } };
+}
+
+impl HeldTicks {
+    /// One more: there are less than 2^62.
+    fn one_more(self) -> Self
+        requires { self < 2 ^ 62 }
+        ensures { result ≡ self + 1 }
+    {
+        HeldTicks {
+            number: self.number + 1,
+        }
+    }
+
+    /// One less: there is one.
+    fn one_less(self) -> Self
+        requires { 0 < self }
+        ensures { result ≡ self - 1 }
+    {
+        HeldTicks {
+            number: self.number - 1,
+        }
+    }
+}
+
 /// A tick of 32 bits with two lists of sleepers: those until a tick of this turn of the 32 bits,
 /// and those until one of the next turn. The lists are swapped when the tick becomes 0.
 ///
@@ -32,7 +73,7 @@ pub struct Clock {
     lists: TaskLists<2, 34>,
     age: u64,
     /// The ticks that have come and wait to be applied.
-    held: u32,
+    held: HeldTicks,
     overflows: u32,
     tick: u32,
     current: ListId,
@@ -64,7 +105,7 @@ impl Clock {
         Clock {
             lists: TaskLists::new(),
             age: 0,
-            held: 0,
+            held: HeldTicks { number: 0 },
             overflows: 0,
             tick: start,
             current: ListId { number: 0 },
@@ -166,22 +207,27 @@ impl Clock {
     }
 
     /// The ticks that have come and wait to be applied (`xPendedTicks`).
-    pub fn held(&self) -> u32
+    pub fn held(&self) -> u64
         ensures held { result ≡ self.now.held }
     {
-        self.held
+        self.held.number
     }
 
     /// Holds a tick that comes while a call or a `suspend_all` holds the scheduler: it waits to be applied, and the time stays
-    /// (`xTaskIncrementTick`). Before the call less than 4294967295 ticks are held.
+    /// (`xTaskIncrementTick`). Before the call less than 2^62 ticks are held.
     pub fn hold_tick(&mut self)
-        requires { self.old.held < 4294967295 }
+        requires { self.old.held < 2 ^ 62 }
         ensures held { self.new ≡ record self.old { held = self.old.held + 1 } }
-        // In the definitions, where ticks are held, this one has come.
+        // In the definitions this tick has come if ticks are held,
         ensures stands { (s : State) → StandsFor self.old s → holds_ticks s ≡ true
             → StandsFor self.new (time.increment_tick s) }
+        // also while a task is still to be placed.
+        ensures placing { (s : State) (task : ℕ) (deadline : Option ℕ)
+            → StandsBefore task deadline self.old s → holds_ticks s ≡ true
+            → StandsBefore task deadline self.new (time.increment_tick s) }
     {
-        self.held += 1;
+        let held = self.held.one_more();
+        self.held = held;
     }
 
     /// Gives back one of the held ticks, of which there is one, as if it hadn't come: `advance` then applies it
@@ -192,7 +238,8 @@ impl Clock {
         // In the definitions the last of them hasn't come.
         ensures stands { (s : State) → StandsFor self.old s → StandsFor self.new (before_held s) }
     {
-        self.held -= 1;
+        let held = self.held.one_less();
+        self.held = held;
     }
 
     /// The ticks since `new`, with those that are held (`hold_tick`).
@@ -200,7 +247,7 @@ impl Clock {
         ensures elapsed { result ≡ self.now.age + self.now.held }
         ensures stands { (s : State) → StandsFor self.now s → result ≡ s.elapsed }
     {
-        self.age + self.held as u64
+        self.age + self.held.number
     }
 
     /// Whether nobody sleeps.
@@ -434,5 +481,21 @@ impl Clock {
             mem::swap(&mut self.current, &mut self.overflow);
         }
         take_due(&mut self.lists, self.current, tick, due);
+    }
+
+    /// Lets this many ticks pass at once while nobody sleeps, as an idle that has slept through them does (`vTaskStepTick`). After the
+    /// call the age is 2^62 ticks at most. Ticks that are held stay held.
+    pub fn jump_unslept(&mut self, ticks: u64)
+        requires quiet { self.old.delayed_list ≡ [] }
+        requires age { self.old.age + ticks ≤ 2 ^ 62 }
+        ensures jumps { Jumps ticks self.old self.new [] }
+        // In the definitions nobody is due then, and the ticks have come.
+        ensures due { (s : State) → StandsFor self.old s → [] ≡ tasks_of (time.due (at_jump ticks s)) }
+        ensures woken { (s : State) → StandsFor self.old s → StandsFor self.new (time.jump ticks s) }
+    {
+        self.age += ticks;
+        let tick = self.tick as u64 + ticks;
+        self.overflows += (tick / (1 << 32)) as u32;
+        self.tick = (tick % (1 << 32)) as u32;
     }
 }

@@ -1,5 +1,5 @@
--- Interrupt handlers: they do their ops without waiting, before a step or at a tick.
-use Rattle.std.specs.Prelude.{ℕ, zero, suc, ◌+◌, ◌-◌, Bool, true, false, not, min, List, [], ◌∷◌, ◌++◌, Option, Some, None, nat_lt}
+-- Interrupts: handlers do their ops without waiting, before a step or at a tick, and the tick itself is one.
+use Rattle.std.specs.Prelude.{ℕ, zero, suc, ◌+◌, ◌-◌, ◌==◌, Bool, true, false, not, max, min, List, [], ◌∷◌, ◌++◌, Option, Some, None, nat_lt}
 use Rattle.std.specs.Prelude.{if◌then◌else◌, map, filter, fold, filter_map, option_map, length, is_none}
 use Rattle.std.specs.List.{range_with_len}
 use Rattle.model.specs.declared.op.IsrOp.{IsrOp}
@@ -88,32 +88,6 @@ isr_each app handler op_index zero answer (op ∷ ops) s =
 unfoldable pub handle : Application → ℕ → State → State
 handle app handler s = isr_each app handler 0 0 None (ops_of app handler) s
 
--- A handler comes: it runs, and a higher task may run after it (`portYIELD_FROM_ISR`).
-unfoldable pub serve : Application → ℕ → State → State
-serve app handler s = unless_held preempt (handle app handler s)
-
--- An injected handler comes.
-unfoldable pub inject : Application → ℕ → State → State
-inject app handler s = serve app handler s
-
--- ---- pending handlers
-
--- The handler is pending; one that is so already stays so, once.
-abbrev pub pend : ℕ → State → State
-pend handler s = with_source handler (record (source_at s handler) { pending = true }) s
-
--- those that are pending, in the order of the file
-abbrev pub pending_of : State → List ℕ
-pending_of s = filter (λ source. (source_at s source).pending) (range_with_len 0 (length s.sources))
-
--- Nothing is pending any more.
-abbrev pub none_pending : State → State
-none_pending s = record s { sources = map (λ (x : Source). record x { pending = false }) s.sources }
-
--- All that are pending come, one after another.
-unfoldable pub serve_pending : Application → State → State
-serve_pending app s = for_each (serve app) (pending_of s) (none_pending s)
-
 -- ---- ticks
 
 -- The base interrupts of this tick come, in the order of the file.
@@ -124,6 +98,38 @@ interrupt app s = for_each (handle app) (interrupts_at app s.elapsed) s
 -- `xPortSysTickHandler`).
 unfoldable pub tick_interrupt : Application → State → State
 tick_interrupt app s = unless_held slice (interrupt app (increment_tick s))
+
+-- ---- injected interrupts
+
+-- The tick is an interrupt source too: its number comes after those of the handlers.
+abbrev pub is_tick : Application → ℕ → Bool
+is_tick app source = source == length app.handlers
+
+-- An interrupt comes: the tick, or a handler, which runs, and after which a higher task may run (`portYIELD_FROM_ISR`).
+unfoldable pub serve : Application → ℕ → State → State
+serve app source s = if is_tick app source then tick_interrupt app s else unless_held preempt (handle app source s)
+
+-- An injected interrupt comes.
+unfoldable pub inject : Application → ℕ → State → State
+inject app source s = serve app source s
+
+-- ---- pending interrupts
+
+-- The interrupt is pending; one that is so already stays so, once.
+abbrev pub pend : ℕ → State → State
+pend source s = with_source source (record (source_at s source) { pending = true }) s
+
+-- those that are pending: the handlers in the order of the file, and then the tick
+abbrev pub pending_of : State → List ℕ
+pending_of s = filter (λ source. (source_at s source).pending) (range_with_len 0 (length s.sources))
+
+-- Nothing is pending any more.
+abbrev pub none_pending : State → State
+none_pending s = record s { sources = map (λ (x : Source). record x { pending = false }) s.sources }
+
+-- All that are pending come, one after another.
+unfoldable pub serve_pending : Application → State → State
+serve_pending app s = for_each (serve app) (pending_of s) (none_pending s)
 
 -- ---- idle
 
@@ -136,9 +142,10 @@ abbrev pub ticks_to_interrupt : Application → State → List ℕ
 ticks_to_interrupt app s =
     map (λ (i : Interrupt). i.tick - s.elapsed) (filter (λ (i : Interrupt). nat_lt s.elapsed i.tick) app.interrupts)
 
--- how many it is until the first of these, or until the limit is reached, if that is sooner
+-- How many it is until the first of these, or until the limit is reached, if that is sooner. It is one at least: a tick that is
+-- injected into this step may have reached the limit.
 abbrev pub ticks_ahead : Application → Limits → State → ℕ
-ticks_ahead app limits s = fold min (limits.ticks - s.elapsed) (ticks_to_wake s ++ ticks_to_interrupt app s)
+ticks_ahead app limits s = max 1 (fold min (limits.ticks - s.elapsed) (ticks_to_wake s ++ ticks_to_interrupt app s))
 
 -- Idle lets a tick pass. In an application that is tickless it lets all pass up to the next thing to happen. With the last of
 -- them its base interrupts come, and a switch if one is due.

@@ -189,17 +189,17 @@ abbrev pub act_current : Application → Limits → Option ℕ → State → Sta
 act_current app limits None s = idle app limits s
 act_current app limits (Some task) s = act_if app task (op_at app task (progress_at s task).op_index) s
 
--- These handlers are injected, one after another. While a critical section is open they become pending. Otherwise those come that
+-- These interrupts are injected, one after another. While a critical section is open they become pending. Otherwise those come that
 -- are pending, and then these.
 abbrev pub come_before : Application → List ℕ → State → State
-come_before app handlers s =
-    if is_critical s then for_each pend handlers s else for_each (inject app) handlers (serve_pending app s)
+come_before app sources s =
+    if is_critical s then for_each pend sources s else for_each (inject app) sources (serve_pending app s)
 
 -- That is how a step begins, which has reported nothing yet.
 unfoldable pub before_step : Application → List ℕ → State → State
 before_step app handlers s = come_before app handlers (record s { log = [] })
 
--- A step. The injected handlers run, and then the running task or idle acts. Where that leaves the running task not
+-- A step. The injected interrupts come, and then the running task or idle acts. Where that leaves the running task not
 -- Ready, the choice runs, unless the scheduler is held.
 unfoldable pub step : Application → Limits → List ℕ → State → State
 step app limits handlers s =

@@ -44,7 +44,7 @@ fn apply_tick(rt: &impl Abort, clock: &mut Clock, expected: &[TaskId]) {
 }
 
 /// Compares the tick, how many ticks have passed, and how many are held.
-fn shows(rt: &impl Abort, clock: &Clock, tick: u32, age: u64, held: u32) {
+fn shows(rt: &impl Abort, clock: &Clock, tick: u32, age: u64, held: u64) {
     assert!(rt; clock.tick() == tick, "the tick is {tick}");
     assert!(rt; clock.age() == age, "{age} ticks have passed");
     assert!(rt; clock.held() == held, "{held} ticks are held");

@@ -49,8 +49,7 @@ use Rattle.model.specs.Daemon.{item_of, received, take_command, obeyed, clear_by
 use Rattle.model.specs.Mutexes.{set_priority, mutexes_held, raise, inherits, inherit_from, inherit, best_priority, fall_back}
 use Rattle.model.specs.Mutexes.{after_timeout, disinherit, give_mutex, note_inherited}
 use Rattle.model.specs.Invariant.{hold_of, suspension_of}
-use Rattle.model.specs.Handlers.{isr_told, isr, isr_answer, isr_jump, is_failed, isr_each, handle, serve, inject, interrupt}
-use Rattle.model.specs.Handlers.{pend, pending_of, none_pending, serve_pending}
+use Rattle.model.specs.Handlers.{isr_told, isr, isr_answer, isr_jump, is_failed, isr_each, handle, interrupt}
 use Rattle.model.specs.Step.{before_step}
 use Rattle.model.proofs.Sorting.{by_test}
 use Rattle.soundness.proofs.Settled.{when_held, when_free}
@@ -659,56 +658,6 @@ pub keeps-handle : (app : Application) (handler : ℕ) (s : State) → Keeps s (
 unfolding handle
 keeps-handle app handler s = keeps-isr_each app handler 0 0 None (ops_of app handler) s
 
-pub keeps-serve : (app : Application) (handler : ℕ) (s : State) → Keeps s (serve app handler s)
-unfolding serve
-keeps-serve app handler s =
-    let t : State = handle app handler s in
-    keeps_both s t (unless_held preempt t) (keeps-handle app handler s) (keeps-unless_held preempt t keeps-preempt)
-
-pub keeps-inject : (app : Application) (handler : ℕ) (s : State) → Keeps s (inject app handler s)
-unfolding inject
-keeps-inject app handler s = keeps-serve app handler s
-
 pub keeps-interrupt : (app : Application) (s : State) → Keeps s (interrupt app s)
 unfolding interrupt
 keeps-interrupt app s = keeps-each (handle app) (keeps-handle app) (interrupts_at app s.elapsed) s
-
--- ---- what a step begins with
-
-keeps-pend : (handlers : List ℕ) (s : State)
-    → Keeps (record s { sources = (for_each pend handlers s).sources }) (for_each pend handlers s)
-keeps-pend [] s = keeps s
-keeps-pend (handler ∷ handlers) s = keeps-pend handlers (pend handler s)
-
--- all but the sources, of which those that are pending may come, or more may become so
-pub keeps-before_step : (app : Application) (handlers : List ℕ) (s : State)
-    → Keeps (record s { sources = (before_step app handlers s).sources }) (before_step app handlers s)
-unfolding before_step serve_pending
-keeps-before_step app handlers s =
-    let r : State = record s { log = [] } in
-    let none : State = none_pending r in
-    let served : State = for_each (serve app) (pending_of r) none in
-    let t : State = for_each (inject app) handlers served in
-    by_test (is_critical r)
-    (λ q. rw q (let k = keeps-pend handlers r in
-    record {
-      time = k.time;
-      elapsed = k.elapsed;
-      steps = k.steps;
-      tasks = k.tasks;
-      hold = k.hold;
-      suspension = k.suspension;
-      sources = refl;
-    }))
-    (λ q. rw q (let k : Keeps none t =
-    keeps_both none served t (keeps-each (serve app) (keeps-serve app) (pending_of r) none)
-    (keeps-each (inject app) (keeps-inject app) handlers served) in
-    record {
-      time = k.time;
-      elapsed = k.elapsed;
-      steps = k.steps;
-      tasks = k.tasks;
-      hold = k.hold;
-      suspension = k.suspension;
-      sources = refl;
-    }))

@@ -2,6 +2,7 @@ pub mod Frames
 pub mod Passing
 pub mod Released
 pub mod Judging
+pub mod Coming
 pub mod Moving
 pub mod InScripts
 pub mod Jumping
@@ -22,6 +23,6 @@ pub mod Obeyed
 pub mod Acted
 pub mod Stepped
 pub mod Ticked
+pub mod Begun
 pub mod Reached
-pub mod Idling
 pub mod Pending

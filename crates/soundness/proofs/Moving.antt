@@ -1,6 +1,6 @@
 -- How far a step moves the ticks, and how often a task holds the scheduler after it.
 use Rattle.soundness.proofs.Passing.{by_value}
-use Rattle.std.proofs.Common.{ap, ◌≡◌, ◌≤◌, ◌+◌, ◌<◌, ℕ, false}
+use Rattle.std.proofs.Common.{ap, ap₂, ◌≡◌, ◌≤◌, ◌+◌, ◌<◌, ℕ, false}
 use Rattle.std.proofs.Common.{List, Option, Some, None, refl, ◌∙◌, arith}
 use Rattle.model.specs.declared.op.Op.{Op}
 use Rattle.model.specs.declared.event.Misuse.{Misuse}
@@ -13,24 +13,24 @@ use Rattle.model.specs.Step.{act_current, before_step, step, reset}
 use Rattle.model.specs.Step.{nobody_ready, ready_at_reset, with_ops}
 use Rattle.model.specs.Invariant.{Suspension, suspension_of}
 use Rattle.soundness.proofs.Frames.{keeps-settle, keeps-unless_held, keeps-all_ready}
-use Rattle.soundness.proofs.Frames.{keeps-before_step}
+use Rattle.soundness.proofs.Coming.{comes-before_step, ticks_before}
 use Rattle.soundness.proofs.Passing.{elapsed-act, elapsed-idle, held-act, held-idle, most-idle, sections-idle, sources-act}
 use Rattle.soundness.proofs.Passing.{sources-idle, suspensions-act, suspensions-idle, task_holds, task_holds-act, task_holds_by}
 use Rattle.soundness.proofs.Judging.{judged}
 
 -- ---- an op, or idle
 
--- no more than one tick passes, except where idle may jump, and then none past the limit; no more than one is held, and no more
--- than one `suspend_all` comes into force, or critical section is opened
-pub record Moves (app : Application) (limits : Limits) (old new : State) : Type 0 where
-  pub elapsed : app.tickless ≡ false → new.elapsed ≤ old.elapsed + 1
-  pub most : old.elapsed < limits.ticks → new.elapsed ≤ limits.ticks
+-- Beside this many that come before it no more than one tick passes, except where idle may jump; and none after the limit. No more are
+-- held than pass, and no more than one `suspend_all` comes into force, or critical section is opened.
+pub record Moves (app : Application) (limits : Limits) (before : ℕ) (old new : State) : Type 0 where
+  pub elapsed : app.tickless ≡ false → new.elapsed ≤ old.elapsed + before + 1
+  pub most : (most : ℕ) → limits.ticks ≤ most → old.elapsed < most → new.elapsed ≤ most + before
   pub suspensions : new.suspensions ≤ old.suspensions + 1
-  pub held : new.held_ticks ≤ old.held_ticks + 1
+  pub held : new.held_ticks + old.elapsed ≤ old.held_ticks + new.elapsed
   pub by_tasks : task_holds new ≤ task_holds old + 1
 
 moves-act_unless : (app : Application) (limits : Limits) (i : ℕ) (kind : Option Misuse) (op : Op) (s : State)
-    → Moves app limits s (act_unless app i kind op s)
+    → Moves app limits 0 s (act_unless app i kind op s)
 moves-act_unless app limits i None op s =
     let t : State = act_by_value app i op s in
     let j = judged i (progress_at s i).op_index t in
@@ -42,15 +42,15 @@ moves-act_unless app limits i None op s =
     let g : (judge i (progress_at s i).op_index t).held_ticks ≡ t.held_ticks = ap (λ (x : Suspension). x.held_ticks) j.suspension in
     let b : t.suspensions ≤ s.suspensions + 1 =
     by_value (λ t. t.suspensions ≤ s.suspensions + 1) app i op s (omega arith) (suspensions-act app i op s) in
-    let h : t.held_ticks ≤ s.held_ticks + 1 =
-    by_value (λ t. t.held_ticks ≤ s.held_ticks + 1) app i op s (omega arith) (held-act app i op s) in
+    let h : t.held_ticks + s.elapsed ≤ s.held_ticks + t.elapsed =
+    by_value (λ t. t.held_ticks + s.elapsed ≤ s.held_ticks + t.elapsed) app i op s (omega arith) (held-act app i op s) in
     let c : task_holds (judge i (progress_at s i).op_index t) ≡ task_holds t =
     task_holds_by t (judge i (progress_at s i).op_index t) j.suspension in
     let d : task_holds t ≤ task_holds s + 1 =
     by_value (λ t. task_holds t ≤ task_holds s + 1) app i op s (omega arith) (task_holds-act app i op s) in
     record {
       elapsed = λ off. omega arith;
-      most = λ l. omega arith;
+      most = λ most few l. omega arith;
       suspensions = omega arith;
       held = omega arith;
       by_tasks = omega (arith, c, d);
@@ -58,17 +58,17 @@ moves-act_unless app limits i None op s =
 moves-act_unless app limits i (Some kind) op s =
     record {
       elapsed = λ off. omega arith;
-      most = λ l. omega arith;
+      most = λ most few l. omega arith;
       suspensions = omega arith;
       held = omega arith;
       by_tasks = omega arith;
     }
 
-moves-act_if : (app : Application) (limits : Limits) (i : ℕ) (o : Option Op) (s : State) → Moves app limits s (act_if app i o s)
+moves-act_if : (app : Application) (limits : Limits) (i : ℕ) (o : Option Op) (s : State) → Moves app limits 0 s (act_if app i o s)
 moves-act_if app limits i None s =
     record {
       elapsed = λ off. omega arith;
-      most = λ l. omega arith;
+      most = λ most few l. omega arith;
       suspensions = omega arith;
       held = omega arith;
       by_tasks = omega arith;
@@ -76,12 +76,12 @@ moves-act_if app limits i None s =
 moves-act_if app limits i (Some op) s = moves-act_unless app limits i (misuse s i op) op s
 
 moves-act_current : (app : Application) (limits : Limits) (r : Option ℕ) (s : State)
-    → Moves app limits s (act_current app limits r s)
+    → Moves app limits 0 s (act_current app limits r s)
 moves-act_current app limits None s =
     let f = suspensions-idle app limits s in
     record {
       elapsed = λ off. (let e = elapsed-idle app limits s off in omega arith);
-      most = λ l. most-idle app limits s l;
+      most = λ most few l. (let e = most-idle app limits s most few l in omega arith);
       suspensions = omega arith;
       held = held-idle app limits s;
       by_tasks = (let g = sections-idle app limits s in omega arith);
@@ -107,54 +107,36 @@ sources-act_current app limits (Some i) s = sources-act_if app i (op_at app i (p
 
 -- ---- a step, and reset
 
-moves-step : (app : Application) (limits : Limits) (handlers : List ℕ) (s : State) → Moves app limits s (step app limits handlers s)
+pub moves-step : (app : Application) (limits : Limits) (sources : List ℕ) (s : State)
+    → Moves app limits (ticks_before app sources s) s (step app limits sources s)
 unfolding step
-moves-step app limits handlers s =
-    let begun : State = before_step app handlers s in
+moves-step app limits sources s =
+    let begun : State = before_step app sources s in
     let acted : State = act_current app limits begun.current begun in
-    let b = keeps-before_step app handlers s in
+    let b = comes-before_step app sources s in
     let k = keeps-unless_held settle acted keeps-settle in
     let m = moves-act_current app limits begun.current begun in
-    let b1 : begun.elapsed ≡ s.elapsed = b.elapsed in
-    let b2 : begun.suspensions ≡ s.suspensions = ap (λ (x : Suspension). x.suspensions) b.suspension in
+    let b1 : begun.elapsed ≤ s.elapsed + ticks_before app sources s = b.elapsed in
+    let b2 : begun.suspensions ≡ s.suspensions = b.suspensions in
+    let b3 : begun.held_ticks + s.elapsed ≤ s.held_ticks + begun.elapsed = b.held in
     let k1 : (unless_held settle acted).elapsed ≡ acted.elapsed = k.elapsed in
     let k2 : (unless_held settle acted).suspensions ≡ acted.suspensions = ap (λ (x : Suspension). x.suspensions) k.suspension in
-    let m2 : acted.suspensions ≤ begun.suspensions + 1 = m.suspensions in
-    let b3 : begun.held_ticks ≡ s.held_ticks = ap (λ (x : Suspension). x.held_ticks) b.suspension in
     let k3 : (unless_held settle acted).held_ticks ≡ acted.held_ticks = ap (λ (x : Suspension). x.held_ticks) k.suspension in
-    let h : acted.held_ticks ≤ begun.held_ticks + 1 = m.held in
+    let m2 : acted.suspensions ≤ begun.suspensions + 1 = m.suspensions in
+    let m4 : acted.held_ticks + begun.elapsed ≤ begun.held_ticks + acted.elapsed = m.held in
     record {
-      elapsed = λ off. (let m1 : acted.elapsed ≤ begun.elapsed + 1 = m.elapsed off in omega arith);
-      most = λ l. (let m3 : acted.elapsed ≤ limits.ticks = m.most (omega arith) in omega arith);
+      elapsed = λ off. (let m1 : acted.elapsed ≤ begun.elapsed + 0 + 1 = m.elapsed off in omega arith);
+      most = λ most few l. (let m3 : acted.elapsed ≤ most + ticks_before app sources s + 0 =
+      m.most (most + ticks_before app sources s) (omega arith) (omega arith) in omega arith);
       suspensions = omega arith;
       held = omega arith;
       by_tasks =
-          (let b4 : task_holds begun ≡ task_holds s = task_holds_by s begun b.suspension in
+          (let b4 : task_holds begun ≡ task_holds s = ap₂ (λ (x y : ℕ). x + y) b.suspensions b.sections in
           let k4 : task_holds (unless_held settle acted) ≡ task_holds acted =
           task_holds_by acted (unless_held settle acted) k.suspension in
           let m4 : task_holds acted ≤ task_holds begun + 1 = m.by_tasks in
           omega (arith, b4, k4, m4));
     }
-
-pub elapsed-step : (app : Application) (limits : Limits) (handlers : List ℕ) (s : State)
-    → app.tickless ≡ false → (step app limits handlers s).elapsed ≤ s.elapsed + 1
-elapsed-step app limits handlers s = (moves-step app limits handlers s).elapsed
-
-pub most-step : (app : Application) (limits : Limits) (handlers : List ℕ) (s : State)
-    → s.elapsed < limits.ticks → (step app limits handlers s).elapsed ≤ limits.ticks
-most-step app limits handlers s = (moves-step app limits handlers s).most
-
-pub held-step : (app : Application) (limits : Limits) (handlers : List ℕ) (s : State)
-    → (step app limits handlers s).held_ticks ≤ s.held_ticks + 1
-held-step app limits handlers s = (moves-step app limits handlers s).held
-
-pub suspensions-step : (app : Application) (limits : Limits) (handlers : List ℕ) (s : State)
-    → (step app limits handlers s).suspensions ≤ s.suspensions + 1
-suspensions-step app limits handlers s = (moves-step app limits handlers s).suspensions
-
-pub task_holds-step : (app : Application) (limits : Limits) (handlers : List ℕ) (s : State)
-    → task_holds (step app limits handlers s) ≤ task_holds s + 1
-task_holds-step app limits handlers s = (moves-step app limits handlers s).by_tasks
 
 elapsed-nobody : (app : Application) → (nobody_ready app).elapsed ≡ 0
 unfolding nobody_ready

@@ -9,6 +9,7 @@ use Rattle.std.proofs.Common.{Bool, ap, ap₂, ◌≡◌, ◌≤◌, ◌+◌, �
 use Rattle.std.proofs.Common.{fold, List, [], ◌∷◌, ◌++◌, Option, Some, None, refl, ◌∙◌, arith, length}
 use Rattle.std.specs.Prelude.{if◌then◌else◌}
 use Rattle.std.specs.Option.{option_eq}
+use Rattle.std.proofs.Math.Nat.{max-le}
 use Rattle.model.specs.declared.op.Op.{Op}
 use Rattle.model.specs.declared.op.Op.TheVariants.{Work, Delay, DelayUntil, Yield, Time, Mark, Expect, Repeat, End, If, Else, EndIf}
 use Rattle.model.specs.declared.op.Op.TheVariants.{Break, Stamp, Since, Await, Do, GiveMutex, MessagesWaiting, SpacesAvailable}
@@ -338,7 +339,7 @@ pub hold-increment : (s : State) → hold_of (increment_tick s) ≡ hold_of s
 hold-increment s = (keeps-increment s).hold ∙ by_test (holds_ticks s) (λ t. rw t refl) (λ t. rw t refl)
 
 -- from when it has come on, no more time passes
-keeps-tick : (app : Application) (s : State) → Keeps (tick_come s) (tick_interrupt app s)
+pub keeps-tick : (app : Application) (s : State) → Keeps (tick_come s) (tick_interrupt app s)
 unfolding tick_interrupt
 keeps-tick app s =
     let come : State = increment_tick s in
@@ -369,12 +370,15 @@ pub suspension-tick : (app : Application) (s : State) → holds_ticks s ≡ fals
     → suspension_of (tick_interrupt app s) ≡ suspension_of s
 suspension-tick app s none = (keeps-tick app s).suspension ∙ rw none refl
 
-pub held-tick : (app : Application) (s : State) → (tick_interrupt app s).held_ticks ≤ s.held_ticks + 1
+-- A tick that is held has come: no more are held than have come.
+pub held-tick : (app : Application) (s : State)
+    → (tick_interrupt app s).held_ticks + s.elapsed ≤ s.held_ticks + (tick_interrupt app s).elapsed
 held-tick app s =
     let e : (tick_interrupt app s).held_ticks ≡ (tick_come s).held_ticks =
     ap (λ (x : Suspension). x.held_ticks) (keeps-tick app s).suspension in
     let come : (tick_come s).held_ticks ≤ s.held_ticks + 1 =
     by_test (holds_ticks s) (λ t. rw t (omega arith)) (λ t. rw t (omega arith)) in
+    let one = elapsed-tick app s in
     omega arith
 
 pub suspensions-tick : (app : Application) (s : State) → (tick_interrupt app s).suspensions ≡ s.suspensions
@@ -444,13 +448,15 @@ pub elapsed-idle : (app : Application) (limits : Limits) (s : State)
     → app.tickless ≡ false → (idle app limits s).elapsed ≡ s.elapsed + 1
 elapsed-idle app limits s off = ap (λ (t : State). t.elapsed) (idle_ticks app limits s off) ∙ elapsed-tick app s
 
-pub most-idle : (app : Application) (limits : Limits) (s : State)
-    → s.elapsed < limits.ticks → (idle app limits s).elapsed ≤ limits.ticks
+-- Idle lets no tick pass after the limit, if that is still to come.
+pub most-idle : (app : Application) (limits : Limits) (s : State) (most : ℕ) → limits.ticks ≤ most
+    → s.elapsed < most → (idle app limits s).elapsed ≤ most
 unfolding idle
-most-idle app limits s l =
-    either_way (λ t. t.elapsed ≤ limits.ticks) app.tickless (jumped app (ticks_ahead app limits s) s) (tick_interrupt app s)
+most-idle app limits s most few l =
+    either_way (λ t. t.elapsed ≤ most) app.tickless (jumped app (ticks_ahead app limits s) s) (tick_interrupt app s)
     (let n : ℕ = ticks_ahead app limits s in
-    let most : n ≤ limits.ticks - s.elapsed = least (limits.ticks - s.elapsed) (ticks_to_wake s ++ ticks_to_interrupt app s) in
+    let first = least (limits.ticks - s.elapsed) (ticks_to_wake s ++ ticks_to_interrupt app s) in
+    let within : n ≤ most - s.elapsed = max-le (omega arith) (omega arith) in
     let e : (jumped app n s).elapsed ≡ s.elapsed + n = (keeps-jumped app n s).elapsed in
     omega arith)
     (let e = elapsed-tick app s in omega arith)
@@ -487,12 +493,15 @@ sources-idle app limits s =
     either_way (λ t. t.sources ≡ s.sources) app.tickless (jumped app (ticks_ahead app limits s) s) (tick_interrupt app s)
     (keeps-jumped app (ticks_ahead app limits s) s).sources (sources-tick app s)
 
-pub held-idle : (app : Application) (limits : Limits) (s : State) → (idle app limits s).held_ticks ≤ s.held_ticks + 1
+pub held-idle : (app : Application) (limits : Limits) (s : State)
+    → (idle app limits s).held_ticks + s.elapsed ≤ s.held_ticks + (idle app limits s).elapsed
 unfolding idle
 held-idle app limits s =
-    either_way (λ t. t.held_ticks ≤ s.held_ticks + 1) app.tickless (jumped app (ticks_ahead app limits s) s) (tick_interrupt app s)
-    (let e : (jumped app (ticks_ahead app limits s) s).held_ticks ≡ s.held_ticks =
-    ap (λ (x : Suspension). x.held_ticks) (keeps-jumped app (ticks_ahead app limits s) s).suspension in
+    either_way (λ t. t.held_ticks + s.elapsed ≤ s.held_ticks + t.elapsed) app.tickless
+    (jumped app (ticks_ahead app limits s) s) (tick_interrupt app s)
+    (let k = keeps-jumped app (ticks_ahead app limits s) s in
+    let e : (jumped app (ticks_ahead app limits s) s).held_ticks ≡ s.held_ticks = ap (λ (x : Suspension). x.held_ticks) k.suspension in
+    let f : (jumped app (ticks_ahead app limits s) s).elapsed ≡ s.elapsed + ticks_ahead app limits s = k.elapsed in
     omega arith)
     (held-tick app s)
 
@@ -765,18 +774,23 @@ suspensions-act app i op s = by_op (λ op. (act app i op s).suspensions ≤ s.su
     op
 
 -- how many ticks are held after it
-pub held-act : (app : Application) (i : ℕ) (op : Op) (s : State) → (act app i op s).held_ticks ≤ s.held_ticks + 1
-held-act app i op s = by_op (λ op. (act app i op s).held_ticks ≤ s.held_ticks + 1)
+-- what is held after it, beside what has come
+pub held-act : (app : Application) (i : ℕ) (op : Op) (s : State)
+    → (act app i op s).held_ticks + s.elapsed ≤ s.held_ticks + (act app i op s).elapsed
+held-act app i op s = by_op (λ op. (act app i op s).held_ticks + s.elapsed ≤ s.held_ticks + (act app i op s).elapsed)
     (λ n. let e = held-tick app (use_up app i n s) in
     let f : (use_up app i n s).held_ticks ≡ s.held_ticks =
     ap (λ (x : Suspension). x.held_ticks) (keeps-use_up app i n s).suspension in
+    let g : (use_up app i n s).elapsed ≡ s.elapsed = (keeps-use_up app i n s).elapsed in
     omega arith)
-    (let e = (suspends-all app i s).held in omega arith)
-    (let e = (resumes-all app i s).no_more in omega arith)
-    (let e = (opens app i (s.sections + 1) s).held in omega arith)
-    (let e = (opens app i (s.sections - 1) s).held in omega arith)
+    (let x = suspends-all app i s in let e = x.held in let f = x.elapsed in omega arith)
+    (let x = resumes-all app i s in let e = x.no_more in let f = x.elapsed in omega arith)
+    (let x = opens app i (s.sections + 1) s in let e = x.held in let f = x.elapsed in omega arith)
+    (let x = opens app i (s.sections - 1) s in let e = x.held in let f = x.elapsed in omega arith)
     (λ op t.
-    let e : (act app i op s).held_ticks ≤ s.held_ticks = (lasts-act app i op s t).held in
+    let x = lasts-act app i op s t in
+    let e : (act app i op s).held_ticks ≤ s.held_ticks = x.held in
+    let f : (act app i op s).elapsed ≡ s.elapsed = x.elapsed in
     omega arith)
     op
 

@@ -8,13 +8,14 @@ use Rattle.model.specs.declared.plan.Injection.{Injection}
 use Rattle.model.specs.Application.{Application, Handler, Limits}
 use Rattle.model.specs.State.{State, Source, no_source, source_at, for_each}
 use Rattle.model.specs.Switching.{make_ready, settle, is_critical}
-use Rattle.model.specs.Handlers.{serve, inject, pending_of, none_pending, serve_pending}
+use Rattle.model.specs.Handlers.{serve, inject, pend, pending_of, none_pending, serve_pending}
 use Rattle.model.specs.Step.{act_current, before_step, step, reset, ready_at_reset, nobody_ready, with_ops}
 use Rattle.model.specs.Run.{injected, state_after}
 use Rattle.model.specs.Invariant.{IsNonePending}
 use Rattle.model.proofs.Sorting.{by_test}
 use Rattle.model.proofs.Lists.{eqb-refl, eqb-same}
-use Rattle.soundness.proofs.Frames.{keeps-serve, keeps-inject, keeps-unless_held, keeps-settle, keeps-all_ready}
+use Rattle.soundness.proofs.Frames.{keeps-unless_held, keeps-settle, keeps-all_ready}
+use Rattle.soundness.proofs.Coming.{comes-serve, comes-inject}
 use Rattle.soundness.proofs.Moving.{sources-act_current}
 
 -- ---- lists of sources
@@ -67,17 +68,36 @@ begun_with app handlers s h open_ =
     let r : State = record s { log = [] } in
     rw open_ (ap (λ (x : State). for_each (inject app) handlers x) (served_none app r h))
 
+-- Where none is open, all that is pending comes, and then what is injected.
+injected_as_served : (app : Application) (sources : List ℕ) (s : State)
+    → for_each (inject app) sources s ≡ for_each (serve app) sources s
+unfolding inject
+injected_as_served app [] s = refl
+injected_as_served app (source ∷ sources) s = injected_as_served app sources (serve app source s)
+
+pub begun_open : (app : Application) (sources : List ℕ) (s : State) → is_critical s ≡ false → before_step app sources s
+    ≡ for_each (serve app) sources (for_each (serve app) (pending_of s) (none_pending (record s { log = [] })))
+unfolding before_step serve_pending
+begun_open app sources s off =
+    rw off (injected_as_served app sources (for_each (serve app) (pending_of s) (none_pending (record s { log = [] }))))
+
+-- Where one is open, it becomes pending.
+pub begun_critical : (app : Application) (sources : List ℕ) (s : State) → is_critical s ≡ true
+    → before_step app sources s ≡ for_each pend sources (record s { log = [] })
+unfolding before_step
+begun_critical app sources s on = rw on refl
+
 -- ---- nothing is pending after a step
 
 sources-served : (app : Application) (handlers : List ℕ) (s : State) → (for_each (serve app) handlers s).sources ≡ s.sources
 sources-served app [] s = refl
 sources-served app (handler ∷ handlers) s =
-    sources-served app handlers (serve app handler s) ∙ (keeps-serve app handler s).sources
+    sources-served app handlers (serve app handler s) ∙ (comes-serve app handler s).sources
 
 pub sources-injected : (app : Application) (handlers : List ℕ) (s : State) → (for_each (inject app) handlers s).sources ≡ s.sources
 sources-injected app [] s = refl
 sources-injected app (handler ∷ handlers) s =
-    sources-injected app handlers (inject app handler s) ∙ (keeps-inject app handler s).sources
+    sources-injected app handlers (inject app handler s) ∙ (comes-inject app handler s).sources
 
 none_begun : (app : Application) (handlers : List ℕ) (s : State) → is_critical s ≡ false
     → IsNonePending (before_step app handlers s)

@@ -21,10 +21,11 @@ use Rattle.soundness.proofs.Settled.{settled-reset}
 use Rattle.soundness.proofs.InScripts.{used_none}
 use Rattle.soundness.proofs.Frames.{keeps-all_ready}
 use Rattle.soundness.proofs.Passing.{task_holds}
-use Rattle.soundness.proofs.Moving.{suspensions-step, task_holds-step, held-step, suspension-reset}
+use Rattle.soundness.proofs.Moving.{moves-step, suspension-reset}
 use Rattle.soundness.proofs.Sound.{CanBeReady, all_made_ready, runs, call_none}
 use Rattle.soundness.proofs.Phases.{free, unsuspended}
-use Rattle.soundness.proofs.Stepped.{at_rest, reached_step}
+use Rattle.soundness.proofs.Stepped.{at_rest}
+use Rattle.soundness.proofs.Begun.{reached_step}
 
 -- ---- reset
 
@@ -137,14 +138,15 @@ module _ (app : Application) (formed : IsWellFormed app) where
   reached_after limits plan (suc n) =
       reached_step app formed limits (injected plan n) (state_after app limits plan n) (reached_after limits plan n)
 
-  -- no more ticks are held than steps have been done
-  pub held_after : (limits : Limits) (plan : List Injection) (n : ℕ) → (state_after app limits plan n).held_ticks ≤ n
+  -- no more ticks are held than have come
+  pub held_after : (limits : Limits) (plan : List Injection) (n : ℕ)
+      → (state_after app limits plan n).held_ticks ≤ (state_after app limits plan n).elapsed
   held_after limits plan zero =
       let e : (reset app).held_ticks ≡ 0 = ap (λ (x : Suspension). x.held_ticks) (suspension-reset app) in
       omega arith
   held_after limits plan (suc n) =
       let e = held_after limits plan n in
-      let one = held-step app limits (injected plan n) (state_after app limits plan n) in
+      let one = (moves-step app limits (injected plan n) (state_after app limits plan n)).held in
       omega arith
 
   -- no more `suspend_all` are in force than steps have been done
@@ -154,7 +156,7 @@ module _ (app : Application) (formed : IsWellFormed app) where
       omega arith
   suspensions_after limits plan (suc n) =
       let e = suspensions_after limits plan n in
-      let one = suspensions-step app limits (injected plan n) (state_after app limits plan n) in
+      let one = (moves-step app limits (injected plan n) (state_after app limits plan n)).suspensions in
       omega arith
 
   -- nor does a task hold the scheduler more often
@@ -164,5 +166,5 @@ module _ (app : Application) (formed : IsWellFormed app) where
       omega (arith, e)
   task_holds_after limits plan (suc n) =
       let e : task_holds (state_after app limits plan n) ≤ n = task_holds_after limits plan n in
-      let one = task_holds-step app limits (injected plan n) (state_after app limits plan n) in
+      let one = (moves-step app limits (injected plan n) (state_after app limits plan n)).by_tasks in
       omega (arith, e, one)

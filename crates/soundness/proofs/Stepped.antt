@@ -137,7 +137,7 @@ module _ (app : Application) (formed : IsWellFormed app) where
   still_held s h held = subst (IsState app) (sym (when_held settle s (held_by_call s held))) h
 
   -- the events don't matter, nor the steps done, nor an end that the step brings about
-  told : (s : State) (log : List Event) (steps : ℕ) (stopped : Option ending.End)
+  pub told : (s : State) (log : List Event) (steps : ℕ) (stopped : Option ending.End)
       → IsState app s → IsState app (record s { log = log; steps = steps; stopped = stopped })
   told s log steps stopped h =
       record {
@@ -741,7 +741,7 @@ module _ (app : Application) (formed : IsWellFormed app) where
           (by_value (λ t. IsState app (unless_held settle t)) app i op s (ended_only s _ h) (act_done op is e))
       act_unless_done (Some kind) e = ended_only s _ h
 
-  current_done : (limits : Limits) (s : State) (r : Option ℕ) → IsState app s
+  pub current_done : (limits : Limits) (s : State) (r : Option ℕ) → IsState app s
       → s.current ≡ r → IsState app (unless_held settle (act_current app limits r s))
   current_done limits s None h on =
       let none : is_held s ≡ false = subst (RunsIn app s) on h.runs in
@@ -750,92 +750,3 @@ module _ (app : Application) (formed : IsWellFormed app) where
       (hold-idle app limits s ∙ hold_none s h off)
       (suspension-idle app limits s (ticks_free s off (nothing_holds s none).1) ∙ calm_now s h none)
   current_done limits s (Some i) h on = act_if_done s i h on (op_at app i (progress_at s i).op_index) refl
-
-  -- ---- handlers before a step
-
-  -- a handler that comes
-  pub served_between : (handler : ℕ) (s : State) → IsState app s → IsState app (serve app handler s)
-  unfolding serve
-  served_between handler s h = by_test (is_held t)
-      (λ held. subst (IsState app) (sym (when_held preempt t held)) k)
-      (λ none. subst (IsState app) (sym (when_free preempt t none)) (preempted_at_rest none)) where
-        t : State
-        t = handle app handler s
-
-        k : IsState app t
-        k = handled_between app formed handler s h
-
-        preempted_at_rest : is_held t ≡ false → IsState app (preempt t)
-        preempted_at_rest none =
-            let off : t.call_hold ≡ false = no_call_holds t k none in
-            let same : hold_of t ≡ free = hold_none t k off in
-            at_rest (preempt t) (preempted app formed free t (sound_free t k off)) ((keeps-preempt t).hold ∙ same)
-            ((keeps-preempt t).suspension ∙ calm_now t k none) (settled-preempt t (by_current t.current k.runs off)) where
-              by_current : (r : Option ℕ) → RunsIn app t r → t.call_hold ≡ false → IfSome r (λ task. is_ready t task ≡ true)
-              by_current None r off = tt
-              by_current (Some i) r off =
-                  elim (r.ready off) [ inl on ↦ on | inr x ↦ unlike (sym x.0 ∙ no_task_holds t none) ]
-
-  -- an injected handler
-  pub injected_between : (handler : ℕ) (s : State) → IsState app s → IsState app (inject app handler s)
-  unfolding inject
-  injected_between handler s h = served_between handler s h
-
-  all_served : (handlers : List ℕ) (s : State) → IsState app s → IsState app (for_each (serve app) handlers s)
-  all_served [] s h = h
-  all_served (handler ∷ handlers) s h = all_served handlers (serve app handler s) (served_between handler s h)
-
-  all_injected : (handlers : List ℕ) (s : State) → IsState app s → IsState app (for_each (inject app) handlers s)
-  all_injected [] s h = h
-  all_injected (handler ∷ handlers) s h = all_injected handlers (inject app handler s) (injected_between handler s h)
-
-  -- ---- what is pending
-
-  -- What is pending doesn't matter, while there are as many sources.
-  raised : (s : State) (sources : List Source) → length sources ≡ length s.sources
-      → IsState app s → IsState app (record s { sources = sources })
-  raised s sources many h =
-      record {
-        sound = resourced app formed (hold_of s) s sources (many ∙ h.sound.sources) h.sound;
-        runs = by_current s.current h.runs;
-        alone = h.alone;
-        locked = h.locked;
-        apart = h.apart;
-        held = h.held;
-      } where
-        by_current : (r : Option ℕ) → RunsIn app s r → RunsIn app (record s { sources = sources }) r
-        by_current None r = r
-        by_current (Some i) r = record { holding = r.holding; ready = r.ready; setting = r.setting; placing = r.placing }
-
-  -- a handler that becomes pending
-  pub pended_between : (handler : ℕ) (s : State) → IsState app s → IsState app (pend handler s)
-  pended_between handler s h =
-      raised s (slice_set s.sources handler (record (source_at s handler) { pending = true }))
-      (length-set s.sources handler (record (source_at s handler) { pending = true })) h
-
-  all_pended : (handlers : List ℕ) (s : State) → IsState app s → IsState app (for_each pend handlers s)
-  all_pended [] s h = h
-  all_pended (handler ∷ handlers) s h = all_pended handlers (pend handler s) (pended_between handler s h)
-
-  pub served_pending : (s : State) → IsState app s → IsState app (serve_pending app s)
-  unfolding serve_pending
-  served_pending s h =
-      all_served (pending_of s) (none_pending s)
-      (raised s (map (λ (x : Source). record x { pending = false }) s.sources)
-      (length-map s.sources (λ (x : Source). record x { pending = false })) h)
-
-  pub reached_before_step : (handlers : List ℕ) (s : State) → IsState app s → IsState app (before_step app handlers s)
-  unfolding before_step
-  reached_before_step handlers s h =
-      let r : State = record s { log = [] } in
-      let k : IsState app r = told s [] s.steps s.stopped h in
-      by_test (is_critical r)
-      (λ q. rw q (all_pended handlers r k))
-      (λ q. rw q (all_injected handlers (serve_pending app r) (served_pending r k)))
-
-  pub reached_step : (limits : Limits) (handlers : List ℕ) (s : State) → IsState app s → IsState app (step app limits handlers s)
-  unfolding step
-  reached_step limits handlers s h =
-      let r : State = before_step app handlers s in
-      let t : State = unless_held settle (act_current app limits r.current r) in
-      told t t.log (s.steps + 1) t.stopped (current_done limits r r.current (reached_before_step handlers s h) refl)
