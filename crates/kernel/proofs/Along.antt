@@ -62,7 +62,7 @@ free_of_limits app limits until k plan way alone ticks steps none = record {
   way = way;
   alone = alone;
   none = λ _. none;
-  free = free_before app plan limits k until way ticks steps;
+  free = free_before app plan limits k until way alone none ticks steps;
 }
 
 -- Where it isn't over, none of them ends.

@@ -2,10 +2,10 @@
 use Rattle.model.specs.declared.op.Op.TheVariants.{Value}
 use Rattle.model.specs.Values.{with_number}
 use Rattle.soundness.proofs.Handled.{fits-number}
-use Rattle.std.proofs.Common.{◌≡◌, ◌≢◌, ◌<◌, ◌≤◌, ◌+◌, ◌||◌, inl, inr, ltb-false, ℕ, Bool, true, false, cond, leb, List, length}
-use Rattle.std.proofs.Common.{Option, Some, None, refl, ap, sym, subst, ◌∙◌, arith, ltb}
+use Rattle.std.proofs.Common.{◌≡◌, ◌≢◌, ◌<◌, ◌≤◌, ◌+◌, ◌^◌, ◌||◌, inl, inr, ltb-false, ℕ, Bool, true, false, cond, leb, List, [], ◌∷◌, length}
+use Rattle.std.proofs.Common.{Option, Some, None, refl, ap, ap₂, sym, subst, ◌∙◌, arith, ltb}
 use Rattle.std.specs.Prelude.{if◌then◌else◌}
-use Rattle.std.proofs.lemmas.Bool.{ltb-true, lt-ltb}
+use Rattle.std.proofs.lemmas.Bool.{le-ltb, ltb-true, lt-ltb}
 use Rattle.model.specs.Switching.{is_ready, is_held, is_held_by_task, is_scheduler_suspended}
 use Rattle.std.proofs.lemmas.Bool.Decides.{nat_tests}
 use Rattle.std.proofs.lemmas.Option.{same_Some, slice_get_within}
@@ -28,15 +28,18 @@ use Rattle.model.specs.Application.{Application, Limits, script_of, op_at}
 use Rattle.model.specs.declared.block.Block.{Block}
 use Rattle.model.specs.Blocks.{edge_of, loops_in, may_stand}
 use Rattle.model.specs.Scripts.{fits_object, is_in_range, is_wait, IsWellFormed}
-use Rattle.model.specs.State.{State, Progress, Wait, task_at, progress_at, call_at, status_at}
+use Rattle.model.specs.State.{State, Progress, Wait, task_at, progress_at, call_at, source_at, status_at}
+use Rattle.model.specs.Handlers.{pending_of}
+use Rattle.std.specs.List.{filter, range_with_len}
+use Rattle.std.proofs.lemmas.List.FromFn.{length-range_with_len}
 use Rattle.model.specs.Run.{end_of, are_all_ended, is_stuck}
 use Rattle.model.specs.Invariant.{Hold, IsSound, IsState, IsUsedBy, IsRunning, IsPlacing, IsWaitOf, RunsIn, Course, InOne, OnObject}
 use Rattle.model.specs.Invariant.{ToSetBits, UntilWoken, course, IsPhaseOf, hold_of, holds, Suspension, wait_of}
 use Rattle.soundness.proofs.InScripts.{Known, script_formed, stands_at, known_at, range_at}
 use Rattle.soundness.proofs.Sound.{ready_reckoned}
-use Rattle.soundness.proofs.Frames.{keeps-before_step}
-use Rattle.soundness.proofs.Idling.{not_stuck_after}
-use Rattle.soundness.proofs.Stepped.{reached_before_step, start_only}
+use Rattle.soundness.proofs.Coming.{comes-before_step, few_ticks, ticks_before}
+use Rattle.soundness.proofs.Begun.{reached_before_step}
+use Rattle.soundness.proofs.Stepped.{start_only}
 use Rattle.model.specs.Step.{before_step}
 use Rattle.sched.proofs.Standing as on_sched
 use Rattle.objects.specs.declared.lock.Lock.{Lock}
@@ -49,7 +52,7 @@ use Rattle.machine.specs.StandsFor.Stands.{Placed, Placing}
 use Rattle.machine.specs.Can.{Runs, HasRoom, Agrees, IsAhead, IsInCall, StandsForSome}
 use Rattle.ops.specs.Can.{HasLoopRoom, HasObject, HasObjects, CanTick, Can, CanTry, IsShort, CanDecide, CanPlace, CanLeave, CanGoOn}
 use Rattle.ops.specs.Can.{CanSetBits, CanAwaitEvent, CanHold}
-use Rattle.kernel.specs.Can.{CanOp, CanAct, CanIdle, CanStep}
+use Rattle.kernel.specs.Can.{CanOp, CanAct, CanCome, CanIdle, CanStep, most_elapsed}
 use Rattle.machine.proofs.Either.{elapsed_is, held_is, now_is, current_is, progress_is, sections_are, suspensions_are}
 use Rattle.sched.specs.StandsFor.{depth_of, task_holds_of}
 use Rattle.model.proofs.Sorting.{by_test}
@@ -78,10 +81,6 @@ or_left true b e = absurd (cc)
 or_right : (a b : Bool) → (a || b) ≡ false → b ≡ false
 or_right false b e = e
 or_right true b e = absurd (cc)
-
-moves_by : (app : Application) (limits : Limits) (s : State) → end_of app limits s ≡ None → is_stuck app s ≡ false
-moves_by app limits s h =
-    (unended s.stopped (are_all_ended app s) (leb limits.ticks s.elapsed) (leb limits.steps s.steps) (is_stuck app s) h).2
 
 pub below_limits : (app : Application) (limits : Limits) (s : State)
     → end_of app limits s ≡ None → (s.elapsed < limits.ticks) × (s.steps < limits.steps)
@@ -199,14 +198,22 @@ holds_by_some s some = by_test (is_scheduler_suspended s)
     (λ t. suspended_held s t)
     (λ t. section_holds s (let most = ltb-false 0 s.suspensions t in lt-ltb 0 s.sections (omega arith)))
 
+nothing_left : (n : ℕ) (b : Bool) → n + (if b then 1 else 0) ≡ 0 → n ≡ 0
+nothing_left n true e = absurd (omega arith)
+nothing_left n false e = omega arith
+
+no_call : (n : ℕ) (b : Bool) → n + (if b then 1 else 0) ≡ 0 → b ≡ false
+no_call n true e = absurd (omega arith)
+no_call n false e = refl
+
 once_held : (n : ℕ) (b : Bool) (depth : ℕ) → depth ≡ n + (if b then 1 else 0) → n ≡ 0 → b ≡ true → depth ≡ 1
 once_held n true depth e z t = omega (arith, e, z)
 once_held n false depth e z t = absurd (cc)
 
 -- the kernel represents a state of a run, early enough
 module _ (app : Application) (formed : IsWellFormed app) (k : Machine) (state : State) (reached : IsState app state)
-    (stands : Stands k state) (early : state.elapsed < 281474976710656) (little : state.held_ticks < 1000000) where
-  time_low : k.clock.now < 4294967296 + 281474976710656
+    (stands : Stands k state) (early : state.elapsed ≤ most_elapsed) where
+  time_low : k.clock.now < 4294967296 + 281474976710677
   time_low = let e = now_is k state stands in let l = early in let m = reached.sound.time.1 in let n = formed.start in omega arith
 
   pub rooms : HasObjects app k
@@ -542,7 +549,7 @@ module _ (app : Application) (formed : IsWellFormed app) (k : Machine) (state : 
           agrees = (state, h);
           free = no_lock free;
           age = let l = early in omega arith;
-          held = let l = little in let e = held_is k state stands in omega arith;
+          held = let l = early in omega arith;
           suspensions = let e = suspensions_are k state stands in let l = few in omega arith;
           sections = let e = suspensions_are k state stands in let f = sections_are k state stands in omega arith;
           depth = depth_in ∙ unheld (task_holds_of state) state.call_hold free ∙ sym (suspensions_are k state stands);
@@ -565,21 +572,29 @@ module _ (app : Application) (formed : IsWellFormed app) (k : Machine) (state : 
       let shut = ltb-false 0 state.sections (nothing_holds state (idle_held idle)).2 in
       suspensions_are k state stands ∙ (let none : task_holds_of state ≡ 0 = omega arith in none)
 
-  can_idle : (limits : Limits) → state.elapsed < limits.ticks
-      → (state.current ≡ None → is_stuck app state ≡ false) → k.sched.current ≡ None → CanIdle app limits k
-  can_idle limits below moves idle = record {
+  can_idle : (limits : Limits) → limits.ticks ≤ 281474976710656 → k.sched.current ≡ None → CanIdle app limits k
+  can_idle limits most idle = record {
     tick = can_tick (idle_awake idle) (idle_free idle);
-    early = let e = elapsed_is k state stands in omega arith;
-    moves = (state, placed (idle_free idle), moves (sym (current_is k state stands) ∙ idle));
+    early = let l = early in let e = elapsed_is k state stands in omega arith;
+    limit = omega arith;
   }
 
-  pub can_act : (limits : Limits) → state.elapsed < limits.ticks
-      → (state.current ≡ None → is_stuck app state ≡ false) → task_holds_of state < 1000000 → CanAct app limits k
-  can_act limits below moves few =
+  pub can_act : (limits : Limits) → limits.ticks ≤ 281474976710656 → task_holds_of state < 1000000 → CanAct app limits k
+  can_act limits most few =
       record {
-        idle = can_idle limits below moves;
+        idle = can_idle limits most;
         op = λ task op runs is. ((λ awake. can_op task runs awake op is), (λ some. can_hold task runs some few op is));
       }
+
+  -- nothing holds the scheduler
+  pub tick_at_rest : k.sched.depth ≡ 0 → CanTick app k
+  tick_at_rest none =
+      let no_holds : task_holds_of state ≡ 0 = nothing_left (task_holds_of state) state.call_hold (sym depth_in ∙ none) in
+      let free : state.call_hold ≡ false = no_call (task_holds_of state) state.call_hold (sym depth_in ∙ none) in
+      can_tick (suspensions_are k state stands ∙ no_holds) free
+
+  pub held_below : k.clock.held < 2 ^ 62
+  held_below = let l = early in let e = elapsed_is k state stands in omega arith
 
 -- The running task is one of those that there are.
 pub runs_there : (app : Application) (k : Machine) (s : State) (hold : Hold) → Stands k s
@@ -589,7 +604,14 @@ runs_there app k s hold h sound =
     subst (λ (n : ℕ). IfSome s.current (λ task. task < n)) sound.tasks sound.table.current in
     subst (λ (o : Option ℕ). IfSome o (λ task. task < length app.tasks)) (sym (current_is k s h)) within
 
--- ---- before a step, and after the handlers that come before it
+-- ---- before a step, and after the interrupts that come before it
+
+few_kept : (p : ℕ → Bool) (xs : List ℕ) → length (filter p xs) ≤ length xs
+few_kept p [] = omega arith
+few_kept p (x ∷ xs) = let few = few_kept p xs in by_test (p x) (λ t. rw t (omega arith)) (λ t. rw t (omega arith))
+
+few_of : (p : ℕ → Bool) (n : ℕ) → length (filter p (range_with_len 0 n)) ≤ n
+few_of p n = let few = few_kept p (range_with_len 0 n) in let all = length-range_with_len 0 n in omega arith
 
 module _ (app : Application) (formed : IsWellFormed app) {limits : Limits} (k : Machine) (c : CanStep app limits k) where
   abbrev now : State
@@ -598,31 +620,43 @@ module _ (app : Application) (formed : IsWellFormed app) {limits : Limits} (k : 
   early_now : now.elapsed < 281474976710656
   early_now = let l = (below_limits app limits now c.goes_on).0 in let m = c.are.1 in omega arith
 
-  little_now : now.held_ticks < 1000000
-  little_now = let l = (below_limits app limits now c.goes_on).1 in let m = c.are.3 in let n = c.held in omega arith
+  within_now : now.elapsed ≤ most_elapsed
+  within_now = let l = early_now in omega arith
 
-  pub stood : StandsForSome k
-  stood = (now, c.stands)
+  -- Where no critical section is open, interrupts can come.
+  pub can_come : k.sections ≡ 0 → CanCome app 20 k
+  can_come none = record {
+    state = now;
+    stands = c.stands;
+    sound = c.sound;
+    closed = let same = sections_are k now c.stands in le-ltb 0 now.sections (omega arith);
+    early = let l = early_now in omega arith;
+  }
 
-  pub has_objects : HasObjects app k
-  has_objects = rooms app formed k now c.sound c.stands early_now little_now
+  -- the ticks that come before a step, of which three at most are injected
+  few_before : (sources : List ℕ) → length sources ≤ 3 → ticks_before app sources now ≤ 20
+  few_before sources few =
+      let pending : length (pending_of now) ≤ length now.sources =
+      few_of (λ source. (source_at now source).pending) (length now.sources) in
+      let ones = few_ticks app (pending_of now) in
+      let others = few_ticks app sources in
+      let all = c.sound.sound.sources in
+      let most = formed.few_handlers in
+      omega arith
 
-  pub can_act_after : (handlers : List ℕ) (new : Machine) → Stands new (before_step app handlers now) → CanAct app limits new
-  can_act_after handlers new h =
-      let k = keeps-before_step app handlers now in
-      let b = below_limits app limits now c.goes_on in
-      let age : (before_step app handlers now).elapsed ≡ now.elapsed = k.elapsed in
-      let count : task_holds_of (before_step app handlers now) ≡ task_holds_of now =
-      ap (λ (x : Suspension). x.suspensions + x.sections) k.suspension in
-      let held : (before_step app handlers now).held_ticks ≡ now.held_ticks = ap (λ (x : Suspension). x.held_ticks) k.suspension in
-      let low : (before_step app handlers now).elapsed < 281474976710656 = (let l = early_now in omega arith) in
-      let below : (before_step app handlers now).elapsed < limits.ticks = (let l = b.0 in omega arith) in
-      let little : (before_step app handlers now).held_ticks < 1000000 = (let l = little_now in omega arith) in
-      let few : task_holds_of (before_step app handlers now) < 1000000 =
-      (let n = c.suspended in let l = b.1 in let o = c.are.3 in omega arith) in
-      can_act app formed new (before_step app handlers now)
-      (reached_before_step app formed handlers now c.sound) h low little limits below
-      (λ idle. not_stuck_after app handlers now c.sound (moves_by app limits now c.goes_on) idle) few
+  pub can_act_after : (sources : List ℕ) → length sources ≤ 3 → (new : Machine) → Stands new (before_step app sources now)
+      → CanAct app limits new
+  can_act_after sources three new h =
+      let k = comes-before_step app sources now in
+      let ticks = few_before sources three in
+      let passed : (before_step app sources now).elapsed ≤ now.elapsed + ticks_before app sources now = k.elapsed in
+      let early : (before_step app sources now).elapsed ≤ most_elapsed = (let l = early_now in omega arith) in
+      let count : task_holds_of (before_step app sources now) ≡ task_holds_of now =
+      ap₂ (λ (x y : ℕ). x + y) k.suspensions k.sections in
+      let few : task_holds_of (before_step app sources now) < 1000000 =
+      (let n = c.suspended in let l = (below_limits app limits now c.goes_on).1 in let o = c.are.3 in omega arith) in
+      can_act app formed new (before_step app sources now)
+      (reached_before_step app formed sources now c.sound) h early limits c.are.1 few
 
   -- and the task that runs then is there
   pub there_after : (handlers : List ℕ) (new : Machine) → Stands new (before_step app handlers now)
@@ -633,11 +667,11 @@ module _ (app : Application) (formed : IsWellFormed app) {limits : Limits} (k : 
 
   pub can_do : (task : TaskId) → k.sched.current ≡ Some task → k.sched.suspensions ≡ 0 → (op : Op)
       → op_at app task (progress_in k.progress task).op_index ≡ Some op → CanOp app k task op
-  can_do task runs awake op at = can_op app formed k now c.sound c.stands early_now little_now task runs awake op at
+  can_do task runs awake op at = can_op app formed k now c.sound c.stands within_now task runs awake op at
 
   pub held_in_call : (task : TaskId) → k.sched.current ≡ Some task → k.sched.suspensions ≡ 0 → (phase : Phase)
       → (progress_in k.progress task).call.phase ≡ phase → holds phase ≡ true → k.sched.depth ≡ 1
   held_in_call task runs awake phase e t =
-      held_once app formed k now c.sound c.stands early_now little_now awake
-      (held_in app formed k now c.sound c.stands early_now little_now task runs phase
+      held_once app formed k now c.sound c.stands within_now awake
+      (held_in app formed k now c.sound c.stands within_now task runs phase
       (ap (λ (p : Progress). p.call.phase) (sym (progress_is k now c.stands task)) ∙ e) t)

@@ -54,7 +54,8 @@ use Rattle.soundness.proofs.Frames.{keeps-delay_until, keeps-open_loop, keeps-cl
 use Rattle.soundness.proofs.Frames.{keeps-leave_loop, keeps-stamp, keeps-since, keeps-set_deadline, keeps-inherit, keeps-give_mutex}
 use Rattle.soundness.proofs.Frames.{keeps-try, keeps-do_now, keeps-set, keeps-clear, keeps-answer_bits, keeps-call_suspend}
 use Rattle.soundness.proofs.Frames.{keeps-call_resume, keeps-take_command, keeps-obeyed, keeps-clear_by_daemon, keeps-interrupt}
-use Rattle.soundness.proofs.Frames.{keeps-before_step, keeps-call_notify, keeps-clear_notification, keeps-end_notification_wait}
+use Rattle.soundness.proofs.Coming.{comes-before_step}
+use Rattle.soundness.proofs.Frames.{keeps-call_notify, keeps-clear_notification, keeps-end_notification_wait}
 
 steps-unlock : (s : State) → (unlock s).steps ≡ s.steps
 unfolding unlock
@@ -305,7 +306,7 @@ steps_acted app limits handlers s =
     let begun : State = before_step app handlers s in
     let acted : State = act_current app limits begun.current begun in
     (keeps-unless_held settle acted keeps-settle).steps
-    ∙ steps-act_current app limits begun.current begun ∙ (keeps-before_step app handlers s).steps
+    ∙ steps-act_current app limits begun.current begun ∙ (comes-before_step app handlers s).steps
 
 -- The kernel has the number of before, then.
 pub steps_still : (app : Application) (limits : Limits) (handlers : List ℕ) (s : State) (k new : Machine) (log : List Event)

@@ -28,7 +28,7 @@ use Rattle.model.specs.Daemon.{item_of}
 use Rattle.model.specs.Scripts.{fits_object, has_group, is_mask, IsHandler, IsWellFormed, knows_isr}
 use Rattle.model.specs.State.{State, for_each, status_at, bits_at, notification_at}
 use Rattle.model.specs.declared.event.Event.{Event}
-use Rattle.model.specs.Switching.{is_held, preempt, write}
+use Rattle.model.specs.Switching.{is_held, preempt, unless_held, write}
 use Rattle.soundness.proofs.Settled.{when_free, when_held, held_by_call}
 use Rattle.model.specs.Objects.{answer_to, attempt}
 use Rattle.model.specs.declared.event.End.TheVariants.{HandlerCheck}
@@ -323,8 +323,7 @@ module _ (app : Application) (handler : ℕ) (s : State) (mid : Machine) where
   pub served_free : (new : Machine) (log new_log : List Event)
       → (Stands mid (handle app handler s) → is_held (handle app handler s) ≡ false) → AtAny mid log (handle app handler s)
       → (At mid log (handle app handler s) → At new new_log (preempt (handle app handler s)))
-      → AtAny new new_log (serve app handler s)
-  unfolding serve
+      → AtAny new new_log (unless_held preempt (handle app handler s))
   served_free new log new_log free h goes =
       let off : is_held t ≡ false = free h.stands in
       either mid log t h
@@ -332,8 +331,7 @@ module _ (app : Application) (handler : ℕ) (s : State) (mid : Machine) where
       (λ task list b. let on : is_held t ≡ true = held_by_call t b.held in absurd (cc))
 
   pub served_held : (log : List Event) → (Stands mid (handle app handler s) → is_held (handle app handler s) ≡ true)
-      → AtAny mid log (handle app handler s) → AtAny mid log (serve app handler s)
-  unfolding serve
+      → AtAny mid log (handle app handler s) → AtAny mid log (unless_held preempt (handle app handler s))
   served_held log held h = let on : is_held t ≡ true = held h.stands in subst (AtAny mid log) (sym (when_held preempt t on)) h
 
 -- an element of what a function makes of each
@@ -355,6 +353,32 @@ guessed k n log s h =
           };
       log = h.log;
     }
+
+-- nor is it while a task is still to be placed
+pub guessed_any : (k : Machine) (n : ℕ) (log : List Event) (s : State) → AtAny k log s → AtAny (record k { next_interrupt = n }) log s
+guessed_any k n log s h = record { stands = by_stands h.stands; log = h.log } where
+  by_stands : Stands k s → Stands (record k { next_interrupt = n }) s
+  by_stands (Placed p) = Placed (guessed k n s.log s (record { stands = p; log = refl })).stands
+  by_stands (Placing task list b) = Placing task list (record {
+    sched = b.sched;
+    clock = b.clock;
+    objects = b.objects;
+    groups = b.groups;
+    awake = b.awake;
+    progress = b.progress;
+    full = b.full;
+    notifications = b.notifications;
+    variables = b.variables;
+    sources = b.sources;
+    sections = b.sections;
+    steps = b.steps;
+    stopped = b.stopped;
+    current = b.current;
+    held = b.held;
+    phase = b.phase;
+    wait_list = b.wait_list;
+    placed = b.placed;
+  })
 
 -- ---- the bits of a group
 

@@ -42,25 +42,15 @@ use Rattle.machine.specs.Can.{Agrees}
 use Rattle.machine.specs.StandsFor.{At, Does, Moves, Stands}
 use Rattle.machine.specs.StandsFor.Stands.{Placed}
 use Rattle.machine.proofs.Acting.{stopped_at}
-use Rattle.ops.proofs.Held.{with_ticks}
+use Rattle.machine.proofs.Either.{sections_are, suspensions_are}
 use Rattle.kernel.proofs.Bounds.{holds_by_some}
 
 -- Tasks hold the scheduler more often than by critical sections, so a `suspend_all` is in force, and ticks are held.
-pub suspended_by : (k : Machine) (log : List Event) (s : State) → At k log s → k.sections < k.sched.suspensions
-    → holds_ticks s ≡ true
-suspended_by k log s h some =
-    let all : k.sched.suspensions ≡ task_holds_of s = h.stands.sched.suspensions in
-    let open_ : k.sections ≡ s.sections = h.stands.rest.sections in
+pub suspended_by : (k : Machine) (s : State) → Stands k s → k.sections < k.sched.suspensions → holds_ticks s ≡ true
+suspended_by k s h some =
+    let all = suspensions_are k s h in
+    let open_ = sections_are k s h in
     ticks_held_by_task s (lt-ltb 0 s.suspensions (omega arith))
-
-module _ (k : Machine) (log : List Event) (s : State) (h : At k log s) where
-  -- a tick is held
-  pub tick_held : (t : Timeline) → k.sections < k.sched.suspensions → clock.StandsFor t (increment_tick s)
-      → At (record k { clock = t }) log (increment_tick s)
-  unfolding increment_tick
-  tick_held t some on =
-      let is : holds_ticks s ≡ true = suspended_by k log s h some in
-      rw is (with_ticks k log s h t (s.elapsed + 1) (s.held_ticks + 1) (rw is at on))
 
 -- ---- who came to its end
 
@@ -77,18 +67,6 @@ module _ (k : Machine) (log : List Event) (s : State) (h : At k log s) (i op_ind
   pub passed_free : is_ended (status_at s i) ≡ true → end_misuse s ≡ None → At k log (judge i op_index s)
   unfolding judge
   passed_free t e = rw (t, e) h
-
--- ---- the tick interrupt, while the tick is held
-
--- the scheduler is held by a `suspend_all`
-pub held_by : (v : Schedule) (s : State) → sched.StandsFor v s → 0 < v.depth → is_held s ≡ true
-held_by v s h some = on_sched.held_by_depth s ∙ lt-ltb 0 (depth_of s) (let e = h.depth in omega arith)
-
-pub interrupted_held : (app : Application) (new : Machine) (log : List Event) (s : State)
-    → is_held (interrupt app (increment_tick s)) ≡ true
-    → At new log (interrupt app (increment_tick s)) → At new log (tick_interrupt app s)
-unfolding tick_interrupt
-interrupted_held app new log s held h = subst (At new log) (sym (when_held slice (interrupt app (increment_tick s)) held)) h
 
 -- ---- an op while a task holds the scheduler
 

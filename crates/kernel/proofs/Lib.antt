@@ -1,5 +1,6 @@
 pub mod Acted
 pub mod Bounds
+pub mod Coming
 pub mod Ending
 pub mod Left
 pub mod Running

@@ -14,16 +14,20 @@ use Rattle.model.specs.Step.{act_unless, misuse, act_if, act_current, step}
 use Rattle.model.specs.declared.plan.Injection.{Injection}
 use Rattle.model.specs.Run.{Run, IsRun, end_of, injected, state_after, events_after}
 use Rattle.model.proofs.Injected.{from_one_more, goes_on_with, no_fewer}
-use Rattle.soundness.proofs.Moving.{elapsed-reset, elapsed-step, most-step}
+use Rattle.soundness.proofs.Coming.{ticks_before}
+use Rattle.soundness.proofs.Moving.{moves-step}
+use Rattle.soundness.proofs.Pending.{no_ticks_before, none_between}
+use Rattle.model.specs.Invariant.{IsNonePending}
+use Rattle.machine.proofs.Pending.{none_by}
 use Rattle.machine.specs.declared.machine.Machine.{Machine}
 use Rattle.machine.specs.Logged.{Logged, all_of}
 use Rattle.machine.specs.StandsFor.{Stands, AtAny, DoesAny, progress_in}
 use Rattle.kernel.specs.Can.{CanStep}
-use Rattle.machine.specs.Can.{IsUnderWay}
+use Rattle.machine.specs.Can.{IsUnderWay, NonePends}
 use Rattle.kernel.specs.Rows.{Extends, events_from}
 use Rattle.kernel.specs.Over.{is_over}
 use Rattle.machine.proofs.Either.{steps_are, elapsed_is, current_is, progress_is}
-use Rattle.soundness.proofs.Reached.{held_after, reached_after, task_holds_after}
+use Rattle.soundness.proofs.Reached.{reached_after, task_holds_after}
 use Rattle.kernel.proofs.Bounds.{below_limits}
 use Rattle.machine.proofs.Booting.{steps-reset}
 use Rattle.kernel.proofs.Ending.{before_tick_limit, goes_if_not_over, leb-less, not_over_if_going}
@@ -88,7 +92,6 @@ module _ (app : Application) (formed : IsWellFormed app) (plan : List Injection)
     sound = reached_after app formed limits plan k.steps;
     suspended =
         (let few = task_holds_after app formed limits plan k.steps in let e = steps_after app limits plan k.steps in omega arith);
-    held = (let few = held_after app formed limits plan k.steps in let e = steps_after app limits plan k.steps in omega arith);
     are = are;
     goes_on = on;
   }
@@ -165,23 +168,6 @@ module _ (app : Application) (limits : Limits) (plan : List Injection)
       sym (goes_on_with app limits plan n m l) ∙ ap (λ (es : List Event). events_after app limits plan n ++ es) silent
       ∙ append-nil (events_after app limits plan n)
 
--- The ticks of a run, as far as it has gone
-ticks_by : (app : Application) (plan : List Injection) (limits : Limits) → AreLimits limits.ticks limits.steps
-    → (n : ℕ) → ((m : ℕ) → m < n → end_of app limits (state_after app limits plan m) ≡ None)
-    → (state_after app limits plan n).elapsed ≤ limits.ticks
-ticks_by app plan limits are zero g = let e = elapsed-reset app in omega arith
-ticks_by app plan limits are (suc n) g =
-    most-step app limits (injected plan n) (state_after app limits plan n)
-    (below_limits app limits (state_after app limits plan n) (g n (omega arith))).0
-
-pub ticks_low : (app : Application) (plan : List Injection) (limits : Limits) → AreLimits limits.ticks limits.steps
-    → (k : Machine) → IsUnderWay app plan limits k → k.clock.age + k.clock.held ≤ 281474976710656
-ticks_low app plan limits are k h =
-    let e = elapsed_is k (state_after app limits plan k.steps) h.stands in
-    let low = ticks_by app plan limits are k.steps h.goes_on in
-    let most = are.1 in
-    omega arith
-
 -- Where a run goes on, it has come less far than the limit of steps.
 pub steps_under : (app : Application) (plan : List Injection) (limits : Limits) (n : ℕ)
     → end_of app limits (state_after app limits plan n) ≡ None → n < limits.steps
@@ -224,33 +210,41 @@ more_from app limits plan first n m l le begin events all e g =
 pub extends_on : (begin events all more : List Event) → events ≡ begin ++ more → Extends events all → Extends begin all
 extends_on begin events all more e x = (more ++ x.0, x.1 ∙ ap (λ (es : List Event). es ++ x.0) e ∙ append_assoc begin more x.0)
 
--- In this many steps no more ticks pass.
-pub ticks_between : (app : Application) (limits : Limits) (plan : List Injection) → app.tickless ≡ false
-    → (n m : ℕ) → n ≤ m → (state_after app limits plan m).elapsed + n ≤ (state_after app limits plan n).elapsed + m
-ticks_between app limits plan off n zero le = let z : n ≡ 0 = omega arith in rw z (omega arith)
-ticks_between app limits plan off n (suc m) le = by_test (eqb n (suc m))
+-- Between steps in which nothing comes no more ticks pass than there are steps.
+pub ticks_between : (app : Application) (limits : Limits) (plan : List Injection) → app.tickless ≡ false → (n m : ℕ) → n ≤ m
+    → ((k : ℕ) → n ≤ k → k < m → injected plan k ≡ []) → IsNonePending (state_after app limits plan n)
+    → (state_after app limits plan m).elapsed + n ≤ (state_after app limits plan n).elapsed + m
+ticks_between app limits plan off n zero le alone none = let z : n ≡ 0 = omega arith in rw z (omega arith)
+ticks_between app limits plan off n (suc m) le alone none = by_test (eqb n (suc m))
     (λ t. let same : n ≡ suc m = eqb-same n (suc m) t in rw same (omega arith))
     (λ t.
     let apart : n ≢ suc m = (λ q. let w : eqb n (suc m) ≡ true = rw q (eqb-refl (suc m)) in absurd (cc)) in
-    let before = ticks_between app limits plan off n m (omega arith) in
-    let one = elapsed-step app limits (injected plan m) (state_after app limits plan m) off in
+    let s : State = state_after app limits plan m in
+    let before = ticks_between app limits plan off n m (omega arith) (λ k from l. alone k from (omega arith)) none in
+    let at : IsNonePending s = none_between app limits plan n m (omega arith) (λ k from l. alone k from (omega arith)) none in
+    let nothing : ticks_before app (injected plan m) s ≡ 0 =
+    ap (λ (sources : List ℕ). ticks_before app sources s) (alone m (omega arith) (omega arith)) ∙ no_ticks_before app s at in
+    let one = (moves-step app limits (injected plan m) s).elapsed off in
     omega arith)
 
--- Before a step up to which no limit is reached, the run goes on where it isn't over.
+-- Before a step up to which nothing comes and no limit is reached, the run goes on where it isn't over.
 pub free_before : (app : Application) (plan : List Injection) (limits : Limits) (first : Machine) (until : ℕ)
     → IsUnderWay app plan limits first
+    → ((n : ℕ) → first.steps ≤ n → n < until → injected plan n ≡ []) → NonePends first
     → (app.tickless ≡ false → first.steps < until → first.clock.age + first.clock.held + until ≤ limits.ticks + first.steps)
     → (first.steps < until → until ≤ limits.steps)
     → (n : ℕ) → first.steps ≤ n → n < until → is_over app limits (state_after app limits plan n) ≡ false
     → end_of app limits (state_after app limits plan n) ≡ None
-free_before app plan limits first until begin ticks steps n on short going =
+free_before app plan limits first until begin alone none ticks steps n on short going =
     let done = steps_after app limits plan n in
     let few = steps (omega arith) in
     let early : (state_after app limits plan n).elapsed < limits.ticks = by_test app.tickless
     (λ may. before_tick_limit app limits (state_after app limits plan n) may going)
     (λ off.
     let before = elapsed_is first (state_after app limits plan first.steps) begin.stands in
-    let between = ticks_between app limits plan off first.steps n on in
+    let between =
+    ticks_between app limits plan off first.steps n on (λ k from below. alone k from (omega arith))
+    (none_by first (state_after app limits plan first.steps) none begin.stands) in
     let soon = ticks off (omega arith) in
     omega arith) in
     goes_if_not_over app limits (state_after app limits plan n) going early (omega arith)

@@ -52,7 +52,7 @@ use Rattle.sched.specs.StandsFor.{task_holds_of}
 zero_left : (n m : ℕ) → n + m ≡ 0 → n ≡ 0
 zero_left n m e = omega arith
 
-placed_by : (k : Machine) (s : State) → k.sched.depth ≡ 0 → Stands k s → StandsFor k s
+pub placed_by : (k : Machine) (s : State) → k.sched.depth ≡ 0 → Stands k s → StandsFor k s
 placed_by k s z (Placed h) = h
 placed_by k s z (Placing task list b) =
     let e : k.sched.depth ≡ task_holds_of s + 1 =

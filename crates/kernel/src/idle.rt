@@ -1,12 +1,12 @@
 //! Idle: it lets a tick pass; or, in an application that is tickless, all up to the next thing to happen.
-ghost use Rattle.std.specs.Prelude.{◌≡◌, ◌<◌, ◌≤◌, ◌+◌, ◌^◌, true, false, None, fold, min};
+ghost use Rattle.std.specs.Prelude.{◌≡◌, ◌<◌, ◌≤◌, ◌+◌, ◌^◌, [], None, fold, max, min};
 ghost use Rattle.lists.specs.Lists.{Each};
 ghost use Rattle.model.specs.State.{State};
 ghost use Rattle.model.specs.Handlers.{idle, interrupt, ticks_ahead, ticks_to_interrupt, ticks_to_wake};
 ghost use Rattle.model.specs.Switching.{slice, unless_held};
 ghost use Rattle.model.specs.Time.{jump};
-ghost use Rattle.model.specs.Run.{is_interrupt_to_come, is_stuck, will_wake};
-ghost use Rattle.machine.specs.StandsFor.{Does, StandsFor};
+ghost use Rattle.machine.specs.StandsFor.{Does, Moves, StandsFor};
+ghost use Rattle.machine.specs.Can.{Leaves};
 ghost use Rattle.kernel.specs.Can.{CanIdle};
 
 use crate::handlers::{interrupt, tick_interrupt};
@@ -18,7 +18,9 @@ use model::{App, Limits};
 fn until_wake(machine: &Machine, most: u64) -> u64
     ensures least { (s : State) → StandsFor machine.now s → result ≡ fold min most (ticks_to_wake s) }
     ensures soon { Each (λ e. machine.now.clock.now + result ≤ e.1) machine.now.clock.delayed_list }
-    ensures short { (s : State) → StandsFor machine.now s → will_wake s ≡ true → result < 2 ^ 32 }
+    ensures less { result ≤ most }
+    ensures later { Each (λ e. machine.now.clock.now + 1 ≤ e.1) machine.now.clock.delayed_list }
+    ensures unslept { 2 ^ 32 ≤ result → machine.now.clock.delayed_list ≡ [] }
 {
     match machine.clock.nearest() {
         Some(ticks) => most.min(ticks as u64),
@@ -30,7 +32,6 @@ fn until_wake(machine: &Machine, most: u64) -> u64
 fn until_interrupt(machine: &Machine, app: &App, most: u64) -> u64
     ensures least { (s : State) → StandsFor machine.now s → result ≡ fold min most (ticks_to_interrupt app.now s) }
     ensures less { result ≤ most }
-    ensures short { (s : State) → StandsFor machine.now s → is_interrupt_to_come app.now s ≡ true → result < 2 ^ 32 }
 {
     app.well_formed();
     let before = ticks_to_interrupt(machine, app);
@@ -40,15 +41,30 @@ fn until_interrupt(machine: &Machine, app: &App, most: u64) -> u64
     most.min(before as u64 + 1)
 }
 
-/// The ticks until the next thing happens: somebody wakes, a base interrupt comes, or the limit is reached.
+/// The ticks until the next thing happens: somebody wakes, a base interrupt comes, or the limit is reached. One at least.
 fn ticks_ahead(machine: &Machine, app: &App, limits: &Limits) -> u64
     ensures ahead { (s : State) → StandsFor machine.now s → result ≡ ticks_ahead app.now limits.now s }
     ensures soon { Each (λ e. machine.now.clock.now + result ≤ e.1) machine.now.clock.delayed_list }
-    ensures short { (s : State) → StandsFor machine.now s → machine.now.sched.current ≡ None → is_stuck app.now s ≡ false
-        → result < 2 ^ 32 }
+    ensures within { result ≤ max 1 limits.now.ticks }
+    ensures unslept { 2 ^ 32 ≤ result → machine.now.clock.delayed_list ≡ [] }
 {
     let left = limits.ticks.saturating_sub(machine.clock.elapsed());
-    until_interrupt(machine, app, until_wake(machine, left))
+    until_interrupt(machine, app, until_wake(machine, left)).max(1)
+}
+
+/// All ticks pass at once up to the next thing to happen.
+#[inline(always)]
+fn pass_to_next(machine: &mut Machine, app: &App, limits: &Limits)
+    requires { CanIdle app.now limits.now machine.old }
+    ensures does { Moves machine.old machine.new (λ s. jump (ticks_ahead app.now limits.now s) s) }
+    ensures leaves { Leaves machine.old machine.new }
+{
+    let ticks = ticks_ahead(machine, app, limits);
+    if ticks > u32::MAX as u64 {
+        machine.jump_unslept(ticks);
+    } else {
+        machine.jump(ticks as u32);
+    }
 }
 
 /// Idle lets all these ticks pass at once, with whose last the base interrupts of its tick come, and a switch if one is due.
@@ -61,8 +77,7 @@ fn jump_ahead<L: Log>(machine: &mut Machine, app: &App, limits: &Limits, log: &m
     ensures { Does 65 machine.old (L.logged log.old) machine.new (L.logged log.new)
         (λ s. unless_held slice (interrupt app.now (jump (ticks_ahead app.now limits.now s) s))) }
 {
-    let ticks = ticks_ahead(machine, app, limits);
-    machine.jump(ticks as u32);
+    pass_to_next(machine, app, limits);
     interrupt(machine, app, log);
     machine.slice(log);
 }

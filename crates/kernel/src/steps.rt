@@ -124,7 +124,7 @@ fn step_with_handlers<L: Log>(
     requires few { length handlers.now ≤ 3 }
     requires going { CanStep app.now limits.now machine.old }
     requires begun { (L.logged log.old).told ≡ [] }
-    requires room { 406 ≤ (L.logged log.old).room }
+    requires room { 598 ≤ (L.logged log.old).room }
     ensures stands { (s : State) → Stands machine.old s → Stands machine.new (step app.now limits.now handlers.now s) }
     ensures told { (s : State) → Stands machine.old s
         → (L.logged log.new).told ≡ (step app.now limits.now handlers.now s).log }

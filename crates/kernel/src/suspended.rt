@@ -14,7 +14,7 @@ ghost use Rattle.ops.specs.Can.{Can, CanHold, HasObjects};
 ghost use Rattle.kernel.specs.Along.{IsFree, GoesOn};
 ghost use Rattle.kernel.specs.Can.{CanStep};
 
-use crate::handlers::interrupt;
+use crate::handlers::held_tick_interrupt;
 use crate::over::is_over_running;
 use crate::steps::op_of;
 use machine::{Log, Machine, Trail};
@@ -133,20 +133,6 @@ pub(crate) fn call_enter_critical(machine: &mut Machine, app: &App, task: TaskId
     let op_index = machine.progress(task).op_index;
     enter_critical(machine, app, task);
     judge(machine, task, op_index);
-}
-
-/// The tick interrupt while a `suspend_all` is in force: the tick is held, its base interrupts come, and nothing switches.
-fn held_tick_interrupt<L: Log>(machine: &mut Machine, app: &App, log: &mut L)
-    requires room { 64 ≤ (L.logged log.old).room }
-    requires agrees { Agrees machine.old }
-    requires objects { HasObjects app.now machine.old }
-    requires some { machine.old.sections < machine.old.sched.suspensions }
-    requires few { machine.old.clock.held < 4294967295 }
-    ensures { Does 64 machine.old (L.logged log.old) machine.new (L.logged log.new)
-        (tick_interrupt app.now) }
-{
-    machine.clock.hold_tick();
-    interrupt(machine, app, log);
 }
 
 /// `work` while a `suspend_all` is in force: a tick of it is used up, and the tick that comes is held.

@@ -1,5 +1,5 @@
 //! Who runs: each way in which the processor changes.
-ghost use Rattle.std.specs.Prelude.{◌≡◌, ℕ, ◌<◌, ◌≤◌, ◌+◌, ◌++◌, List, None, nat_lt};
+ghost use Rattle.std.specs.Prelude.{◌≡◌, ℕ, ◌<◌, ◌≤◌, ◌+◌, ◌^◌, ◌++◌, [], List, None, nat_lt};
 ghost use Rattle.model.specs.State.{State, for_each};
 ghost use Rattle.model.specs.Switching.{choose, is_held, is_ready, preempt, slice, settle, unless_held, yield_now, make_ready};
 ghost use Rattle.model.specs.Time.{increment_tick, jump};
@@ -214,5 +214,18 @@ impl Machine {
             &mut self.groups,
             due.as_slice(),
         );
+    }
+
+    /// The same while nobody sleeps, however many they are. After the call the clock's age is 2^62 ticks at most.
+    // Only a tick that is injected into a step can leave nothing to wait for but the limit.
+    #[cold]
+    #[inline(never)]
+    pub fn jump_unslept(&mut self, ticks: u64)
+        requires quiet { self.old.clock.delayed_list ≡ [] }
+        requires age { self.old.clock.age + ticks ≤ 2 ^ 62 }
+        ensures does { Moves self.old self.new (jump ticks) }
+        ensures leaves { Leaves self.old self.new }
+    {
+        self.clock.jump_unslept(ticks);
     }
 }

@@ -5,6 +5,7 @@ ghost use Rattle.std.specs.List.{list_any};
 ghost use Rattle.model.specs.Application as application;
 ghost use Rattle.model.specs.Application.{commands_of, interrupts_at, is_any_awaited, is_endless, op_at, op_count, ops_of, script_of};
 ghost use Rattle.model.specs.Blocks.{jump_from};
+ghost use Rattle.model.specs.Handlers.{is_tick};
 ghost use Rattle.model.specs.Words.{name_of, handler_name_of, handler_named, isr_op_at};
 ghost use Rattle.model.specs.Coming.{AreComing};
 ghost use Rattle.model.specs.Scripts.{IsScript, IsDefinition, IsWellFormed, most_handler_ops, most_name_bytes, most_ops};
@@ -513,6 +514,14 @@ impl App {
             None => "",
             Some(definition) => definition.name(),
         }
+    }
+
+    /// Whether an interrupt source is the tick: its number comes after those of the handlers.
+    #[inline(always)]
+    pub fn is_tick(&self, source: HandlerId) -> bool
+        ensures { result ≡ is_tick self.now source }
+    {
+        source.number as usize == self.handlers.len()
     }
 
     /// The ops of a handler; none where there is no such handler.

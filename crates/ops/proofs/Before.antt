@@ -31,9 +31,10 @@ use Rattle.objects.specs.WaitingLists.{waiting_in}
 use Rattle.task_lists.specs.Tasks.{insert_by_priority}
 use Rattle.objects.specs.WaitersStand.{AtLocked, Decider, standing}
 use Rattle.objects.specs.Objects as objects
-use Rattle.objects.specs.Objects.{Objects}
+use Rattle.objects.specs.Objects.{Objects, SameWaits}
+use Rattle.objects.proofs.Kept.{stands_same}
 use Rattle.objects.proofs.Keys.{same_list-true, same_list-refl}
-use Rattle.objects.proofs.Awake.{at_locked-stored, at_locked-wake_best}
+use Rattle.objects.proofs.Awake.{at_locked_same, at_locked-stored, at_locked-wake_best}
 use Rattle.groups.specs.EventGroups.{EventGroups}
 use Rattle.groups.specs.StandsFor as groups
 use Rattle.groups.specs.StandsFor.{SameEventWaits}
@@ -43,7 +44,7 @@ use Rattle.groups.proofs.Elsewhere as bits_elsewhere
 use Rattle.machine.specs.declared.machine.Machine.{Machine}
 use Rattle.machine.specs.StandsFor.{AreNotifications, AreSources, StandsBefore, Stands, decider}
 use Rattle.machine.specs.StandsFor.Stands.{Placed, Placing}
-use Rattle.machine.proofs.Parts.{Kept, kept_of, progress-kept}
+use Rattle.machine.proofs.Parts.{Kept, kept_of, progress-kept, same_parts}
 use Rattle.machine.proofs.Waking.{progress-ready}
 use Rattle.ops.proofs.Waits.{awake_unready, awake_resumes, awake_alike, best, woken_free, waits_there, opened, wakes_it, Unwoken}
 use Rattle.ops.proofs.Waits.{unwoken}
@@ -96,6 +97,29 @@ before_with : {task : ℕ} {list : WaitList} {k : Machine} {s new : State} {v : 
     → StandsBefore task list (record k { sched = v; clock = t; objects = q }) new
 before_with {k = k} {s = s} {new = new} b on awake there locked bits =
     before_with_groups b on awake there locked (on_groups.stands_same k.groups s new b.groups bits on.table)
+
+-- How many ticks have come, and how many are held, is another number.
+pub before_with_ticks : (k : Machine) (s : State) (task : ℕ) (list : WaitList) → StandsBefore task list k s → (t : Timeline)
+    → (elapsed held : ℕ) → clock.StandsBefore task (call_at s task).deadline t (record s { elapsed = elapsed; held_ticks = held })
+    → StandsBefore task list (record k { clock = t }) (record s { elapsed = elapsed; held_ticks = held })
+before_with_ticks k s task list b t elapsed held on =
+    let new : State = record s { elapsed = elapsed; held_ticks = held } in
+    let waits : SameWaits s new = same_parts s new refl refl refl in
+    before_with b
+    (record {
+      ready = b.sched.ready;
+      still = b.sched.still;
+      current = b.sched.current;
+      priorities = b.sched.priorities;
+      base_priorities = b.sched.base_priorities;
+      depth = b.sched.depth;
+      suspensions = b.sched.suspensions;
+      suspended = b.sched.suspended;
+      table = on.table;
+    })
+    on (stands_same s new waits k.objects (Some (decider task list s)) b.objects on.table)
+    (at_locked_same (Some (decider task list s)) s new waits b.awake) (bits_kept.same_parts s new refl refl)
+    (λ i. refl) refl refl refl refl
 
 -- ---- it waits in its list, or was woken there
 

@@ -134,7 +134,7 @@ pub record CanHold (app : Application) (k : Machine) (task : ℕ) (op : Op) : Ty
   pub agrees : Agrees k
   pub free : k.objects.lock ≡ None
   pub age : k.clock.age + k.clock.held < 2 ^ 62
-  pub held : k.clock.held < 4294967295
+  pub held : k.clock.held < 2 ^ 62
   pub suspensions : k.sched.suspensions < 4294967295
   pub depth : k.sched.depth ≡ k.sched.suspensions
   -- the critical sections that are open are among what holds it

@@ -100,12 +100,14 @@ module _ (app : Application) (formed : IsWellFormed app) where
   all_pended [] s h = h
   all_pended (handler ∷ handlers) s h = all_pended handlers (pend handler s) (pended_between handler s h)
 
+  pub none_pending_between : (s : State) → IsState app s → IsState app (none_pending s)
+  none_pending_between s h =
+      raised s (map (λ (x : Source). record x { pending = false }) s.sources)
+      (length-map s.sources (λ (x : Source). record x { pending = false })) h
+
   pub served_pending : (s : State) → is_critical s ≡ false → IsState app s → IsState app (serve_pending app s)
   unfolding serve_pending
-  served_pending s shut h =
-      all_served (pending_of s) (none_pending s) shut
-      (raised s (map (λ (x : Source). record x { pending = false }) s.sources)
-      (length-map s.sources (λ (x : Source). record x { pending = false })) h)
+  served_pending s shut h = all_served (pending_of s) (none_pending s) shut (none_pending_between s h)
 
   -- No section is open after them.
   pub shut_pending : (s : State) → is_critical s ≡ false → is_critical (serve_pending app s) ≡ false

@@ -10,7 +10,7 @@ use Rattle.model.specs.Step.{before_step}
 use Rattle.model.specs.Invariant.{hold_of, Suspension, suspension_of}
 use Rattle.model.proofs.Sorting.{by_test}
 use Rattle.soundness.proofs.Frames.{Keeps, keeps_both, keeps-handle, keeps-preempt, keeps-unless_held}
-use Rattle.soundness.proofs.Passing.{keeps-tick, elapsed-tick, hold-tick, held-tick, suspensions-tick, sections-tick, sources-tick}
+use Rattle.soundness.proofs.Passing.{keeps-tick, elapsed-tick, hold-tick, suspensions-tick, sections-tick, sources-tick}
 
 -- how many of these interrupts are the tick
 abbrev pub ticks_in : Application → List ℕ → ℕ
@@ -23,12 +23,11 @@ few_ticks app [] = omega arith
 few_ticks app (source ∷ sources) =
     let few = few_ticks app sources in by_test (is_tick app source) (λ t. rw t (omega arith)) (λ t. rw t (omega arith))
 
--- No more than this many ticks pass, and no more come to be held than pass. The step isn't done, there are as many tasks, and all that
+-- No more than this many ticks pass. The step isn't done, there are as many tasks, and all that
 -- may hold the scheduler stays; so does what is kept of the interrupt sources.
 pub record Comes (n : ℕ) (old new : State) : Type 0 where
   pub elapsed : new.elapsed ≤ old.elapsed + n
   pub on : old.elapsed ≤ new.elapsed
-  pub held : new.held_ticks + old.elapsed ≤ old.held_ticks + new.elapsed
   pub steps : new.steps ≡ old.steps
   pub tasks : length new.tasks ≡ length old.tasks
   pub hold : hold_of new ≡ hold_of old
@@ -39,11 +38,9 @@ pub record Comes (n : ℕ) (old new : State) : Type 0 where
 come_by : (old new : State) → Keeps old new → Comes 0 old new
 come_by old new k =
     let elapsed = k.elapsed in
-    let held : new.held_ticks ≡ old.held_ticks = ap (λ (x : Suspension). x.held_ticks) k.suspension in
     record {
       elapsed = omega arith;
       on = omega arith;
-      held = omega arith;
       steps = k.steps;
       tasks = k.tasks;
       hold = k.hold;
@@ -59,12 +56,9 @@ come_both n m a b c h k =
     let e2 = k.elapsed in
     let o1 = h.on in
     let o2 = k.on in
-    let h1 = h.held in
-    let h2 = k.held in
     record {
       elapsed = omega arith;
       on = omega arith;
-      held = omega arith;
       steps = k.steps ∙ h.steps;
       tasks = k.tasks ∙ h.tasks;
       hold = k.hold ∙ h.hold;
@@ -80,7 +74,6 @@ comes-tick app s =
     record {
       elapsed = omega arith;
       on = omega arith;
-      held = held-tick app s;
       steps = k.steps ∙ by_test (holds_ticks s) (λ t. rw t refl) (λ t. rw t refl);
       tasks = k.tasks ∙ by_test (holds_ticks s) (λ t. rw t refl) (λ t. rw t refl);
       hold = hold-tick app s;
@@ -116,7 +109,6 @@ module _ (app : Application) (deed : ℕ → State → State)
       record {
         elapsed = omega arith;
         on = omega arith;
-        held = omega arith;
         steps = refl;
         tasks = refl;
         hold = refl;
@@ -136,7 +128,6 @@ comes-pend [] s =
     record {
       elapsed = omega arith;
       on = omega arith;
-      held = omega arith;
       steps = refl;
       tasks = refl;
       hold = refl;
@@ -149,7 +140,6 @@ comes-pend (source ∷ sources) s =
     record {
       elapsed = k.elapsed;
       on = k.on;
-      held = k.held;
       steps = k.steps;
       tasks = k.tasks;
       hold = k.hold;
@@ -177,7 +167,6 @@ comes-before_step app sources s =
     record {
       elapsed = omega arith;
       on = k.on;
-      held = k.held;
       steps = k.steps;
       tasks = k.tasks;
       hold = k.hold;
@@ -192,7 +181,6 @@ comes-before_step app sources s =
     record {
       elapsed = k.elapsed;
       on = k.on;
-      held = k.held;
       steps = k.steps;
       tasks = k.tasks;
       hold = k.hold;

@@ -14,19 +14,18 @@ use Rattle.model.specs.Step.{nobody_ready, ready_at_reset, with_ops}
 use Rattle.model.specs.Invariant.{Suspension, suspension_of}
 use Rattle.soundness.proofs.Frames.{keeps-settle, keeps-unless_held, keeps-all_ready}
 use Rattle.soundness.proofs.Coming.{comes-before_step, ticks_before}
-use Rattle.soundness.proofs.Passing.{elapsed-act, elapsed-idle, held-act, held-idle, most-idle, sections-idle, sources-act}
+use Rattle.soundness.proofs.Passing.{elapsed-act, elapsed-idle, most-idle, sections-idle, sources-act}
 use Rattle.soundness.proofs.Passing.{sources-idle, suspensions-act, suspensions-idle, task_holds, task_holds-act, task_holds_by}
 use Rattle.soundness.proofs.Judging.{judged}
 
 -- ---- an op, or idle
 
--- Beside this many that come before it no more than one tick passes, except where idle may jump; and none after the limit. No more are
--- held than pass, and no more than one `suspend_all` comes into force, or critical section is opened.
+-- Beside this many that come before it no more than one tick passes, except where idle may jump; and none after the limit. No more
+-- than one `suspend_all` comes into force, or critical section is opened.
 pub record Moves (app : Application) (limits : Limits) (before : ℕ) (old new : State) : Type 0 where
   pub elapsed : app.tickless ≡ false → new.elapsed ≤ old.elapsed + before + 1
   pub most : (most : ℕ) → limits.ticks ≤ most → old.elapsed < most → new.elapsed ≤ most + before
   pub suspensions : new.suspensions ≤ old.suspensions + 1
-  pub held : new.held_ticks + old.elapsed ≤ old.held_ticks + new.elapsed
   pub by_tasks : task_holds new ≤ task_holds old + 1
 
 moves-act_unless : (app : Application) (limits : Limits) (i : ℕ) (kind : Option Misuse) (op : Op) (s : State)
@@ -39,11 +38,8 @@ moves-act_unless app limits i None op s =
     ap (λ (x : Suspension). x.suspensions) j.suspension in
     let a : t.elapsed ≤ s.elapsed + 1 =
     by_value (λ t. t.elapsed ≤ s.elapsed + 1) app i op s (omega arith) (elapsed-act app i op s) in
-    let g : (judge i (progress_at s i).op_index t).held_ticks ≡ t.held_ticks = ap (λ (x : Suspension). x.held_ticks) j.suspension in
     let b : t.suspensions ≤ s.suspensions + 1 =
     by_value (λ t. t.suspensions ≤ s.suspensions + 1) app i op s (omega arith) (suspensions-act app i op s) in
-    let h : t.held_ticks + s.elapsed ≤ s.held_ticks + t.elapsed =
-    by_value (λ t. t.held_ticks + s.elapsed ≤ s.held_ticks + t.elapsed) app i op s (omega arith) (held-act app i op s) in
     let c : task_holds (judge i (progress_at s i).op_index t) ≡ task_holds t =
     task_holds_by t (judge i (progress_at s i).op_index t) j.suspension in
     let d : task_holds t ≤ task_holds s + 1 =
@@ -52,7 +48,6 @@ moves-act_unless app limits i None op s =
       elapsed = λ off. omega arith;
       most = λ most few l. omega arith;
       suspensions = omega arith;
-      held = omega arith;
       by_tasks = omega (arith, c, d);
     }
 moves-act_unless app limits i (Some kind) op s =
@@ -60,7 +55,6 @@ moves-act_unless app limits i (Some kind) op s =
       elapsed = λ off. omega arith;
       most = λ most few l. omega arith;
       suspensions = omega arith;
-      held = omega arith;
       by_tasks = omega arith;
     }
 
@@ -70,7 +64,6 @@ moves-act_if app limits i None s =
       elapsed = λ off. omega arith;
       most = λ most few l. omega arith;
       suspensions = omega arith;
-      held = omega arith;
       by_tasks = omega arith;
     }
 moves-act_if app limits i (Some op) s = moves-act_unless app limits i (misuse s i op) op s
@@ -83,7 +76,6 @@ moves-act_current app limits None s =
       elapsed = λ off. (let e = elapsed-idle app limits s off in omega arith);
       most = λ most few l. (let e = most-idle app limits s most few l in omega arith);
       suspensions = omega arith;
-      held = held-idle app limits s;
       by_tasks = (let g = sections-idle app limits s in omega arith);
     }
 moves-act_current app limits (Some i) s = moves-act_if app limits i (op_at app i (progress_at s i).op_index) s
@@ -118,18 +110,14 @@ moves-step app limits sources s =
     let m = moves-act_current app limits begun.current begun in
     let b1 : begun.elapsed ≤ s.elapsed + ticks_before app sources s = b.elapsed in
     let b2 : begun.suspensions ≡ s.suspensions = b.suspensions in
-    let b3 : begun.held_ticks + s.elapsed ≤ s.held_ticks + begun.elapsed = b.held in
     let k1 : (unless_held settle acted).elapsed ≡ acted.elapsed = k.elapsed in
     let k2 : (unless_held settle acted).suspensions ≡ acted.suspensions = ap (λ (x : Suspension). x.suspensions) k.suspension in
-    let k3 : (unless_held settle acted).held_ticks ≡ acted.held_ticks = ap (λ (x : Suspension). x.held_ticks) k.suspension in
     let m2 : acted.suspensions ≤ begun.suspensions + 1 = m.suspensions in
-    let m4 : acted.held_ticks + begun.elapsed ≤ begun.held_ticks + acted.elapsed = m.held in
     record {
       elapsed = λ off. (let m1 : acted.elapsed ≤ begun.elapsed + 0 + 1 = m.elapsed off in omega arith);
       most = λ most few l. (let m3 : acted.elapsed ≤ most + ticks_before app sources s + 0 =
       m.most (most + ticks_before app sources s) (omega arith) (omega arith) in omega arith);
       suspensions = omega arith;
-      held = omega arith;
       by_tasks =
           (let b4 : task_holds begun ≡ task_holds s = ap₂ (λ (x y : ℕ). x + y) b.suspensions b.sections in
           let k4 : task_holds (unless_held settle acted) ≡ task_holds acted =

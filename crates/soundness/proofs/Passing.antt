@@ -370,17 +370,6 @@ pub suspension-tick : (app : Application) (s : State) → holds_ticks s ≡ fals
     → suspension_of (tick_interrupt app s) ≡ suspension_of s
 suspension-tick app s none = (keeps-tick app s).suspension ∙ rw none refl
 
--- A tick that is held has come: no more are held than have come.
-pub held-tick : (app : Application) (s : State)
-    → (tick_interrupt app s).held_ticks + s.elapsed ≤ s.held_ticks + (tick_interrupt app s).elapsed
-held-tick app s =
-    let e : (tick_interrupt app s).held_ticks ≡ (tick_come s).held_ticks =
-    ap (λ (x : Suspension). x.held_ticks) (keeps-tick app s).suspension in
-    let come : (tick_come s).held_ticks ≤ s.held_ticks + 1 =
-    by_test (holds_ticks s) (λ t. rw t (omega arith)) (λ t. rw t (omega arith)) in
-    let one = elapsed-tick app s in
-    omega arith
-
 pub suspensions-tick : (app : Application) (s : State) → (tick_interrupt app s).suspensions ≡ s.suspensions
 suspensions-tick app s =
     ap (λ (x : Suspension). x.suspensions) (keeps-tick app s).suspension
@@ -492,18 +481,6 @@ unfolding idle
 sources-idle app limits s =
     either_way (λ t. t.sources ≡ s.sources) app.tickless (jumped app (ticks_ahead app limits s) s) (tick_interrupt app s)
     (keeps-jumped app (ticks_ahead app limits s) s).sources (sources-tick app s)
-
-pub held-idle : (app : Application) (limits : Limits) (s : State)
-    → (idle app limits s).held_ticks + s.elapsed ≤ s.held_ticks + (idle app limits s).elapsed
-unfolding idle
-held-idle app limits s =
-    either_way (λ t. t.held_ticks + s.elapsed ≤ s.held_ticks + t.elapsed) app.tickless
-    (jumped app (ticks_ahead app limits s) s) (tick_interrupt app s)
-    (let k = keeps-jumped app (ticks_ahead app limits s) s in
-    let e : (jumped app (ticks_ahead app limits s) s).held_ticks ≡ s.held_ticks = ap (λ (x : Suspension). x.held_ticks) k.suspension in
-    let f : (jumped app (ticks_ahead app limits s) s).elapsed ≡ s.elapsed + ticks_ahead app limits s = k.elapsed in
-    omega arith)
-    (held-tick app s)
 
 -- ---- the scheduler suspended and resumed
 
@@ -774,26 +751,6 @@ suspensions-act app i op s = by_op (λ op. (act app i op s).suspensions ≤ s.su
     op
 
 -- how many ticks are held after it
--- what is held after it, beside what has come
-pub held-act : (app : Application) (i : ℕ) (op : Op) (s : State)
-    → (act app i op s).held_ticks + s.elapsed ≤ s.held_ticks + (act app i op s).elapsed
-held-act app i op s = by_op (λ op. (act app i op s).held_ticks + s.elapsed ≤ s.held_ticks + (act app i op s).elapsed)
-    (λ n. let e = held-tick app (use_up app i n s) in
-    let f : (use_up app i n s).held_ticks ≡ s.held_ticks =
-    ap (λ (x : Suspension). x.held_ticks) (keeps-use_up app i n s).suspension in
-    let g : (use_up app i n s).elapsed ≡ s.elapsed = (keeps-use_up app i n s).elapsed in
-    omega arith)
-    (let x = suspends-all app i s in let e = x.held in let f = x.elapsed in omega arith)
-    (let x = resumes-all app i s in let e = x.no_more in let f = x.elapsed in omega arith)
-    (let x = opens app i (s.sections + 1) s in let e = x.held in let f = x.elapsed in omega arith)
-    (let x = opens app i (s.sections - 1) s in let e = x.held in let f = x.elapsed in omega arith)
-    (λ op t.
-    let x = lasts-act app i op s t in
-    let e : (act app i op s).held_ticks ≤ s.held_ticks = x.held in
-    let f : (act app i op s).elapsed ≡ s.elapsed = x.elapsed in
-    omega arith)
-    op
-
 -- how often a task holds the scheduler, by `suspend_all` and by critical sections
 abbrev pub task_holds : State → ℕ
 task_holds s = s.suspensions + s.sections

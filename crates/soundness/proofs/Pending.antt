@@ -1,6 +1,6 @@
 -- Nothing is pending after a step before which no critical section is open. And a step into which nothing is injected, before which
 -- nothing is pending, begins with nothing.
-use Rattle.std.proofs.Common.{arith, true, eqb, ◌≡◌, ◌≢◌, ◌<◌, ◌≤◌, ◌∙◌, ℕ, zero, suc, Bool, false, List, [], ◌∷◌, ◌++◌, map}
+use Rattle.std.proofs.Common.{arith, ◌+◌, true, eqb, ◌≡◌, ◌≢◌, ◌<◌, ◌≤◌, ◌∙◌, ℕ, zero, suc, Bool, false, List, [], ◌∷◌, ◌++◌, map}
 use Rattle.std.proofs.Common.{get_or, refl, ap, sym, subst}
 use Rattle.std.specs.List.{AllByRecursion, filter, range_with_len}
 use Rattle.std.specs.Prelude.{length}
@@ -15,7 +15,7 @@ use Rattle.model.specs.Invariant.{IsNonePending}
 use Rattle.model.proofs.Sorting.{by_test}
 use Rattle.model.proofs.Lists.{eqb-refl, eqb-same}
 use Rattle.soundness.proofs.Frames.{keeps-unless_held, keeps-settle, keeps-all_ready}
-use Rattle.soundness.proofs.Coming.{comes-serve, comes-inject}
+use Rattle.soundness.proofs.Coming.{comes-serve, comes-inject, ticks_before, ticks_in}
 use Rattle.soundness.proofs.Moving.{sources-act_current}
 
 -- ---- lists of sources
@@ -47,6 +47,10 @@ none_left p (k ∷ ks) off = rw (off k) (none_left p ks off)
 pub pending_none : (s : State) → IsNonePending s → pending_of s ≡ []
 pending_none s h =
     none_left (λ source. (source_at s source).pending) (range_with_len 0 (length s.sources)) (λ i. not_pending s.sources i h)
+
+-- So no tick comes either, if none is injected.
+pub no_ticks_before : (app : Application) (s : State) → IsNonePending s → ticks_before app [] s ≡ 0
+no_ticks_before app s h = ap (λ (sources : List ℕ). ticks_in app sources + 0) (pending_none s h)
 
 pub served_none : (app : Application) (s : State) → IsNonePending s → serve_pending app s ≡ s
 unfolding serve_pending

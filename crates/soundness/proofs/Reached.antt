@@ -138,17 +138,6 @@ module _ (app : Application) (formed : IsWellFormed app) where
   reached_after limits plan (suc n) =
       reached_step app formed limits (injected plan n) (state_after app limits plan n) (reached_after limits plan n)
 
-  -- no more ticks are held than have come
-  pub held_after : (limits : Limits) (plan : List Injection) (n : ℕ)
-      → (state_after app limits plan n).held_ticks ≤ (state_after app limits plan n).elapsed
-  held_after limits plan zero =
-      let e : (reset app).held_ticks ≡ 0 = ap (λ (x : Suspension). x.held_ticks) (suspension-reset app) in
-      omega arith
-  held_after limits plan (suc n) =
-      let e = held_after limits plan n in
-      let one = (moves-step app limits (injected plan n) (state_after app limits plan n)).held in
-      omega arith
-
   -- no more `suspend_all` are in force than steps have been done
   pub suspensions_after : (limits : Limits) (plan : List Injection) (n : ℕ) → (state_after app limits plan n).suspensions ≤ n
   suspensions_after limits plan zero =

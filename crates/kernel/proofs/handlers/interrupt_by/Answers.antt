@@ -3,9 +3,9 @@ use Rattle.std.proofs.lemmas.List.{length-map}
 use Rattle.model.specs.Application.{Interrupt, interrupts_at}
 use Rattle.model.specs.State.{for_each}
 use Rattle.model.specs.Handlers.{handle, interrupt}
-use Rattle.machine.specs.StandsFor.{At}
-use Rattle.machine.specs.StandsFor.Stands.{Placed}
-use Rattle.machine.proofs.Acting.{agrees_after}
+use Rattle.machine.specs.StandsFor.{At, AtAny}
+use Rattle.machine.proofs.Either.{elapsed_is}
+use Rattle.machine.proofs.Renewed.{stood_after}
 use Rattle.ops.proofs.Calling.{leaves_both}
 use Rattle.kernel.proofs.Handling.{room_after, mapped_at, one_more}
 use Rattle.kernel.proofs.handlers.interrupt_by.Goals as goal
@@ -23,8 +23,7 @@ handle-requires-clause-room g c =
 
 pub handle-requires-clause-stands : goal.handle-requires-clause-stands
 handle-requires-clause-stands g c =
-    let a = agrees_after c.args.machine.now c.loop-interrupt.machine _ _ c.requires.agrees _ c.loop-interrupt.invariant.does.at in
-    (a.0, Placed a.1)
+    stood_after _ c.args.machine.now c.loop-interrupt.machine _ _ _ c.requires.stands c.loop-interrupt.invariant.any
 
 pub handle-requires-clause-objects : goal.handle-requires-clause-objects
 handle-requires-clause-objects g c =
@@ -49,6 +48,21 @@ loop-interrupt-preserved g c =
             subst T (ap (λ (i : Interrupt). i.handler) c.interrupt.view_is) (c.handle.ensures.does.at _ (so.does.at s h)));
         few = let a = so.does.few in let b = c.handle.ensures.does.few in omega arith;
         before = c.handle.ensures.does.before ∙ so.does.before;
+      };
+      any = record {
+        at = λ s h.
+            one_more (handle c.args.app.now) (AtAny c.handle.new.machine (g.L.Log.logged c.handle.new.log).told)
+            (map (λ (i : Interrupt). i.handler) xs) s c.loop-interrupt.interrupt-index c.interrupt-item.result.handler
+            (rw length-map c.loop-interrupt-test.true)
+            (mapped_at (λ (i : Interrupt). i.handler) xs c.loop-interrupt.interrupt-index
+            c.interrupt-item.result c.loop-interrupt-test.true c.interrupt-item.is)
+            (let T : ℕ → Type 0 = λ n.
+            AtAny c.handle.new.machine (g.L.Log.logged c.handle.new.log).told
+            (handle c.args.app.now n (for_each (handle c.args.app.now)
+            (take c.loop-interrupt.interrupt-index (map (λ (i : Interrupt). i.handler) xs)) s)) in
+            subst T (ap (λ (i : Interrupt). i.handler) c.interrupt.view_is) (c.handle.ensures.any.at _ (so.any.at s h)));
+        few = let a = so.any.few in let b = c.handle.ensures.any.few in omega arith;
+        before = c.handle.ensures.any.before ∙ so.any.before;
       };
       leaves = leaves_both c.args.machine.now c.loop-interrupt.machine c.handle.new.machine so.leaves c.handle.ensures.leaves;
     }
@@ -75,4 +89,28 @@ returns-clause-does g c =
           let few = c.well_formed-2.ensures.few_at_once (c.args.machine.now.clock.age + c.args.machine.now.clock.held) in
           omega (arith, many);
       before = so.does.before;
+    }
+
+pub returns-clause-any : goal.returns-clause-any
+unfolding interrupt
+returns-clause-any g c =
+    let so = c.loop-interrupt.invariant in
+    let app = c.args.app.now in
+    let many : length c.args.due.now ≡ length (interrupts_at app (c.args.machine.now.clock.age + c.args.machine.now.clock.held)) =
+    sym (length-map c.args.due.now (λ (i : Interrupt). i.handler)) ∙ ap (λ (hs : List ℕ). length hs) c.requires.due in
+    record {
+      at = λ s h.
+          let P : List ℕ → Type 0 = λ hs.
+          AtAny c.loop-interrupt.machine (g.L.Log.logged c.loop-interrupt.log).told (for_each (handle app) hs s) in
+          let all : take c.loop-interrupt.interrupt-index (map (λ (i : Interrupt). i.handler) c.args.due.now)
+          ≡ interrupts_at app s.elapsed =
+          take_all _ _ (rw length-map c.loop-interrupt-test.false)
+          ∙ c.requires.due ∙ ap (interrupts_at app) (elapsed_is c.args.machine.now s h.stands) in
+          subst P all (so.any.at s h);
+      few =
+          let a = so.any.few in
+          let l = c.loop-interrupt.auto.interrupt-index-end in
+          let few = c.well_formed-2.ensures.few_at_once (c.args.machine.now.clock.age + c.args.machine.now.clock.held) in
+          omega (arith, many);
+      before = so.any.before;
     }

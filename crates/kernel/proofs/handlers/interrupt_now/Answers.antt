@@ -1,6 +1,6 @@
 use Rattle.std.proofs.Common.{ap, ◌∙◌, arith}
 use Rattle.model.specs.Application.{interrupts_at}
-use Rattle.kernel.proofs.Handling.{guessed}
+use Rattle.kernel.proofs.Handling.{guessed, guessed_any}
 use Rattle.kernel.proofs.handlers.interrupt_now.Goals as goal
 
 pub interrupt_by-requires-clause-due : goal.interrupt_by-requires-clause-due
@@ -18,4 +18,11 @@ returns-clause-does g c = record {
   at = λ s h. guessed c.interrupt_by.new.machine _ _ _ (c.interrupt_by.ensures.does.at s h);
   few = c.interrupt_by.ensures.does.few;
   before = c.interrupt_by.ensures.does.before;
+}
+
+pub returns-clause-any : goal.returns-clause-any
+returns-clause-any g c = record {
+  at = λ s h. guessed_any c.interrupt_by.new.machine _ _ _ (c.interrupt_by.ensures.any.at s h);
+  few = c.interrupt_by.ensures.any.few;
+  before = c.interrupt_by.ensures.any.before;
 }

@@ -1,28 +1,37 @@
-use Rattle.std.proofs.Common.{arith, ◌∙◌, subst, sym}
-use Rattle.objects.specs.Objects.{HasRoom, Objects}
-use Rattle.kernel.proofs.Handling.{served_free, served_held, room_after}
+use Rattle.std.proofs.Common.{◌≡◌, ◌≤◌, ℕ, ◌∙◌, arith, refl, sym, subst}
+use Rattle.model.specs.Handlers.{serve}
+use Rattle.kernel.specs.Can.{room_for}
+use Rattle.kernel.proofs.Coming.{come_objects, come_stands}
 use Rattle.kernel.proofs.handlers.serve.Goals as goal
 
-pub returns-then-not-is_held-clause-does : goal.returns-then-not-is_held-clause-does
-returns-then-not-is_held-clause-does g c = record {
-  at = λ s h.
-      served_free c.args.app.now c.args.handler s c.handle.new.machine c.preempt.new.self
-      _ _ (λ t. sym (c.is_held.ensures.held _ t) ∙ c.if-not-is_held.true)
-      (c.handle.ensures.any.at s h) (λ p. c.preempt.ensures.does.at _ p);
-  few = let a = c.handle.ensures.any.few in let b = c.preempt.ensures.does.few in omega arith;
-  before = c.preempt.ensures.does.before ∙ c.handle.ensures.any.before;
-}
+pub serve_tick-requires-clause-room : goal.serve_tick-requires-clause-room
+serve_tick-requires-clause-room g c = rw (sym c.is_tick.ensures ∙ c.if-is_tick.true) at c.requires.room
 
-pub returns-then-not-is_held-clause-objects : goal.returns-then-not-is_held-clause-objects
-returns-then-not-is_held-clause-objects g c = λ o a fit.
-    subst (λ (q : Objects). HasRoom q o a) (sym c.preempt.ensures.objects)
-    (room_after c.args.app.now c.args.machine.now c.handle.new.machine c.requires.objects c.handle.ensures.leaves o a fit)
+pub serve_handler-requires-clause-room : goal.serve_handler-requires-clause-room
+serve_handler-requires-clause-room g c = rw (sym c.is_tick.ensures ∙ c.if-is_tick.false) at c.requires.room
 
-pub returns-else-not-is_held-clause-does : goal.returns-else-not-is_held-clause-does
-returns-else-not-is_held-clause-does g c = record {
-  at = λ s h.
-      served_held c.args.app.now c.args.handler s c.handle.new.machine _
-      (λ t. sym (c.is_held.ensures.held _ t) ∙ c.if-not-is_held.false) (c.handle.ensures.any.at s h);
-  few = let a = c.handle.ensures.any.few in omega arith;
-  before = c.handle.ensures.any.before;
-}
+pub serve_handler-requires-clause-stands : goal.serve_handler-requires-clause-stands
+serve_handler-requires-clause-stands g c = come_stands c.args.app.now c.well_formed-2.ensures 1 c.args.machine.now c.requires.can
+
+pub serve_handler-requires-clause-objects : goal.serve_handler-requires-clause-objects
+serve_handler-requires-clause-objects g c = come_objects c.args.app.now c.well_formed-2.ensures 1 c.args.machine.now c.requires.can
+
+pub returns-then-is_tick : goal.returns-then-is_tick
+unfolding serve
+returns-then-is_tick g c =
+    let yes = sym c.is_tick.ensures ∙ c.if-is_tick.true in
+    record {
+      at = λ s h. rw yes (c.serve_tick.ensures.at s h);
+      few = rw yes c.serve_tick.ensures.few;
+      before = c.serve_tick.ensures.before;
+    }
+
+pub returns-else-is_tick : goal.returns-else-is_tick
+unfolding serve
+returns-else-is_tick g c =
+    let no = sym c.is_tick.ensures ∙ c.if-is_tick.false in
+    record {
+      at = λ s h. rw no (c.serve_handler.ensures.at s h);
+      few = rw no c.serve_handler.ensures.few;
+      before = c.serve_handler.ensures.before;
+    }

@@ -1,11 +1,11 @@
-use Rattle.std.proofs.Common.{◌≡◌, ◌∙◌, ℕ, List, arith, ap, refl, subst, sym}
+use Rattle.std.proofs.Common.{◌≡◌, ◌∙◌, ◌-◌, ◌+◌, ◌*◌, ◌≤◌, ℕ, List, arith, ap, refl, subst, sym}
 use Rattle.std.specs.List.{filter, range_with_len}
 use Rattle.model.specs.State.{for_each}
 use Rattle.model.specs.Handlers.{none_pending, pending_of, serve, serve_pending}
-use Rattle.objects.specs.Objects.{HasRoom, Objects}
 use Rattle.machine.specs.Sources.{is_pending}
 use Rattle.machine.specs.StandsFor.{AtAny}
-use Rattle.machine.proofs.Renewed.{stood_after}
+use Rattle.kernel.specs.Can.{CanCome}
+use Rattle.kernel.proofs.Coming.{all_room, come_after_if, come_after_taken, come_fewer, one_more_room}
 use Rattle.kernel.proofs.Handling.{each_if, each_next, serve_if}
 use Rattle.kernel.proofs.handlers.serve_each_pending.Goals as goal
 
@@ -16,8 +16,7 @@ loop-number-init g c = record {
     few = omega arith;
     before = refl;
   };
-  objects = λ o a fit.
-      subst (λ (q : Objects). HasRoom q o a) (sym c.take_pending-pending.ensures.objects) (c.requires.objects o a fit);
+  can = come_after_taken c.args.app.now c.well_formed-2.ensures 20 c.args.machine.now _ c.requires.can c.take_pending-pending.ensures.does;
 }
 
 pub serve_if_pending-requires-clause-room : goal.serve_if_pending-requires-clause-room
@@ -25,25 +24,36 @@ serve_if_pending-requires-clause-room g c =
     let few = c.loop-number.invariant.any.few in
     let room = c.requires.room in
     let l = c.loop-number-test.true in
+    let one = one_more_room c.args.app.now c.loop-number.number in
+    let most = all_room c.args.app.now (c.loop-number.number + 1) in
     omega arith
 
-pub serve_if_pending-requires-clause-stands : goal.serve_if_pending-requires-clause-stands
-serve_if_pending-requires-clause-stands g c =
-    stood_after _ c.args.machine.now c.loop-number.machine _ _ _ c.requires.stands c.loop-number.invariant.any
+pub serve_if_pending-requires-clause-can : goal.serve_if_pending-requires-clause-can
+serve_if_pending-requires-clause-can g c =
+    let l = c.loop-number-test.true in
+    come_fewer c.args.app.now c.well_formed-2.ensures _ 1 c.loop-number.machine (omega arith) c.loop-number.invariant.can
 
 pub loop-number-preserved : goal.loop-number-preserved
 loop-number-preserved g c =
     let so = c.loop-number.invariant in
+    let l = c.loop-number-test.true in
     record {
       any = record {
         at = λ s h.
             subst (AtAny c.serve_if_pending.new.machine (g.L.Log.logged c.serve_if_pending.new.log).told)
             (sym (each_next (serve_if c.args.app.now c.take_pending-pending.result) c.loop-number.number (none_pending s)))
-            (c.serve_if_pending.ensures.does.at _ (so.any.at s h));
-        few = let a = so.any.few in let b = c.serve_if_pending.ensures.does.few in omega arith;
-        before = c.serve_if_pending.ensures.does.before ∙ so.any.before;
+            (c.serve_if_pending.ensures.at _ (so.any.at s h));
+        few =
+            let a = so.any.few in
+            let b = c.serve_if_pending.ensures.few in
+            let one = one_more_room c.args.app.now c.loop-number.number in
+            omega arith;
+        before = c.serve_if_pending.ensures.before ∙ so.any.before;
       };
-      objects = c.serve_if_pending.ensures.objects;
+      can =
+          come_after_if c.args.app.now c.well_formed-2.ensures c.take_pending-pending.result c.loop-number.number
+          (20 - c.loop-number.number) (20 - (c.loop-number.number + 1)) (omega arith) _ c.loop-number.machine
+          c.serve_if_pending.new.machine _ _ so.can c.serve_if_pending.ensures;
     }
 
 pub returns-clause-does : goal.returns-clause-does
@@ -63,6 +73,11 @@ returns-clause-does g c =
           (none_pending s))
           ∙ ap (λ (is : List ℕ). for_each (serve c.args.app.now) is (none_pending s)) (sym were))
           (so.any.at s h);
-      few = let a = so.any.few in omega arith;
+      few = let a = so.any.few in let most = all_room c.args.app.now c.loop-number.number in omega (arith, all);
       before = so.any.before;
     }
+
+pub returns-clause-can : goal.returns-clause-can
+returns-clause-can g c =
+    let a = c.loop-number.auto.number-end in
+    come_fewer c.args.app.now c.well_formed-2.ensures _ 3 c.loop-number.machine (omega arith) c.loop-number.invariant.can

@@ -14,3 +14,14 @@ returns-else-any_pending-clause-does g c = record {
   few = omega arith;
   before = refl;
 }
+
+pub returns-else-any_pending-clause-can : goal.returns-else-any_pending-clause-can
+returns-else-any_pending-clause-can g c =
+    let can = c.requires.can in
+    record {
+      state = can.state;
+      stands = can.stands;
+      sound = can.sound;
+      closed = can.closed;
+      early = let l = can.early in omega arith;
+    }

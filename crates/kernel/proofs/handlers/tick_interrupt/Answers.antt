@@ -1,14 +1,17 @@
 use Rattle.std.proofs.Common.{◌∙◌, [], arith}
 use Rattle.model.specs.Handlers.{tick_interrupt}
+use Rattle.machine.specs.StandsFor.Stands.{Placed}
 use Rattle.machine.proofs.Acting.{agrees_after}
 use Rattle.kernel.proofs.Handling.{room_after}
 use Rattle.machine.proofs.Switches.{unheld_by, sliced_free}
 use Rattle.kernel.proofs.handlers.tick_interrupt.Goals as goal
 
-pub interrupt-requires-clause-agrees : goal.interrupt-requires-clause-agrees
-interrupt-requires-clause-agrees g c =
+pub interrupt-requires-clause-stands : goal.interrupt-requires-clause-stands
+interrupt-requires-clause-stands g c =
+    let a =
     agrees_after c.args.machine.now c.advance.new.self [] []
-    c.requires.can.advance.agrees _ (λ s h. c.advance.ensures.does [] s h)
+    c.requires.can.advance.agrees _ (λ s h. c.advance.ensures.does [] s h) in
+    (a.0, Placed a.1)
 
 pub interrupt-requires-clause-objects : goal.interrupt-requires-clause-objects
 interrupt-requires-clause-objects g c =

@@ -1,6 +1,6 @@
 use Rattle.std.proofs.Common.{◌≡◌, ◌≢◌, ◌+◌, ℕ, List, [], fold, min, ap, sym, subst, ◌∙◌, arith}
 use Rattle.model.specs.Application.{interrupts_at}
-use Rattle.kernel.proofs.Ahead.{least_to_interrupt, none_comes_ever, none_is_to_come}
+use Rattle.kernel.proofs.Ahead.{least_to_interrupt, none_comes_ever}
 use Rattle.kernel.proofs.idle.until_interrupt.Goals as goal
 
 pub returns-then-before-clause-least : goal.returns-then-before-clause-least
@@ -10,14 +10,6 @@ returns-then-before-clause-least c = λ s h.
     let none = none_comes_ever c.args.app.now c.well_formed-2.ensures s c.ticks_to_interrupt-before.result
     (λ tick more less. c.ticks_to_interrupt-before.ensures.none tick (omega arith) (omega arith)) (omega arith) in
     ap (λ (xs : List ℕ). fold min c.args.most xs) (sym none)
-
-pub returns-then-before-clause-short : goal.returns-then-before-clause-short
-returns-then-before-clause-short c = λ s h comes.
-    let e = h.rest.clock.age in
-    let full = c.if-before.true in
-    let none = none_comes_ever c.args.app.now c.well_formed-2.ensures s c.ticks_to_interrupt-before.result
-    (λ tick more less. c.ticks_to_interrupt-before.ensures.none tick (omega arith) (omega arith)) (omega arith) in
-    absurd (let never = none_is_to_come c.args.app.now s none in cc)
 
 pub returns-clause-least : goal.returns-clause-least
 returns-clause-least c = λ s h.

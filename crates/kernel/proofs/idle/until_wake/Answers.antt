@@ -1,6 +1,6 @@
 use Rattle.std.proofs.Common.{◌≤◌, ◌+◌, ℕ, List, fold, min, ap, sym, ◌∙◌, arith}
 use Rattle.lists.proofs.Entries.{Each-imp}
-use Rattle.clock.proofs.Nearest.{first_sleeper, least_to_wake, none_to_wake, none_wakes}
+use Rattle.clock.proofs.Nearest.{first_sleeper, least_to_wake, none_to_wake}
 use Rattle.kernel.proofs.idle.until_wake.Goals as goal
 
 pub returns-in-Some-clause-least : goal.returns-in-Some-clause-least
@@ -22,6 +22,15 @@ returns-in-None-clause-least c = λ s h.
     ap (λ (xs : List ℕ). fold min c.args.most xs)
     (sym (none_to_wake c.args.machine.now.clock s h.rest.clock c.in-None.ensures.ahead))
 
-pub returns-in-None-clause-short : goal.returns-in-None-clause-short
-returns-in-None-clause-short c = λ s h wakes.
-    absurd (let none = none_wakes c.args.machine.now.clock s h.rest.clock c.in-None.ensures.ahead in cc)
+pub returns-in-Some-clause-later : goal.returns-in-Some-clause-later
+returns-in-Some-clause-later c =
+    let t = c.args.machine.now.clock in
+    let some = c.in-Some.ensures.ahead.0 in
+    Each-imp (λ e. t.now + c.in-Some.ticks ≤ e.1) (λ e. t.now + 1 ≤ e.1)
+    t.delayed_list (λ e l. omega (arith, l, some)) c.in-Some.ensures.ahead.1
+
+pub returns-in-Some-clause-unslept : goal.returns-in-Some-clause-unslept
+returns-in-Some-clause-unslept c = λ long. absurd (let least = c.min.ensures in omega arith)
+
+pub returns-in-None-clause-later : goal.returns-in-None-clause-later
+returns-in-None-clause-later c = rw c.in-None.ensures.ahead tt

@@ -3,15 +3,14 @@ use Rattle.model.specs.Run.{state_after}
 use Rattle.kernel.specs.Along.{IsFree}
 use Rattle.kernel.specs.Quiet.{IsQuiet}
 use Rattle.kernel.proofs.Along.{free_next, tells_a_step, tells_nothing, tells_then}
-use Rattle.kernel.proofs.Running.{ticks_low}
 use Rattle.kernel.proofs.Ticking.{asleep_once, one_passed, quiet_on, quiet_stays, silent, stands_passed, turn_once, used_once}
 use Rattle.kernel.proofs.quiet.pass_ticks.Goals as goal
 
 pub pass_tick-requires-clause-age : goal.pass_tick-requires-clause-age
 pass_tick-requires-clause-age c =
-    let low =
-    ticks_low c.args.app.now c.args.injections.now c.args.limits.now c.well_formed-3.ensures
-    c.loop.kernel (c.loop.invariant.along.to.way c.args.injections.now c.requires.free) in
+    let on = c.loop-test.true in
+    let low = (c.loop.invariant.quiet (c.args.count - c.loop.counter - 1) (omega arith)).ticks in
+    let most = c.well_formed-3.ensures.1 in
     omega arith
 
 pub pass_tick-requires-clause-asleep : goal.pass_tick-requires-clause-asleep

@@ -17,7 +17,7 @@ act_current-following-requires-clause-there g c =
 pub act_current-following-requires-clause-can : goal.act_current-following-requires-clause-can
 act_current-following-requires-clause-can g c =
     let going = c.requires.going in
-    can_act_after c.args.app.now c.well_formed-2.ensures c.args.machine.now going [] c.args.machine.now
+    can_act_after c.args.app.now c.well_formed-2.ensures c.args.machine.now going [] (omega arith) c.args.machine.now
     (begun_with_none c.args.app.now _ (none_by c.args.machine.now _ c.requires.none going.stands) c.args.machine.now _
     (begun c.args.machine.now (g.L.Log.logged c.args.log.now).told _ going.stands c.requires.begun)).stands
 

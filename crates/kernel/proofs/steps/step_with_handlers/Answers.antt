@@ -1,16 +1,13 @@
 use Rattle.std.proofs.Common.{◌∙◌, arith}
 use Rattle.model.specs.Step.{step}
 use Rattle.machine.proofs.Either.{steps_are}
-use Rattle.kernel.proofs.Bounds.{below_limits, can_act_after, has_objects, stood, there_after}
+use Rattle.kernel.proofs.Bounds.{below_limits, can_act_after, can_come, there_after}
 use Rattle.kernel.proofs.Counting.{steps_still}
 use Rattle.kernel.proofs.Ending.{begun, begun_with, stepped}
 use Rattle.kernel.proofs.steps.step_with_handlers.Goals as goal
 
-pub come_before-requires-clause-stands : goal.come_before-requires-clause-stands
-come_before-requires-clause-stands g c = stood c.args.app.now c.well_formed-2.ensures c.args.machine.now c.requires.going
-
-pub come_before-requires-clause-objects : goal.come_before-requires-clause-objects
-come_before-requires-clause-objects g c = has_objects c.args.app.now c.well_formed-2.ensures c.args.machine.now c.requires.going
+pub come_before-requires-clause-can : goal.come_before-requires-clause-can
+come_before-requires-clause-can g c = can_come c.args.app.now c.well_formed-2.ensures c.args.machine.now c.requires.going
 
 pub act_current-requires-clause-there : goal.act_current-requires-clause-there
 act_current-requires-clause-there g c =
@@ -23,7 +20,7 @@ act_current-requires-clause-there g c =
 pub act_current-requires-clause-can : goal.act_current-requires-clause-can
 act_current-requires-clause-can g c =
     let going = c.requires.going in
-    can_act_after c.args.app.now c.well_formed-2.ensures c.args.machine.now going c.args.handlers.now c.come_before.new.machine
+    can_act_after c.args.app.now c.well_formed-2.ensures c.args.machine.now going c.args.handlers.now c.requires.few c.come_before.new.machine
     (begun_with c.args.app.now c.args.handlers.now going.state c.come_before.new.machine _
     (c.come_before.ensures.at _
     (begun c.args.machine.now (g.L.Log.logged c.args.log.now).told going.state going.stands c.requires.begun))).stands

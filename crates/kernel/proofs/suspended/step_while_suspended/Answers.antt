@@ -10,7 +10,7 @@ use Rattle.kernel.proofs.suspended.step_while_suspended.Goals as goal
 pub act_while_suspended-requires-clause-can : goal.act_while_suspended-requires-clause-can
 act_while_suspended-requires-clause-can g c = λ op at.
     let going = c.requires.going in
-    let can = can_act_after c.args.app.now c.well_formed-2.ensures c.args.machine.now going [] c.args.machine.now
+    let can = can_act_after c.args.app.now c.well_formed-2.ensures c.args.machine.now going [] (omega arith) c.args.machine.now
     (begun_with_none c.args.app.now _ (none_by c.args.machine.now _ c.requires.none going.stands) c.args.machine.now _
     (begun c.args.machine.now (g.L.Log.logged c.args.log.now).told _ going.stands c.requires.begun)).stands in
     (can.op c.args.task op c.requires.runs at).1 c.requires.some

@@ -7,18 +7,21 @@ use Rattle.model.specs.Ops.{use_up}
 use Rattle.model.specs.Invariant.{Suspension}
 use Rattle.soundness.proofs.Frames.{keeps-use_up}
 use Rattle.machine.specs.StandsFor.{At}
+use Rattle.machine.specs.StandsFor.Stands.{Placed}
+use Rattle.kernel.proofs.Held.{suspended_by}
 use Rattle.kernel.proofs.suspended.work_on.Goals as goal
 
-pub held_tick_interrupt-requires-clause-agrees : goal.held_tick_interrupt-requires-clause-agrees
-held_tick_interrupt-requires-clause-agrees g c =
-    agrees_after c.args.machine.now c.use_up.new.machine [] [] c.requires.can.agrees _ (λ s h. c.use_up.ensures.does [] s h)
+pub held_tick_interrupt-requires-clause-stands : goal.held_tick_interrupt-requires-clause-stands
+held_tick_interrupt-requires-clause-stands g c =
+    let a = agrees_after c.args.machine.now c.use_up.new.machine [] [] c.requires.can.agrees _ (λ s h. c.use_up.ensures.does [] s h) in
+    (a.0, Placed a.1)
 
 pub held_tick_interrupt-requires-clause-objects : goal.held_tick_interrupt-requires-clause-objects
 held_tick_interrupt-requires-clause-objects g c = λ o a fit.
     subst (λ (q : Objects). HasRoom q o a) (sym c.use_up.ensures.objects) (c.requires.can.objects o a fit)
 
-pub held_tick_interrupt-requires-clause-some : goal.held_tick_interrupt-requires-clause-some
-held_tick_interrupt-requires-clause-some g c =
+pub held_tick_interrupt-requires-clause-held : goal.held_tick_interrupt-requires-clause-held
+held_tick_interrupt-requires-clause-held g c = λ t stands.
     let s : State = c.requires.can.agrees.0 in
     let h = c.requires.can.agrees.1 in
     let done : At c.use_up.new.machine s.log (use_up c.args.app.now c.args.task c.args.ticks s) =
@@ -31,7 +34,7 @@ held_tick_interrupt-requires-clause-some g c =
     let shut = c.requires.closed in
     let e = c.use_up.ensures.suspensions in
     let l = c.requires.some in
-    omega arith
+    suspended_by c.use_up.new.machine t stands (omega arith)
 
 pub held_tick_interrupt-requires-clause-few : goal.held_tick_interrupt-requires-clause-few
 held_tick_interrupt-requires-clause-few g c =
@@ -41,7 +44,7 @@ held_tick_interrupt-requires-clause-few g c =
 
 pub returns : goal.returns
 returns g c = record {
-  at = λ s h. c.held_tick_interrupt.ensures.at _ (c.use_up.ensures.does _ s h);
-  few = c.held_tick_interrupt.ensures.few;
-  before = c.held_tick_interrupt.ensures.before;
+  at = λ s h. c.held_tick_interrupt.ensures.does.at _ (c.use_up.ensures.does _ s h);
+  few = c.held_tick_interrupt.ensures.does.few;
+  before = c.held_tick_interrupt.ensures.does.before;
 }
