@@ -37,7 +37,7 @@ use Rattle.model.specs.declared.plan.Injection.{Injection}
 use Rattle.model.specs.declared.op.IsrOp.{IsrOp}
 use Rattle.model.specs.declared.op.IsrOp.TheVariants as isr_op
 use Rattle.model.specs.Handlers.{isr_told, isr, isr_answer, isr_jump, is_failed, isr_each, handle, serve, inject, interrupt}
-use Rattle.model.specs.Handlers.{pend, pending_of, none_pending, serve_pending, tick_interrupt, idle, ticks_ahead}
+use Rattle.model.specs.Handlers.{is_tick, pend, pending_of, none_pending, serve_pending, tick_interrupt, idle, ticks_ahead}
 use Rattle.model.specs.Groups.{clear}
 use Rattle.model.specs.Suspension.{can_resume, suspend, resume, call_suspend, call_resume, suspend_all, resume_scheduler}
 use Rattle.model.specs.Suspension.{resume_all}
@@ -129,10 +129,27 @@ module _ {P : State → Type 0} {stamps answers : ℕ → Bool} {x : ℕ} {store
       (λ t. subst P (sym (when_held deed s t)) h)
       (λ t. subst P (sym (when_free deed s t)) (k s h))
 
-  kept-serve : (app : Application) → AreSpared app → (handler : ℕ) (s : State) → P s → P (serve app handler s)
+  kept-increment : (s : State) → P s → P (increment_tick s)
+  unfolding increment_tick advance
+  kept-increment s h =
+      let t : State = record s { elapsed = s.elapsed + 1 } in
+      by_test (holds_ticks s)
+      (λ u. rw u (four.framed s (record t { held_ticks = s.held_ticks + 1 }) refl refl refl (inl refl) (λ _. refl, λ _ k. k) h))
+      (λ u. rw u (four.passed 1 t (none_in_one t) (four.framed s t refl refl refl (inl refl) (λ _. refl, λ _ k. k) h)))
+
+  kept-tick : (app : Application) → AreSpared app → (s : State) → P s → P (tick_interrupt app s)
+  unfolding tick_interrupt interrupt
+  kept-tick app spared s h =
+      let come : State = increment_tick s in
+      kept-unless_held slice (kept-slice four) _
+      (kept-each (handle app) (kept-handle app spared) (interrupts_at app come.elapsed) come (kept-increment s h))
+
+  kept-serve : (app : Application) → AreSpared app → (source : ℕ) (s : State) → P s → P (serve app source s)
   unfolding serve
-  kept-serve app spared handler s h =
-      kept-unless_held preempt (kept-preempt four) (handle app handler s) (kept-handle app spared handler s h)
+  kept-serve app spared source s h = by_test (is_tick app source)
+      (λ t. rw t (kept-tick app spared s h))
+      (λ t.
+      rw t (kept-unless_held preempt (kept-preempt four) (handle app source s) (kept-handle app spared source s h)))
 
   kept-inject : (app : Application) → AreSpared app → (handler : ℕ) (s : State) → P s → P (inject app handler s)
   unfolding inject
@@ -153,21 +170,6 @@ module _ {P : State → Type 0} {stamps answers : ℕ → Bool} {x : ℕ} {store
       rw q (kept-each (inject app) (kept-inject app spared) handlers (for_each (serve app) (pending_of t) none)
       (kept-each (serve app) (kept-serve app spared) (pending_of t) none
       (four.framed s none refl refl refl (inl refl) (λ _. refl, λ _ k. k) h))))
-
-  kept-increment : (s : State) → P s → P (increment_tick s)
-  unfolding increment_tick advance
-  kept-increment s h =
-      let t : State = record s { elapsed = s.elapsed + 1 } in
-      by_test (holds_ticks s)
-      (λ u. rw u (four.framed s (record t { held_ticks = s.held_ticks + 1 }) refl refl refl (inl refl) (λ _. refl, λ _ k. k) h))
-      (λ u. rw u (four.passed 1 t (none_in_one t) (four.framed s t refl refl refl (inl refl) (λ _. refl, λ _ k. k) h)))
-
-  kept-tick : (app : Application) → AreSpared app → (s : State) → P s → P (tick_interrupt app s)
-  unfolding tick_interrupt interrupt
-  kept-tick app spared s h =
-      let come : State = increment_tick s in
-      kept-unless_held slice (kept-slice four) _
-      (kept-each (handle app) (kept-handle app spared) (interrupts_at app come.elapsed) come (kept-increment s h))
 
   kept-jump : (n : ℕ) (s : State) → NoneBetween n s → P s → P (jump n s)
   unfolding jump

@@ -1,7 +1,7 @@
 -- Handlers that look: what their checks and branches come to, and by what a run is stopped.
 use Rattle.model.specs.Values.{with_number}
 use Rattle.std.proofs.Common.{◌≡◌, ◌+◌, ◌++◌, ◌⊎◌, inl, inr, ℕ, zero, suc, true, false, length, List, [], ◌∷◌, Option, Some, None}
-use Rattle.std.proofs.Common.{refl, ap, sym, subst, ◌∙◌, arith}
+use Rattle.std.proofs.Common.{◌||◌, refl, ap, sym, subst, ◌∙◌, arith}
 use Rattle.std.proofs.lemmas.List.{length-map, map-append}
 use Rattle.model.specs.declared.answer.AnswerCondition.{AnswerCondition}
 use Rattle.model.specs.declared.call.WaitList.{WaitList}
@@ -15,11 +15,11 @@ use Rattle.model.specs.Answers.{holds}
 use Rattle.model.specs.declared.notification.NotifyAction.{NotifyAction}
 use Rattle.model.specs.Notifications.{notified, notify, notify_with_number}
 use Rattle.model.specs.State.{notification_at, waits_for_notification, with_notification}
-use Rattle.model.specs.Application.{Application, Limits, commands_of, ops_of}
+use Rattle.model.specs.Application.{Application, Limits, commands_of, interrupts_at, ops_of}
 use Rattle.model.specs.Blocks.{edge_of_isr, isr_edges_of, past_branch}
 use Rattle.model.specs.Daemon.{item_of}
 use Rattle.model.specs.Handlers.{handle, serve, inject, pend, pending_of, none_pending, serve_pending, isr, isr_answer, isr_each}
-use Rattle.model.specs.Handlers.{isr_jump, is_failed}
+use Rattle.model.specs.Handlers.{interrupt, isr_jump, is_failed, is_tick, tick_interrupt}
 use Rattle.model.specs.Objects.{attempt, fulfil, list_woken, object_after, possible}
 use Rattle.model.specs.Ops.{fail}
 use Rattle.model.specs.Order.{first, task_of, tasks_of}
@@ -28,8 +28,8 @@ use Rattle.model.specs.State.{State, for_each, for_one, object_at, status_at, wi
 use Rattle.model.specs.Step.{act_current, before_step}
 use Rattle.model.specs.Suspension.{can_resume, resume}
 use Rattle.model.specs.Switching.{choice, choose, dispatch, is_held, is_critical, is_outranked, is_ready, is_same, preempt, to_back}
-use Rattle.model.specs.Switching.{yield_now}
-use Rattle.model.specs.Time.{due, wake_due}
+use Rattle.model.specs.Switching.{holds_ticks, is_sharing, make_ready, slice, unless_held, yield_now}
+use Rattle.model.specs.Time.{advance, due, increment_tick, wake_due}
 use Rattle.model.specs.Waiting.{is_locked, waiters, wake_best, wake_one}
 use Rattle.model.proofs.Sorting.{by_test}
 use Rattle.soundness.proofs.Settled.{when_free, when_held}
@@ -196,14 +196,50 @@ module _ (end : End) where
   stands-preempt s h =
       by_test (is_outranked s) (λ t. rw t (stands-choose (for_one to_back s.current s) (stands-back s.current s h))) (λ t. rw t h)
 
-  stands-serve : (app : Application) (handler : ℕ) (s : State) → IsStopped s → IsStopped (serve app handler s)
-  unfolding serve
-  stands-serve app handler s h =
+  stands-slice : (s : State) → IsStopped s → IsStopped (slice s)
+  unfolding slice yield_now
+  stands-slice s h = by_test (is_outranked s || is_sharing s)
+      (λ t. rw t (stands-choose (for_one to_back s.current s) (stands-back s.current s h)))
+      (λ t. rw t h)
+
+  stands-all_ready : (tasks : List ℕ) (s : State) → IsStopped s → IsStopped (for_each make_ready tasks s)
+  stands-all_ready [] s h = h
+  stands-all_ready (task ∷ tasks) s h = stands-all_ready tasks (make_ready task s) h
+
+  stands-increment : (s : State) → IsStopped s → IsStopped (increment_tick s)
+  unfolding increment_tick advance wake_due
+  stands-increment s h =
+      let next : State = record s { time = s.time + 1; elapsed = s.elapsed + 1 } in
+      by_test (holds_ticks s) (λ t. rw t h) (λ t. rw t (stands-all_ready (tasks_of (due next)) next h))
+
+  stands-handled : (app : Application) (handlers : List ℕ) (s : State) → IsStopped s → IsStopped (for_each (handle app) handlers s)
+  stands-handled app [] s h = h
+  stands-handled app (handler ∷ handlers) s h = stands-handled app handlers (handle app handler s) (stands-handle app handler s h)
+
+  stands-tick : (app : Application) (s : State) → IsStopped s → IsStopped (tick_interrupt app s)
+  unfolding tick_interrupt interrupt
+  stands-tick app s h =
+      let come : State = increment_tick s in
+      let t : State = for_each (handle app) (interrupts_at app come.elapsed) come in
+      let k : IsStopped t = stands-handled app (interrupts_at app come.elapsed) come (stands-increment s h) in
+      by_test (is_held t)
+      (λ q. subst IsStopped (sym (when_held slice t q)) k)
+      (λ q. subst IsStopped (sym (when_free slice t q)) (stands-slice t k))
+
+  stands-handler : (app : Application) (handler : ℕ) (s : State) → IsStopped s
+      → IsStopped (unless_held preempt (handle app handler s))
+  stands-handler app handler s h =
       let t : State = handle app handler s in
       let k : IsStopped t = stands-handle app handler s h in
       by_test (is_held t)
       (λ q. subst IsStopped (sym (when_held preempt t q)) k)
       (λ q. subst IsStopped (sym (when_free preempt t q)) (stands-preempt t k))
+
+  stands-serve : (app : Application) (source : ℕ) (s : State) → IsStopped s → IsStopped (serve app source s)
+  unfolding serve
+  stands-serve app source s h = by_test (is_tick app source)
+      (λ t. rw t (stands-tick app s h))
+      (λ t. rw t (stands-handler app source s h))
 
   stands-inject : (app : Application) (handler : ℕ) (s : State) → IsStopped s → IsStopped (inject app handler s)
   unfolding inject

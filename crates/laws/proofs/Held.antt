@@ -1,31 +1,69 @@
--- While the scheduler is held a handler switches nothing, and a tick wakes nobody.
-use Rattle.std.proofs.Common.{◌≡◌, ◌+◌, ◌-◌, ℕ, zero, suc, true, ap, ◌∙◌, refl, arith}
+-- While the scheduler is held an interrupt switches nothing, and a tick wakes nobody.
+use Rattle.std.proofs.Common.{◌≡◌, ◌+◌, ◌-◌, ℕ, zero, suc, true, List, [], length, ap, ◌∙◌, refl, arith}
 use Rattle.model.specs.declared.call.Phase.{Phase}
-use Rattle.model.specs.Application.{Application}
-use Rattle.model.specs.State.{State}
-use Rattle.model.specs.Switching.{holds_ticks, is_held, preempt}
+use Rattle.model.specs.Application.{Application, interrupts_at}
+use Rattle.model.specs.State.{State, for_each}
+use Rattle.model.specs.Switching.{holds_ticks, is_held, preempt, slice, unless_held}
 use Rattle.model.specs.Time.{advance, increment_tick, apply_one, apply_held}
 use Rattle.model.specs.Waiting.{let_go, end_hold}
-use Rattle.model.specs.Handlers.{handle, serve, inject}
+use Rattle.model.specs.Handlers.{handle, interrupt, is_tick, serve, inject, tick_interrupt}
 use Rattle.soundness.proofs.Settled.{when_held, held_as_it_was}
 use Rattle.soundness.proofs.Frames.{keeps-wake_due}
-use Rattle.soundness.proofs.Passing.{applies}
+use Rattle.soundness.proofs.Passing.{applies, held-told}
+use Rattle.soundness.proofs.Going.{spares-interrupt}
+use Rattle.soundness.proofs.Ticked.{current-wake_due}
+use Rattle.model.proofs.Lists.{eqb-refl}
+use Rattle.model.proofs.Sorting.{by_test}
 use Rattle.soundness.proofs.Handled.{spares-handle}
 
-pub same_runs : (app : Application) (handler : ℕ) (s : State) → is_held s ≡ true → (inject app handler s).current ≡ s.current
-unfolding inject serve
-same_runs app handler s held =
+handler_runs : (app : Application) (handler : ℕ) (s : State) → is_held s ≡ true
+    → (unless_held preempt (handle app handler s)).current ≡ s.current
+handler_runs app handler s held =
     let sp = spares-handle app handler s in
     let same : is_held (handle app handler s) ≡ is_held s =
     held_as_it_was s (handle app handler s) sp.kept.hold sp.kept.suspension in
     ap (λ (t : State). t.current) (when_held preempt (handle app handler s) (same ∙ held)) ∙ sp.current
 
+current-increment : (s : State) → (increment_tick s).current ≡ s.current
+unfolding increment_tick advance
+current-increment s = by_test (holds_ticks s)
+    (λ t. rw t refl)
+    (λ t. rw t (current-wake_due (record s { time = s.time + 1; elapsed = s.elapsed + 1 })))
+
+tick_runs : (app : Application) (s : State) → is_held s ≡ true → (tick_interrupt app s).current ≡ s.current
+unfolding tick_interrupt
+tick_runs app s held =
+    let come : State = increment_tick s in
+    ap (λ (t : State). t.current) (when_held slice (interrupt app come) (held-told app s ∙ held))
+    ∙ (spares-interrupt app 0 come).current ∙ current-increment s
+
+pub same_runs : (app : Application) (source : ℕ) (s : State) → is_held s ≡ true → (inject app source s).current ≡ s.current
+unfolding inject serve
+same_runs app source s held = by_test (is_tick app source)
+    (λ t. rw t (tick_runs app s held))
+    (λ t. rw t (handler_runs app source s held))
+
 -- ---- held ticks
+
+uninterrupted_at : (app : Application) (s : State) → interrupts_at app s.elapsed ≡ [] → interrupt app s ≡ s
+unfolding interrupt
+uninterrupted_at app s none = ap (λ (handlers : List ℕ). for_each (handle app) handlers s) none
 
 pub tick_waits : (s : State) → holds_ticks s ≡ true
     → ((increment_tick s).elapsed ≡ s.elapsed + 1) × ((increment_tick s).time ≡ s.time) × ((increment_tick s).tasks ≡ s.tasks)
 unfolding increment_tick
 tick_waits s held = rw held (refl, refl, refl)
+
+-- one that is injected, with which no base interrupt comes
+pub tick_wakes_nobody : (app : Application) (s : State) → holds_ticks s ≡ true → interrupts_at app (s.elapsed + 1) ≡ []
+    → (inject app (length app.handlers) s).tasks ≡ s.tasks
+unfolding inject serve tick_interrupt interrupt
+tick_wakes_nobody app s on none =
+    let come : State = increment_tick s in
+    let waits = tick_waits s on in
+    let quiet : interrupt app come ≡ come = uninterrupted_at app come (ap (interrupts_at app) waits.0 ∙ none) in
+    let held : is_held (interrupt app come) ≡ true = held-told app s ∙ rw on refl in
+    rw (eqb-refl (length app.handlers)) (ap (λ (t : State). t.tasks) (when_held slice (interrupt app come) held ∙ quiet) ∙ waits.2)
 
 time-applied : (n : ℕ) (s : State) → (apply_held n s).time ≡ s.time + n
 unfolding apply_one advance

@@ -60,7 +60,7 @@ use Rattle.soundness.proofs.Bits.{stays-set}
 use Rattle.soundness.proofs.Handled.{spares-handle}
 use Rattle.soundness.proofs.Frames.{Keeps, keeps_both, keeps-interrupt, keeps-wake_due}
 use Rattle.soundness.proofs.Reached.{reached_after}
-use Rattle.soundness.proofs.Stepped.{reached_before_step}
+use Rattle.soundness.proofs.Begun.{reached_before_step}
 use Rattle.model.specs.Invariant.{IsState, RunsIn}
 use Rattle.model.specs.Scripts.{IsWellFormed}
 use Rattle.model.proofs.Unlocking.{opened_by, current-all_ready}

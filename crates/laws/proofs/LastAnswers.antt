@@ -16,7 +16,7 @@ use Rattle.model.specs.Switching.{is_held, is_off, make_ready, settle, unless_he
 use Rattle.model.specs.Time.{due, wake_due}
 use Rattle.model.proofs.Lists.{eqb-refl, eqb-same}
 use Rattle.model.proofs.Sorting.{by_test}
-use Rattle.soundness.proofs.Frames.{keeps-before_step}
+use Rattle.soundness.proofs.Coming.{comes-before_step}
 use Rattle.soundness.proofs.Judging.{by_judgement}
 use Rattle.soundness.proofs.Passing.{by_value}
 use Rattle.laws.proofs.Answering.{Same, StaysWithin, same-choose, stays_within}
@@ -129,7 +129,7 @@ unfolding step
 stays_in_call app limits handlers i o a ticks s l runs is here =
     let begun : State = before_step app handlers s in
     let acted : State = act_current app limits begun.current begun in
-    let within : i < length begun.tasks = rw (keeps-before_step app handlers s).tasks l in
+    let within : i < length begun.tasks = rw (comes-before_step app handlers s).tasks l in
     let same : Same i acted (unless_held settle acted) = settled i acted in
     ap (λ (p : Progress). p.answer) same
     ∙ within-act app limits i o a ticks begun within runs is (sym (ap (λ (p : Progress). p.op_index) same) ∙ here)

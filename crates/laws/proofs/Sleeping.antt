@@ -1,5 +1,5 @@
 -- Idle sleeps past no wake time, and past no base interrupt; and up to the first of them.
-use Rattle.std.proofs.Common.{min, fold, ap, sym, subst, ◌≡◌, ◌-◌, ◌<◌, ◌≤◌, ◌+◌, ℕ, zero, suc, true, ltb, List, [], ◌∷◌, ◌++◌}
+use Rattle.std.proofs.Common.{max, min, fold, ap, sym, subst, ◌≡◌, ◌-◌, ◌<◌, ◌≤◌, ◌+◌, ℕ, zero, suc, true, ltb, List, [], ◌∷◌, ◌++◌}
 use Rattle.std.proofs.Common.{get_or, inl, inr, ◌⊎◌, leb, leb-false, Option, Some, None, refl, ◌∙◌, arith}
 use Rattle.std.specs.List.{AllByRecursion, Contains, cons_option, filter, filter_map}
 use Rattle.std.specs.Prelude.{map}
@@ -57,11 +57,15 @@ least_wake now (t ∷ ts) ys (suc i) a =
     least_rest now a (wake_time_of t.status) (wake_time_of (get_or ts i no_task).status)
     (to_wakes now ts) ys (λ b. least_wake now ts ys i b)
 
+-- how many ticks it is until something happens, or none
+abbrev first_ahead : Application → Limits → State → ℕ
+first_ahead app limits s = fold min (limits.ticks - s.elapsed) (ticks_to_wake s ++ ticks_to_interrupt app s)
+
 -- Idle jumps over nobody's wake time.
 pub none_ahead : (app : Application) (limits : Limits) (s : State) → NoneBetween (ticks_ahead app limits s) s
 none_ahead app limits s i =
     by_time (wake_time_of (status_at s i)) (least_wake s.time s.tasks (ticks_to_interrupt app s) i (limits.ticks - s.elapsed)) where
-      by_time : (o : Option ℕ) → IfSome o (λ w. ticks_ahead app limits s ≤ w - s.time)
+      by_time : (o : Option ℕ) → IfSome o (λ w. first_ahead app limits s ≤ w - s.time)
           → IfSome o (λ w. s.time < w → s.time + ticks_ahead app limits s ≤ w)
       by_time None h = tt
       by_time (Some w) h = λ l. omega arith
@@ -163,7 +167,7 @@ module _ (app : Application) (limits : Limits) (s : State) where
     by_time None h = tt
     by_time (Some w) h = λ l. time-idle w (omega arith) (h l)
 
-  before_each : (is : List Interrupt) → NonePast (ticks_ahead app limits s) s.elapsed is
+  before_each : (is : List Interrupt) → NonePast (first_ahead app limits s) s.elapsed is
       → AllByRecursion (λ (i : Interrupt). s.elapsed < i.tick → (idle app limits s).elapsed ≤ i.tick) is
   before_each [] h = tt
   before_each (i ∷ is) h = ((λ l. let m = h.0 l in elapsed_within i.tick (omega arith) (omega arith)), before_each is h.1)
@@ -236,10 +240,39 @@ hits_interrupt elapsed d (i ∷ is) c = by_test (ltb elapsed i.tick)
     there i.tick (elapsed + d) (map (λ (i : Interrupt). i.tick) is)
     (hits_interrupt elapsed d is (subst (λ (ds : List ℕ). Contains ds d) same c)))
 
-module _ (app : Application) (limits : Limits) (s : State) (on : app.tickless ≡ true) (low : s.elapsed ≤ limits.ticks)
+-- They are ahead.
+one_far : (now d : ℕ) (o : Option ℕ) (ds : List ℕ) → IfSome o (λ w. now < w) → (Contains ds d → 1 ≤ d)
+    → Contains (cons_option (option_map (λ time. time - now) o) ds) d → 1 ≤ d
+one_far now d None ds later k c = k c
+one_far now d (Some w) ds later k c = elim (here_or_there (w - now) d ds c) [ | inl e ↦ omega arith | inr more ↦ k more ]
+
+far_wake : (now d : ℕ) (ts : List Task) → ((i : ℕ) → IfSome (wake_time_of (get_or ts i no_task).status) (λ w. now < w))
+    → Contains (to_wakes now ts) d → 1 ≤ d
+far_wake now d [] later c = absurd (nowhere d c)
+far_wake now d (t ∷ ts) later c =
+    one_far now d (wake_time_of t.status) (to_wakes now ts) (later 0) (λ more. far_wake now d ts (λ i. later (suc i)) more) c
+
+far_interrupt : (elapsed d : ℕ) (is : List Interrupt) → Contains (to_come elapsed is) d → 1 ≤ d
+far_interrupt elapsed d [] c = absurd (nowhere d c)
+far_interrupt elapsed d (i ∷ is) c = by_test (ltb elapsed i.tick)
+    (λ t.
+    let more : to_come elapsed (i ∷ is) ≡ (i.tick - elapsed) ∷ to_come elapsed is = rw t refl in
+    let l = ltb-true elapsed i.tick t in
+    elim (here_or_there (i.tick - elapsed) d (to_come elapsed is) (subst (λ (ds : List ℕ). Contains ds d) more c)) [
+      | inl e ↦ omega arith
+      | inr rest ↦ far_interrupt elapsed d is rest
+    ])
+    (λ t.
+    let same : to_come elapsed (i ∷ is) ≡ to_come elapsed is = rw t refl in
+    far_interrupt elapsed d is (subst (λ (ds : List ℕ). Contains ds d) same c))
+
+module _ (app : Application) (limits : Limits) (s : State) (on : app.tickless ≡ true)
     (later : (i : ℕ) → IfSome (wake_time_of (status_at s i)) (λ w. s.time < w)) where
   abbrev slept : ℕ
   slept = ticks_ahead app limits s
+
+  abbrev first : ℕ
+  first = first_ahead app limits s
 
   slept_time : (idle app limits s).time ≡ s.time + slept
   slept_time = ap (λ (t : State). t.time) (idle_jumps app limits s on) ∙ (keeps-jumped app slept s).time
@@ -247,15 +280,24 @@ module _ (app : Application) (limits : Limits) (s : State) (on : app.tickless �
   slept_elapsed : (idle app limits s).elapsed ≡ s.elapsed + slept
   slept_elapsed = ap (λ (t : State). t.elapsed) (idle_jumps app limits s on) ∙ (keeps-jumped app slept s).elapsed
 
+  -- It is no further than to what happens first.
+  slept_first : 1 ≤ first → slept ≡ first
+  slept_first some = omega arith
+
   pub sleeps_until : Contains (wake_times s.tasks) (idle app limits s).time
       ⊎ (Contains (map (λ (i : Interrupt). i.tick) app.interrupts) (idle app limits s).elapsed
-      ⊎ ((idle app limits s).elapsed ≡ limits.ticks))
+      ⊎ ((idle app limits s).elapsed ≡ max limits.ticks (s.elapsed + 1)))
   sleeps_until = elim (reached (limits.ticks - s.elapsed) (ticks_to_wake s ++ ticks_to_interrupt app s)) [
     | inl e ↦ inr (inr (let t = slept_elapsed in omega arith))
-    | inr c ↦ elim (Contains-append_cases (ticks_to_wake s) (ticks_to_interrupt app s) slept c) [
-      | inl w ↦ inl (subst (Contains (wake_times s.tasks)) (sym slept_time) (hits_wake s.time slept s.tasks later w))
+    | inr c ↦ elim (Contains-append_cases (ticks_to_wake s) (ticks_to_interrupt app s) first c) [
+      | inl w ↦
+          let at : s.time + first ≡ (idle app limits s).time =
+          (let t = slept_time in let n = slept_first (far_wake s.time first s.tasks later w) in omega arith) in
+          inl (subst (Contains (wake_times s.tasks)) at (hits_wake s.time first s.tasks later w))
       | inr i ↦
-          inr (inl (subst (Contains (map (λ (i : Interrupt). i.tick) app.interrupts))
-          (sym slept_elapsed) (hits_interrupt s.elapsed slept app.interrupts i)))
+          let at : s.elapsed + first ≡ (idle app limits s).elapsed =
+          (let t = slept_elapsed in let n = slept_first (far_interrupt s.elapsed first app.interrupts i) in omega arith) in
+          inr (inl (subst (Contains (map (λ (i : Interrupt). i.tick) app.interrupts)) at
+          (hits_interrupt s.elapsed first app.interrupts i)))
     ]
   ]

@@ -1,7 +1,7 @@
--- A step in which a task runs lets one tick pass at most: only idle sleeps.
+-- A step in which a task runs lets one tick pass at most beside those that come before it: only idle sleeps.
 use Rattle.model.specs.Step.{act_by_value}
 use Rattle.soundness.proofs.Passing.{by_value}
-use Rattle.std.proofs.Common.{◌≡◌, ◌≤◌, ◌+◌, ◌-◌, ℕ, true, List, Option, Some, None, arith}
+use Rattle.std.proofs.Common.{◌≡◌, ◌<◌, ◌≤◌, ◌+◌, ◌-◌, ◌++◌, ◌∙◌, ℕ, true, false, List, [], ◌∷◌, length, Option, Some, None, ap, refl, arith}
 use Rattle.std.specs.Option.{is_some}
 use Rattle.model.specs.declared.op.Op.{Op}
 use Rattle.model.specs.declared.event.Misuse.{Misuse}
@@ -10,7 +10,15 @@ use Rattle.model.specs.State.{State, progress_at}
 use Rattle.model.specs.Switching.{settle, unless_held}
 use Rattle.model.specs.Ops.{use_up}
 use Rattle.model.specs.Step.{act, act_unless, misuse, act_if, act_current, before_step, step}
-use Rattle.soundness.proofs.Frames.{keeps-use_up, keeps-before_step, keeps-settle, keeps-unless_held}
+use Rattle.soundness.proofs.Frames.{keeps-use_up, keeps-settle, keeps-unless_held}
+use Rattle.soundness.proofs.Coming.{comes-before_step, ticks_before, ticks_in}
+use Rattle.soundness.proofs.Moving.{moves-step}
+use Rattle.model.specs.Handlers.{is_tick, pending_of}
+use Rattle.model.proofs.Sorting.{by_test}
+use Rattle.laws.specs.Ticks.{ticks_among}
+use Rattle.std.specs.List.{filter}
+use Rattle.std.proofs.lemmas.List.{length-append}
+use Rattle.std.proofs.lemmas.List.Elements.{filter-append}
 use Rattle.soundness.proofs.Passing.{by_op, elapsed-tick, suspends-all, resumes-all, opens, lasts-act}
 use Rattle.soundness.proofs.Judging.{judged}
 
@@ -41,13 +49,42 @@ one-act_current : (app : Application) (limits : Limits) (r : Option ℕ) (s : St
 one-act_current app limits None s on = absurd (cc)
 one-act_current app limits (Some i) s on = one-act_if app i (op_at app i (progress_at s i).op_index) s
 
-pub one_by_task : (app : Application) (limits : Limits) (handlers : List ℕ) (s : State)
-    → is_some (before_step app handlers s).current ≡ true → (step app limits handlers s).elapsed ≤ s.elapsed + 1
+-- ---- the ticks that come before it
+
+ticks_in_among : (app : Application) (xs : List ℕ) → ticks_in app xs ≡ ticks_among app xs
+ticks_in_among app [] = refl
+ticks_in_among app (x ∷ xs) =
+    let rest = ticks_in_among app xs in by_test (is_tick app x) (λ t. rw t (omega arith)) (λ t. rw t (omega arith))
+
+both_among : (app : Application) (sources : List ℕ) (s : State)
+    → ticks_before app sources s ≡ ticks_among app (pending_of s ++ sources)
+both_among app sources s =
+    let a = ticks_in_among app (pending_of s) in
+    let b = ticks_in_among app sources in
+    let all : ticks_among app (pending_of s ++ sources) ≡ ticks_among app (pending_of s) + ticks_among app sources =
+    ap (λ (xs : List ℕ). length xs) (filter-append (is_tick app) (pending_of s) sources)
+    ∙ length-append (filter (is_tick app) (pending_of s)) (filter (is_tick app) sources) in
+    omega arith
+
+pub one_tick : (app : Application) (limits : Limits) (sources : List ℕ) (s : State) → app.tickless ≡ false
+    → (step app limits sources s).elapsed ≤ s.elapsed + ticks_among app (pending_of s ++ sources) + 1
+one_tick app limits sources s off =
+    let m = (moves-step app limits sources s).elapsed off in let n = both_among app sources s in omega arith
+
+pub up_to_limit : (app : Application) (limits : Limits) (sources : List ℕ) (s : State) → s.elapsed < limits.ticks
+    → (step app limits sources s).elapsed ≤ limits.ticks + ticks_among app (pending_of s ++ sources)
+up_to_limit app limits sources s low =
+    let m = (moves-step app limits sources s).most limits.ticks (omega arith) low in let n = both_among app sources s in omega arith
+
+pub one_by_task : (app : Application) (limits : Limits) (sources : List ℕ) (s : State)
+    → is_some (before_step app sources s).current ≡ true
+    → (step app limits sources s).elapsed ≤ s.elapsed + ticks_among app (pending_of s ++ sources) + 1
 unfolding step
-one_by_task app limits handlers s on =
-    let begun : State = before_step app handlers s in
+one_by_task app limits sources s on =
+    let begun : State = before_step app sources s in
     let acted : State = act_current app limits begun.current begun in
-    let b : begun.elapsed ≡ s.elapsed = (keeps-before_step app handlers s).elapsed in
+    let b : begun.elapsed ≤ s.elapsed + ticks_before app sources s = (comes-before_step app sources s).elapsed in
+    let n = both_among app sources s in
     let m : acted.elapsed ≤ begun.elapsed + 1 = one-act_current app limits begun.current begun on in
     let k : (unless_held settle acted).elapsed ≡ acted.elapsed = (keeps-unless_held settle acted keeps-settle).elapsed in
     omega arith

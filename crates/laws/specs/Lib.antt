@@ -17,5 +17,6 @@ pub mod SectionExamples
 pub mod Sections
 pub mod StampExamples
 pub mod TicklessExamples
+pub mod Ticks
 pub mod ValueExamples
 pub mod Values

@@ -1,20 +1,21 @@
 //! What is true of the states that a run comes to.
-ghost use Rattle.std.specs.Prelude.{◌≡◌, ◌<◌, ◌≤◌, ◌+◌, ◌⊎◌, ℕ, filter_map, map, true, false, List, Some, None, IfSome};
+ghost use Rattle.std.specs.Prelude.{◌≡◌, ◌<◌, ◌≤◌, ◌+◌, ◌++◌, ◌⊎◌, ℕ, filter_map, map, max, length, true, false, List, [], Some, None, IfSome};
 ghost use Rattle.std.specs.List.{AllByRecursion, Contains};
 ghost use Rattle.std.specs.Option.{is_some};
 ghost use Rattle.model.specs.declared.call.Phase.{Phase};
 ghost use Rattle.model.specs.declared.plan.Injection.{Injection};
-ghost use Rattle.model.specs.Application.{Application, Interrupt, Limits, definition_of};
+ghost use Rattle.model.specs.Application.{Application, Interrupt, Limits, definition_of, interrupts_at};
 ghost use Rattle.model.specs.Scripts.{IsWellFormed};
 ghost use Rattle.model.specs.State.{State, Task, status_at, task_at, ticket_of, wake_time_of};
 ghost use Rattle.model.specs.Switching.{choice, holds_ticks, is_held, is_ready, is_outranked};
 ghost use Rattle.model.specs.Time.{increment_tick};
 ghost use Rattle.model.specs.Waiting.{end_hold};
-ghost use Rattle.model.specs.Handlers.{idle, inject, tick_interrupt};
+ghost use Rattle.model.specs.Handlers.{idle, inject, pending_of, tick_interrupt};
 ghost use Rattle.model.specs.Step.{before_step, step};
 ghost use Rattle.model.specs.Run.{state_after};
 ghost use Rattle.model.specs.Invariant.{IsState};
 ghost use Rattle.laws.specs.Choice.{IsChoice};
+ghost use Rattle.laws.specs.Ticks.{ticks_among};
 
 /// The choice is a Ready task; none is of higher priority, and none of equal priority came earlier. It is idle only
 /// where no task is Ready.
@@ -71,15 +72,17 @@ pub fn sleepers_wake_later()
         (λ wake_time. (state_after app limits plan n).time < wake_time) }
 {}
 
-/// A step lets one tick pass at most, if the application isn't tickless, or if a task runs after the handlers; if idle sleeps in
-/// it, none past the limit.
+/// Beside the ticks that are injected or pending, a step lets one tick pass at most, if the application isn't tickless, or if a task
+/// runs after them; if idle sleeps in it, none after the limit.
 pub fn ticks_pass_up_to_the_limit()
-    ensures one { (app : Application) (limits : Limits) (handlers : List ℕ) (s : State) → app.tickless ≡ false
-        → (step app limits handlers s).elapsed ≤ s.elapsed + 1 }
-    ensures task { (app : Application) (limits : Limits) (handlers : List ℕ) (s : State)
-        → is_some (before_step app handlers s).current ≡ true → (step app limits handlers s).elapsed ≤ s.elapsed + 1 }
-    ensures limit { (app : Application) (limits : Limits) (handlers : List ℕ) (s : State)
-        → s.elapsed < limits.ticks → (step app limits handlers s).elapsed ≤ limits.ticks }
+    ensures one { (app : Application) (limits : Limits) (sources : List ℕ) (s : State) → app.tickless ≡ false
+        → (step app limits sources s).elapsed ≤ s.elapsed + ticks_among app (pending_of s ++ sources) + 1 }
+    ensures task { (app : Application) (limits : Limits) (sources : List ℕ) (s : State)
+        → is_some (before_step app sources s).current ≡ true
+        → (step app limits sources s).elapsed ≤ s.elapsed + ticks_among app (pending_of s ++ sources) + 1 }
+    ensures limit { (app : Application) (limits : Limits) (sources : List ℕ) (s : State)
+        → s.elapsed < limits.ticks
+        → (step app limits sources s).elapsed ≤ limits.ticks + ticks_among app (pending_of s ++ sources) }
 {}
 
 /// Idle sleeps past nothing. However many ticks pass in its step, they don't go past the time at which a task is to wake by
@@ -92,13 +95,13 @@ pub fn idle_sleeps_past_nothing()
 {}
 
 /// If the application is tickless, idle sleeps until something happens: its step ends at a time at which a task was to wake, at the
-/// tick of a base interrupt, or at the limit.
+/// tick of a base interrupt, or at the limit. If a tick that was injected into the step has reached the limit, it ends a tick later.
 pub fn idle_sleeps_until_something_happens()
-    ensures { (app : Application) (limits : Limits) (s : State) → app.tickless ≡ true → s.elapsed ≤ limits.ticks
+    ensures { (app : Application) (limits : Limits) (s : State) → app.tickless ≡ true
         → ((task : ℕ) → IfSome (wake_time_of (status_at s task)) (λ wake_time. s.time < wake_time))
         → Contains (filter_map (λ (t : Task). wake_time_of t.status) s.tasks) (idle app limits s).time
         ⊎ (Contains (map (λ (i : Interrupt). i.tick) app.interrupts) (idle app limits s).elapsed
-        ⊎ ((idle app limits s).elapsed ≡ limits.ticks)) }
+        ⊎ ((idle app limits s).elapsed ≡ max limits.ticks (s.elapsed + 1))) }
 {}
 
 /// The time, and the ticks that are held, are the start and the elapsed ticks.
@@ -124,10 +127,10 @@ pub fn priorities_are_at_least_those_of_the_file()
         → (task_at (state_after app limits plan n) task).base_priority ≤ (task_at (state_after app limits plan n) task).priority }
 {}
 
-/// While the scheduler is held, a handler that comes before a step switches nothing: the same task runs.
+/// While the scheduler is held, an interrupt that comes before a step, a handler or the tick, switches nothing: the same task runs.
 pub fn no_switch_while_held()
-    ensures { (app : Application) (handler : ℕ) (s : State) → is_held s ≡ true
-        → (inject app handler s).current ≡ s.current }
+    ensures { (app : Application) (source : ℕ) (s : State) → is_held s ≡ true
+        → (inject app source s).current ≡ s.current }
 {}
 
 /// A tick that comes while a call or a `suspend_all` holds the scheduler is held: it is an elapsed tick, but the time stays, and so
@@ -136,6 +139,9 @@ pub fn held_ticks_wait_for_the_release()
     ensures held { (s : State) → holds_ticks s ≡ true
         → ((increment_tick s).elapsed ≡ s.elapsed + 1) × ((increment_tick s).time ≡ s.time)
         × ((increment_tick s).tasks ≡ s.tasks) }
+    // So a tick that is injected then wakes nobody, if no base interrupt comes with it.
+    ensures injected { (app : Application) (s : State) → holds_ticks s ≡ true → interrupts_at app (s.elapsed + 1) ≡ []
+        → (inject app (length app.handlers) s).tasks ≡ s.tasks }
     ensures released { (task : ℕ) (phase : Phase) (s : State)
         → ((end_hold task phase s).elapsed ≡ s.elapsed) × ((end_hold task phase s).time ≡ s.time + s.held_ticks)
         × ((end_hold task phase s).held_ticks ≡ 0) }

@@ -28,7 +28,7 @@ wake_apart : (s : State) (i : ℕ) → is_ready s i ≡ true → task_at (wake_d
 unfolding wake_due
 wake_apart s i r = all_but (tasks_of (due s)) i s (due_apart s i r (delayed_list s))
 
-current-wake_due : (s : State) → (wake_due s).current ≡ s.current
+pub current-wake_due : (s : State) → (wake_due s).current ≡ s.current
 unfolding wake_due
 current-wake_due s = current-all_ready s (tasks_of (due s))
 
