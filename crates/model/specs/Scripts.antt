@@ -294,11 +294,11 @@ pub record IsInterrupt (app : Application) (interrupt : Interrupt) : Type 0 wher
   pub last : interrupt.tick ≤ last_interrupt
   pub handler : interrupt.handler < length app.handlers
 
--- an entry of points that an application may have (profile: its limits)
+-- an entry of points that an application may have (profile: its limits): of its handlers, and of the tick
 abbrev pub IsPointEntry : Application → PointEntry → Type 0
 IsPointEntry app (One point) =
-    IsPoint point × AllByRecursion (λ (i : Injection). (i.step ≤ last_point) × (i.handler < length app.handlers)) point
-IsPointEntry app (Every handler) = handler < length app.handlers
+    IsPoint point × AllByRecursion (λ (i : Injection). (i.step ≤ last_point) × (i.handler ≤ length app.handlers)) point
+IsPointEntry app (Every handler) = handler ≤ length app.handlers
 
 -- a task that an application may have (profile: its limits)
 pub record IsDefinition (task : Definition) : Type 0 where

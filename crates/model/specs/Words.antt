@@ -1,5 +1,7 @@
 -- The words of ops, with which their texts in a file begin, and the names of tasks and handlers: by these reports name them.
-use Rattle.std.specs.Prelude.{ℕ, List, [], codes, Option, slice_get, option_map, unwrap_or, if◌then◌else◌}
+use Rattle.std.specs.Prelude.{ℕ, List, [], codes, length, Option, Some, None, slice_get, option_map, unwrap_or, if◌then◌else◌}
+use Rattle.std.specs.Option.{option_or}
+use Rattle.model.specs.Handlers.{is_tick}
 use Rattle.std.specs.List.{position_from}
 use Rattle.std.specs.Str.{bytes_eq}
 use Rattle.model.specs.declared.op.Access.{Access}
@@ -131,6 +133,15 @@ handler_name_of app handler = unwrap_or (option_map (λ (h : Handler). h.name) (
 -- the number of the first handler of this name
 abbrev pub handler_named : Application → List ℕ → Option ℕ
 handler_named app name = position_from (λ (h : Handler). bytes_eq h.name name) 0 app.handlers
+
+-- the name of an interrupt that can be injected: of a handler, or of the tick
+abbrev pub source_name_of : Application → ℕ → List ℕ
+source_name_of app source = if is_tick app source then codes "tick" else handler_name_of app source
+
+-- The number of the interrupt of this name. In an application that has a handler `tick`, that is meant.
+abbrev pub source_named : Application → List ℕ → Option ℕ
+source_named app name =
+    option_or (handler_named app name) (if bytes_eq name (codes "tick") then Some (length app.handlers) else None)
 
 -- the op of this index of a handler
 abbrev pub isr_op_at : Application → ℕ → ℕ → Option IsrOp

@@ -6,7 +6,7 @@ ghost use Rattle.model.specs.Application as application;
 ghost use Rattle.model.specs.Application.{commands_of, interrupts_at, is_any_awaited, is_endless, op_at, op_count, ops_of, script_of};
 ghost use Rattle.model.specs.Blocks.{jump_from};
 ghost use Rattle.model.specs.Handlers.{is_tick};
-ghost use Rattle.model.specs.Words.{name_of, handler_name_of, handler_named, isr_op_at};
+ghost use Rattle.model.specs.Words.{name_of, handler_name_of, handler_named, source_name_of, source_named, isr_op_at};
 ghost use Rattle.model.specs.Coming.{AreComing};
 ghost use Rattle.model.specs.Scripts.{IsScript, IsDefinition, IsWellFormed, most_handler_ops, most_name_bytes, most_ops};
 
@@ -550,6 +550,30 @@ impl App {
             None => "",
             Some(definition) => definition.name(),
         }
+    }
+
+    /// The name of an interrupt that can be injected: of a handler, or of the tick; empty if there is none of this number.
+    pub fn source_name(&self, source: HandlerId) -> &str
+        ensures { result.now ≡ source_name_of self.now source }
+    {
+        if self.is_tick(source) {
+            "tick"
+        } else {
+            self.handler_name(source)
+        }
+    }
+
+    /// The interrupt of this name: the first handler that has it, or else the tick, whose name is `tick`; `None` if it is neither.
+    pub fn source_named(&self, name: &str) -> Option<HandlerId>
+        ensures { result ≡ source_named self.now name.now }
+    {
+        if let Some(handler) = self.handler_named(name) {
+            return Some(handler);
+        }
+        if name == "tick" {
+            return HandlerId::new(self.handlers.len() as u8);
+        }
+        None
     }
 
     /// The first handler of this name; `None` where none has it.
