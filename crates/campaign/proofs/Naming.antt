@@ -9,7 +9,7 @@ use Rattle.model.specs.declared.plan.BadPoint.TheVariants.{Empty, TooMany, Falli
 use Rattle.model.specs.declared.plan.Injection.{Injection}
 use Rattle.model.specs.Application.{Application}
 use Rattle.model.specs.Points.{AreInOrder, IsPoint, Rises, most_of_point}
-use Rattle.model.specs.Words.{handler_named}
+use Rattle.model.specs.Words.{source_named}
 use Rattle.grammar.specs.Points.{RawPair, injection_at}
 use Rattle.requests.specs.Asked.{is_rising}
 use Rattle.requests.proofs.Pointing.{rising}
@@ -28,8 +28,8 @@ some_handler step (Some handler) i e = refl
 
 -- Some handler has the name.
 pub known : (app : Application) (p : RawPair) (i : Injection)
-    → injection_named app p ≡ Some i → IsSome (handler_named app p.handler)
-known app p i e = some_handler p.step (handler_named app p.handler) i e
+    → injection_named app p ≡ Some i → IsSome (source_named app p.handler)
+known app p i e = some_handler p.step (source_named app p.handler) i e
 
 -- ---- all of them
 
@@ -53,7 +53,7 @@ module _ (app : Application) where
   from_there n (p ∷ ps) (i ∷ is) e h =
       let first : injection_named app p ≡ Some i = cc in
       let rest : AreThese ps is = cc in
-      let same = same_step p.step (handler_named app p.handler) i first in
+      let same = same_step p.step (source_named app p.handler) i first in
       (subst (λ (m : ℕ). n ≤ m) (sym same) h.0, from_there n ps is rest h.1)
 
   in_order : (ps : List RawPair) (is : List Injection) → AreThese ps is → Rises (λ (p : RawPair). p.step) ps → AreInOrder is
@@ -63,7 +63,7 @@ module _ (app : Application) where
   in_order (p ∷ ps) (i ∷ is) e h =
       let first : injection_named app p ≡ Some i = cc in
       let rest : AreThese ps is = cc in
-      let same = same_step p.step (handler_named app p.handler) i first in (
+      let same = same_step p.step (source_named app p.handler) i first in (
         from_there i.step ps is rest
             (subst (λ (m : ℕ). AllByRecursion (λ (q : RawPair). m ≤ q.step) ps) (sym same) h.0),
         in_order ps is rest h.1,

@@ -1,7 +1,7 @@
 //! The point that is asked for, of an application.
 ghost use Rattle.std.specs.Prelude.{◌≡◌, ℕ, Some, None, MatchResult, map};
 ghost use Rattle.model.specs.Points.{IsPoint};
-ghost use Rattle.model.specs.Words.{handler_named};
+ghost use Rattle.model.specs.Words.{source_named};
 ghost use Rattle.requests.specs.Asked.{names_in, pair_at, pairs_in};
 ghost use Rattle.campaign.specs.Named.{IsFirstUnknown, injection_named};
 ghost use Rattle.campaign.specs.declared.file.ServeFault.TheVariants as fault;
@@ -10,13 +10,13 @@ use crate::file::ServeFault;
 use model::{App, Injection, Point};
 use requests::{At, NamedInjections, NamedPoint};
 
-// The injection of the handler that has the name, which is the one in this place.
+// The injection of the interrupt that has the name, which is the one in this place.
 fn injection_named(app: &App, at: At<'_>, place: usize) -> Result<Injection, ServeFault>
     ensures { MatchResult result (λ injection. injection_named app.now (pair_at at.entry) ≡ Some injection)
-        (λ given. (given ≡ fault.UnknownHandler place) × (handler_named app.now at.entry.handler.now ≡ None)) }
+        (λ given. (given ≡ fault.UnknownHandler place) × (source_named app.now at.entry.handler.now ≡ None)) }
 {
     let At { step, handler } = at;
-    match app.handler_named(handler) {
+    match app.source_named(handler) {
         Some(handler) => Ok(Injection { step, handler }),
         None => Err(ServeFault::UnknownHandler(place)),
     }
@@ -33,7 +33,8 @@ fn point_of(injections: &[Injection]) -> Point
     }
 }
 
-/// The point of the handlers that have these names. At `UnknownHandler` no handler has the name in this place, which is the first such.
+/// The point of the interrupts that have these names. At `UnknownHandler` no handler has the name in this place, nor is it the tick's;
+/// it is the first such.
 pub fn point_named(app: &App, named: &NamedPoint<'_>) -> Result<Point, ServeFault>
     ensures { MatchResult result (λ point. map (injection_named app.now) (pairs_in named.now.injections) ≡ map Some point)
         (λ given. (place : ℕ) × (given ≡ fault.UnknownHandler place)

@@ -12,7 +12,7 @@ use Rattle.model.specs.declared.event.End.{End}
 use Rattle.model.specs.Application.{Application}
 use Rattle.model.specs.Campaign.{is_pass}
 use Rattle.model.specs.Placements.{AreFound, Found, IsFound, Placed}
-use Rattle.model.specs.Words.{handler_named}
+use Rattle.model.specs.Words.{source_named}
 use Rattle.model.proofs.Among.{all_among, all_weaker}
 use Rattle.report.specs.Found.{exploration_text}
 use Rattle.requests.specs.Names.{names_of}
@@ -87,26 +87,26 @@ module _ (most : ℕ) (list : Option (List ℕ)) (input : Option (List ℕ)) (rf
 
 -- Behind the handlers of some names comes one that no handler has.
 pub first_unknown : (app : Application) (names : List (List ℕ)) (handlers : List ℕ) (more : List (Option ℕ))
-    → map (handler_named app) names ≡ map Some handlers ++ None ∷ more → IsFirstUnknown app names (length handlers)
+    → map (source_named app) names ≡ map Some handlers ++ None ∷ more → IsFirstUnknown app names (length handlers)
 first_unknown app [] [] more e = absurd (cc)
 first_unknown app [] (h ∷ hs) more e = absurd (cc)
 first_unknown app (name ∷ names) [] more e = cc
 first_unknown app (name ∷ names) (h ∷ hs) more e =
-    let first : handler_named app name ≡ Some h = cc in
-    let rest : map (handler_named app) names ≡ map Some hs ++ None ∷ more = cc in
+    let first : source_named app name ≡ Some h = cc in
+    let rest : map (source_named app) names ≡ map Some hs ++ None ∷ more = cc in
     (subst (λ (o : Option ℕ). IsSome o) (sym first) refl, first_unknown app names hs more rest)
 
 -- So it is where one more can't be added.
 pub naming_fault : (list : List ℕ) (app : Application) (handlers : List ℕ) (name : List ℕ) (others : List (List ℕ)) (f : ServeFault)
-    → map (handler_named app) (names_of list) ≡ map Some handlers ++ map (handler_named app) (name ∷ others)
+    → map (source_named app) (names_of list) ≡ map Some handlers ++ map (source_named app) (name ∷ others)
     → IsNamingFault app name (length handlers) f → IsExploringFault (Some list) app f
 naming_fault list app handlers name others Read known h = absurd h
 naming_fault list app handlers name others NotToml known h = absurd h
 naming_fault list app handlers name others (Load fault) known h = absurd h
 naming_fault list app handlers name others (UnknownHandler place) known h =
     subst (IsFirstUnknown app (names_of list)) (sym h.0)
-    (first_unknown app (names_of list) handlers (map (handler_named app) others)
-    (known ∙ ap (λ (o : Option ℕ). map Some handlers ++ o ∷ map (handler_named app) others) h.1))
+    (first_unknown app (names_of list) handlers (map (source_named app) others)
+    (known ∙ ap (λ (o : Option ℕ). map Some handlers ++ o ∷ map (source_named app) others) h.1))
 naming_fault list app handlers name others TooManyPoints known h = absurd h
 naming_fault list app handlers name others Memory known h = tt
 naming_fault list app handlers name others Write known h = absurd h

@@ -4,7 +4,7 @@ use Rattle.std.specs.List.{list_all}
 use Rattle.model.specs.Application.{Application}
 use Rattle.model.specs.Campaign.{is_pass}
 use Rattle.model.specs.Placements.{Found, IsExplored, Placed}
-use Rattle.model.specs.Words.{handler_named}
+use Rattle.model.specs.Words.{source_named}
 use Rattle.report.specs.Found.{exploration_text}
 use Rattle.requests.specs.Names.{names_of}
 use Rattle.campaign.specs.declared.file.ServeFault.{ServeFault}
@@ -12,10 +12,11 @@ use Rattle.campaign.specs.declared.file.ServeFault.TheVariants.{UnknownHandler, 
 use Rattle.campaign.specs.Named.{IsFirstUnknown}
 use Rattle.campaign.specs.Serving.{HasFileFault, IsFileOf, Serves, Streams}
 
--- These are the handlers that have the names of a list, in its order; if no list is named, they are all handlers of the file.
+-- These are the interrupts that have the names of a list, in its order: handlers, or the tick. If no list is named, they are all handlers
+-- of the file.
 abbrev pub AreAsked : Option (List ℕ) → Application → (handlers : List ℕ) → Type 0
 AreAsked None app handlers = (handler : ℕ) → Contains handlers handler ↔ (handler < length app.handlers)
-AreAsked (Some list) app handlers = map (handler_named app) (names_of list) ≡ map Some handlers
+AreAsked (Some list) app handlers = map (source_named app) (names_of list) ≡ map Some handlers
 
 -- The name in this place of the list is the first that no handler has.
 abbrev pub NamesUnknown : Option (List ℕ) → Application → (place : ℕ) → Type 0
@@ -53,7 +54,7 @@ IsExploringFault list app fault = ⊥
 
 -- Why the handler of a name that comes in this place is not added to the others.
 abbrev pub IsNamingFault : Application → (name : List ℕ) → (place : ℕ) → ServeFault → Type 0
-IsNamingFault app name place (UnknownHandler unknown) = (unknown ≡ place) × (handler_named app name ≡ None)
+IsNamingFault app name place (UnknownHandler unknown) = (unknown ≡ place) × (source_named app name ≡ None)
 IsNamingFault app name place Memory = Unit {0}
 IsNamingFault app name place fault = ⊥
 

@@ -6,7 +6,7 @@ ghost use Rattle.std.specs.Result.{is_err};
 ghost use Rattle.byte_io.specs.Bytes.{Adds, Writes};
 ghost use Rattle.model.specs.Campaign.{is_pass};
 ghost use Rattle.model.specs.Placements as definitions;
-ghost use Rattle.model.specs.Words.{handler_named};
+ghost use Rattle.model.specs.Words.{source_named};
 ghost use Rattle.report.specs.Found.{exploration_text, found_text};
 ghost use Rattle.explorer.specs.Totals.{placements_in};
 ghost use Rattle.campaign.specs.Serving.{IsFileOf, streams_of};
@@ -34,12 +34,12 @@ fn all_handlers(alloc: Global, app: &App) -> Result<Vec<HandlerId>, Memory>
     Ok(handlers)
 }
 
-// Adds the handler of the name that comes after those of the others.
+// Adds the interrupt of the name that comes after those of the others.
 fn add_handler(app: &App, name: &str, handlers: &mut Vec<HandlerId>) -> Result<(), ServeFault>
-    ensures named { OnOk result (map Some handlers.new.items ≡ map Some handlers.old.items ++ handler_named app.now name.now ∷ []) }
+    ensures named { OnOk result (map Some handlers.new.items ≡ map Some handlers.old.items ++ source_named app.now name.now ∷ []) }
     ensures fault { IfErr result (IsNamingFault app.now name.now (length handlers.old.items)) }
 {
-    let Some(handler) = app.handler_named(name) else {
+    let Some(handler) = app.source_named(name) else {
         return Err(ServeFault::UnknownHandler(handlers.len()));
     };
     match handlers.push(handler) {
@@ -48,7 +48,7 @@ fn add_handler(app: &App, name: &str, handlers: &mut Vec<HandlerId>) -> Result<(
     }
 }
 
-// The handlers of these names, which are joined by commas.
+// The interrupts of these names, which are joined by commas.
 fn handlers_named(alloc: Global, app: &App, list: &str) -> Result<Vec<HandlerId>, ServeFault>
     ensures { MatchResult result (λ handlers. AreAsked (Some list.now) app.now handlers.items)
         (IsExploringFault (Some list.now) app.now) }

@@ -3,7 +3,7 @@ use Rattle.std.specs.Prelude.{ℕ, ◌+◌, Bool, true, false, List, [], ◌∷�
 use Rattle.std.specs.Prelude.{unwrap_or, if◌then◌else◌}
 use Rattle.std.specs.List.{flat_map}
 use Rattle.model.specs.Application.{Application, op_at}
-use Rattle.model.specs.Words.{name_of, isr_op_at, handler_name_of, word_of, word_of_isr}
+use Rattle.model.specs.Words.{name_of, isr_op_at, handler_name_of, source_name_of, word_of, word_of_isr}
 use Rattle.model.specs.Run.{Run}
 use Rattle.model.specs.Campaign.{totals_of}
 use Rattle.model.specs.Campaign as campaign
@@ -96,7 +96,7 @@ verdict_text app ending.Stuck = codes "stuck"
 
 -- an injection: the step, and the name of the handler
 abbrev pub injection_text : Application → Injection → List ℕ
-injection_text app i = decimal i.step ++ codes " " ++ handler_name_of app i.handler
+injection_text app i = decimal i.step ++ codes " " ++ source_name_of app i.handler
 
 -- one after another
 abbrev pub next_text : Application → Injection → List ℕ

@@ -2,7 +2,7 @@
 //!
 //! A front is put at a place, and the place after it is returned, as `byte_io::place` does.
 ghost use Rattle.std.specs.Prelude.{◌≡◌, ◌≤◌, ◌+◌, ◌++◌, length, take, codes, decimal, if◌then◌else◌};
-ghost use Rattle.model.specs.Words.{name_of, handler_name_of};
+ghost use Rattle.model.specs.Words.{name_of, handler_name_of, source_name_of};
 ghost use Rattle.report.specs.Again.{number_text};
 ghost use Rattle.report.specs.Text.{word_at, call_front, obeyed_front, isr_word_at, isr_front, code_of, op_text, isr_op_text, verdict_text, injection_text, point_text, reached_text, title_text, head_text, total_text};
 ghost use Rattle.report.specs.Fronts.{mark_front, isr_mark_front, run_front};
@@ -55,6 +55,15 @@ fn handler_name(app: &App, handler: HandlerId) -> &[u8]
 {
     app.well_formed();
     app.handler_name(handler).as_bytes()
+}
+
+// The name of an interrupt that can be injected.
+fn source_name(app: &App, source: HandlerId) -> &[u8]
+    ensures text { result.now ≡ source_name_of app.now source }
+    ensures size { length result.now ≤ 16 }
+{
+    app.well_formed();
+    app.source_name(source).as_bytes()
 }
 
 // The first word of a handler's op of this index.
@@ -249,7 +258,7 @@ fn push_injection(page: &mut Page, app: &App, injection: Injection)
 {
     page.push_number(injection.step);
     page.push_array(b" ");
-    page.push_text(handler_name(app, injection.handler));
+    page.push_text(source_name(app, injection.handler));
 }
 
 // Adds injections: three at most, with a space between two.

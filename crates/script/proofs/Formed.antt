@@ -193,7 +193,7 @@ few_come app tick few =
 
 -- ---- the points
 
--- an entry of an application of this many handlers
+-- an entry of an application in which this many interrupts can be injected
 abbrev IsEntry : (handlers : ℕ) → PointEntry → Type 0
 IsEntry handlers (One point) =
     IsPoint point × AllByRecursion (λ (i : Injection). (i.step ≤ last_point) × (i.handler < handlers)) point
@@ -281,8 +281,14 @@ taken_points names document none =
     let less = fewer names ds in
     record { entries = all_entries names ds; few = omega arith }
 
-pub are_entries : (app : Application) (points : List PointEntry) → AllByRecursion (IsEntry (length app.handlers)) points
+up_to : (n : ℕ) (is : List Injection) → AllByRecursion (λ (i : Injection). (i.step ≤ last_point) × (i.handler < n + 1)) is
+    → AllByRecursion (λ (i : Injection). (i.step ≤ last_point) × (i.handler ≤ n)) is
+up_to n [] h = tt
+up_to n (i ∷ is) h = ((h.0.0, let less = h.0.1 in omega arith), up_to n is h.1)
+
+-- the numbers of the handlers, and of the tick
+pub are_entries : (app : Application) (points : List PointEntry) → AllByRecursion (IsEntry (length app.handlers + 1)) points
     → AllByRecursion (IsPointEntry app) points
 are_entries app [] h = tt
-are_entries app (One point ∷ points) h = (h.0, are_entries app points h.1)
-are_entries app (Every handler ∷ points) h = (h.0, are_entries app points h.1)
+are_entries app (One point ∷ points) h = ((h.0.0, up_to (length app.handlers) point h.0.1), are_entries app points h.1)
+are_entries app (Every handler ∷ points) h = (let less = h.0 in omega arith, are_entries app points h.1)

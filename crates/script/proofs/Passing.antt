@@ -5,7 +5,7 @@ use Rattle.toml.specs.Data.{Members}
 use Rattle.script.specs.declared.place.Section.TheVariants as section
 use Rattle.script.specs.Faults.{at_section}
 use Rattle.script.specs.Values.{number_fault, boolean_fault}
-use Rattle.script.specs.Entries.{isr_names}
+use Rattle.script.specs.Entries.{isr_names, source_names}
 use Rattle.script.specs.Sections.{data_at}
 use Rattle.script.specs.Ops.{handler_ops_fault, scripts_fault}
 use Rattle.script.specs.Interrupts.{interrupts_fault}
@@ -18,7 +18,7 @@ pub record Passes (document : Members) : Type 0 where
   pub handlers : handler_ops_fault (entries_of document) ≡ None
   pub scripts : scripts_fault (entries_of document) ≡ None
   pub interrupts : interrupts_fault (isr_names (entries_of document)) document ≡ None
-  pub campaign : campaign_fault (isr_names (entries_of document)) document ≡ None
+  pub campaign : campaign_fault (source_names (entries_of document)) document ≡ None
 
 pub passed : (document : Members) → load_fault document ≡ None → Passes document
 passed document none =
@@ -33,7 +33,7 @@ passed document none =
     let handlers = none_fails (handler_ops_fault (entries_of document)) _ entries.1 in
     let scripts = none_fails (scripts_fault (entries_of document)) _ handlers.1 in
     let interrupts = none_fails (interrupts_fault names document) _ scripts.1 in
-    let campaign = none_fails (campaign_fault names document) _ interrupts.1 in
+    let campaign = none_fails (campaign_fault (source_names (entries_of document)) document) _ interrupts.1 in
     record {
       entries = entries.0;
       handlers = handlers.0;

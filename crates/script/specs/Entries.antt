@@ -1,5 +1,5 @@
 -- The entries of a document that have names, as the file has them: the ops of handlers and tasks are still its texts.
-use Rattle.std.specs.Prelude.{◌≡◌, ℕ, Bool, List, [], ◌∷◌, ◌++◌, length, map, Option, Some, None, is_some, option_map}
+use Rattle.std.specs.Prelude.{◌≡◌, ℕ, Bool, List, [], ◌∷◌, ◌++◌, codes, length, map, Option, Some, None, is_some, option_map}
 use Rattle.toml.specs.Data.{Data}
 use Rattle.toml.specs.View.{view}
 use Rattle.model.specs.declared.object.ObjectKind.{ObjectKind}
@@ -84,6 +84,10 @@ entries_view e = record {
 -- the names of the handlers
 abbrev pub isr_names : Entries → List (List ℕ)
 isr_names entries = map (λ (h : RawIsr). h.name) entries.handlers
+
+-- the names of the interrupts that can be injected: of the handlers, and then of the tick
+abbrev pub source_names : Entries → List (List ℕ)
+source_names entries = isr_names entries ++ codes "tick" ∷ []
 
 -- all names but the daemon's, section by section
 abbrev pub names_of : Entries → List (List ℕ)

@@ -10,7 +10,7 @@ use Rattle.script.specs.declared.place.Key.TheVariants as key
 use Rattle.script.specs.Faults.{at_section, fault_at, first_fault, fails_if, need, optional}
 use Rattle.script.specs.Names.{handler_names, task_names}
 use Rattle.script.specs.Values.{member_of, number_fault, number_or, boolean_fault, boolean_named}
-use Rattle.script.specs.Entries.{Entries, all_objects, daemon_of, initial_values, isr_names, names_of}
+use Rattle.script.specs.Entries.{Entries, all_objects, daemon_of, initial_values, isr_names, source_names, names_of}
 use Rattle.script.specs.Sections.{data_at, no_entries, objects_fault, objects_named, groups_fault, groups_named, variables_fault}
 use Rattle.script.specs.Sections.{variables_named, handlers_fault, handlers_named, tasks_fault, tasks_named, daemon_fault}
 use Rattle.script.specs.Sections.{daemon_named}
@@ -90,7 +90,7 @@ load_fault document =
     ∷ handler_ops_fault entries
     ∷ scripts_fault entries
     ∷ interrupts_fault (isr_names entries) document
-    ∷ campaign_fault (isr_names entries) document
+    ∷ campaign_fault (source_names entries) document
     ∷ [])
 
 -- the application that a document names in which no check fails
@@ -108,7 +108,7 @@ app_named document =
       interrupts = interrupts_named (isr_names entries) document;
       tasks = all_tasks entries;
       daemon = daemon_of entries;
-      points = campaign_named (isr_names entries) document;
+      points = campaign_named (source_names entries) document;
     }
 
 -- the names of a document: those of its objects, event groups and variables, and of the handlers and tasks of its application

@@ -9,7 +9,7 @@ ghost use Rattle.model.specs.Application.{Handler, Definition};
 ghost use Rattle.model.specs.Blocks.{Nests, edges_of};
 ghost use Rattle.model.specs.Scripts.{IsObjectKind, IsDefinition, most_objects, most_variables, most_handlers, most_handler_ops, most_name_bytes, most_tasks, most_ticks};
 ghost use Rattle.script.specs.Faults.{Judges, Loads, first_fault};
-ghost use Rattle.script.specs.Entries.{all_objects, daemon_of, initial_values, isr_names, entries_view};
+ghost use Rattle.script.specs.Entries.{all_objects, daemon_of, initial_values, isr_names, source_names, entries_view};
 ghost use Rattle.script.specs.Sections.{data_at};
 ghost use Rattle.script.specs.Ops.{all_tasks, handler_ops_fault, scripts_fault, with_isr_ops, with_script};
 ghost use Rattle.script.specs.Interrupts.{interrupts_fault, interrupts_named};
@@ -130,7 +130,7 @@ fn app_of(
     ensures { Loads result
         (first_fault (handler_ops_fault (entries_view entries.now) ∷ scripts_fault (entries_view entries.now)
         ∷ interrupts_fault (isr_names (entries_view entries.now)) (table_view document.now)
-        ∷ campaign_fault (isr_names (entries_view entries.now)) (table_view document.now) ∷ []))
+        ∷ campaign_fault (source_names (entries_view entries.now)) (table_view document.now) ∷ []))
         (record {
           start = start;
           tickless = tickless;
@@ -142,7 +142,7 @@ fn app_of(
           interrupts = interrupts_named (isr_names (entries_view entries.now)) (table_view document.now);
           tasks = all_tasks (entries_view entries.now);
           daemon = daemon_of (entries_view entries.now);
-          points = campaign_named (isr_names (entries_view entries.now)) (table_view document.now);
+          points = campaign_named (source_names (entries_view entries.now)) (table_view document.now);
         }) }
 {
     check_handlers(entries)?;

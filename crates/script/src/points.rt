@@ -4,12 +4,12 @@ ghost use Rattle.grammar.specs.Points.{all_known, entry_from, is_formed, may_be_
 ghost use Rattle.toml.specs.View.{view, table_view};
 ghost use Rattle.script.specs.Faults.{Judges, Loads, seen};
 ghost use Rattle.script.specs.Arrays.{each_fault, elements_of};
-ghost use Rattle.script.specs.Entries.{isr_names, entries_view};
+ghost use Rattle.script.specs.Entries.{source_names, entries_view};
 ghost use Rattle.script.specs.Points.{entry_fault, entry_named, point_elements, points_fault, campaign_fault, campaign_named};
 
 use crate::entries::NamedEntries;
 use crate::fault::{Fault, FaultKind, LoadError};
-use crate::interrupts::handler_among;
+use crate::interrupts::source_among;
 use crate::place::{Key, Place, Section};
 use crate::values::{array, at_key, at_section};
 use arrayvec::ArrayVec;
@@ -24,11 +24,11 @@ fn injections(
     entries: &NamedEntries<'_>,
 ) -> Option<ArrayVec<Injection, 3>>
     requires { length pairs.now ≤ 3 }
-    ensures { option_map (λ v. v.items) result ≡ all_known (isr_names (entries_view entries.now)) (map pair_view pairs.now) }
+    ensures { option_map (λ v. v.items) result ≡ all_known (source_names (entries_view entries.now)) (map pair_view pairs.now) }
 {
     let mut injections = ArrayVec::new();
     for pair in pairs {
-        let handler = handler_among(entries, pair.handler)?;
+        let handler = source_among(entries, pair.handler)?;
         let step = pair.step;
         injections.push(Injection { step, handler });
     }
@@ -38,11 +38,11 @@ fn injections(
 // The point of these injections, if there are handlers of their names.
 fn point_of(pairs: &[RawInjection<'_>], entries: &NamedEntries<'_>) -> Option<Point>
     requires { may_be_point (map pair_view pairs.now) ≡ true }
-    ensures { result ≡ all_known (isr_names (entries_view entries.now)) (map pair_view pairs.now) }
+    ensures { result ≡ all_known (source_names (entries_view entries.now)) (map pair_view pairs.now) }
 {
     // Usually it is one, which needs no list.
     if let [pair] = pairs {
-        return Some(Point::one(pair.step, handler_among(entries, pair.handler)?));
+        return Some(Point::one(pair.step, source_among(entries, pair.handler)?));
     }
     let injections = injections(pairs, entries)?;
     Point::new(injections.as_slice()).ok()
@@ -51,19 +51,19 @@ fn point_of(pairs: &[RawInjection<'_>], entries: &NamedEntries<'_>) -> Option<Po
 // The entry, if there are handlers of its names.
 fn known_entry(raw: &RawPoint<'_>, entries: &NamedEntries<'_>) -> Option<PointEntry>
     requires { is_formed (raw_view raw.now) ≡ true }
-    ensures { result ≡ entry_from (isr_names (entries_view entries.now)) (raw_view raw.now) }
+    ensures { result ≡ entry_from (source_names (entries_view entries.now)) (raw_view raw.now) }
 {
     match raw {
         RawPoint::One(pairs) => Some(PointEntry::One(point_of(pairs.as_slice(), entries)?)),
-        RawPoint::Every(name) => Some(PointEntry::Every(handler_among(entries, name)?)),
+        RawPoint::Every(name) => Some(PointEntry::Every(source_among(entries, name)?)),
     }
 }
 
 // The entry that a value spells.
 fn entry(value: &Value, place: Place, entries: &NamedEntries<'_>) -> Result<PointEntry, Fault>
     ensures { Judges (seen Some result)
-        (entry_fault (isr_names (entries_view entries.now)) place (view value.now))
-        (entry_named (isr_names (entries_view entries.now)) (view value.now)) }
+        (entry_fault (source_names (entries_view entries.now)) place (view value.now))
+        (entry_named (source_names (entries_view entries.now)) (view value.now)) }
 {
     let Some(text) = value.as_str() else {
         return Err(FaultKind::WrongKind.at(place));
@@ -84,8 +84,8 @@ fn push_all(
     requires none { points.items ≡ [] }
     requires room { length values.now ≤ vec_capacity points }
     ensures { Judges (seen (λ v. v.items) result)
-        (each_fault (point_elements (isr_names (entries_view entries.now)) place) tt 0 (map view values.now))
-        (filter_map (entry_named (isr_names (entries_view entries.now))) (map view values.now)) }
+        (each_fault (point_elements (source_names (entries_view entries.now)) place) tt 0 (map view values.now))
+        (filter_map (entry_named (source_names (entries_view entries.now))) (map view values.now)) }
 {
     for (index, value) in values.iter().enumerate() {
         points.push_reserved(entry(value, place.element(index), entries)?);
@@ -96,7 +96,7 @@ fn push_all(
 // Checks each of these entries in order, without room for any.
 fn check_all(values: &[Value], place: Place, entries: &NamedEntries<'_>) -> Result<(), Fault>
     ensures { Judges result
-        (each_fault (point_elements (isr_names (entries_view entries.now)) place) tt 0 (map view values.now)) tt }
+        (each_fault (point_elements (source_names (entries_view entries.now)) place) tt 0 (map view values.now)) tt }
 {
     for (index, value) in values.iter().enumerate() {
         let _ = entry(value, place.element(index), entries)?;
@@ -113,8 +113,8 @@ fn points_of(
     entries: &NamedEntries<'_>,
 ) -> Result<Vec<PointEntry>, LoadError>
     ensures { Loads (seen (λ v. v.items) result)
-        (each_fault (point_elements (isr_names (entries_view entries.now)) place) tt 0 (map view values.now))
-        (filter_map (entry_named (isr_names (entries_view entries.now))) (map view values.now)) }
+        (each_fault (point_elements (source_names (entries_view entries.now)) place) tt 0 (map view values.now))
+        (filter_map (entry_named (source_names (entries_view entries.now))) (map view values.now)) }
 {
     let Ok(points) = Vec::with_capacity(alloc, values.len()) else {
         check_all(values, place, entries)?;
@@ -132,8 +132,8 @@ pub(crate) fn points(
     entries: &NamedEntries<'_>,
 ) -> Result<Vec<PointEntry>, LoadError>
     ensures { Loads (seen (λ v. v.items) result)
-        (campaign_fault (isr_names (entries_view entries.now)) (table_view document.now))
-        (campaign_named (isr_names (entries_view entries.now)) (table_view document.now)) }
+        (campaign_fault (source_names (entries_view entries.now)) (table_view document.now))
+        (campaign_named (source_names (entries_view entries.now)) (table_view document.now)) }
 {
     let Some(value) = at_section(document, Section::Campaign) else {
         return Ok(Vec::new(alloc));

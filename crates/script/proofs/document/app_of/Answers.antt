@@ -6,7 +6,7 @@ use Rattle.std.proofs.lemmas.List.{length-map}
 use Rattle.model.specs.Application.{Application, Handler, of_file}
 use Rattle.model.specs.Scripts.{IsHandler, KnowsAll, most_name_bytes, most_handler_ops, most_objects}
 use Rattle.toml.specs.View.{table_view}
-use Rattle.script.specs.Entries.{VariableEntry, RawIsr, Entries, HasEntries, isr_names, raw_view, entries_view}
+use Rattle.script.specs.Entries.{VariableEntry, RawIsr, Entries, HasEntries, isr_names, source_names, raw_view, entries_view}
 use Rattle.script.specs.Ops.{with_script, with_isr_ops, daemon_task}
 use Rattle.script.specs.Interrupts.{interrupts_named}
 use Rattle.script.specs.Points.{campaign_named}
@@ -49,7 +49,8 @@ new-requires c =
     tasks_of_file app entries parts.objects.0 parts.tasks.0 c.daemon_number.ensures in
     let of_interrupts : app.interrupts ≡ interrupts_named names document =
     parts.interrupts ∙ c.as_slice.ensures.value ∙ c.in_ok-listed.ensures.1 in
-    let of_points : app.points ≡ campaign_named names document = c.in_ok-points.ensures.1 in
+    let sources = source_names entries in
+    let of_points : app.points ≡ campaign_named sources document = c.in_ok-points.ensures.1 in
     let count : length names ≡ length app.handlers =
     length-map entries.handlers (λ (h : RawIsr). h.name)
     ∙ sym (ap length of_handlers ∙ length-map entries.handlers (with_isr_ops entries)) in
@@ -59,9 +60,11 @@ new-requires c =
     let interrupts : AreInterrupts (length app.handlers) app.interrupts =
     subst (λ n. AreInterrupts n app.interrupts) count
     (subst (AreInterrupts (length names)) (sym of_interrupts) (taken_interrupts names document c.in_ok-listed.ensures.0)) in
-    let points : ArePoints (length app.handlers) app.points =
-    subst (λ n. ArePoints n app.points) count
-    (subst (ArePoints (length names)) (sym of_points) (taken_points names document c.in_ok-points.ensures.0)) in
+    let source_count : length sources ≡ length app.handlers + 1 =
+    length-append names (codes "tick" ∷ []) ∙ ap (λ n. n + 1) count in
+    let points : ArePoints (length app.handlers + 1) app.points =
+    subst (λ n. ArePoints n app.points) source_count
+    (subst (ArePoints (length sources)) (sym of_points) (taken_points sources document c.in_ok-points.ensures.0)) in
     let few : AllByRecursion HasFewOps (map (with_isr_ops entries) entries.handlers) =
     subst (AllByRecursion HasFewOps) of_handlers parts.handlers.1 in
     let some : 1 ≤ length entries.tasks =

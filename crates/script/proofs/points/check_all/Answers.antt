@@ -1,14 +1,14 @@
 use Rattle.std.proofs.Common.{◌≡◌, ◌+◌, Some, None, map, drop, refl, ap, subst}
 use Rattle.toml.specs.View.{view}
 use Rattle.script.specs.Arrays.{each_fault}
-use Rattle.script.specs.Entries.{isr_names, entries_view}
+use Rattle.script.specs.Entries.{source_names, entries_view}
 use Rattle.script.specs.Points.{point_elements, entry_fault}
 use Rattle.script.proofs.Steps.{left, goes_on, stops, refused, none_left, all_pass}
 use Rattle.script.proofs.points.check_all.Goals as goal
 
 pub loop-index-preserved : goal.loop-index-preserved
 loop-index-preserved c =
-    let names = isr_names (entries_view c.args.entries.now) in
+    let names = source_names (entries_view c.args.entries.now) in
     let values = c.args.values.now in
     let i = c.loop-index.index in
     let value = c.index-values-index.result in
@@ -19,7 +19,7 @@ loop-index-preserved c =
 
 pub returns : goal.returns
 returns c =
-    let elements = point_elements (isr_names (entries_view c.args.entries.now)) c.args.place in
+    let elements = point_elements (source_names (entries_view c.args.entries.now)) c.args.place in
     let values = c.args.values.now in
     let i = c.loop-index.index in (
       all_pass elements tt i (map view (drop i values)) (each_fault elements tt 0 (map view values))
@@ -29,7 +29,7 @@ returns c =
 
 pub returns-in_err-entry : goal.returns-in_err-entry
 returns-in_err-entry c =
-    let names = isr_names (entries_view c.args.entries.now) in
+    let names = source_names (entries_view c.args.entries.now) in
     let elements = point_elements names c.args.place in
     let values = c.args.values.now in
     let i = c.loop-index.index in

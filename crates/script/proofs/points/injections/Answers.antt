@@ -3,13 +3,13 @@ use Rattle.model.specs.declared.plan.Injection.{Injection}
 use Rattle.grammar.specs.Names.{index_of}
 use Rattle.grammar.specs.Points.{all_known, all_there, injection_at, known, pair_view}
 use Rattle.grammar.proofs.PointTexts.{behind, behind_nothing, one_more}
-use Rattle.script.specs.Entries.{isr_names, entries_view}
+use Rattle.script.specs.Entries.{source_names, entries_view}
 use Rattle.script.proofs.Steps.{left, none_left}
 use Rattle.script.proofs.points.injections.Goals as goal
 
 pub loop-pair-preserved : goal.loop-pair-preserved
 loop-pair-preserved c =
-    let names = isr_names (entries_view c.args.entries.now) in
+    let names = source_names (entries_view c.args.entries.now) in
     let items = c.loop-pair.injections.items in
     let i = c.loop-pair.pair-index in
     let pair = c.pair-item.result in
@@ -29,7 +29,7 @@ loop-pair-preserved c =
 
 pub returns : goal.returns
 returns c =
-    let names = isr_names (entries_view c.args.entries.now) in
+    let names = source_names (entries_view c.args.entries.now) in
     let items = c.loop-pair.injections.items in
     let end = none_left c.args.pairs.now c.args.pairs.now refl c.loop-pair.pair-index c.loop-pair-test.false in
     sym (c.loop-pair.invariant.0 ∙ ap (λ ps. behind items (all_known names (map pair_view ps))) end ∙ behind_nothing items)

@@ -2,14 +2,14 @@ use Rattle.std.proofs.Common.{◌≡◌, ◌≤◌, ◌+◌, Some, None, length,
 use Rattle.std.specs.List.{filter_map}
 use Rattle.toml.specs.View.{view}
 use Rattle.script.specs.Arrays.{each_fault}
-use Rattle.script.specs.Entries.{isr_names, entries_view}
+use Rattle.script.specs.Entries.{source_names, entries_view}
 use Rattle.script.specs.Points.{point_elements, entry_fault, entry_named}
 use Rattle.script.proofs.Steps.{left, named, counted, goes_on, stops, refused_seen, none_left, all_pass, all_named}
 use Rattle.script.proofs.points.push_all.Goals as goal
 
 pub loop-index-preserved : goal.loop-index-preserved
 loop-index-preserved c =
-    let names = isr_names (entries_view c.args.entries.now) in
+    let names = source_names (entries_view c.args.entries.now) in
     let values = c.args.values.now in
     let i = c.loop-index.index in
     let value = c.index-values-index.result in
@@ -33,7 +33,7 @@ loop-index-preserved c =
 
 pub returns : goal.returns
 returns c =
-    let names = isr_names (entries_view c.args.entries.now) in
+    let names = source_names (entries_view c.args.entries.now) in
     let elements = point_elements names c.args.place in
     let values = c.args.values.now in
     let i = c.loop-index.index in
@@ -47,7 +47,7 @@ returns c =
 
 pub returns-in_err-entry : goal.returns-in_err-entry
 returns-in_err-entry c =
-    let names = isr_names (entries_view c.args.entries.now) in
+    let names = source_names (entries_view c.args.entries.now) in
     let elements = point_elements names c.args.place in
     let values = c.args.values.now in
     let i = c.loop-index.index in

@@ -8,7 +8,7 @@ use Rattle.script.specs.declared.fault.LoadError.{LoadError}
 use Rattle.script.specs.declared.place.Section.TheVariants as section
 use Rattle.script.specs.Faults.{Loads, first_fault, at_section}
 use Rattle.script.specs.Values.{data_of, number_fault, number_or, boolean_fault, boolean_named}
-use Rattle.script.specs.Entries.{Entries, all_objects, daemon_of, initial_values, isr_names, entries_view}
+use Rattle.script.specs.Entries.{Entries, all_objects, daemon_of, initial_values, isr_names, source_names, entries_view}
 use Rattle.script.specs.Sections.{data_at}
 use Rattle.script.specs.Ops.{handler_ops_fault, scripts_fault, with_isr_ops, all_tasks}
 use Rattle.script.specs.Interrupts.{interrupts_fault, interrupts_named}
@@ -23,7 +23,7 @@ later_fault document entries = first_fault (
     handler_ops_fault entries
     ∷ scripts_fault entries
     ∷ interrupts_fault (isr_names entries) document
-    ∷ campaign_fault (isr_names entries) document
+    ∷ campaign_fault (source_names entries) document
     ∷ [])
 
 -- the application of these entries
@@ -39,7 +39,7 @@ app_with document entries start tickless limits = record {
   interrupts = interrupts_named (isr_names entries) document;
   tasks = all_tasks entries;
   daemon = daemon_of entries;
-  points = campaign_named (isr_names entries) document;
+  points = campaign_named (source_names entries) document;
 }
 
 loaded : (document : Members) (entries : Entries) (start : ℕ) (tickless : Bool)
