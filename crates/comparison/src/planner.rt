@@ -33,6 +33,8 @@ pub(crate) struct Planner {
     /// Handlers come before one in this many steps inside calls, while the scheduler is suspended and while a critical section is open,
     /// and before one of three times as many others.
     rarity: u32,
+    /// Whether ticks are among the injections.
+    has_ticks: bool,
     pub(crate) injections: Vec<Injection>,
     pub(crate) made: Injections,
 }
@@ -44,6 +46,7 @@ impl Planner {
             dice: Dice::new(0),
             left: 0,
             rarity: 1,
+            has_ticks: false,
             injections: Vec::new(alloc),
             made: Injections::default(),
         }
@@ -62,12 +65,21 @@ impl Planner {
             dice,
             left,
             rarity,
+            has_ticks: false,
             injections: Vec::new(alloc),
             made: Injections::default(),
         }
     }
 
-    /// How many handlers come before the next step. Some always come where tasks wait at both sides of the locked object, and
+    /// A planner that injects ticks too.
+    pub(crate) fn of_ticks(alloc: Global, seed: u32) -> Self {
+        Planner {
+            has_ticks: true,
+            ..Planner::new(alloc, seed)
+        }
+    }
+
+    /// How many interrupts come before the next step. Some always come where tasks wait at both sides of the locked object, and
     /// where a task of higher priority is suspended while the running one is about to decide whether it waits.
     fn roll_count(&mut self, slow: &SlowKernel) -> u32 {
         let is_held = slow.is_scheduler_suspended() || slow.is_critical();
@@ -114,9 +126,20 @@ impl Planner {
         *inside = inside.saturating_add(is_inside as usize);
     }
 
-    fn push(&mut self, step: u32) -> Option<()> {
-        let number = self.dice.roll(3) as u8;
-        let handler = HandlerId { number };
+    /// Which interrupt is injected next: a handler or, if ticks are among the injections, the tick as often as all of these.
+    fn roll_source(&mut self, app: &App) -> HandlerId {
+        if self.has_ticks && self.dice.roll(2) == 0 {
+            return HandlerId {
+                number: app.handlers().len() as u8,
+            };
+        }
+        HandlerId {
+            number: self.dice.roll(3) as u8,
+        }
+    }
+
+    fn push(&mut self, step: u32, app: &App) -> Option<()> {
+        let handler = self.roll_source(app);
         self.injections.push(Injection { step, handler }).ok()
     }
 
@@ -124,21 +147,21 @@ impl Planner {
     fn plan_step(&mut self, slow: &SlowKernel, app: &App) -> Option<&[Injection]> {
         let old = self.injections.len();
         for _ in 0..self.roll_count(slow) {
-            self.push(slow.steps)?;
+            self.push(slow.steps, app)?;
             self.count(slow, app);
         }
         self.injections.as_slice().get(old..)
     }
 
     /// Makes up to two injections past the end of the run, where more may come.
-    fn plan_late(&mut self, steps: u32) -> Option<()> {
+    fn plan_late(&mut self, steps: u32, app: &App) -> Option<()> {
         let mut step = steps;
         if self.left == 0 {
             return Some(());
         }
         for _ in 0..self.dice.roll(3) {
             step = step.saturating_add(self.dice.roll(3));
-            self.push(step)?;
+            self.push(step, app)?;
             self.made.all = self.made.all.saturating_add(1);
             self.made.late = self.made.late.saturating_add(1);
         }
@@ -154,7 +177,7 @@ impl Planner {
             let injections = self.plan_step(slow, app)?;
             slow.step(app, limits, injections);
         }
-        self.plan_late(slow.steps)?;
+        self.plan_late(slow.steps, app)?;
         if slow.is_out_of_memory {
             return None;
         }

@@ -63,6 +63,10 @@ struct Seen {
     cut_off_sleeps: usize,
     /// A tick came while the scheduler was suspended.
     held_ticks: usize,
+    /// A tick was injected; one came while a call held the scheduler; one was injected while a section was open.
+    injected_ticks: usize,
+    ticks_in_calls: usize,
+    pending_ticks: usize,
     /// A base interrupt came at such a tick.
     held_interrupts: usize,
     /// A task became Ready while the scheduler was suspended.
@@ -244,6 +248,9 @@ impl Seen {
         see(&mut self.locked_resumes, tally.locked_resumes);
         see(&mut self.cut_off_sleeps, tally.cut_off_sleeps);
         see(&mut self.held_ticks, tally.held_ticks);
+        see(&mut self.injected_ticks, tally.injected_ticks);
+        see(&mut self.ticks_in_calls, tally.ticks_in_calls);
+        see(&mut self.pending_ticks, tally.pending_ticks);
         see(&mut self.held_interrupts, tally.held_interrupts);
         see(&mut self.held_wakes, tally.held_wakes);
     }
@@ -441,6 +448,9 @@ enum Sort {
     Signal,
     /// Tasks and handlers calculate. Handlers are injected in three of four runs.
     Calculation,
+    /// Tasks crowd about objects, wait for bits or for notifications, are suspended, or open critical sections. Ticks and handlers are
+    /// injected in each run.
+    Tick,
 }
 
 impl Sort {
@@ -455,20 +465,29 @@ impl Sort {
             Sort::Section => Dice::masking(seed),
             Sort::Signal => Dice::signalling(seed),
             Sort::Calculation => Dice::calculating(seed),
+            Sort::Tick => match seed % 5 {
+                0 => Dice::crowding(seed),
+                1 => Dice::gathering(seed),
+                2 => Dice::signalling(seed),
+                3 => Dice::suspending(seed),
+                _ => Dice::masking(seed),
+            },
         }
     }
 
     fn has_injections(self, seed: u32) -> bool {
         match self {
             Sort::Any => false,
-            Sort::Crowd => true,
+            Sort::Crowd | Sort::Tick => true,
             Sort::Contest | Sort::Gathering | Sort::Decision => seed % 2 != 0,
             Sort::Suspension | Sort::Section | Sort::Signal | Sort::Calculation => seed % 4 != 0,
         }
     }
 
     fn planner(self, alloc: Global, seed: u32) -> Planner {
-        if self.has_injections(seed) {
+        if matches!(self, Sort::Tick) {
+            Planner::of_ticks(alloc, u32::MAX - seed)
+        } else if self.has_injections(seed) {
             Planner::new(alloc, u32::MAX - seed)
         } else {
             Planner::idle(alloc)
@@ -647,6 +666,15 @@ fn the_slow_program_agrees_where_tasks_open_critical_sections(rt: HostRuntime) {
     has_enough(&rt, &seen, has_served && seen.ends_while_pending > 2_580);
     let has_misuses = seen.while_critical > 1_790 && seen.not_critical > 2_590;
     has_enough(&rt, &seen, has_misuses && seen.ended_critical > 3_270);
+}
+
+#[test]
+fn the_slow_program_agrees_where_ticks_are_injected(rt: HostRuntime) {
+    let seen = seen_in(&rt, rt.alloc(), Sort::Tick);
+    let has_ticks = seen.injected_ticks > 10_000 && seen.ticks_in_calls > 1_000;
+    has_enough(&rt, &seen, has_ticks && seen.pending_ticks > 1_000);
+    let has_held = seen.held_ticks > 1_000 && seen.held_wakes > 100;
+    has_enough(&rt, &seen, has_held && seen.timeouts > 1_000);
 }
 
 #[test]

@@ -270,7 +270,7 @@ impl SlowKernel {
 
     fn leave(&mut self, id: TaskId) {
         let call = self.task(id).call;
-        self.is_held = false;
+        self.end_hold();
         self.set_call(
             id,
             Call {

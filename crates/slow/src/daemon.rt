@@ -83,7 +83,7 @@ impl SlowKernel {
 
     /// The hold ends in which bits were set. The answer is the bits of now.
     fn end_set_by_daemon(&mut self, app: &App, id: TaskId, group: GroupId) {
-        self.is_held = false;
+        self.end_hold();
         count_if(&mut self.tally.sets_by_daemon, true);
         self.end_command(app, id, false, self.bits(group));
         self.preempt();

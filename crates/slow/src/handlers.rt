@@ -125,9 +125,14 @@ impl SlowKernel {
         }
     }
 
-    /// The handler comes before a step, and then a task of higher priority runs, if there is one.
-    pub(super) fn inject(&mut self, app: &App, handler: HandlerId) {
-        self.handle(app, handler);
+    /// The interrupt comes before a step: the tick; or a handler, after which a task of higher priority runs, if there is one.
+    pub(super) fn inject(&mut self, app: &App, source: HandlerId) {
+        if app.is_tick(source) {
+            count_if(&mut self.tally.injected_ticks, true);
+            self.tick(app);
+            return;
+        }
+        self.handle(app, source);
         if self.may_switch() {
             self.preempt();
         }

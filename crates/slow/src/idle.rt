@@ -45,12 +45,13 @@ impl SlowKernel {
         count_if(&mut self.tally.jumps_to_limit, ticks > 1 && is_to_limit);
     }
 
-    /// All the ticks pass that come before anything happens, but none past the limit. The scheduler isn't suspended.
+    /// All the ticks pass that come before anything happens, but none past the limit; one at least. The scheduler isn't suspended.
     fn jump(&mut self, app: &App, limits: &Limits) {
         let most = limits.ticks.saturating_sub(self.elapsed);
         let ticks = most
             .min(self.ticks_to_wake())
-            .min(self.ticks_to_interrupt(app));
+            .min(self.ticks_to_interrupt(app))
+            .max(1);
         self.count_jump(app, limits, ticks);
         self.time = self.time.wrapping_add(ticks);
         self.elapsed = self.elapsed.wrapping_add(ticks);

@@ -121,6 +121,10 @@ pub struct Tally {
     pub cut_off_sleeps: u32,
     /// Ticks came while the scheduler was suspended; base interrupts at such ticks; tasks that became Ready meanwhile.
     pub held_ticks: u32,
+    /// A tick was injected; one came while a call held the scheduler; one was injected while a section was open.
+    pub injected_ticks: u32,
+    pub ticks_in_calls: u32,
+    pub pending_ticks: u32,
     pub held_interrupts: u32,
     pub held_wakes: u32,
     /// Each kind of misuse.
@@ -499,7 +503,7 @@ impl SlowKernel {
     /// switch for all of it, if there may be one.
     fn tick(&mut self, app: &App) {
         self.elapsed = self.elapsed.wrapping_add(1);
-        if self.is_scheduler_suspended() {
+        if self.is_held || self.is_scheduler_suspended() {
             self.hold_tick();
         } else {
             self.advance();

@@ -220,7 +220,7 @@ impl SlowKernel {
                 }
             }
             Phase::Leave => {
-                self.is_held = false;
+                self.end_hold();
                 self.set_phase(id, Phase::Try);
                 self.choose();
             }

@@ -1,4 +1,4 @@
-//! Critical sections, and the handlers that are pending meanwhile.
+//! Critical sections, and the interrupts that are pending meanwhile.
 
 use super::{SlowKernel, count_if};
 use model::{App, HandlerId, Injection, TaskId};
@@ -24,12 +24,14 @@ impl SlowKernel {
         self.complete(app, id, self.task(id));
     }
 
-    /// A handler that is injected while a critical section is open is pending from then on, once.
-    fn pend(&mut self, handler: HandlerId) {
-        let is_again = self.pending[handler.number as usize];
-        count_if(&mut self.tally.pending_handlers, true);
+    /// An interrupt that is injected while a critical section is open is pending from then on, once.
+    fn pend(&mut self, app: &App, source: HandlerId) {
+        let is_again = self.pending[source.number as usize];
+        let is_tick = app.is_tick(source);
+        count_if(&mut self.tally.pending_handlers, !is_tick);
+        count_if(&mut self.tally.pending_ticks, is_tick);
         count_if(&mut self.tally.pending_again, is_again);
-        self.pending[handler.number as usize] = true;
+        self.pending[source.number as usize] = true;
     }
 
     fn count_served(&mut self) {
@@ -42,7 +44,7 @@ impl SlowKernel {
         count_if(&mut self.tally.served_in_holds, served > 0 && is_suspended);
     }
 
-    /// All that are pending come, in the order of the file.
+    /// All that are pending come: the handlers in the order of the file, and then the tick.
     fn serve_pending(&mut self, app: &App) {
         self.count_served();
         let pending = self.pending;
@@ -54,12 +56,12 @@ impl SlowKernel {
         }
     }
 
-    /// Before a step the handlers of these injections become pending, where a critical section is open; otherwise those that are
+    /// Before a step the interrupts of these injections become pending if a critical section is open; otherwise those that are
     /// pending come, and then these.
     pub(super) fn come_before_step(&mut self, app: &App, injections: &[Injection]) {
         if self.is_critical() {
             for injection in injections {
-                self.pend(injection.handler);
+                self.pend(app, injection.handler);
             }
         } else {
             self.serve_pending(app);
@@ -69,7 +71,7 @@ impl SlowKernel {
         }
     }
 
-    /// Whether a handler is pending.
+    /// Whether an interrupt is pending.
     pub fn is_any_pending(&self) -> bool {
         self.pending.contains(&true)
     }

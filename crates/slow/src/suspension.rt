@@ -107,10 +107,26 @@ impl SlowKernel {
         self.suspensions > 0
     }
 
-    /// A tick comes while the scheduler is suspended.
+    /// A tick comes while a call or a task holds the scheduler.
     pub(super) fn hold_tick(&mut self) {
+        let is_suspended = self.is_scheduler_suspended();
         self.held_ticks = self.held_ticks.wrapping_add(1);
-        count_if(&mut self.tally.held_ticks, true);
+        count_if(&mut self.tally.held_ticks, is_suspended);
+        count_if(&mut self.tally.ticks_in_calls, !is_suspended);
+    }
+
+    /// The ticks that were held come, one by one.
+    fn release(&mut self) {
+        for _ in 0..self.held_ticks {
+            self.advance();
+        }
+        self.held_ticks = 0;
+    }
+
+    /// A call lets go of the scheduler.
+    pub(super) fn end_hold(&mut self) {
+        self.is_held = false;
+        self.release();
     }
 
     /// `suspend_all`.
@@ -127,10 +143,7 @@ impl SlowKernel {
             self.answer(app, id, Some(0));
             return;
         }
-        for _ in 0..self.held_ticks {
-            self.advance();
-        }
-        self.held_ticks = 0;
+        self.release();
         self.answer(app, id, Some(0));
         self.preempt();
     }

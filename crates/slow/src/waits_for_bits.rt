@@ -93,7 +93,7 @@ impl SlowKernel {
         if self.task(id).call.phase == Phase::Start {
             self.begin_set(id, group, mask);
         } else {
-            self.is_held = false;
+            self.end_hold();
             self.answer(app, id, Some(self.bits(group)));
             self.preempt();
         }
@@ -158,7 +158,7 @@ impl SlowKernel {
             }
             Phase::Start => self.begin_wait(id, group, condition, ticks),
             Phase::Leave => {
-                self.is_held = false;
+                self.end_hold();
                 self.set_phase(id, Phase::Try);
                 self.choose();
             }
