@@ -149,7 +149,8 @@ class Addresses(Core):
             return constant(int(node.op == "!="))
         if node.op in ("+", "-") and isinstance(one, Address) and isinstance(other, Value):
             return one
-        return self.unknown("an address as a number isn't known")
+        why = other.among(path.state.answers).lost() if isinstance(other, Value) else None
+        return self.unknown("an address as a number isn't known") if why is None else lost(INT, why)
 
     def size(self, node: object) -> Optional[Value]:
         """The size of a name's type, where that is a number or an array of numbers."""

@@ -23,7 +23,9 @@ class Handles(Registers):
 
     def __init__(self, unit: Unit, target: Target, owner: Union[Task, Handler]):
         super().__init__(unit, target, owner)
-        self.changing = changing_handles(unit) if self.has_variables else {}
+        if unit.changing is None:
+            unit.changing = changing_handles(unit)
+        self.changing = unit.changing if self.has_variables else {}
         # The task of a call's argument, while the call is translated for this task.
         self.chosen: Dict[object, Handle] = {}
 

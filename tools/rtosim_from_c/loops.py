@@ -88,7 +88,7 @@ class Loops(Statements):
         first: Optional[LostUse] = None
         for it in forms:
             notes, before = dict(self.notes), self.has_other_forms
-            self.has_other_forms |= it is not forms[-1]
+            self.has_other_forms |= it is not forms[-1] and getattr(node, "cond", None) is not None
             try:
                 return it(node, state)
             except LostUse as why:

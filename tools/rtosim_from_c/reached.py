@@ -1,5 +1,5 @@
 """What the functions of a file read, call and may change."""
-from typing import TYPE_CHECKING, Dict, Iterator, List, Optional, Sequence, Set, Tuple
+from typing import TYPE_CHECKING, Dict, FrozenSet, Iterator, List, Optional, Sequence, Set, Tuple
 
 from . import trees
 from .calls import ABORT, CALLS, CREATORS, KNOWN, SETUP, SILENT, TASK_CREATORS, WITHOUT_OP
@@ -27,6 +27,8 @@ class Reached:
     handlers: "List[Handler]"
     fields: "Fields"
     silent: Dict[str, bool]
+    # the handles that tasks and handlers give other values, once these are asked for
+    changing: Optional[Dict[str, FrozenSet[str]]] = None
 
     def place(self, node: object) -> Place:
         raise NotImplementedError

@@ -469,8 +469,7 @@ class Reset:
         type_ = self.unit.constants.type_of(self.declaration(name)) if name is not None and self.declaration(name) is not None else ""
         return Address(name) if name is not None and type_ in ("a structure", "an array") else self.read(name, called)
 
-    def of_ArrayRef(self, node: object, called: Called) -> Optional[Content]:
-        return self.read(self.place(node, called), called)
+    of_ArrayRef = of_StructRef
 
     def of_Assignment(self, node: object, called: Called) -> Optional[Content]:
         name = self.place(node.lvalue, called)

@@ -82,8 +82,8 @@ class Shared(Structures):
                 found.append(Piece(low, high, NUMBER, value.constant() or 0))
         return Value(type_, joined(found))
 
-    def any_element(self, where: Known, node: object, is_write: bool) -> None:
-        """What is done with an element that isn't known: which one it is must be known, or the array isn't followed."""
+    def any_element(self, where: Known, node: object) -> None:
+        """An element that isn't known may be changed: another form of the loop may say which it is; otherwise the array isn't followed."""
         if not isinstance(where, Address) or ANY not in where.name or not self.has_variables:
             return
         array = where.name.partition(ANY)[0]
@@ -93,7 +93,7 @@ class Shared(Structures):
         why = f"`{array}` isn't followed: in line {self.place(node).line} which element this is isn't known"
         if self.has_other_forms:
             raise LostUse(self.place(node), Lost(why, instead=KNOWN_INDEX))
-        if is_write and self.unit.fields.unfollow(array, Lost(why, instead=KNOWN_INDEX)):
+        if self.unit.fields.unfollow(array, Lost(why, instead=KNOWN_INDEX)):
             raise Escaped()
 
     # -- what is there
@@ -110,8 +110,8 @@ class Shared(Structures):
 
     def content(self, where: Union[Address, Reference], node: object, path: Path) -> Known:
         if not is_shared(where):
-            self.any_element(where, node, False)
-            return super().content(where, node, path)
+            is_any = isinstance(where, Address) and ANY in where.name
+            return self.unknown(f"{shown(where)} isn't known here", KNOWN_INDEX) if is_any else super().content(where, node, path)
         stored, found = self.variable_at(where), self.member_of_global(where)
         if stored is not None:
             return self.load(stored, node, path)
@@ -122,7 +122,7 @@ class Shared(Structures):
         declaration = self.unit.reset.declaration(where.name)
         type_ = self.unit.constants.type_of(declaration) if declaration is not None else ""
         if type_ in ("an array", "a structure"):
-            return where if type_ == "a structure" else Address(where.name)
+            return where if type_ == "a structure" or self.length_of_table(where) is not None else Address(where.name)
         return self.handle_named(where.name) or self.kept(where.name) or super().content(where, node, path)
 
     def kept(self, name: str) -> Optional[Known]:
@@ -149,7 +149,7 @@ class Shared(Structures):
 
     def write_there(self, where: Union[Address, Reference], value: Known, node: object, path: Path) -> Known:
         if not is_shared(where):
-            self.any_element(where, node, True)
+            self.any_element(where, node)
             self.lose_behind(where, node)
             return super().write_there(where, value, node, path)
         found = self.member_of_global(where)
@@ -296,7 +296,7 @@ class Shared(Structures):
         if isinstance(self.member_of_global(member), Value):
             self.unit.fields.is_written(member.name)
             raise Escaped()
-        key, stored = f"received@{self.spot(node)}", self.variable_at(member)
+        key, stored = f"{member.name}@{self.spot(node)}", self.variable_at(member)
         self.types[key] = self.unit.constants.type_of(self.unit.reset.declaration(member.name))
         path.state = path.state.with_local(key, not_set(self.types[key]))
         found = super().answered(call, {**values, Argument.STORAGE: Reference(key)}, texts, node, path)
@@ -321,7 +321,7 @@ class Shared(Structures):
             if where is None:
                 continue
             line, name = self.place(call).line, trees.called(call)
-            self.any_element(where, it, True)
+            self.any_element(where, it)
             why = Lost(f"`{where.name}` isn't followed: in line {line} {name} is given its address",
                        instead=f"the body of {name}, or `const` in its prototype if it changes nothing")
             if self.unit.fields.unfollow(where.name, why):
@@ -332,7 +332,7 @@ class Shared(Structures):
         name, line = trees.called(call) or "", self.place(call).line
         for at, it in enumerate(trees.arguments(call)):
             where = self.address_of(it, path) if self.unit.may_write(name, at) else None
-            self.any_element(where, it, True)
+            self.any_element(where, it)
             reason = f"`{where.name}` isn't followed: in line {line} {name} is given its address, and can't be followed" if where else ""
             why = Lost(reason, instead="`const` for its parameter if it changes nothing there") if where else None
             if why is not None and self.unit.fields.unfollow(where.name, why):

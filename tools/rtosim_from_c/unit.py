@@ -18,6 +18,7 @@ from .reset import Reset
 from .scopes import Scopes
 from .source import HEADERS, Lines, place_of
 from .static_types import StaticTypes
+from .unrolling import Unrolling
 from .values import Address, Handle, Known, Value, constant
 
 SETS_OF_BITS = ("xEventGroupSetBits", "xEventGroupSetBitsFromISR")
@@ -132,6 +133,7 @@ class Unit(Reached):
                 self.prototypes[it.name] = it
             elif name == "Pragma":
                 self.take_comment(it)
+        Unrolling(self.functions, self.constants).run()
         self.assigned = {trees.assigned(it) for function in self.functions.values() for it in trees.walk(function)}
         for name, it in list(self.globals.items()):
             self.declare_constant(name, it)
