@@ -28,6 +28,11 @@ static struct fields *same(struct fields *f) { return f; }
 /* rtosim: ignore board_* */
 void board_fill(void *to, unsigned size);
 
+static const uint8_t table[4] = { 9, 4, 250, 1 };
+static const struct pair rows[3] = { { 1, 2 }, { -3, 4 }, { .y = 5 } };
+struct port { QueueHandle_t to; struct pair *about; int n; };
+static void add_to(int *to, int by) { *to += by; }
+
 static int sum(const uint8_t *data, int size)
 {
     int found = 0;
@@ -59,6 +64,9 @@ class Programs:
         # The globals and static locals of the task that is made, and its global structure, if it has one.
         self.shared: List[str] = []
         self.structure = ""
+        # What that task has of arrays of structures, of functions with static locals, and of integers whose address may be taken.
+        self.rows = self.stepped = self.addressed = ""
+        self.labels = 0
         # What main gives them.
         self.given: List[str] = []
 
@@ -88,7 +96,7 @@ class Programs:
 
     def lasting(self, end: str) -> List[str]:
         """The declarations of globals and of static locals, of half of the tasks."""
-        self.shared, self.structure = [], ""
+        self.shared, self.structure, self.rows, self.stepped, self.addressed = [], "", "", "", ""
         declared = ["", ""]
         for type_, at in (("uint8_t", 0), ("unsigned", 0), ("int", 0), ("int16_t", 1), ("bool", 1)):
             if self.has_lasting(end) and self.dice.random() < 0.5:
@@ -96,6 +104,8 @@ class Programs:
                 declared[at] += f"{'    ' * at}static {self.one_of('', 'volatile ')}{type_} {self.shared[-1]} = {self.one_of('0', '1', '3', '250')};\n"
         if self.has_lasting(end) and self.dice.random() < 0.6:
             declared[0] += self.lasting_structure(end)
+        if self.has_lasting(end):
+            declared[0] += self.lasting_parts(end)
         if self.shared and self.shared[0].startswith("g") and self.dice.random() < 0.4:
             self.given.append(f"{self.shared[0]} {self.one_of('=', '+=')} {self.number()};")
         return declared
@@ -107,6 +117,23 @@ class Programs:
         self.given += self.one_of("", f"{name}.d = {self.number()};", f"fields_init(&{name}, {self.number()});", f"if (limit == 3) {name}.e -= 2;",
                                   f"for (int i = 0; i < 3; i++) {name}.c += 100;").splitlines()
         return f"static struct fields {name}{self.one_of('', ' = { 1, 2 }', ' = { .d = -1, .in = { 4 } }', ' = { .in.y = 250 }')};\n"
+
+    def lasting_parts(self, end: str) -> str:
+        """The declarations of an integer whose address is taken, of an array of structures, and of a function that has static locals."""
+        found = ""
+        if self.dice.random() < 0.5:
+            self.addressed = f"h_{end}"
+            found += f"static int {self.addressed} = {self.number()};\n"
+        if self.dice.random() < 0.6:
+            self.rows = f"rows_{end}"
+            self.shared += [f"{self.rows}[0].x", f"{self.rows}[1].y"]
+            found += f"static struct pair {self.rows}[2]{self.one_of('', ' = { 1, 2, 3, 4 }', ' = { { 1 }, { .y = 250 } }', ' = { [1] = { 5, 6 } }')};\n"
+            self.given += self.one_of("", f"for (int i = 0; i < 2; i++) {self.rows}[i].x += i;", f"{self.rows}[0] = {self.rows}[1];").splitlines()
+        if self.dice.random() < 0.6:
+            self.stepped = f"stepped_{end}"
+            found += (f"static int {self.stepped}(int by)\n{{\n    static int n = 2;\n    static struct pair last{self.one_of('', ' = { 7 }')};\n"
+                      f"    {{ static int n = 7; n ^= by; last.y = (uint8_t)n; }}\n    n += by;\n    last.x += n;\n    return last.x - last.y;\n}}\n")
+        return found
 
     def has_lasting(self, end: str) -> bool:
         return int(end.partition("_")[2]) % 2 == 1
@@ -219,7 +246,7 @@ class Programs:
         simple: List[Callable[[], str]] = [
             lambda: f"{self.one_of(*self.names())} = {self.asking()};", lambda: f"{self.one_of(*self.names())} = {self.integer()};",
             lambda: f"{self.asking()};", lambda: f"{self.one_of('a', 'b', 'n', 'v', *self.shared)}{self.one_of('++', '--', ' += 2', ' |= 5', ' *= 3')};",
-            lambda: f"rtosim_mark({self.number()});", lambda: f"rtosim_mark((uint8_t){self.one_of('a', 'n', 'v', *self.shared)});", self.passing, self.apart, self.timing,
+            lambda: f"rtosim_mark({self.number()});", lambda: f"rtosim_mark((uint8_t){self.one_of('a', 'n', 'v', *self.shared)});", self.passing, self.apart, self.timing, self.pointed, self.pointed, self.hiding, self.hiding,
             lambda: f"configASSERT({self.condition(1)});", lambda: f"ok = {self.condition()};",
             lambda: f"if ({self.condition()}) {self.one_of(*self.jumps(jumps))};",
         ]
@@ -249,6 +276,39 @@ class Programs:
             f"{{ struct pair *to = &pair; to->{self.one_of('x', 'y')} {self.one_of('=', '+=', '^=')} {local}; }}", "memset(&pair, 0, sizeof(pair));",
             "{ struct pair other = pair; other.x++; pair = other; }", "board_fill(&pair.y, 1);",
             f"{{ int copy[2] = {{ {local}, 1 }}; board_fill(copy, 4); }}",
+        )
+
+    def pointed(self) -> str:
+        """A statement about a pointer, an array of structures, a table or a static local."""
+        local, rows, at = self.one_of("a", "b"), self.rows, self.one_of("0", "1")
+        found = [
+            f"add_to(&{local}, {self.integer(1)});", f"{local} = table[{self.one_of('0', '1', '2', '3')}];", f"{local} = table[n & 3];",
+            f"{local} += rows[{at}].x;", f"for (int i = 0; i < 3; i++) {local} += rows[i].y;", f"{local} = table[uxQueueMessagesWaiting(jobs)];",
+            f"{{ struct port port = {{ jobs, &pair, {self.number()} }}; port.about->x += 2; ok = xQueueSend(port.to, &port.n, 0); }}",
+            f"{{ struct port port = {{ 0 }}; port.to = {self.one_of('box', 'jobs')}; port.n = {local}; struct port other = port; xQueueSend(other.to, &other.n, 0); }}",
+        ]
+        if self.addressed:
+            found += [f"add_to(&{self.addressed}, {self.number()});", f"{{ int *to = &{self.addressed}; (*to)++; {local} = *to; }}",
+                      f"if ({self.addressed} {self.one_of(*COMPARISONS)} {local}) rtosim_mark(3);"] * 2
+        if rows:
+            found += [f"{rows}[{at}].{self.one_of('x', 'y')} {self.one_of('=', '+=', '^=')} {local};", f"for (int i = 0; i < 2; i++) {rows}[i].x += {self.number()};",
+                      f"{{ struct pair *row = &{rows}[{at}]; row->y++; {local} = row->x; }}", f"pair = {rows}[{at}];", f"{rows}[{at}] = pair;",
+                      f"memcpy(&{rows}[{at}], &pair, sizeof(pair));"] * 2
+        if self.stepped:
+            found += [f"{local} = {self.stepped}({self.integer(1)});"] * 4
+        return self.dice.choice(found)
+
+    def hiding(self) -> str:
+        """A statement with names that hide others, with several assignments in one, or with a jump ahead."""
+        local, label = self.one_of("a", "b"), f"out_{self.labels}"
+        self.labels += 1
+        return self.one_of(
+            f"{{ int a = {self.number()}, n = b; a += n; rtosim_mark((uint8_t)a); }}", f"{{ enum {{ LOW = 2, HIGH }}; {local} = HIGH - LOW; }}",
+            f"switch ({local}) {{ int b; case 1: b = 5; a = b; break; default:; int n; n = 4; a += n; }}", f"v = n = {local};", f"{local} = (v += 9);",
+            f"{local} = (n++, n + {self.number()});", f"a = {local}++ + {self.number()};", "b = ++a - n--;", f"{local} = v++ * 2 + (uint8_t){self.integer(1)};",
+            f"{{ if ({self.condition(1)}) goto {label}; {self.passing()} {label}:; }}", f"{local} = {self.asking()} ? {self.number()} : {self.integer(1)};",
+            "{ uint64_t big = (uint64_t)v * 1000; n = (unsigned)(big / 7); }", "{ int64_t big = v; if (big - 3 < 0) rtosim_mark(2); }",
+            f"{{ int16_t small = (int16_t){self.integer(1)}; if (small < {local}) rtosim_mark(5); {local} = small / 3; }}", f"{local} = (int8_t)({local} + 100);",
         )
 
     def timing(self) -> str:

@@ -39,9 +39,15 @@ class Addresses(Core):
             key = self.frame.local(name)
             if key is not None:
                 return Reference(key)
+            if self.is_variable(name):
+                return self.unit.followed(Address(name))
             if not self.is_left_out(name):
                 raise self.refuse(node, "an address has no op", "a local of its own, whose address a call may take")
         return self.opaque(name) or Address(name) if name is not None else self.whole(inner, path)
+
+    def is_variable(self, name: str) -> bool:
+        """Whether a global is an integer of which a script has a variable."""
+        return False
 
     def is_left_out(self, name: str) -> bool:
         """Whether a global is no integer that the script could have."""
@@ -58,14 +64,17 @@ class Addresses(Core):
             return self.member(self.led_to(self.evaluate(node.name, path), node, path), node)
         if name == "ArrayRef":
             inner = self.led_to(self.evaluate(node.name, path), node, path)
-            index = self.operand(node.subscript, path)
-            if isinstance(inner, Reference) and not (isinstance(index, Value) and index.constant() == 0):
-                raise self.refuse(node, "what is beside a local isn't known", "an array")
-            return inner
+            return self.element(inner, self.operand(node.subscript, path), node, path)
         if name == "UnaryOp" and node.op == "*":
             return self.led_to(self.evaluate(node.expr, path), node, path)
         found = self.opaque(node.name) if name == "ID" else self.evaluate(node, path) if name == "FuncCall" else None
         return found if isinstance(found, Address) else Address(SOMEWHERE)
+
+    def element(self, inner: Union[Address, Reference], index: Known, node: object, path: Path) -> Union[Address, Reference]:
+        """Where an element is of an array, or of what a pointer leads to."""
+        if isinstance(inner, Reference) and not (isinstance(index, Value) and index.constant() == 0):
+            raise self.refuse(node, "what is beside a local isn't known", "an array")
+        return inner
 
     def member(self, inner: Union[Address, Reference], node: object) -> Address:
         if isinstance(inner, Reference):
@@ -119,6 +128,10 @@ class Addresses(Core):
         for argument in trees.arguments(call):
             self.let_addresses_go(argument, path)
 
+    def let_parameters_go(self, call: object, path: Path) -> None:
+        """The locals whose addresses a function of the file takes that can't be followed."""
+        self.let_arguments_go(call, path)
+
     def let_addresses_go(self, node: object, path: Path) -> None:
         """The locals whose addresses are in an expression that isn't followed."""
         for it in trees.walk(node):
@@ -136,7 +149,8 @@ class Addresses(Core):
             return constant(int(node.op == "!="))
         if node.op in ("+", "-") and isinstance(one, Address) and isinstance(other, Value):
             return one
-        return self.unknown("an address as a number isn't known")
+        why = other.among(path.state.answers).lost() if isinstance(other, Value) else None
+        return self.unknown("an address as a number isn't known") if why is None else lost(INT, why)
 
     def size(self, node: object) -> Optional[Value]:
         """The size of a name's type, where that is a number or an array of numbers."""

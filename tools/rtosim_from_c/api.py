@@ -225,10 +225,22 @@ class Api(Expressions):
             raise self.refuse(node, "a structure or an array as an item has no op", "an integer that says what it is")
         if not isinstance(value, Reference):
             raise self.refuse(node, "an item is read at the address of a local", "a local that has it, and `&` with its name")
+        self.compare_sizes(queue, value.local, "reads", node)
         return self.item_of(self.read_local(value.local, node, path), queue, node, path)
+
+    def compare_sizes(self, queue: Handle, local: str, what: str, node: object) -> int:
+        """How many bytes of a local aren't those of an item. Warns if FreeRTOS takes more than the local has."""
+        type_, size = self.types.get(local), self.unit.object(queue.name).numbers.get("bytes", 0)
+        own = -(-type_.bits // 8) if isinstance(type_, Integer) else 0
+        if size and own and size > own and "." not in local.split("@")[0]:
+            name = local.split("@")[0]
+            self.note(node, f"an item of `{queue.name}` has {size} bytes and `{name}` has {own}: FreeRTOS {what} what is behind it", True)
+        return max(0, own - size) if size else 0
 
     def item_of(self, value: Known, queue: Handle, node: object, path: Path) -> str:
         """A value as an item."""
+        if isinstance(value, (Handle, Address, Reference)):
+            raise self.refuse(node, f"a {'handle' if isinstance(value, Handle) else 'pointer'} as an item has no op", "a number that says which it is")
         kept = self.fitted(self.integer(value, node), self.item_type(queue), node, path)
         found = self.number(converted(kept, UNSIGNED), node, path)
         if found is None:
@@ -254,6 +266,7 @@ class Api(Expressions):
                                          self.place(node))
         storage = values.get(Argument.STORAGE, values.get(Argument.VALUE_STORAGE))
         if isinstance(storage, Reference):
+            self.check_received(values, storage.local, node, path)
             self.keep_received(storage.local, self.without_item(call, storage.local, texts, node, path), node, path)
         elif storage is not None and not isinstance(storage, Value):
             raise self.refuse(node, "what is received is put into a local", "the address of a local")
@@ -288,6 +301,16 @@ class Api(Expressions):
             return NUMBERS if never_fails and not self.may_be_suspended() else NUMBERS | only(NONE)
         fixed = {Answer.ONE: only(1), Answer.ZERO: only(0), Answer.NUMBER: NUMBERS, Answer.NOTIFIED: only(1)}
         return only(0, 1) if texts.get("action", "").startswith("keep") else fixed[call.answer]
+
+    def check_received(self, values: Dict[Argument, Known], local: str, node: object, path: Path) -> None:
+        """Warns if the upper bytes of a local aren't written and may be other than 0."""
+        queue = values.get(Argument.QUEUE)
+        left = self.compare_sizes(queue, local, "writes", node) if isinstance(queue, Handle) else 0
+        before = path.state.locals.get(local)
+        number = before.constant() if isinstance(before, Value) else None
+        if left and (number is None or number >> 8 * (self.types[local].bits // 8 - left)):
+            name = local.split("@")[0]
+            self.note(node, f"an item of `{queue.name}` has fewer bytes than `{name}`, whose upper bytes stay as they are in C, and are 0 here", True)
 
     def may_be_suspended(self) -> bool:
         """Whether others may suspend this task."""

@@ -197,6 +197,7 @@ SILENT = ("printf", "puts", "putchar")
 OF_MEMORY = ("memset", "memcpy", "memmove", "memcmp", "strlen", "strcmp", "strncmp", "strcpy", "strncpy", "strcat", "strchr", "strstr",
              "snprintf", "sprintf")
 WITHOUT_OP = (*SILENT, *OF_MEMORY)
+COPIES = ("memcpy", "memmove")
 # What ends a program: a check that fails.
 ABORT = "abort"
 # What a handler says to the scheduler at its end: here each handler ends so.

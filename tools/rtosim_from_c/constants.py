@@ -1,7 +1,7 @@
 """Types of declarations, and expressions that are constant wherever they are."""
 import functools
 import re
-from typing import Dict, List, Optional, Union
+from typing import Dict, List, Optional, Tuple, Union
 
 from . import trees
 from .answers import ALL
@@ -48,11 +48,6 @@ class Constants:
         if set(names) & {"float", "double"}:
             return "a float"
         return named(names) or f"of type {' '.join(names)}"
-
-    def take_structure(self, node: object) -> None:
-        """A structure that has a name of its own, with its members."""
-        if node.name and node.decls:
-            self.structures[node.name] = node
 
     def structure(self, node: object) -> Optional[object]:
         """The structure of a type, with its members; None for any other type."""
@@ -129,6 +124,40 @@ class Constants:
         if array.dim is None:
             count = count_of(getattr(node, "init", None))
         return inner * count.constant() if inner is not None and count is not None else None
+
+    def length(self, declaration: object) -> Optional[int]:
+        """How many elements an array has that is declared so."""
+        array = declaration
+        while trees.kind(array) in ("Decl", "TypeDecl"):
+            array = array.type
+        if trees.kind(array) != "ArrayDecl":
+            return None
+        found = self.value(array.dim) if array.dim is not None else count_of(getattr(declaration, "init", None))
+        return found.constant() if found is not None else None
+
+    def bytes_of(self, node: object) -> Optional[int]:
+        """The bytes of a type on a machine with 32 bits; those of a structure too."""
+        found = self.layout(node)
+        return found[0] if found is not None else None
+
+    def layout(self, node: object) -> Optional[Tuple[int, int]]:
+        """The bytes of a type, and the number of bytes on which it begins."""
+        type_, whole = self.type_of(node), self.structure(node)
+        if isinstance(type_, Integer):
+            size = -(-type_.bits // 8)
+            return size, size
+        if type_ == "a pointer" or type_.startswith("handle"):
+            return 4, 4
+        if type_ == "an array":
+            inner, length = self.layout(trees.element(node)), self.length(node)
+            return (inner[0] * length, inner[1]) if inner is not None and length is not None else None
+        found = [self.layout(it) for it in whole.decls] if whole is not None else [None]
+        if any(it is None for it in found) or any(getattr(it, "bitsize", None) is not None for it in whole.decls):
+            return None
+        size, begin = 0, 1
+        for bytes_, step in (it for it in found if it is not None):
+            size, begin = -(-size // step) * step + bytes_, max(begin, step)
+        return -(-size // begin) * begin, begin
 
     def take_enum(self, node: object) -> None:
         """The names of an enumeration."""

@@ -14,7 +14,7 @@ from .refusals import Lost, LostUse, Note, Place, Refusal
 from .source import place_of
 from .unit import Handler, Task, Unit
 from .integers import BOOL
-from .values import Address, Handle, Known, Nothing, Reference, Stored, Text, Value, constant, converted, truth
+from .values import Address, Handle, Known, Nothing, Reference, Stamp, Stored, Text, Value, constant, converted, truth
 
 # How many statements are followed at a time, and in all tries of one task.
 MOST_STATEMENTS = 20_000
@@ -157,6 +157,8 @@ class Core:
             return value
         if isinstance(value, Handle):
             return constant(1)
+        if isinstance(value, Stamp):
+            raise self.refuse(node, "a time that is measured from is only known as `xTaskGetTickCount() - t`", "another local for the time as a number")
         raise self.refuse(node, "this is no integer", "integers, and handles of objects and tasks")
 
     def number(self, value: Known, node: object, path: Path) -> Optional[int]:

@@ -250,7 +250,7 @@ class Expressions(Addresses):
         key = self.frame.local(name) if name is not None else None
         if key is not None:
             return self.write_local(key, value, node, path)
-        if isinstance(value, Handle) and name is not None:
+        if isinstance(value, Handle) and name is not None and self.frame.local(name.split(".")[0]) is None:
             self.note(node, f"`{name}` is `{value.name}` from reset on")
             return value
         if trees.kind(target) != "ID":
@@ -360,7 +360,7 @@ class Expressions(Addresses):
                 return found
             return self.unknown(f"what {name} returns isn't known: {why.why}", f"--ignore {name}=NUMBER, or {A_CONSTANT}")
         except LostUse:
-            self.let_arguments_go(node, path)
+            self.let_parameters_go(node, path)
             self.keep_all(trees.arguments(node), path)
             self.note(node, f"`{name}` has no op: left out")
             return self.unknown(f"what {name} returns isn't known", f"--ignore {name}=NUMBER, or {A_CONSTANT}")

@@ -1,6 +1,7 @@
 """Which members of global structures are variables, and what is known of handles and pointers that are global or a member of a global.
 
 A member is followed if it is an integer that something reads, and if nothing changes it by a way that isn't followed."""
+import re
 from dataclasses import dataclass
 from typing import TYPE_CHECKING, Dict, FrozenSet, Iterator, List, Optional, Set, Tuple, Union
 
@@ -52,7 +53,11 @@ class Fields:
         self.read = self.members_read()
         self.written, self.addressed = self.members_written()
         self.assigned, self.assigned_somewhere = self.assignments()
-        self.of_globals = {it.split(".")[-1] for name in unit.globals if unit.is_followed(name) for it in unit.reset.leaves(name)} & self.read
+        names = [it for name in unit.globals if unit.is_followed(name) for it in unit.reset.leaves(name)]
+        self.of_globals = {it.split(".")[-1] for it in names if "." in it} & self.read
+        nodes = [it for one in (*unit.functions.values(), *unit.globals.values()) for it in trees.walk(one)]
+        self.integers_addressed = {it.expr.name for it in nodes if trees.kind(it) == "UnaryOp" and it.op == "&" and trees.kind(it.expr) == "ID"
+                                   and isinstance(unit.constants.type_of(unit.globals.get(it.expr.name)), Integer)}
 
     # -- what the file does with members
 
@@ -112,7 +117,7 @@ class Fields:
         return found, others
 
     def is_global(self, function: str, name: str) -> bool:
-        root = name.split(".")[0]
+        root = trees.root(name)
         return root in self.unit.globals and not ("." not in name and self.unit.is_local(function, root))
 
     # -- members
@@ -125,7 +130,9 @@ class Fields:
 
     def of_member(self, name: str) -> Union[None, Lost, Value, Member]:
         declaration = self.unit.reset.declaration(name)
-        type_ = self.unit.constants.type_of(declaration) if declaration is not None and "." in name else None
+        type_ = self.unit.constants.type_of(declaration) if declaration is not None else None
+        if name in self.unit.globals and isinstance(type_, Integer):
+            return self.of_integer(name, type_)
         member = name.split(".")[-1]
         if not isinstance(type_, Integer) or member not in self.read:
             return None
@@ -137,8 +144,13 @@ class Fields:
         number = self.unit.reset.value(name)
         if not isinstance(number, Value):
             return self.not_at_reset(name)
-        is_fixed = member not in self.written and not is_volatile(declaration)
+        is_fixed = member not in self.written and not is_volatile(declaration) or trees.is_const(self.unit.globals.get(trees.root(name)))
         return number if is_fixed else Member(type_, number.constant() or 0)
+
+    def of_integer(self, name: str, type_: Integer) -> Union[Lost, Member]:
+        """A global that is an integer, by its address."""
+        found, number = self.why_not(name), self.unit.reset.value(name)
+        return Member(type_, (number.constant() or 0) if isinstance(number, Value) else 0) if found is None else found
 
     def not_at_reset(self, name: str) -> Lost:
         why = self.unit.reset.why(name)
@@ -149,9 +161,9 @@ class Fields:
 
     def why_not(self, name: str) -> Optional[Lost]:
         """Why a member isn't followed; None if it is."""
-        parts = name.split(".")
-        whole = (self.unfollowed.get(".".join(parts[:at])) for at in range(1, len(parts) + 1))
-        return next((it for it in whole if it is not None), self.lost_members.get(parts[-1]))
+        ends = [*(it.start() for it in re.finditer(r"[.\[]", name)), len(name)]
+        whole = (self.unfollowed.get(name[:at]) for at in ends)
+        return next((it for it in whole if it is not None), self.lost_members.get(name.split(".")[-1]) if "." in name else None)
 
     def unfollow(self, name: str, why: Lost) -> bool:
         """Doesn't follow what is there any more; false if it wasn't followed."""

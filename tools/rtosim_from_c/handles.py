@@ -23,7 +23,9 @@ class Handles(Registers):
 
     def __init__(self, unit: Unit, target: Target, owner: Union[Task, Handler]):
         super().__init__(unit, target, owner)
-        self.changing = changing_handles(unit) if self.has_variables else {}
+        if unit.changing is None:
+            unit.changing = changing_handles(unit)
+        self.changing = unit.changing if self.has_variables else {}
         # The task of a call's argument, while the call is translated for this task.
         self.chosen: Dict[object, Handle] = {}
 
@@ -41,7 +43,7 @@ class Handles(Registers):
             return node.name if node.name in self.changing and self.frame.local(node.name) is None else None
         if trees.kind(node) != "StructRef" or not any("." in it for it in self.changing):
             return None
-        where = self.whole(node, path)
+        where = self.whole(node, path.fork(path.state.answers))
         is_global = isinstance(where, Address) and (where.key is None or is_shared(where))
         return where.name if is_global and where.name in self.changing else None
 
@@ -159,7 +161,7 @@ def assignments(unit: Unit) -> Iterator[Tuple[str, str, object]]:
         for node in trees.walk(definition.body):
             if trees.kind(node) == "Assignment" and node.op == "=":
                 for name in unit.given.names(function, node.lvalue):
-                    if name.split(".")[0] in unit.globals:
+                    if trees.root(name) in unit.globals:
                         yield function, name, trees.plain(node.rvalue)
 
 

@@ -39,6 +39,8 @@ class Loops(Statements):
         super().__init__(unit, target, owner)
         # Loops whose turns a comment counts, with how many are left.
         self.turns_left: Dict[object, int] = {}
+        # whether a loop around this can still be tried in another form
+        self.has_other_forms = False
 
     def do_While(self, node: object, path: Path, rest: Optional[Continuation]) -> None:
         self.loop(node, path, rest)
@@ -85,12 +87,15 @@ class Loops(Statements):
             forms.remove(self.asked_before)
         first: Optional[LostUse] = None
         for it in forms:
-            notes = dict(self.notes)
+            notes, before = dict(self.notes), self.has_other_forms
+            self.has_other_forms |= it is not forms[-1] and getattr(node, "cond", None) is not None
             try:
                 return it(node, state)
             except LostUse as why:
                 self.notes = notes
                 first = first or why
+            finally:
+                self.has_other_forms = before
         assert first is not None
         raise first
 

@@ -1,6 +1,7 @@
 """Variables: globals, and locals of which the last answer doesn't keep enough. It is for a program that knows them (`families.py`).
 
 A read is `load`, a write `store`; arithmetic is done with the last answer and a number or a variable."""
+import re
 from dataclasses import replace
 from typing import Dict, Iterable, List, Optional, Set, Tuple, Union
 
@@ -14,7 +15,8 @@ from .integers import BOOL, COMPARISONS, INT, UNSIGNED, Integer, common, promote
 from .items import If, Op
 from .loops import Loops
 from .paths import Path
-from .refusals import Lost, LostUse
+from .refusals import Lost, LostUse, Refusal
+from .reset import NotKnown
 from .statements import MIRRORED
 from .unit import GLOBAL, Handler, Task, Unit
 from .values import ANSWER, LOST, NUMBER, Handle, Known, Piece, Stored, Value, binary, constant, converted, lost, steady, the_answer
@@ -59,9 +61,13 @@ class Memory(Loops):
     def variable(self, key: str, type_: Integer, initial: int = 0) -> Stored:
         """The variable of a local, a global or a value between."""
         scope, shown = "" if key.startswith(GLOBAL) else self.owner.name, key.split("@")[0].replace(GLOBAL, "")
+        root, *members = re.sub(r"\[(\d+)\]", r"_\1", shown).split(".")
+        shown = ".".join((self.unit.shown.get(root, root), *members))
         name = self.unit.names.name(f"variable {scope}", key, shown if shown.replace(".", "_").isidentifier() else "t")
         if key.startswith(GLOBAL):
             self.shared.add(name)
+        if type_.bits > UNSIGNED.bits and not 0 <= type_.wrapped(initial) <= GREATEST:
+            raise Refusal(self.owner.place, f"`{shown}` has more than 32 bits at reset, and a script has 32", "types of 32 bits")
         self.unit.variables.setdefault(name, UNSIGNED.wrapped(type_.wrapped(initial)))
         return Stored(name, type_)
 
@@ -87,7 +93,7 @@ class Memory(Loops):
 
     def store(self, stored: Stored, value: Known, node: object, path: Path) -> None:
         """Gives the variable a value, which is the last answer then."""
-        value = self.known(self.integer(value, node), node, path)
+        value = self.within(self.known(self.integer(value, node), node, path), node, path)
         if value.constant() is not None:
             number = UNSIGNED.wrapped(value.constant() or 0)
             self.op(f"store {stored.name} {number}", node, path)
@@ -97,7 +103,18 @@ class Memory(Loops):
 
     def to_answer(self, value: Value, node: object, path: Path) -> None:
         """Makes the last answer the value, with 32 bits."""
-        self.each_part(self.known(value, node, path), node, path, None)
+        self.each_part(self.within(self.known(value, node, path), node, path), node, path, None)
+
+    def within(self, value: Known, node: object, path: Path, least: int = 0, greatest: int = GREATEST) -> Known:
+        """The value, if an op keeps all of its bits: one of 64 bits must be a number of 32 bits without a sign."""
+        found = bounds(value, path) if value.type.bits > UNSIGNED.bits else None
+        if found is not None and not least <= found[0] <= found[1] <= greatest:
+            raise self.too_large(node)
+        return value
+
+    def too_large(self, node: object) -> Refusal:
+        return self.refuse(node, "this may need more than 32 bits, and a script has 32",
+                           "types of 32 bits; or --ignore NAME for a variable on which nothing depends")
 
     def each_part(self, value: Value, node: object, path: Path, stored: Optional[Stored]) -> None:
         """Makes the last answer a value that is known, for each answer by which it is another one; and perhaps gives it to a variable."""
@@ -142,7 +159,13 @@ class Memory(Loops):
         self.op(f"store {name} {number}", node, path)
         self.is_answered(only(number), UNSIGNED, node, path)
 
+    def is_variable(self, name: str) -> bool:
+        return self.has_variables and self.unit.is_followed(name) and isinstance(self.unit.constants.type_of(self.unit.globals[name]), Integer)
+
     def read_global(self, node: object, path: Path) -> Known:
+        why = self.unit.fields.why_not(node.name) if self.is_variable(node.name) else None
+        if why is not None:
+            return lost(INT, why)
         stored = self.stored_global(node)
         return super().read_global(node, path) if stored is None else self.load(stored, node, path)
 
@@ -150,7 +173,7 @@ class Memory(Loops):
         """The variable of a global; None if it is none."""
         declaration = self.unit.globals.get(getattr(node, "name", None)) if self.has_variables else None
         type_ = self.unit.constants.type_of(declaration) if declaration is not None else None
-        if not isinstance(type_, Integer) or self.is_ignored(node):
+        if not isinstance(type_, Integer) or self.is_ignored(node) or self.unit.fields.why_not(node.name) is not None:
             return None
         initial = self.unit.reset.value(node.name)
         why = self.unit.reset.why(node.name)
@@ -159,6 +182,9 @@ class Memory(Loops):
         return self.variable(GLOBAL + node.name, type_, (initial.constant() or 0) if isinstance(initial, Value) else 0)
 
     def write_global(self, target: object, value: Value, node: object, path: Path) -> Known:
+        if self.is_variable(target.name) and self.unit.fields.why_not(target.name) is not None:
+            self.note(target, f"`{target.name}` isn't followed: this write is left out")
+            return value
         stored = self.stored_global(target)
         if stored is None:
             return super().write_global(target, value, node, path)
@@ -206,6 +232,8 @@ class Memory(Loops):
         if not self.has_variables:
             return super().static(node, type_, path)
         before = self.unit.reset.cells.get(f"{node.name}@{self.frame.function}")
+        if isinstance(before, NotKnown):
+            self.note(node, f"`{node.name}` isn't known at reset, where it is as declared here: in line {before.place.line} {before.why}", True)
         declared = self.unit.constants.value(node.init) if node.init is not None else None
         initial = before if isinstance(before, Value) else declared
         key = f"{GLOBAL}{node.name}@{self.frame.function}"
@@ -263,6 +291,7 @@ class Memory(Loops):
         if operator in ("<<", ">>"):
             return self.shift(node, left, right, path)
         type_ = common(left.type, right.type)
+        self.check_bits(operator, left, right, type_, node, path)
         number = right.constant() if isinstance(right, Value) else None
         if operator in "/%" and (type_.is_signed or left.type.is_signed):
             return self.signed_division(node, left, number, path)
@@ -276,6 +305,29 @@ class Memory(Loops):
         by = None if number is None else UNSIGNED.wrapped(number)
         self.op(f"{OPS[operator]} {right.name if isinstance(right, Stored) else by}", node, path)
         return self.is_answered(results(operator, by), type_, node, path)
+
+    def check_bits(self, operator: str, left: Known, right: Known, type_: Integer, node: object, path: Path) -> None:
+        """Refuses what C computes with 64 bits, unless all numbers of it surely have 32 bits and no sign."""
+        if type_.bits <= UNSIGNED.bits:
+            return
+        (low, high), (least, most) = bounds(left, path), bounds(right, path)
+        highest = {"+": high + most, "-": high, "*": high * most, "<<": high << min(most, 64), "|": high + most, "^": high + most}.get(operator, high)
+        lowest = low - most if operator == "-" else min(low, least)
+        is_signed = operator in "/%" and (type_.is_signed or left.type.is_signed)
+        if lowest < 0 or max(high, most, highest) > (INT.greatest if is_signed else GREATEST):
+            raise self.too_large(node)
+
+    def of_BinaryOp(self, node: object, path: Path) -> Known:
+        """What is multiplied with 64 bits and divided by the same number is as before, as `pdMS_TO_TICKS` has it."""
+        product = trees.plain(node.left)
+        numbers = [self.unit.constants.value(it.right) if trees.kind(it) == "BinaryOp" else None for it in (node, product)]
+        is_same = node.op == "/" and getattr(product, "op", "") == "*" and all(numbers) and numbers[0].constant() == numbers[1].constant()
+        if is_same and numbers[0].constant() and numbers[0].type.bits > UNSIGNED.bits and self.unit.constants.value(node) is None:
+            value = self.evaluate(product.left, path)
+            if isinstance(value, Value) and value.type.bits > UNSIGNED.bits:
+                return value
+            return super().arithmetic(node, value, constant(1), path)
+        return super().of_BinaryOp(node, path)
 
     def bring(self, value: Known, node: object, path: Path) -> None:
         """Makes a value the last answer."""
@@ -294,6 +346,7 @@ class Memory(Loops):
         type_ = promoted(left.type)
         if number is None or not 0 <= number < 32 or node.op == ">>" and left.type.is_signed:
             raise self.refuse(node, "a shift by what isn't constant, or of what may be negative, has no op", "unsigned types and constants")
+        self.check_bits(node.op, left, right, type_, node, path)
         self.bring(left, node, path)
         self.op(f"{'mul' if node.op == '<<' else 'div'} {1 << number}", node, path)
         return self.is_answered(NUMBERS, type_, node, path)
@@ -320,6 +373,7 @@ class Memory(Loops):
     def compared(self, node: object, left: Known, right: Known, path: Path) -> Value:
         """A comparison of two values that aren't constant: 1 or 0 as the last answer; of a condition what that asks for."""
         operator = node.op
+        self.check_bits(operator, left, right, common(left.type, right.type), node, path)
         if isinstance(left, Stored) and isinstance(right, Value):
             operator, left, right = MIRRORED[operator], right, left
         may_be_negative = not (never_negative(left, path) and never_negative(right, path))
@@ -419,6 +473,14 @@ class Memory(Loops):
         is_new = why.local not in self.in_memory
         self.in_memory.add(why.local)
         return is_new
+
+
+def bounds(value: Known, path: Path) -> Tuple[int, int]:
+    """The least and the greatest number that a value may be."""
+    if isinstance(value, Stored):
+        return max(0, value.type.least) if value.type.bits > UNSIGNED.bits else value.type.least, min(GREATEST, value.type.greatest)
+    numbers = [it for it in (one.numbers() for one in value.among(path.state.answers).pieces) if it]
+    return min((it.least() for it in numbers), default=0), max((it.greatest() for it in numbers), default=0)
 
 
 def results(operator: str, number: Optional[int]) -> Answers:

@@ -5,12 +5,12 @@ from . import trees
 from .addresses import SOMEWHERE
 from .integers import Integer
 from .paths import Path
-from .shared import Shared
+from .pointees import Pointees
 from .unit import GLOBAL, STUB
 from .values import Address, Known, Reference, Stored, Value, the_answer
 
 
-class Registers(Shared):
+class Registers(Pointees):
     """Such a member is a variable, as a global is."""
 
     def register(self, where: Union[Address, Reference]) -> Optional[Stored]:

@@ -1,12 +1,14 @@
 """What globals have when the scheduler starts. `main`, and what it calls, is followed as far as it gives globals, members of structures,
 handles and pointers a value. What depends on a condition that isn't known isn't known then."""
+import re
 from dataclasses import dataclass, field
 from typing import TYPE_CHECKING, Dict, Iterator, List, Optional, Tuple, Union
 
 from . import trees
 from .answers import ALL
-from .calls import CREATORS, SETUP, TASK_CREATORS
+from .calls import COPIES, CREATORS, SETUP, TASK_CREATORS
 from .constants import POINTER, literal, numeral
+from .initializers import MOST_ELEMENTS, Initializers
 from .integers import WRITTEN, Integer
 from .refusals import Place
 from .values import Address, Handle, Value, binary, constant, converted, unary
@@ -18,6 +20,8 @@ STARTS = ("vTaskStartScheduler", "osKernelStart")
 MOST_STEPS = 20_000
 MOST_DEPTH = 30
 MOST_TURNS = 64
+# A part of a name, as `.rx` or `[0]`.
+PART = re.compile(r"\.(\w+)|\[(\d+)\]")
 
 
 @dataclass(frozen=True)
@@ -35,6 +39,22 @@ Cell = Union[Content, NotKnown]
 
 class Started(Exception):
     """The scheduler has started."""
+
+
+class Left(Exception):
+    """A loop or a `switch` is left, or a turn of a loop."""
+
+    def __init__(self, is_turn: bool):
+        super().__init__()
+        self.is_turn = is_turn
+
+
+class Jumped(Exception):
+    """A `goto` leads to this label."""
+
+    def __init__(self, label: str):
+        super().__init__()
+        self.label = label
 
 
 class Returned(Exception):
@@ -65,6 +85,7 @@ class Reset:
         # what was created last: the call, and its arguments
         self.created: Tuple[str, List[Optional[Content]]] = ("", [])
         self.declared: Dict[str, object] = {}
+        self.given = Initializers(unit.constants)
 
     def run(self) -> None:
         """Follows what is called before the scheduler starts."""
@@ -108,41 +129,52 @@ class Reset:
 
     def initial(self, name: str) -> Optional[Content]:
         """What a global is declared with."""
-        root, *members = name.split(".")
+        root = trees.root(name)
         declaration = self.unit.globals.get(root)
-        if "[" in name:
-            declaration = self.unit.globals.get(trees.root(name))
-            is_empty = declaration is not None and declaration.init is None and "extern" not in (declaration.storage or [])
-            return constant(0) if is_empty else None
         if declaration is None or "extern" in (declaration.storage or []) and declaration.init is None:
             return None
         node = declaration.init
-        for it in members:
-            names = [one for one in self.unit.constants.members(declaration) if one]
-            if it not in names or node is not None and trees.kind(node) != "InitList":
+        for member, index in PART.findall(name[len(root):]):
+            if node is not None and trees.kind(node) != "InitList":
                 return None
-            declaration = self.unit.constants.members(declaration)[it]
             given = node.exprs if node is not None else []
-            node = trees.in_order(given, names).get(it)
-            is_structure = bool(self.unit.constants.members(declaration))
-            node = None if is_structure and node is not None and self.unit.is_zero(node, given) else node
+            inner = self.unit.constants.members(declaration).get(member) if member else trees.element(declaration)
+            if inner is None:
+                return None
+            node = self.given.of_members(declaration, given).get(member) if member else self.given.of_element(declaration, given, int(index))
+            declaration = inner
+        return self.begun(declaration, node)
+
+    def begun(self, declaration: object, node: Optional[object]) -> Optional[Content]:
+        """What a number, a handle or a pointer begins with; None for anything else."""
         type_ = self.unit.constants.type_of(declaration)
         is_pointer = type_ == "a pointer" or isinstance(type_, str) and type_.startswith("handle")
         if not isinstance(type_, Integer) and not is_pointer:
             return None
+        if trees.kind(node) == "InitList":
+            node = node.exprs[0]
         if node is None:
             return constant(0, POINTER if is_pointer else type_)
         found = self.evaluate(node, Called("", 0)) if is_pointer else self.unit.constants.value(node)
         return converted(found, type_) if isinstance(type_, Integer) and isinstance(found, Value) else found
 
     def leaves(self, name: str) -> Iterator[str]:
-        """The members of a structure that are no structures; a name of something else itself."""
-        members = self.unit.constants.members(self.declaration(name))
+        """The members of a structure, and of an array of structures, that are no structures; a name of something else itself."""
+        declaration = self.declaration(name)
+        members = self.unit.constants.members(declaration)
         for it in members:
             if it:
                 yield from self.leaves(f"{name}.{it}")
-        if not members:
+        elements = self.elements(declaration) if self.unit.constants.structure(trees.element(declaration)) is not None else 0
+        for at in range(elements):
+            yield from self.leaves(f"{name}[{at}]")
+        if not members and not elements:
             yield name
+
+    def elements(self, declaration: object) -> int:
+        """How many elements of an array are followed."""
+        length = self.unit.constants.length(declaration) or 0
+        return length if length <= MOST_ELEMENTS else 0
 
     def write(self, name: Optional[str], value: Optional[Content], node: object, called: Called) -> None:
         if name is None:
@@ -167,15 +199,18 @@ class Reset:
             self.write(it, self.value(source) if source is not None else None, node, called)
 
     def fill(self, name: str, given: List[object], node: object, called: Called) -> None:
-        """Gives a structure the values of a list, and 0 where that has none."""
-        names = [it for it in self.unit.constants.members(self.declaration(name)) if it]
-        found = trees.in_order(given, names)
-        for it in names:
-            inner, value = f"{name}.{it}", found.get(it)
-            is_structure = bool(self.unit.constants.members(self.declaration(inner)))
-            if is_structure and (value is None or trees.kind(value) == "InitList" or self.unit.is_zero(value, given)):
-                self.fill(inner, value.exprs if trees.kind(value) == "InitList" else [], node, called)
-            elif is_structure or trees.kind(value) != "InitList":
+        """Gives a structure or an array the values of a list, and 0 where that has none."""
+        declaration = self.declaration(name)
+        names = [it for it in self.unit.constants.members(declaration) if it]
+        found = Initializers(self.unit.constants, lambda it: isinstance(self.evaluate(it, called), Address)).of_members(declaration, given)
+        parts = [(f"{name}.{it}", found.get(it)) for it in names]
+        parts += [(f"{name}[{at}]", self.given.of_element(declaration, given, at)) for at in range(self.elements(declaration))]
+        for inner, value in parts:
+            is_many = bool(self.unit.constants.members(self.declaration(inner))) or trees.element(self.declaration(inner)) is not None
+            if is_many and (value is None or trees.kind(value) == "InitList"):
+                self.fill(inner, value.exprs if value is not None else [], node, called)
+            else:
+                value = value.exprs[0] if trees.kind(value) == "InitList" else value
                 self.write(inner, constant(0) if value is None else self.evaluate(value, called), node, called)
 
     # -- statements
@@ -196,6 +231,8 @@ class Reset:
             self.execute(definition.body, called)
         except Returned as found:
             return found.value
+        except (Left, Jumped):
+            return None
         finally:
             self.depth -= 1
         return None
@@ -216,21 +253,41 @@ class Reset:
         method = getattr(self, f"do_{trees.kind(node)}", None)
         if method is not None:
             method(node, called)
-        elif trees.kind(node) not in ("Pragma", "EmptyStatement", "Break", "Continue", "Goto", "Typedef"):
+        elif trees.kind(node) not in ("Pragma", "EmptyStatement", "Typedef"):
             self.evaluate(node, called)
 
     def perhaps(self, nodes: List[object], called: Called) -> None:
-        """Statements of which isn't known whether they are reached."""
+        """Statements of which isn't known whether they are reached. A jump in them makes what follows as little known."""
         before, called.is_sure = called.is_sure, False
         for it in nodes:
             self.execute(it, called)
-        called.is_sure = before
+        jumps = {one for it in nodes if it is not None for one in trees.escapes(it)} - {"return"}
+        called.is_sure = before and not jumps
 
     def do_Compound(self, node: object, called: Called) -> None:
-        names = dict(called.names)
-        for it in node.block_items or []:
-            self.execute(it, called)
+        names, items, at = dict(called.names), node.block_items or [], 0
+        while at < len(items):
+            try:
+                self.execute(items[at], called)
+            except Jumped as jump:
+                labels = [number for number, it in enumerate(items) if trees.kind(it) == "Label" and it.name == jump.label and number > at]
+                if not labels:
+                    raise
+                at = labels[0] - 1
+            at += 1
         called.names = names
+
+    def do_Break(self, node: object, called: Called) -> None:
+        if called.is_sure:
+            raise Left(False)
+
+    def do_Continue(self, node: object, called: Called) -> None:
+        if called.is_sure:
+            raise Left(True)
+
+    def do_Goto(self, node: object, called: Called) -> None:
+        if called.is_sure:
+            raise Jumped(node.name)
 
     def do_DeclList(self, node: object, called: Called) -> None:
         for it in node.decls:
@@ -240,6 +297,8 @@ class Reset:
         if node.name is None or trees.kind(node.type) == "FuncDecl":
             return
         name = self.declare(node, called)
+        if node.init is None and "static" in (node.storage or []):
+            self.cells.setdefault(name, constant(0))
         if node.init is None or "static" in (node.storage or []) and name in self.cells:
             return
         if trees.kind(node.init) == "InitList":
@@ -255,40 +314,68 @@ class Reset:
             self.execute(node.iftrue if which else node.iffalse, called)
 
     def do_While(self, node: object, called: Called) -> None:
-        self.loop(node, called)
+        self.loop(node, called, True)
 
     def do_DoWhile(self, node: object, called: Called) -> None:
-        self.execute(node.stmt, called)
-        self.loop(node, called)
+        self.loop(node, called, False)
 
     def do_For(self, node: object, called: Called) -> None:
         names = dict(called.names)
         self.execute(node.init, called)
-        self.loop(node, called)
+        self.loop(node, called, True)
         called.names = names
 
-    def loop(self, node: object, called: Called) -> None:
+    def loop(self, node: object, called: Called, is_asked: bool) -> None:
         """The turns of a loop, if its condition says how many they are."""
-        is_plain = not trees.escapes(node.stmt) if node.stmt is not None else True
-        for _ in range(MOST_TURNS):
-            which = self.truth(node.cond, called) if is_plain and getattr(node, "cond", None) is not None else None
-            if which is False:
-                return
-            if which is None:
-                break
+        before = called.is_sure
+        try:
+            for _ in range(MOST_TURNS):
+                which = self.asked(node, called) if is_asked else True
+                if which is False:
+                    return
+                if which is None:
+                    break
+                self.turn(node, called)
+                is_asked = True
+            self.perhaps([node.stmt, getattr(node, "next", None)], called)
+        except Left:
+            pass
+        finally:
+            called.is_sure = before and ("goto" not in trees.escapes(node) or called.is_sure)
+
+    def asked(self, node: object, called: Called) -> Optional[bool]:
+        return self.truth(node.cond, called) if getattr(node, "cond", None) is not None else True
+
+    def turn(self, node: object, called: Called) -> None:
+        try:
             self.execute(node.stmt, called)
-            self.execute(getattr(node, "next", None), called)
-        self.perhaps([node.stmt, getattr(node, "next", None)], called)
+        except Left as left:
+            if not left.is_turn:
+                raise
+        self.execute(getattr(node, "next", None), called)
 
     def do_Switch(self, node: object, called: Called) -> None:
-        self.evaluate(node.cond, called)
-        self.perhaps([node.stmt], called)
-
-    def do_Case(self, node: object, called: Called) -> None:
-        for it in node.stmts or []:
-            self.execute(it, called)
-
-    do_Default = do_Case
+        which, before, names = self.evaluate(node.cond, called), called.is_sure, dict(called.names)
+        parts = list(trees.cut_at_labels(trees.statements_of(node)))
+        values = [self.unit.constants.value(it.expr) if trees.kind(it) == "Case" else None for it in parts]
+        found = [at for at, it in enumerate(values) if it is not None and isinstance(which, Value) and is_same(which, it)]
+        found += [at for at, it in enumerate(parts) if trees.kind(it) == "Default"]
+        if not isinstance(which, Value) or which.constant() is None:
+            self.perhaps([it for it in parts if not trees.is_label(it)], called)
+            found = []
+        try:
+            for it in parts[:found[0]] if found else []:
+                if trees.kind(it) == "Decl":
+                    self.declare(it, called)
+            for it in parts[found[0]:] if found else []:
+                if not trees.is_label(it):
+                    self.execute(it, called)
+        except Left as left:
+            if left.is_turn:
+                raise
+        finally:
+            called.is_sure = before and (not trees.escapes(node) - {"return"} or called.is_sure)
+            called.names = names
 
     def do_Label(self, node: object, called: Called) -> None:
         self.execute(node.stmt, called)
@@ -382,8 +469,7 @@ class Reset:
         type_ = self.unit.constants.type_of(self.declaration(name)) if name is not None and self.declaration(name) is not None else ""
         return Address(name) if name is not None and type_ in ("a structure", "an array") else self.read(name, called)
 
-    def of_ArrayRef(self, node: object, called: Called) -> Optional[Content]:
-        return self.read(self.place(node, called), called)
+    of_ArrayRef = of_StructRef
 
     def of_Assignment(self, node: object, called: Called) -> Optional[Content]:
         name = self.place(node.lvalue, called)
@@ -441,8 +527,12 @@ class Reset:
             return self.create_task(node, values, called)
         if name in self.unit.functions and name not in self.unit.directives.ignored:
             return self.follow(name, values, called, words)
-        if name == "memset" and len(values) == 3 and isinstance(values[0], Address) and values[1] == constant(0):
+        is_clear = name == "memset" and len(values) == 3 and isinstance(values[0], Address) and values[1] == constant(0)
+        if is_clear and self.unit.fills(self.declaration(values[0].name), words[2], lambda it: self.declared_as(it, called)):
             self.clear(values[0].name, node, called)
+            return values[0]
+        if name in COPIES and len(values) == 3 and all(isinstance(it, Address) for it in values[:2]) and self.are_alike(values, words, called):
+            self.write(values[0].name, values[1], node, called)
             return values[0]
         for at, it in enumerate(values):
             if isinstance(it, Address) and not self.unit.keeps(node, at):
@@ -477,6 +567,17 @@ class Reset:
             if type_ != "an array":
                 self.write(it, constant(0), node, called)
 
+    def are_alike(self, places: List[Optional[Content]], words: List[object], called: Called) -> bool:
+        """Whether a copy is of one whole structure to another."""
+        declared = [self.declaration(getattr(it, "name", "")) for it in places[:2]]
+        structures = [self.unit.constants.structure(it) for it in declared]
+        fills = self.unit.fills(declared[0], words[2], lambda it: self.declared_as(it, called))
+        return structures[0] is not None and structures[0] is structures[1] and fills
+
+    def declared_as(self, name: str, called: Called) -> Optional[object]:
+        """The declaration of what is named in a function."""
+        return self.declaration(called.names[name]) if name in called.names else self.unit.globals.get(name)
+
     def give_away(self, name: str, function: Optional[str], node: object) -> None:
         """A function that isn't followed may change the numbers that are there."""
         for it in self.leaves(name):
@@ -484,6 +585,11 @@ class Reset:
             if declaration is not None and isinstance(self.unit.constants.type_of(declaration), Integer):
                 why = f"{function or 'a function'} is given its address before the scheduler starts"
                 self.cells[it] = NotKnown(why, self.unit.place(node))
+
+
+def is_same(value: Value, label: Value) -> bool:
+    found = binary("==", value, label, ALL).constant()
+    return found == 1
 
 
 def known(value: Value) -> Optional[Value]:

@@ -1,5 +1,5 @@
 """Statements: declarations, branches, `switch`, jumps; and which of them need what follows to be moved into their branches."""
-from typing import Dict, List, Optional, Sequence, Tuple
+from typing import Dict, Iterator, List, Optional, Sequence, Tuple
 
 from . import trees
 from .addresses import OPAQUE
@@ -178,6 +178,9 @@ class Statements(Api):
     def do_EmptyStatement(self, node: object, path: Path, rest: Optional[Continuation]) -> None:
         pass
 
+    def do_Typedef(self, node: object, path: Path, rest: Optional[Continuation]) -> None:
+        pass
+
     def do_Pragma(self, node: object, path: Path, rest: Optional[Continuation]) -> None:
         text = node.string or ""
         words = text.split()
@@ -288,7 +291,7 @@ class Statements(Api):
 
     def cases(self, node: object, path: Path, after: Continuation) -> None:
         labels, bodies, default = cases_of(node)
-        hidden = trees.hidden_label(it for it in trees.cut_at_labels(statements_of(node)) if not trees.is_label(it))
+        hidden = trees.hidden_label(it for it in trees.cut_at_labels(trees.statements_of(node)) if not trees.is_label(it))
         if hidden is not None:
             raise self.refuse(hidden, "a case inside another statement of its `switch`", "the case in the block of the `switch` itself")
         key = f"switch@{self.spot(node)}"
@@ -301,9 +304,9 @@ class Statements(Api):
             if at == len(labels):
                 fork.state = fork.state.without(key)
                 body = bodies[default] if default is not None else []
-                return self.run(body, fork, after)
+                return self.run(body, fork, after, node)
             wanted = self.truth_of_labels(labels[at], fork.state.locals[key], node, fork)
-            self.branch(fork, wanted, self.later(lambda it: self.run(bodies[at], it, after)), self.later(lambda it: choose(at + 1, it)),
+            self.branch(fork, wanted, self.later(lambda it: self.run(bodies[at], it, after, node)), self.later(lambda it: choose(at + 1, it)),
                         labels[at][0] if labels[at] else node)
         with self.using(self.frame.inner()):
             if not self.is_flat or not self.flat_cases(node, path, (labels, bodies, default), key, after):
@@ -321,7 +324,7 @@ class Statements(Api):
             if not wanted:
                 continue
             fork = path.fork(wanted)
-            self.run(body, fork, after)
+            self.run(body, fork, after, node)
             if has_break(fork.items):
                 return False
             items += chosen(left, wanted, [*fork.items, Break(self.place(node))], [], self.place(node)) if wanted != left else fork.items
@@ -330,9 +333,13 @@ class Statements(Api):
         path.end()
         return True
 
-    def run(self, body: Sequence[object], path: Path, after: Continuation) -> None:
-        """The statements of a case: what follows them in the `switch` follows here, up to a `break`."""
-        self.statements(body, path, after)
+    def run(self, body: Sequence[object], path: Path, after: Continuation, switch: object) -> None:
+        """The statements of a case: what follows them in the `switch` follows here, up to a `break`. A declaration before them is in
+        sight, and what it begins with isn't there."""
+        with self.using(self.frame.inner()):
+            for it in declared_before(switch, body):
+                self.do_Decl(it, path, None)
+            self.statements(body, path, after)
 
     def truth_of_labels(self, labels: Sequence[object], value: Known, node: object, path: Path) -> Answers:
         found = NOTHING
@@ -404,9 +411,13 @@ class Same:
         self.coord = node.coord
 
 
-def statements_of(node: object) -> List[object]:
-    """What a `switch` has in its block."""
-    return (node.stmt.block_items or []) if trees.kind(node.stmt) == "Compound" else [node.stmt]
+def declared_before(switch: object, body: Sequence[object]) -> Iterator[object]:
+    """The declarations in the block of a `switch` that are before the statements of a case."""
+    for it in trees.cut_at_labels(trees.statements_of(switch)):
+        if body and it is body[0]:
+            return
+        if trees.kind(it) == "Decl":
+            yield it if "static" in (it.storage or []) else trees.without_value(it)
 
 
 def cases_of(node: object) -> Cases:
@@ -414,7 +425,7 @@ def cases_of(node: object) -> Cases:
     bodies: List[List[object]] = []
     labels: List[List[object]] = []
     default, is_open = None, False
-    for it in trees.cut_at_labels(statements_of(node)):
+    for it in trees.cut_at_labels(trees.statements_of(node)):
         if not trees.is_label(it):
             is_open = False
             for body in bodies:

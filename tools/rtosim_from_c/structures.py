@@ -1,6 +1,6 @@
 """Structures that are locals: their integer members are followed one by one, as locals are. A queue passes one member of a structure."""
 from dataclasses import replace
-from typing import Dict, Iterator, List, Optional, Tuple, Union
+from typing import Dict, Iterator, List, Optional, Set, Tuple, Union
 
 from . import trees
 from .addresses import Escaped
@@ -8,7 +8,8 @@ from .calls import Argument, Call
 from .constants import Type
 from .expressions import not_set
 from .frames import Continuation
-from .integers import Integer
+from .initializers import Initializers
+from .integers import INT, Integer
 from .memory import Memory
 from .paths import Path
 from .refusals import Lost, LostUse
@@ -33,9 +34,9 @@ class Structures(Memory):
         found = super().member(inner, node)
         return replace(found, key=inner.key) if isinstance(inner, Address) else found
 
-    def whole(self, node: object, path: Path) -> Union[Address, Reference]:
-        found = super().whole(node, path)
-        return Address(found.name) if trees.kind(node) == "ArrayRef" and isinstance(found, Address) else found
+    def element(self, inner: Union[Address, Reference], index: Known, node: object, path: Path) -> Union[Address, Reference]:
+        found = super().element(inner, index, node, path)
+        return Address(found.name) if isinstance(found, Address) else found
 
     def pointer_arithmetic(self, node: object, left: Known, right: Known, path: Path) -> Known:
         found = super().pointer_arithmetic(node, left, right, path)
@@ -51,12 +52,12 @@ class Structures(Memory):
         return found
 
     def field(self, where: Known) -> Optional[str]:
-        """The key of an integer that is a member of a local structure; None if it isn't followed."""
+        """The key of an integer, a handle or a pointer that is a member of a local structure; None if it isn't followed."""
         declaration = self.declaration(where) if isinstance(where, Address) and where.key is not None and "." in where.name else None
         if declaration is None or getattr(declaration, "bitsize", None) is not None:
             return None
         type_, key = self.unit.constants.type_of(declaration), f"{where.name}@{where.key}"
-        if not isinstance(type_, Integer) or self.may_be_changed(where):
+        if not (isinstance(type_, Integer) or is_pointer(type_)) or self.may_be_changed(where):
             return None
         self.types[key] = type_
         return key
@@ -73,7 +74,7 @@ class Structures(Memory):
                 yield replace(where, name=f"{where.name}.{name}")
 
     def fields(self, where: Address) -> Iterator[Tuple[str, str]]:
-        """The path and the key of each integer in a structure."""
+        """The path and the key of each integer, handle and pointer in a structure."""
         for it in self.inner(where):
             key = self.field(it)
             found = [("", key)] if key is not None else self.fields(it)
@@ -85,7 +86,10 @@ class Structures(Memory):
 
     def write_there(self, where: Union[Address, Reference], value: Known, node: object, path: Path) -> Known:
         key = self.field(where)
-        if key is not None and not isinstance(value, (Address, Reference, Handle)):
+        if key is not None and isinstance(self.types[key], Integer) and isinstance(value, (Address, Reference)):
+            self.let_go(value)
+            value = self.unknown("an address as a number isn't known")
+        if key is not None:
             return self.write_local(key, value, node, path)
         if isinstance(where, Address) and where.key is not None and list(self.inner(where)):
             return self.copy(where, value, node, path)
@@ -101,8 +105,16 @@ class Structures(Memory):
         for rest, key in list(self.fields(where)):
             source = replace(value, name=value.name + rest) if isinstance(value, Address) else None
             found = self.unknown(f"`{where.name}{rest}` isn't known here") if source is None else self.content(source, node, path)
-            self.write_local(key, self.integer(found, node), node, path)
+            self.write_local(key, self.integer(found, node) if isinstance(self.types[key], Integer) else found, node, path)
+        self.let_pointers_go(value, {rest for rest, _ in self.fields(where)}, path)
         return value
+
+    def let_pointers_go(self, where: Known, kept: Set[str], path: Path) -> None:
+        """What the pointers of a local structure lead to goes where it isn't followed, but for the members that are kept."""
+        if isinstance(where, Address) and where.key in self.declarations:
+            for rest, key in self.fields(where):
+                if rest not in kept:
+                    self.let_go(path.state.locals.get(key))
 
     def returned(self, value: Known, definition: object, node: object, path: Path) -> Known:
         """A structure that a function returns is kept by itself, since another call of the function uses the same locals."""
@@ -133,11 +145,11 @@ class Structures(Memory):
     def begin(self, where: Address, given: List[object], path: Path) -> None:
         """A structure that begins with these values, and otherwise with 0."""
         members = list(self.inner(where))
-        of_members = trees.in_order(given, [it.name.split(".")[-1] for it in members])
+        of_members = Initializers(self.unit.constants, self.is_structure).of_members(self.declaration(where), given)
         for it in members:
             node, key = of_members.get(it.name.split(".")[-1]), self.field(it)
             is_structure = key is None and bool(list(self.inner(it)))
-            is_whole = node is not None and trees.kind(node) != "InitList" and not self.unit.is_zero(node, given)
+            is_whole = node is not None and trees.kind(node) != "InitList"
             if is_structure and is_whole:
                 self.begin_with(it, node, path)
             elif is_structure:
@@ -147,6 +159,15 @@ class Structures(Memory):
             elif key is not None:
                 self.write_local(key, constant(0) if node is None else self.evaluate(node, path), node or self.declaration(it), path)
 
+    def declaration_of(self, name: str) -> Optional[object]:
+        """The declaration of what is named here."""
+        key = self.frame.local(name)
+        return self.declarations.get(key) if key is not None else self.unit.globals.get(name)
+
+    def is_structure(self, node: object) -> bool:
+        """Whether an expression is a whole structure."""
+        return self.unit.types.is_structure(node, self.declaration_of)
+
     def begin_with(self, where: Address, node: object, path: Path) -> None:
         """A structure in another one that begins as a third one."""
         value = self.evaluate(node, path)
@@ -154,17 +175,7 @@ class Structures(Memory):
             raise self.refuse(node, f"the values of `{where.name}` have no braces around them", "braces")
         self.copy(where, value, node, path)
 
-    # -- calls that are left out
-
-    def left_out(self, name: str, node: object, path: Path) -> Known:
-        words = trees.arguments(node)
-        is_all = name == "memset" and len(words) == 3 and trees.kind(words[2]) == "UnaryOp" and words[2].op == "sizeof"
-        where = self.evaluate(words[0], path) if is_all and not trees.calls_in(words[0]) else None
-        value = self.unit.constants.value(words[1]) if is_all else None
-        if not isinstance(where, Address) or where.key is None or value is None or value.constant() != 0:
-            return super().left_out(name, node, path)
-        self.begin(where, [], path)
-        return self.unknown("what memset returns isn't known")
+    # -- where addresses go
 
     def let_go(self, value: Known) -> None:
         if isinstance(value, Address) and value.key is not None and not self.may_be_changed(value):
@@ -174,6 +185,7 @@ class Structures(Memory):
 
     def let_addresses_go(self, node: object, path: Path) -> None:
         for it in trees.walk(node):
+            self.let_pointers_go(self.opaque(it.name) if trees.kind(it) == "ID" else None, set(), path)
             name = trees.dotted(it.expr) if trees.kind(it) == "UnaryOp" and it.op == "&" else None
             where = self.opaque(name.split(".")[0]) if name else None
             self.let_go(replace(where, name=name) if where is not None else None)
@@ -183,11 +195,16 @@ class Structures(Memory):
 
     def carried(self, where: Known) -> Optional[Address]:
         """The integer of a structure that a queue passes: the one that a comment names, or else the first one."""
-        if self.field(where) is not None:
+        if self.is_number(where):
             return where
-        members = [it for it in self.inner(where) if self.field(it)] if isinstance(where, Address) and where.key is not None else []
+        members = [it for it in self.inner(where) if self.is_number(it)] if isinstance(where, Address) and where.key is not None else []
         named = [it for it in members if it.name.split(".")[-1] in self.unit.directives.items]
         return (named or members or [None])[0]
+
+    def is_number(self, where: Known) -> bool:
+        """Whether it is an integer that is a member of a local structure."""
+        key = self.field(where)
+        return key is not None and isinstance(self.types[key], Integer)
 
     def item(self, value: Known, queue: Handle, node: object, path: Path) -> str:
         member = self.carried(value)
@@ -209,7 +226,8 @@ class Structures(Memory):
             why = Lost(f"`{storage.name}{rest}` isn't known: of a structure a queue has one number, here `{name}`",
                        instead="/* rtosim: item NAME */ for another member, outside of functions, or a queue of numbers")
             if key != taken:
-                path.state = path.state.with_local(key, lost(self.types[key], why))
+                type_ = self.types[key]
+                path.state = path.state.with_local(key, lost(type_ if isinstance(type_, Integer) else INT, why))
         if taken not in path.state.locals:
             path.state = path.state.with_local(taken, not_set(self.types[taken]))
         which = Argument.STORAGE if Argument.STORAGE in values else Argument.VALUE_STORAGE
@@ -221,3 +239,8 @@ class Structures(Memory):
 
     def item_type(self, queue: Handle) -> Integer:
         return self.received or super().item_type(queue)
+
+
+def is_pointer(type_: Type) -> bool:
+    """Whether it is the type of a pointer or a handle."""
+    return isinstance(type_, str) and (type_ == "a pointer" or type_.startswith("handle"))

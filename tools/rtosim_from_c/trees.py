@@ -1,7 +1,8 @@
 """Questions about trees of pycparser, which name their nodes by class."""
+import copy
 import re
 import sys
-from typing import Callable, Dict, Iterable, Iterator, List, Optional, Sequence, Set
+from typing import Callable, Iterable, Iterator, List, Optional, Sequence, Set
 
 
 def kind(node: object) -> str:
@@ -81,6 +82,11 @@ def cut_at_labels(nodes: Sequence[object]) -> Iterator[object]:
             yield from cut_at_labels(it.stmts or [])
 
 
+def statements_of(node: object) -> List[object]:
+    """What a `switch` has in its block."""
+    return (node.stmt.block_items or []) if kind(node.stmt) == "Compound" else [node.stmt]
+
+
 def hidden_label(nodes: Iterable[object]) -> Optional[object]:
     """The first label of a `switch` inside one of these statements of it; None if there is none."""
     for it in nodes:
@@ -117,6 +123,18 @@ def element(declaration: Optional[object]) -> Optional[object]:
     return declaration.type if kind(declaration) == "ArrayDecl" else None
 
 
+def is_element(name: str, array: str) -> bool:
+    """Whether this is the name of an element of an array, as `lines[0]` of `lines`."""
+    return re.fullmatch(r"\[\d+\]", name[len(array):]) is not None and name.startswith(array)
+
+
+def is_const(declaration: Optional[object]) -> bool:
+    """Whether what is declared so never changes; of an array or a structure no part of it."""
+    while kind(declaration) in ("Decl", "ArrayDecl"):
+        declaration = declaration.type
+    return kind(declaration) == "TypeDecl" and "const" in (declaration.quals or [])
+
+
 def assigned(node: object) -> Optional[str]:
     """The name that this node gives a new value; None if it gives none."""
     name = kind(node)
@@ -128,24 +146,35 @@ def assigned(node: object) -> Optional[str]:
     return target.name if kind(target) == "ID" else None
 
 
+def written_through(node: object) -> Optional[str]:
+    """The name of the pointer or the array by which this node gives something a new value; None if it gives none so."""
+    is_step = kind(node) == "UnaryOp" and node.op in ("++", "--", "p++", "p--")
+    target = node.lvalue if kind(node) == "Assignment" else node.expr if is_step else None
+    if kind(target) not in ("StructRef", "ArrayRef", "UnaryOp"):
+        return None
+    while kind(target) in ("StructRef", "ArrayRef", "UnaryOp", "Cast"):
+        target = target.name if kind(target) in ("StructRef", "ArrayRef") else target.expr
+    return target.name if kind(target) == "ID" else "?"
+
+
 def find(node: object, wanted: Callable[[object], bool]) -> Optional[object]:
     return next((it for it in walk(node) if wanted(it)), None)
 
 
-def in_order(given: List[object], names: List[str]) -> Dict[str, object]:
-    """The expressions of an initializer by the members that they are of."""
-    found: Dict[str, object] = {}
-    at = 0
-    for it in given:
-        is_inner = kind(it) == "NamedInitializer" and len(it.name) > 1
-        if kind(it) == "NamedInitializer":
-            name = getattr(it.name[0], "name", "")
-            at = names.index(name) if name in names else at
-        if is_inner and at < len(names):
-            before, nodes = found.get(names[at]), sys.modules[type(it).__module__]
-            exprs = [*(before.exprs if kind(before) == "InitList" else []), nodes.NamedInitializer(it.name[1:], it.expr, it.coord)]
-            found[names[at]] = nodes.InitList(exprs, it.coord)
-        elif at < len(names):
-            found[names[at]] = it.expr if kind(it) == "NamedInitializer" else it
-        at += 1
+def without_value(declaration: object) -> object:
+    """The declaration without what it begins with."""
+    found = copy.copy(declaration)
+    found.init = None
     return found
+
+
+def is_alike(first: object, second: object) -> bool:
+    """Whether two nodes have the same text."""
+    own = lambda it: [kind(it), *(getattr(it, name) for name in it.attr_names)]
+    inner = (children(first), children(second))
+    return own(first) == own(second) and len(inner[0]) == len(inner[1]) and all(map(is_alike, *inner))
+
+
+def nothing(node: object) -> object:
+    """An empty statement in the place of this one."""
+    return sys.modules[type(node).__module__].EmptyStatement(node.coord)

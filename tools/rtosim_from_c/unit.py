@@ -5,16 +5,20 @@ from typing import Dict, FrozenSet, Iterator, List, Mapping, Optional, Sequence,
 
 from . import trees
 from .answers import Answers, answers, only
-from .calls import ABORT, CALLS, CREATORS, KNOWN, SETUP, SILENT, TASK_CREATORS, WITHOUT_OP
+from .calls import CALLS, CREATORS, SETUP, TASK_CREATORS
 from .constants import Constants, numeral
 from .directives import Directives, Ignored
 from .fields import Fields
 from .given import Given
 from .integers import Integer
 from .naming import MOST, Names, fitting, of_handler
+from .reached import Reached
 from .refusals import Note, Place, Refusal
 from .reset import Reset
+from .scopes import Scopes
 from .source import HEADERS, Lines, place_of
+from .static_types import StaticTypes
+from .unrolling import Unrolling
 from .values import Address, Handle, Known, Value, constant
 
 SETS_OF_BITS = ("xEventGroupSetBits", "xEventGroupSetBitsFromISR")
@@ -56,7 +60,7 @@ class Handler:
     parameter: Optional[Known] = None
 
 
-class Unit:
+class Unit(Reached):
     """A file, as far as it is known without its functions being followed."""
 
     def __init__(self, tree: object, lines: Lines, handlers: Sequence[str] = (), ignored: Sequence[str] = (), failing: Sequence[str] = ()):
@@ -92,8 +96,13 @@ class Unit:
         self.bits: Optional[Answers] = None
         self.silent: Dict[str, bool] = {}
         self.names_of_locals: Dict[str, Set[str]] = {}
+        # what has another name than in C: what it is there
+        self.shown: Dict[str, str] = {}
         self.declare(tree)
         self.reset = Reset(self)
+        self.find_all()
+
+    def find_all(self) -> None:
         for find in (self.find_objects, self.find_handlers, self.find_tasks, self.find_gives, self.find_kept):
             find()
         self.fields = Fields(self)
@@ -105,16 +114,18 @@ class Unit:
     # -- declarations
 
     def declare(self, tree: object) -> None:
+        self.declare_types(tree)
+        scopes = Scopes(tree, lambda it: isinstance(self.constants.type_of(it), Integer))
+        scopes.run()
+        self.shown = scopes.shown
+        for it in scopes.hoisted:
+            self.declare_global(it)
         for it in tree.ext:
             name = trees.kind(it)
             for inner in trees.walk(it):
                 if trees.kind(inner) == "Enum":
                     self.constants.take_enum(inner)
-                elif trees.kind(inner) == "Struct":
-                    self.constants.take_structure(inner)
-            if name == "Typedef":
-                self.constants.typedefs[it.name] = it
-            elif name == "FuncDef":
+            if name == "FuncDef":
                 self.functions[it.decl.name] = it
             elif name == "Decl" and it.name and trees.kind(it.type) != "FuncDecl":
                 self.declare_global(it)
@@ -122,10 +133,24 @@ class Unit:
                 self.prototypes[it.name] = it
             elif name == "Pragma":
                 self.take_comment(it)
+        Unrolling(self.functions, self.constants).run()
         self.assigned = {trees.assigned(it) for function in self.functions.values() for it in trees.walk(function)}
         for name, it in list(self.globals.items()):
             self.declare_constant(name, it)
+        self.types = StaticTypes(self.constants, {**self.prototypes, **{name: it.decl for name, it in self.functions.items()}})
         self.given = Given(self.functions, frozenset(self.globals), self.constants)
+
+    def declare_types(self, tree: object) -> None:
+        """The types of the file, those in functions too: each name is that of one type."""
+        for it in tree.ext:
+            for node in trees.walk(it):
+                name, before = getattr(node, "name", None), None
+                if trees.kind(node) == "Struct" and name and node.decls:
+                    before = self.constants.structures.setdefault(name, node)
+                elif trees.kind(node) == "Typedef":
+                    before = self.constants.typedefs.setdefault(name, node)
+                if before not in (None, node) and (before is None or not trees.is_alike(before, node)):
+                    self.refusals.append(Refusal(self.place(node), f"`{name}` is the name of two types", "a name for each of them"))
 
     def declare_global(self, declaration: object) -> None:
         name = declaration.name
@@ -203,6 +228,7 @@ class Unit:
             if value is None and key != "size":
                 self.not_constant[handle.name, key] = Refusal(self.place(argument), f"the {key} is no constant", "a number")
             numbers[key] = (value.constant() or 0) if value is not None else 4 if key == "size" else 1
+            numbers["bytes"] = (value.constant() or 0) if value is not None and key == "size" else 0
         self.objects.append(Object(kind, handle.name, place, numbers))
 
     def escapes(self, node: object) -> FrozenSet[str]:
@@ -410,34 +436,17 @@ class Unit:
     # -- global structures
 
     def is_followed(self, name: str) -> bool:
-        """Whether a global is a structure whose members may be variables."""
+        """Whether a global is an integer, or a structure or an array of them whose members may be variables."""
         declaration = self.globals.get(name)
-        is_structure = declaration is not None and self.constants.type_of(declaration) == "a structure"
-        return is_structure and not name.startswith(STUB) and name not in self.directives.ignored
+        if declaration is None or name.startswith(STUB) or name in self.directives.ignored or name in self.constants.numbers:
+            return False
+        is_table = self.constants.structure(trees.element(declaration)) is not None
+        return is_table or self.constants.type_of(declaration) == "a structure" or isinstance(self.constants.type_of(declaration), Integer)
 
     def followed(self, where: Address) -> Address:
         """The same address; with a key if its members may be variables."""
         root = trees.root(where.name)
         return replace(where, key=GLOBAL + root) if self.is_followed(root) else where
-
-    def keeps(self, call: object, at: int) -> bool:
-        """Whether a call leaves as it is what its argument at this place leads to: it says so by `const`, it is followed, or it is given
-        a function of the file too, for which it keeps the argument."""
-        name, words = trees.called(call), trees.arguments(call)
-        if name in self.functions and name not in self.directives.ignored or name in SILENT or name in CALLS:
-            return True
-        names = [getattr(it.expr if trees.kind(it) == "UnaryOp" else trees.plain(it), "name", None) for it in words]
-        if any(isinstance(it, str) and it in self.functions for it in names):
-            return True
-        declared = self.prototypes.get(name or "")
-        found = (declared.type.args.params if declared is not None and declared.type.args else [])[at:at + 1]
-        pointed = getattr(found[0], "type", None) if found else None
-        return trees.kind(pointed) == "PtrDecl" and "const" in (getattr(pointed.type, "quals", None) or [])
-
-    def is_zero(self, node: object, given: Sequence[object]) -> bool:
-        """Whether a value of an initializer is the 0 of `{ 0 }`, which stands for all that there is."""
-        value = self.constants.value(node) if len(given) == 1 else None
-        return value is not None and value.constant() == 0
 
     def is_local(self, function: str, name: str) -> bool:
         """Whether a function has a local or a parameter of this name."""
@@ -498,71 +507,6 @@ class Unit:
         found.numbers["initial"] = min(found.numbers["max"], found.numbers.get("initial", 0) + 1)
         self.notes.append(Note(self.place(call), f"the semaphore `{found.name}` counts {found.numbers['initial']} at reset"))
         return True
-
-    # -- what is read, and which functions call which
-
-    def fails(self, name: str) -> bool:
-        """Whether a function is called only if something is wrong: a call of it is a check that fails."""
-        return name in self.directives.failing or name == ABORT and name not in self.functions
-
-    def names_read(self) -> Set[str]:
-        """The names that decide something: not those that are only given values, or counted."""
-        written = {id(it.lvalue) for it in self.nodes() if trees.kind(it) == "Assignment"}
-        for it in self.nodes():
-            if trees.kind(it) == "UnaryOp" and it.op in ("++", "--", "p++", "p--"):
-                written.add(id(it.expr))
-        return {it.name for it in self.nodes() if trees.kind(it) == "ID" and id(it) not in written}
-
-    def nodes(self) -> Iterator[object]:
-        return (it for function in self.functions.values() for it in trees.walk(function))
-
-    def reached(self, roots: Sequence[str]) -> List[str]:
-        """These functions and all that they call, each once, in the order of the calls."""
-        found: List[str] = []
-        waiting = [it for it in reversed(roots) if it in self.functions]
-        while waiting:
-            name = waiting.pop()
-            if name not in found:
-                found.append(name)
-                waiting += [it for it in reversed(trees.calls_in(self.functions[name])) if it in self.functions]
-        return found
-
-    def calls_of_others(self, root: str) -> Iterator[Tuple[str, Place]]:
-        """The functions without a body that a function calls, itself or by others, each with its place; not those of FreeRTOS."""
-        for name in self.reached([root]):
-            for node in trees.walk(self.functions[name].body):
-                called = trees.called(node)
-                if called and not (called in self.functions or called in self.directives.ignored or self.fails(called) or called in KNOWN):
-                    yield called, self.place(node)
-
-    def has_no_op(self, name: str) -> bool:
-        """Whether nothing that a function does is an op: it only computes, with its own locals."""
-        if name not in self.functions:
-            return False
-        if name not in self.silent:
-            nodes = [it for function in self.reached([name]) for it in trees.walk(self.functions[function].body)]
-            called = {it for it in map(trees.called, nodes) if it}
-            is_alone = all(it in self.functions or it in self.directives.ignored or it in WITHOUT_OP for it in called)
-            named = {it.name for it in nodes if trees.kind(it) == "ID"}
-            is_alone = is_alone and not any(trees.kind(it) == "StructRef" and it.field.name in self.fields.of_globals for it in nodes)
-            shared = [it for it in named if it in self.globals and isinstance(self.constants.type_of(self.globals[it]), Integer)]
-            has_comment = any(trees.kind(it) == "Pragma" for it in nodes)
-            is_own = all(it in self.constants.numbers or it in self.directives.ignored for it in shared)
-            self.silent[name] = is_alone and is_own and not has_comment
-        return self.silent[name]
-
-    def ordered_functions(self) -> List[str]:
-        """All functions, those of `main` first, in the order of their calls."""
-        first = self.reached(SETUP)
-        return [*first, *(it for it in self.functions if it not in first)]
-
-    def unreached(self) -> Iterator[str]:
-        """Functions that no task, no handler and no `main` calls."""
-        roots: Set[str] = {it.function for it in self.tasks} | {it.function for it in self.handlers} | set(SETUP)
-        seen = set(self.reached(sorted(roots)))
-        creating = [name for name, it in self.functions.items() if set(trees.calls_in(it)) & {*CREATORS, *TASK_CREATORS}]
-        seen |= set(self.reached(creating))
-        return (it for it in self.functions if it not in seen)
 
 
 def created(node: object) -> Tuple[Optional[str], Optional[object]]:

@@ -187,7 +187,7 @@ def either(first: Known, second: Known, of: Meeting, local: str) -> Known:
     if isinstance(first, Stored) and isinstance(second, Stored) and first.name == second.name:
         return replace(first, missing=first.among(of.first).missing or second.among(of.second).missing)
     if not isinstance(first, Value) or not isinstance(second, Value):
-        return first if first == second else lost(INT, differs(local))
+        return first if first == second else lost(INT, replace(differs(local), instead="the same statements in each of the branches"))
     if first == second and len(first.pieces) == 1 and first.pieces[0].kind == NUMBER:
         return first.among(of.all)
     pieces = [*first.among(of.only_first).pieces, *second.among(of.only_second).pieces]
