@@ -70,6 +70,8 @@ REACHED_BY_COMMENTS = {
     "report": {"where": 3, "of which": 4}, "grammar": {"where": 1}, "script": {"where": 6}, "requests": {"of which": 1},
     "deal": {"of which": 2}, "campaign": {"where": 6, "of which": 1}, "jobs": {}, "rtosim": {"is to be": 1},
 }
+# How long an answer takes that isn't proved, wherever it is said.
+PREVIEWED = re.compile(r"(?i)\b(?:in|within|takes|under|than) (?:a|one|two|three) minutes?\b(?: or two)?")
 STRING = re.compile(r'"(?:[^"\\]|\\.)*"')
 LINK = re.compile(r"\[[^]]*\]\(([^)\s]+)\)")
 # A stop, perhaps with what closes a bracket, a quotation or an emphasis, and a word that may begin a sentence.
@@ -262,6 +264,22 @@ def readme_is_short_and_says_the_kits_logic_once():
 def no_document_has_more_than_600_lines():
     lines = {name: text_of(name).count("\n") for name in documents()}
     equal({name: number for name, number in lines.items() if number > MOST_LINES}, {})
+
+
+@case
+def readme_says_what_it_takes_before_anything_else():
+    first = text_of("README.md").partition("\n## ")[0]
+    for part in ("a model of your driver, and not your C", "[translate](docs/FROM_C.md)", "`rt`, the compiler and prover of the Rattle toolchain",
+                 "or a [package](docs/PACKAGE.md)"):
+        holds(first, part)
+
+
+@case
+def a_preview_is_said_to_take_a_minute_or_two():
+    names = ["README.md", "docs/USING.md", "docs/decisions/launcher.md", "bin/build", "bin/preview", "tools/first_answer.py"]
+    said = [(name, it) for name in names for it in PREVIEWED.findall(re.sub(r"\s+", " ", text_of(name)))]
+    equal([name for name in names if name not in {it for it, _ in said}], [])
+    equal([it for it in said if not it[1].endswith(" a minute or two")], [])
 
 
 @case
