@@ -74,6 +74,8 @@ REACHED_BY_COMMENTS = {
 }
 # How long an answer takes that isn't proved, wherever it is said.
 PREVIEWED = re.compile(r"(?i)\b(?:in|within|takes|under|than) (?:a|one|two|three) minutes?\b(?: or two)?")
+# Crates in whose proofs no comment has a pattern.
+PLAIN_PROOFS = ("model", "lists", "task_lists", "groups", "sched", "objects", "machine", "ops")
 STRING = re.compile(r'"(?:[^"\\]|\\.)*"')
 LINK = re.compile(r"\[[^]]*\]\(([^)\s]+)\)")
 # A stop, perhaps with what closes a bracket, a quotation or an emphasis, and a word that may begin a sentence.
@@ -221,6 +223,14 @@ def comments_in_plain_english_stay_so():
         assert os.path.isdir(f"{ROOT}/crates/{crate}/src"), crate
         more = {it: number for it, number in patterns_of(comments_of(crate)).items() if number > reached.get(it, 0)}
         equal((crate, more), (crate, {}))
+
+
+@case
+def comments_of_proofs_in_plain_english_stay_so():
+    for crate in PLAIN_PROOFS:
+        names = sorted(os.path.relpath(it, ROOT) for it in glob.glob(f"{ROOT}/crates/{crate}/proofs/**/*.antt", recursive=True))
+        assert names, crate
+        equal([(it, found) for it in names for found in [patterns_of("\n".join(line for _, line in comments(text_of(it), "--")))] if found], [])
 
 
 @case
