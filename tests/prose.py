@@ -68,6 +68,7 @@ REACHED = {
 REACHED_BY_COMMENTS = {
     "model": {"where": 8, "behind": 2, "answers": 2, "comes to": 2, "is to be": 1, "who waits": 6, "of which": 2, "in force": 2, "whom": 1},
     "lists": {"where": 1}, "task_lists": {}, "groups": {}, "sched": {}, "objects": {}, "machine": {}, "ops": {},
+    "checks": {"where": 1}, "part_checks": {}, "refusals": {},
     "byte_io": {"where": 4, "of which": 1}, "shelf": {"where": 4}, "explorer": {"where": 4}, "rows": {"where": 12, "behind": 1, "of which": 1},
     "report": {"where": 3, "of which": 4}, "grammar": {"where": 1}, "script": {"where": 6}, "requests": {"of which": 1},
     "deal": {"of which": 2}, "campaign": {"where": 6, "of which": 1}, "jobs": {}, "rtosim": {"is to be": 1},
