@@ -69,6 +69,17 @@ def output_that_cannot_be_written():
     equal((ran.returncode, ran.stderr), (5, b"rtosim-check: cannot write: No space left on device\n"))
 
 
+@case
+def a_reader_that_leaves_ends_it_quietly():
+    write("good.toml", TASK)
+    for words in ([], ["--format", "json"]):
+        reader, writer = os.pipe()
+        os.close(reader)
+        ran = subprocess.run([CHECK, *words, "--program", program_that_runs(), "good.toml"], stdout=writer, stderr=subprocess.PIPE, timeout=PATIENCE)
+        os.close(writer)
+        equal((ran.returncode, ran.stderr), (141, b""))
+
+
 def output_of(kind, text, program, name=FILE):
     write(name, text)
     lines = Lines()

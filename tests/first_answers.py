@@ -10,7 +10,7 @@ from checkout import BUILT, NO_PROGRAM, PATIENCE, TESTS, WAIT, is_alive, only_ru
 
 BEFORE = "rtosim: an answer that isn't proved comes in a minute or two, and then the proof"
 UNPROVED = "rtosim: the answer above isn't proved yet. The proof comes now; if it is interrupted, the next call goes on where it stopped"
-FIRST_TIME = "rtosim: proving and building the program for the first time, which took 11 to 33 minutes where it was measured"
+FIRST_TIME = "rtosim: proving and building the program for the first time, which took 11 to 33 minutes when it was measured"
 CHECKED = [f"rtosim: checked {it} of 3 crates" for it in ("low, 1", "report, 2", "rtosim, 3")]
 STAYS_UNPROVED = "rtosim: the answer above isn't proved"
 # A program whose second run, the proved one, goes by the second text.

@@ -21,19 +21,19 @@ SAID = {
     f"{TASK}[campain]\npoints = []\n": [
         "line 5: [campain] is ignored: there is no such section; did you mean [campaign]?"],
     f"begin = 3\n{TASK}": ['line 1: "begin" is ignored: there is no such key'],
-    f"{TASK}prio = 2\n": ['line 5: task "a": "prio" is ignored: it is no key of [[task]]; did you mean "priority"?'],
+    f"{TASK}prio = 2\n": ['line 5: task "a": "prio" is ignored: it isn\'t a key of [[task]]; did you mean "priority"?'],
     f"{TASK}length = 2\n": ['line 5: "length" is ignored, since it is below [[task]]; it belongs under [[queue]] or [daemon]'],
     f"[limits]\nsteps = 5\nstart = 3\n{TASK}": ['line 3: "start" is ignored, since it is below [limits]; it belongs above the first table'],
     f"{TASK}[[variable]]\nname = \"x\"\ninitial = 5\n": [],
     f"{TASK}[[variable]]\nname = \"x\"\nvalue = 5\n": [
-        'line 7: variable "x": "value" is ignored: it is no key of [[variable]]; did you mean "initial"?'],
+        'line 7: variable "x": "value" is ignored: it isn\'t a key of [[variable]]; did you mean "initial"?'],
     f"{TASK}[[timer]]\nname = \"t\"\n": ["line 5: [[timer]] is ignored: software timers aren't simulated"],
     # keys and sections spelled as TOML allows
-    f'{TASK}"prio" = 2\n': ['line 5: task "a": "prio" is ignored: it is no key of [[task]]; did you mean "priority"?'],
+    f'{TASK}"prio" = 2\n': ['line 5: task "a": "prio" is ignored: it isn\'t a key of [[task]]; did you mean "priority"?'],
     f"{TASK}[limits]\nsteps = 5 # prio = 2\n\t'tics'=3\n": [
-        'line 7: [limits]: "tics" is ignored: it is no key of [limits]; did you mean "ticks"?'],
-    f"limits.step = 3\n{TASK}": ['line 1: [limits]: "step" is ignored: it is no key of [limits]; did you mean "steps"?'],
-    f"limits = {{ steps = 3, step = 4 }}\n{TASK}": ['line 1: [limits]: "step" is ignored: it is no key of [limits]; did you mean "steps"?'],
+        'line 7: [limits]: "tics" is ignored: it isn\'t a key of [limits]; did you mean "ticks"?'],
+    f"limits.step = 3\n{TASK}": ['line 1: [limits]: "step" is ignored: it isn\'t a key of [limits]; did you mean "steps"?'],
+    f"limits = {{ steps = 3, step = 4 }}\n{TASK}": ['line 1: [limits]: "step" is ignored: it isn\'t a key of [limits]; did you mean "steps"?'],
     f"\n{TASK}[ campain ]\n".replace("\n", "\r\n"): [
         "line 6: [campain] is ignored: there is no such section; did you mean [campaign]?"],
     # what looks like a section or a key, and is a text or a comment
@@ -125,7 +125,7 @@ def the_program_is_asked_and_the_key_that_it_knows_is_not_named(a):
     digest = subprocess.run([a.path("bin/built"), "sources"], stdout=subprocess.PIPE, text=True, check=True).stdout.strip()
     subprocess.run([a.path("bin/built"), "record", digest], check=True)
     a.write(f"{a.room}/x", f"{TASK}color = 1\nshade = 2\n")
-    equal(a.start("run", "x", cwd=a.room)[2], said(['line 6: task "a": "shade" is ignored: it is no key of [[task]]'], "x"))
+    equal(a.start("run", "x", cwd=a.room)[2], said(['line 6: task "a": "shade" is ignored: it isn\'t a key of [[task]]'], "x"))
 
 
 @case

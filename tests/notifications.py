@@ -1,6 +1,6 @@
 """Notifications of a task that is alone, beside a model of it: random scripts and base interrupts, and a handler before each step.
 
-The model knows one task, idle and handlers that notify the task. It is written from docs/KERNEL.md, and shares nothing with the program."""
+The model knows one task, idle and handlers that notify the task. It is written from docs/kernel/tasks.md, and shares nothing with the program."""
 import json
 import random
 

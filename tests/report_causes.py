@@ -324,7 +324,7 @@ def sections_and_keys_that_the_program_ignores_are_named():
     places = [lines.index("length = 1") + 2, lines.index("[campaign]") + 2]
     status, _, err = run("classes", "--application", "driver.toml", companion=companion)
     equal((status, err.decode().splitlines()), (0, [
-        f'rtosim-report: driver.toml: line {places[0]}: queue "rx": "room" is ignored: it is no key of [[queue]]',
+        f'rtosim-report: driver.toml: line {places[0]}: queue "rx": "room" is ignored: it isn\'t a key of [[queue]]',
         f"rtosim-report: driver.toml: line {places[1]}: [campain] is ignored: there is no such section; did you mean [campaign]?"]))
 
 

@@ -189,3 +189,19 @@ def a_page_of_many_rows_is_small():
     equal(sum(it["rows"] for it in data_of(text)["classes"]), 50_000)
     equal(len(points_of(data_of(text))), 50_000)
     assert good("html", LOST, "-o", "page.html") == "" and read("page.html").startswith(b"<!doctype html>")
+
+
+@case
+def a_page_of_many_classes_is_small_and_has_its_passing_rows_in_one():
+    rows = []
+    for step in range(9_000):
+        number = step % 1_826
+        lines = [f"{step} 1 isr h 0 send = {number % 2}\n", *(f"{step + at} 1 call a {at} send = {number >> at & 1}\n" for at in range(1, 12))]
+        fails = number < 900
+        end = f"check t{number // 250} {number % 250} in 9100 steps, 4 ticks" if fails else "pass in 9100 steps, 4 ticks"
+        rows.append((step, "h", True, end, lines if fails else [*lines, "9099 4 run -\n"]))
+    text = good_and_quick("html", text=report_of(rows))
+    data = data_of(text)
+    equal((len(data["classes"]), data["classes"][-1]["name"]), (901, "pass"))
+    equal([it["fails"] for it in data["classes"]], [True] * 900 + [False])
+    assert len(text) < 2_000_000, len(text)

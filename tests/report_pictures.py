@@ -221,9 +221,16 @@ def labels_are_folded_and_not_dropped():
     holds(good_and_quick("svg", f"{SUSPENDS}.out"), "suspend = 1 +2<title>and suspend = 1; delay = 0</title>")
 
 
+def hls(colour):
+    return colorsys.rgb_to_hls(*(int(colour[at : at + 2], 16) / 255 for at in (1, 3, 5)))
+
+
 def hue(colour):
-    parts = [int(colour[at : at + 2], 16) / 255 for at in (1, 3, 5)]
-    return colorsys.rgb_to_hls(*parts)[0]
+    return hls(colour)[0]
+
+
+def lightness(colour):
+    return hls(colour)[1]
 
 
 @case
@@ -255,6 +262,7 @@ def colours_differ_for_all_classes():
     for number, colour in found.items():
         if number:
             assert (0.24 < hue(colour) < 0.71) == bool(number % 2), (number, colour)
+            assert (lightness(colour) > 0.7) == bool(number % 2), (number, colour)
         light = colours.luminance(colour)
         contrast = 1.05 / (light + 0.05) if colours.has_light_text(colour) else (light + 0.05) / 0.05
         assert contrast >= 4.5, (colour, contrast)

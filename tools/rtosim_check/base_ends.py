@@ -51,5 +51,5 @@ def of_last_sleeps(application: Application) -> Iterator[Finding]:
             words, op = op_of("task", node.value)
             if op is not None and op.word in SLEEPS and int(words[1]) > 0:
                 message = f'{entry.label}, script {at}, "{node.value}": this doesn\'t sleep, since the task ends with it'
-                rule = f'{NO_SLEEP}; an op behind it, as "{node.value}", "time", makes it one'
+                rule = f'{NO_SLEEP}; add an op after it, as in "{node.value}", "time"'
                 yield Finding(WARNING, "EndsInSleep", node.span, message, rule)

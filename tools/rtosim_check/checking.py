@@ -64,7 +64,7 @@ def refused(name: str, content: bytes, verdict: Verdict, program: Program) -> Ch
         except NotToml as fault:
             problem = Finding(FAULT, "NotToml", (fault.start, fault.end), with_line(fault, checked.lines), fault.rule)
     if verdict.kind == "NotToml":
-        nothing = "the program finds no TOML document here, and this check no fault in it"
+        nothing = "the program says that this isn't TOML, but this check finds no fault in it"
         checked.add(problem or Finding(FAULT, "NotToml", None, nothing))
     elif root is None or not verdict.place:
         checked.add(Finding(FAULT, verdict.kind or "Fault", None, "the program refuses this file"))
@@ -123,7 +123,7 @@ def text_of(content: bytes) -> Tuple[str, Optional[Finding]]:
     except UnicodeDecodeError as why:
         at = len(content[: why.start].decode("utf-8"))
         text = content.decode("utf-8", "replace")
-        message = f"the byte 0x{content[why.start]:02X} is no part of a UTF-8 text; save the file as UTF-8"
+        message = f"the byte 0x{content[why.start]:02X} isn't valid UTF-8; save the file as UTF-8"
         return text, Finding(FAULT, "NotToml", (at, at + 1), message, "a file is UTF-8")
 
 

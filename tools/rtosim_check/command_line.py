@@ -23,7 +23,7 @@ STATUS_FOUND, STATUS_NOT_CHECKED = 1, 3
 def parsed(words: Optional[Sequence[str]]) -> argparse.Namespace:
     parser = argparse.ArgumentParser(prog="rtosim-check", description=DESCRIPTION)
     parser.add_argument("files", nargs="+", metavar="FILE", help="an application file")
-    parser.add_argument("--strict", action="store_true", help="end with 1 where there are warnings")
+    parser.add_argument("--strict", action="store_true", help="end with 1 if there are warnings")
     parser.add_argument("--format", choices=FORMATS, default="text", help="what is written (text)")
     parser.add_argument("--color", choices=("auto", "always", "never"), default="auto", help="colours: on a terminal (auto)")
     parser.add_argument("--program", default=PROGRAM, metavar="PATH", help="another program than bin/rtosim")

@@ -95,7 +95,7 @@ class Context:
         for name, member in self.root.members.items():
             meant = near(name, kinds, MEANT_SECTIONS) if name not in SECTIONS else None
             if meant:
-                return f"did you mean {SECTIONS[meant].header} where line {self.line_of(member.span[0])} has {member.shown}?"
+                return f"line {self.line_of(member.span[0])} has {member.shown}: did you mean {SECTIONS[meant].header}?"
         return None
 
     def source(self, node: Node) -> str:

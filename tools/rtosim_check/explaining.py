@@ -56,7 +56,7 @@ def header_span(context: Context, table: Table) -> Span:
 
 
 def missing_task(context: Context) -> Explanation:
-    rule = f"{SECTIONS['task'].rule}, as {EXAMPLE_OF_A_TASK}"
+    rule = f"{SECTIONS['task'].rule}, for example {EXAMPLE_OF_A_TASK}"
     for name, member in context.root.members.items():
         if name not in SECTIONS and near(name, ["task"], MEANT_SECTIONS):
             return member.span, f"no section is called {member.shown}; did you mean [[task]]?", rule
@@ -87,9 +87,9 @@ def wrong_kind(context: Context) -> Optional[Explanation]:
 def wrong_section(context: Context, node: Node) -> Explanation:
     section, member = context.section, context.root.members[context.place.section]
     if section.is_list:
-        found, wanted, rule = "one table", "an array of tables", "an entry of a list has a header with two brackets each"
+        found, wanted, rule = "one table", "an array of tables", "the header of a list's entry has two brackets on each side"
     else:
-        found, wanted, rule = "a list of tables", "a table", "there is one such section, with one bracket each"
+        found, wanted, rule = "a list of tables", "a table", "there is one such section, and its header has one bracket on each side"
     what = f"{member.shown} is {found}" if member.has_header else f"{section.name} is {node.kind}, not {wanted}"
     return member.span, what + did_you_mean(section.header), f"{rule}: {section.rule}"
 
@@ -155,10 +155,10 @@ def name_problem(text: str, application: Application) -> str:
     wrong = re.search("[^A-Za-z0-9_]", text)
     if wrong:
         what = {" ": "a space", "\t": "a tab"}.get(wrong.group(), f'"{wrong.group()}"')
-        return f'"{text}" is no name: it has {what}{end}'
+        return f'"{text}" isn\'t a valid name: it contains {what}{end}'
     if len(text) > 16:
-        return f'"{text}" is no name: it has {len(text)} characters, and a name has at most 16'
-    return f'"{text}" is no name: it begins with "{text[0]}", and not with a letter'
+        return f'"{text}" isn\'t a valid name: it has {len(text)} characters, and a name has at most 16'
+    return f'"{text}" isn\'t a valid name: it begins with "{text[0]}", not with a letter'
 
 
 def double_name(context: Context) -> Optional[Explanation]:
@@ -169,10 +169,10 @@ def double_name(context: Context) -> Optional[Explanation]:
     if first is None:
         return None
     line = context.line_of(first.table.get("name").start)
-    message = f'{context.label}: the name "{node.value}" is already that of the {CALLED[first.section]} of line {line}'
+    message = f'{context.label}: the name "{node.value}" is already used by the {CALLED[first.section]} in line {line}'
     return node.span, message, (
-        "all names of a file are different: those of queues, semaphores, mutexes, event groups, variables, handlers, tasks and the "
-        "daemon together")
+        "each name of a file is used once, for a queue, a semaphore, a mutex, an event group, a variable, a handler, a task or the "
+        "daemon")
 
 
 # -- what is too many

@@ -23,16 +23,16 @@ def no_name(argument: Name, word: str, application: Application) -> str:
         return f"expected {argument.what}, found the number {word}"
     meant = near(word, application.names_of(argument.kinds))
     if meant:
-        return f'"{word}" is no name{did_you_mean(quoted(meant))}'
+        return f'"{word}" isn\'t a valid name{did_you_mean(quoted(meant))}'
     if len(word) > 16 and re.fullmatch("[A-Za-z0-9_]+", word):
-        return f'"{word}" is no name: it has {len(word)} characters, and a name has at most 16'
-    return f'"{word}" is no name, which has letters, digits and `_` and begins with a letter'
+        return f'"{word}" isn\'t a valid name: it has {len(word)} characters, and a name has at most 16'
+    return f'"{word}" isn\'t a valid name: a name is letters, digits and `_`, and begins with a letter'
 
 
 def no_number(argument: Argument, word: str) -> str:
     ends = f"{argument.least} to {argument.most}" + argument.or_else
     if isinstance(argument, Wait) and (near(word, ["forever"]) or word.lower() in MEANT_WAITS):
-        return f'{word} is no wait; did you mean "forever"?'
+        return f'{word} isn\'t a timeout; did you mean "forever"?'
     if isinstance(argument, Turns) and (near(word, ["forever"]) or word.lower() in MEANT_TURNS):
         return f'expected a number, {ends}, found "{word}"; did you mean "forever"?'
     if re.fullmatch("[0-9]{11,}", word):
@@ -41,8 +41,8 @@ def no_number(argument: Argument, word: str) -> str:
         return f"{word} is out of range: {ends}"
     digits = decimal_digits(word)
     if digits and argument.fits(digits):
-        return f"{word} is no decimal number{did_you_mean(digits)}"
-    alone = ": a wait alone may be forever" if word == "forever" else ""
+        return f"{word} isn't a decimal number{did_you_mean(digits)}"
+    alone = ": only a timeout or a number of turns may be forever" if word == "forever" else ""
     return f'expected a number, {ends}, found "{word}"{alone}'
 
 

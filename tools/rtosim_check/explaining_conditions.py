@@ -22,9 +22,9 @@ def problem_of_condition(words: List[Word], ops: Dict[str, Op]) -> Optional[Prob
     if not op.has_condition:
         return None
     if op.fits(given):
-        return Problem(0, 0, "the program takes no such op", op.rule)
+        return Problem(0, 0, "the program doesn't accept this op", op.rule)
     if not given:
-        message = f'"{op.word}" takes a condition, and it is missing; did you mean "{op.word} not none"?'
+        message = f'"{op.word}" needs a condition; did you mean "{op.word} not none"?'
         return Problem(words[0][1], words[0][2], message, op.rule)
     at, message = problem_of(op.word, given)
     return Problem(words[at + 1][1], words[-1][2] if at == 0 else words[at + 1][2], message, op.rule)
@@ -34,7 +34,7 @@ def problem_of_else(op: Op, words: List[Word], given: List[str], ops: Dict[str, 
     """An `else if`, which is no op."""
     if given[0] != "if" or "if" not in ops:
         return None
-    message = '"else" takes nothing; an "if" behind it is an op of its own, with an "end" of its own'
+    message = '"else" takes no arguments; write the "if" as the next op, with its own "end"'
     return Problem(words[1][1], words[-1][2], message, ops["if"].rule)
 
 
@@ -42,18 +42,18 @@ def problem_of(word: str, given: List[str]) -> Tuple[int, str]:
     """Which of the words is wrong, and what to say of it."""
     meant = meant_condition(given)
     if meant:
-        return 0, f'"{" ".join(given)}" is no condition{did_you_mean(quoted(f"{word} {meant}"))}'
+        return 0, f'"{" ".join(given)}" isn\'t a condition{did_you_mean(quoted(f"{word} {meant}"))}'
     front = given[0]
     if front not in Condition.FRONTS:
         if len(given) > 1 and Condition().fits(front):
-            return 1, f'"{word}" takes one condition, and "{given[1]}" is too many{did_you_mean(quoted(f"{word} {front}"))}'
+            return 1, f'"{word}" takes one condition; "{given[1]}" is too many{did_you_mean(quoted(f"{word} {front}"))}'
         return 0, no_answer(front, True)
     if len(given) == 1:
         wanted = "a number, a variable, or none," if Condition.FRONTS[front] else "a number or a variable"
-        return 0, f'{wanted} is missing behind "{front}"'
+        return 0, f'{wanted} is missing after "{front}"'
     if len(given) > 2 and Condition().fits_all(given[:2]):
         meant = quoted(" ".join([word, *given[:2]]))
-        return 2, f'"{word}" takes one condition, and "{given[2]}" is too many{did_you_mean(meant)}'
+        return 2, f'"{word}" takes one condition; "{given[2]}" is too many{did_you_mean(meant)}'
     if given[1] == "none":
         return 1, f'none is neither below nor above a number{did_you_mean(quoted(f"{word} none"))}'
     return 1, no_answer(given[1], Condition.FRONTS[front])
@@ -83,7 +83,7 @@ def no_answer(word: str, may_be_none: bool) -> str:
     condition = Condition()
     ends = f"{condition.least} to {condition.most}" + (condition.or_else if may_be_none else ", or the name of a variable")
     if word in WORDS_OF_CONDITIONS:
-        return f'expected a number, {ends}, found "{word}", which is a word of conditions and names no variable there'
+        return f'expected a number, {ends}, found "{word}", which is a word of conditions and can\'t name a variable here'
     if re.fullmatch("[0-9]{11,}", word):
         return f"{word} has more than ten digits"
     if re.fullmatch("-?[0-9]+", word):

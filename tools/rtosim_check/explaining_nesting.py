@@ -10,9 +10,9 @@ from .problem import Explanation, joined, told
 
 OPENING = ("repeat", "if")
 CLOSED = {"task": "each end closes the last repeat or if that is open", "handler": "each end closes the last if that is open"}
-DEEP = {"task": f"loops and ifs are at most {DEEPEST} deep together", "handler": f"ifs are at most {DEEPEST} deep"}
+DEEP = {"task": f"loops and ifs together nest at most {DEEPEST} deep", "handler": f"ifs nest at most {DEEPEST} deep"}
 NEEDS_AN_END = {"task": "each repeat and each if needs an end", "handler": "each if needs an end"}
-PARTED = "an else parts the innermost block, which is an if, once"
+PARTED = "an else belongs to the innermost open block, which must be an if without another else"
 LEFT = "break leaves the innermost repeat that is open"
 
 
@@ -57,25 +57,25 @@ def problem_of(word: str, opened: List[Block], section: str) -> Tuple[Optional[s
     """What is wrong with an op of this word inside the open blocks, and the rule; both None where nothing is."""
     loops = [it.at for it in opened if it.word == "repeat"]
     if word == "repeat" and len(loops) == DEEPEST_LOOP:
-        return f"this is the fifth repeat inside one another: those of {joined(loops)} are open", f"loops are at most {DEEPEST_LOOP} deep"
+        return f"loops are nested five deep: those at {joined(loops)} are open", f"loops nest at most {DEEPEST_LOOP} deep"
     if word in OPENING and len(opened) == DEEPEST:
-        problem = f"this is the ninth block inside one another: those of {joined([it.at for it in opened])} are open"
+        problem = f"blocks are nested nine deep: those at {joined([it.at for it in opened])} are open"
         return problem, DEEP[section]
     if word == "end" and not opened:
-        return "nothing is open here, which end could close", CLOSED[section]
+        return "nothing is open here for this end to close", CLOSED[section]
     if word == "break" and not loops:
-        return "no loop is open here, which break could leave", LEFT
+        return "no loop is open here for this break to leave", LEFT
     return problem_of_else(opened) if word == "else" else (None, None)
 
 
 def problem_of_else(opened: List[Block]) -> Tuple[Optional[str], Optional[str]]:
     if not opened:
-        return "no if is open here, which else could part", PARTED
+        return "no if is open here for this else to belong to", PARTED
     last = opened[-1]
     if last.word != "if":
-        return f"the innermost open block is the loop of {last.at}, which has no else", PARTED
+        return f"the innermost open block is the loop at {last.at}, and a loop has no else", PARTED
     if last.parted_at is not None:
-        return f"the if of {last.at} has an else already, that of {last.parted_at}", PARTED
+        return f"the if at {last.at} already has an else, at {last.parted_at}", PARTED
     return None, None
 
 

@@ -29,11 +29,11 @@ def problem_of_action(words: List[Word], ops: Dict[str, Op], application: Applic
         return None
     start = f"notify {given[0]}"
     if len(given) == 1:
-        message = f'what becomes of the notification value is missing; did you mean "{start} increment"?'
+        message = f'the action on the notification value is missing; did you mean "{start} increment"?'
         return Problem(words[0][1], words[1][2], message, op.rule)
     if given[0] in ACTIONS and given[1] in application.names_of(("task",)):
         meant = quoted(" ".join(["notify", given[1], given[0], *given[2:]]))
-        return Problem(words[1][1], words[2][2], f"the task comes before the action{did_you_mean(meant)}", op.rule)
+        return Problem(words[1][1], words[2][2], f"the task comes first, and then the action{did_you_mean(meant)}", op.rule)
     if given[1] not in ACTIONS:
         return Problem(words[2][1], words[2][2], no_action(start, given[1:]), op.rule)
     return problem_of_value(words, op, start, application)
@@ -44,7 +44,7 @@ def no_action(start: str, given: List[str]) -> str:
     word, rest = given[0], given[1:]
     if Value("V", "").fits(word):
         either = f'"{start} bits {word}", or "{start} overwrite {word}"'
-        return f'"{word}" is no action{did_you_mean(either)}'
+        return f'"{word}" isn\'t an action{did_you_mean(either)}'
     found = near(word, ACTIONS, MEANT_ACTIONS)
     meant = found and " ".join([start, found, *(rest if found in Action.FRONTS else [])])
     is_op = meant and op_of("task", meant)[1]
@@ -57,13 +57,13 @@ def problem_of_value(words: List[Word], op: Op, start: str, application: Applica
     action, rest = text[2], words[3:]
     many = 1 if action in Action.FRONTS else 0
     if len(rest) < many:
-        return Problem(words[2][1], words[2][2], f'the number of "{action}" is missing, which may be answer', op.rule)
+        return Problem(words[2][1], words[2][2], f'"{action}" needs a number, or the word answer', op.rule)
     if many and not Value("V", "").fits(rest[0][0]):
         return Problem(rest[0][1], rest[0][2], problem_of_argument(Value("V", ""), rest[0][0], text, application), op.rule)
     if len(rest) == many:
         return None
-    meant, takes = did_you_mean(quoted(" ".join(text[: 3 + many]))), "one number" if many else "nothing"
-    return Problem(rest[many][1], words[-1][2], f'"{action}" takes {takes}, and "{rest[many][0]}" is one too many{meant}', op.rule)
+    meant, takes = did_you_mean(quoted(" ".join(text[: 3 + many]))), "one number" if many else "no number"
+    return Problem(rest[many][1], words[-1][2], f'"{action}" takes {takes}; "{rest[many][0]}" is too many{meant}', op.rule)
 
 
 def meant_masks(word: str, given: List[str]) -> Optional[str]:

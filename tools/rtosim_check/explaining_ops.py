@@ -20,7 +20,7 @@ from .problem import Explanation, Problem, told
 SEPARATORS = re.compile(r"[\t\n\r\f\v\u00a0\u2000-\u200b\u3000,;]")
 CALLED_SEPARATORS = {"\t": "a tab", ",": "a comma", ";": "a semicolon", "\n": "a new line"}
 CALL = re.compile(r" *([A-Za-z_][A-Za-z0-9_]*) *\((.*)\) *;?\s*")
-ONLY_SPACES = "the words of an op have spaces between them, and nothing else"
+ONLY_SPACES = "the words of an op are separated by spaces alone"
 # Ops of tasks that wait by themselves.
 WAITING = ("take", "lock", "wait", "delay", "delay_until", "notify_take", "notify_wait")
 
@@ -39,7 +39,7 @@ def problem_of(text: str, section: str, application: Application) -> Problem:
     words = words_of(text)
     if not words:
         example = '"send rx 7"' if section == "handler" else '"receive rx 5"'
-        return Problem(0, 0, "the op is empty", f"an op is a word and its arguments, as {example}")
+        return Problem(0, 0, "the op is empty", f"an op is a word and its arguments, such as {example}")
     return (
         problem_of_assignment(text, section, application)
         or problem_of_comparison(text, section, application)
@@ -49,7 +49,7 @@ def problem_of(text: str, section: str, application: Application) -> Problem:
         or problem_of_action(words, OPS[section], application)
         or problem_of_count(words, section, application)
         or problem_of_arguments(words, section, application)
-        or Problem(0, 0, "the program takes no such op", OPS[section][words[0][0]].rule)
+        or Problem(0, 0, "the program doesn't accept this op", OPS[section][words[0][0]].rule)
     )
 
 
@@ -67,14 +67,14 @@ def problem_of_characters(text: str, section: str) -> Optional[Problem]:
         meant = near(without_isr(call[1]), OPS[section], MEANT_OPS)
         arguments = [it for it in re.split(r"[\s,]+", call[2]) if it and it[0] != "&" and it != "NULL"]
         end = did_you_mean(quoted(op_of_function(call[1], arguments) or meant and " ".join([meant, *arguments])))
-        return Problem(call.start(2) - 1, call.start(2), f"an op has no brackets{end}", ONLY_SPACES)
+        return Problem(call.start(2) - 1, call.start(2), f"an op is written without brackets{end}", ONLY_SPACES)
     found = SEPARATORS.search(text)
     if call or not found:
         return None
     meant = re.sub(" +", " ", SEPARATORS.sub(" ", text)).strip()
     what = CALLED_SEPARATORS.get(found.group(), "another kind of space")
     end = did_you_mean(quoted(meant if op_of(section, meant)[1] else None))
-    return Problem(found.start(), found.end(), f"the op has {what} in it{end}", ONLY_SPACES)
+    return Problem(found.start(), found.end(), f"the op contains {what}{end}", ONLY_SPACES)
 
 
 # -- the first word
@@ -87,7 +87,7 @@ def problem_of_word(words: List[Word], section: str, application: Application) -
         return None
     of_variable = meant_of_variable(words, application)
     if of_variable:
-        message = f'no op is called "{word}", and "{words[1][0]}" is a variable{did_you_mean(listed_ops(of_variable))}'
+        message = f'no op is called "{word}"; "{words[1][0]}" is a variable{did_you_mean(listed_ops(of_variable))}'
         return Problem(start, end, message, OPS[section][of_variable[-1].split()[0]].rule)
     if section == "handler" and word in OPS["task"]:
         return Problem(start, end, op_of_tasks(word), all_ops("handler"))
@@ -120,10 +120,10 @@ def op_of_tasks(word: str) -> str:
     if word in MEASURES:
         return f'"{word}" is an op of tasks: no time passes in a handler'
     if word in MASKS:
-        return f'"{word}" is an op of tasks: nothing comes between the ops of a handler, so it has no critical sections'
+        return f'"{word}" is an op of tasks: nothing interrupts a handler, so it has no critical sections'
     if word in OWN:
-        return f'"{word}" is an op of tasks: it is about the notification of the task that does it, and a handler has none'
-    return f'"{word}" is an op of tasks, and a handler has no such op'
+        return f'"{word}" is an op of tasks: it uses the notification of its own task, and a handler has none'
+    return f'"{word}" is an op of tasks, not of handlers'
 
 
 # -- how many words
@@ -136,16 +136,16 @@ def problem_of_count(words: List[Word], section: str, application: Application) 
         return None
     of_variable = meant_of_variable(words, application)
     if of_variable:
-        message = f'"{words[1][0]}" is a variable, and "{op.word}" isn\'t about variables{did_you_mean(listed_ops(of_variable))}'
+        message = f'"{words[1][0]}" is a variable, and "{op.word}" doesn\'t take one{did_you_mean(listed_ops(of_variable))}'
         return Problem(words[0][1], words[-1][2], message, OPS[section][of_variable[-1].split()[0]].rule)
     if section == "handler" and op.word in OPS["task"] and given == len(OPS["task"][op.word].arguments):
-        message = f'a handler never waits, so "{op.word}" has no wait there{did_you_mean(quoted(text_of(words[:-1])))}'
+        message = f'a handler never waits, so "{op.word}" takes no timeout here{did_you_mean(quoted(text_of(words[:-1])))}'
         return Problem(words[-1][1], words[-1][2], message, op.rule)
     if given < many:
         return Problem(words[0][1], words[-1][2], too_few(op, words, application), op.rule)
-    first, count = words[many + 1], ("nothing", "one argument")[many] if many < 2 else f"{many} arguments"
+    first, count = words[many + 1], ("no arguments", "one argument")[many] if many < 2 else f"{many} arguments"
     meant = did_you_mean(quoted(text_of(words[: many + 1])))
-    return Problem(first[1], words[-1][2], f'"{op.word}" takes {count}, and "{first[0]}" is one too many{meant}', op.rule)
+    return Problem(first[1], words[-1][2], f'"{op.word}" takes {count}; "{first[0]}" is too many{meant}', op.rule)
 
 
 def too_few(op: Op, words: List[Word], application: Application) -> str:
@@ -153,10 +153,10 @@ def too_few(op: Op, words: List[Word], application: Application) -> str:
     given, text = [it[0] for it in words[1:]], text_of(words)
     left = left_out(op.arguments, given)
     if isinstance(left[0], Wait) and len(left) == 1:
-        return f'how long it waits is missing; did you mean "{text} 0", to try once, or "{text} forever"?'
+        return f'the timeout is missing; did you mean "{text} 0", to try once, or "{text} forever"?'
     masks = meant_masks(op.word, given)
     if masks:
-        return f'"{op.word}" takes two masks before the wait, and they are missing; did you mean "{masks}"?'
+        return f'"{op.word}" takes two masks before the timeout, and they are missing; did you mean "{masks}"?'
     names = application.names_of(left[0].kinds) if isinstance(left[0], Name) else []
     meant = quoted(f"{text} {names[0]}") if len(names) == 1 and len(op.arguments) == 1 else None
     letters, missing = " ".join(it.letter for it in op.arguments), " and ".join(it.letter for it in left)
@@ -216,7 +216,7 @@ def no_such(context: Context, op: Op, word: str, kinds: Tuple[str, ...]) -> Tupl
         if other.section == DAEMON and kinds == ("task",):
             return f'"{word}" is the daemon (line {line}), and no op can {op.word} it', op.rule
         end, better = instead(context, op, other, names)
-        return f'"{word}" is {one(other.section)} (line {line}), and {op.word} speaks of {plural}{end}', (better or op).rule
+        return f'"{word}" is {one(other.section)} (line {line}), and {op.word} is for {plural}{end}', (better or op).rule
     start, meant = f'no {wanted} is called "{word}"', near(word, names)
     if meant:
         return start + did_you_mean(quoted(meant)), op.rule
@@ -241,7 +241,7 @@ def instead(context: Context, op: Op, other: Entry, names: List[str]) -> Tuple[s
     if kin:
         return did_you_mean(f'the op "{kin}"'), known[kin]
     if ops:
-        return f"; ops of {one(other.section)} are {', '.join(ops)}", None
+        return f"; the ops of {one(other.section)} are {', '.join(ops)}", None
     return did_you_mean(listed(names)), None
 
 
@@ -253,8 +253,8 @@ def no_daemon(context: Context) -> Optional[Explanation]:
         return None
     word, start, end = words[0]
     there = context.lost([DAEMON]) or f"the file has no {SECTIONS[DAEMON].header}"
-    message = told(context, f"a handler has the daemon {word} bits, since it can't itself; {there}")
-    rule = f"the daemon is the task that sets and clears bits for handlers, as {EXAMPLE_OF_A_DAEMON}"
+    message = told(context, f"a handler {word}s bits through the daemon; {there}")
+    rule = f"the daemon is the task that sets and clears bits for handlers, for example {EXAMPLE_OF_A_DAEMON}"
     return node.part(start, end), message, rule
 
 

@@ -59,7 +59,7 @@ def bad_point(context: Context) -> Optional[Explanation]:
     if not isinstance(node, Text):
         return None
     words = words_of(node.value)
-    problem, start, end = problem_of(words, context) or ("the program takes no such point", 0, 0)
+    problem, start, end = problem_of(words, context) or ("the program doesn't accept this point", 0, 0)
     rule = SEVERAL if len(words) > 3 and words[0][0] != "all" and context.takes_several() else A_POINT
     return node.part(start, end) if end else node.span, told(context, problem), rule
 
@@ -89,7 +89,7 @@ def separated(word: Word) -> Word:
     character: Any = re.search(r"[\s,;:@]", word[0])
     what = "a tab" if character.group() == "\t" else f'a "{character.group()}"'
     at = word[1] + character.start()
-    return f"the point has {what} in it, and spaces alone separate its words", at, at + 1
+    return f"the point contains {what}; separate its words by spaces", at, at + 1
 
 
 def example(application: Application) -> str:
@@ -104,19 +104,19 @@ def problem_of_all(words: List[Word], application: Application) -> Optional[Word
     if first != "all":
         return f'expected a step or all, found "{first}"; did you mean "all {words[1][0]}"?', start, end
     if len(words) > 2:
-        return "all HANDLER is a point by itself", words[2][1], words[-1][2]
+        return "nothing may follow all HANDLER", words[2][1], words[-1][2]
     return problem_of_name(words[1])
 
 
 def problem_of_odd(words: List[Word], application: Application) -> Word:
     word, start, end = words[-1]
     if len(words) > 1:
-        return f"{len(words)} words, and each step needs its handler", start, end
+        return f"{len(words)} words: each step needs its handler", start, end
     if STEP.fits(word):
         return f'the handler is missing; did you mean "{word} {example(application)}"?', start, end
     if word in application.names_of(("handler",)):
         return f'the step is missing; did you mean "all {word}"?', start, end
-    return f'"{word}" is no point: expected a step and a handler', start, end
+    return f'"{word}" isn\'t a point: expected a step and a handler', start, end
 
 
 def problem_of_step(step: Word, handler: Word) -> Optional[Word]:
@@ -127,9 +127,9 @@ def problem_of_step(step: Word, handler: Word) -> Optional[Word]:
         why = "more than ten digits" if len(word) > 10 else f"out of range: {STEP.least} to {STEP.most}"
         return f"step {word} is {why}" if len(word) <= 10 else f"step {word} has {why}", start, end
     if re.fullmatch("0[xX][0-9A-Fa-f]+", word):
-        return f"{word} is no decimal number; did you mean {int(word, 16)}?", start, end
+        return f"{word} isn't a decimal number; did you mean {int(word, 16)}?", start, end
     if re.fullmatch(r"[0-9]+(\.\.\.?|-|to)[0-9]+", word):
-        return f'"{word}" is no step: a point has one, and all is each step of the base run', start, end
+        return f'"{word}" isn\'t a step: a point names one step, and all HANDLER each step of the base run', start, end
     if word.lower() in ("*", "every", "each", "any"):
         return f'expected a step or all, found "{word}"; did you mean "all {handler[0]}"?', start, end
     if STEP.fits(handler[0]):
@@ -147,10 +147,10 @@ def problem_of_name(word: Word) -> Optional[Word]:
 
 def problem_of_several(pairs: List[Tuple[Word, Word]], takes_several: bool) -> Optional[Word]:
     if not takes_several:
-        return "several injections in one point, and this program takes one", pairs[1][0][1], pairs[-1][1][2]
+        return "the point has several injections, and this program takes one", pairs[1][0][1], pairs[-1][1][2]
     if len(pairs) > MOST_PAIRS:
         return f"{len(pairs)} injections, and a point has at most {MOST_PAIRS}", pairs[MOST_PAIRS][0][1], pairs[-1][1][2]
     for before, after in zip(pairs, pairs[1:]):
         if int(after[0][0]) < int(before[0][0]):
-            return f"step {after[0][0]} comes behind step {before[0][0]}, and steps don't fall", after[0][1], after[0][2]
+            return f"step {after[0][0]} comes after step {before[0][0]}: put the injections in the order of their steps", after[0][1], after[0][2]
     return None

@@ -14,9 +14,9 @@ from .problem import Problem
 
 ASSIGNMENT = re.compile(r" *([A-Za-z][A-Za-z0-9_]*) *(?:(\+\+|--)|([-+*/%&|^]?)=(?!=) *([A-Za-z0-9_]+)) *;? *")
 COMPARISON = re.compile(r" *(?:(if|expect) +)?([A-Za-z][A-Za-z0-9_]*) *(==|!=|<=|>=|<|>) *([A-Za-z0-9_]+) *")
-MEMORY = 'a variable is changed by "store", and the last answer by "add" and its like, as "load x", "add 1", "store x answer"'
-TAKES_ANSWER = '"answer" is a word for the number of send, send_front, overwrite, mark, store and notify alone'
-TAKES_VARIABLE = "conditions, and add, sub, mul, div, mod, and, or, xor, take the name of a variable"
+MEMORY = '"store" changes a variable, and "add" and the like change the last answer, as in "load x", "add 1", "store x answer"'
+TAKES_ANSWER = 'only send, send_front, overwrite, mark, store and notify take "answer" as their number'
+TAKES_VARIABLE = "only conditions and add, sub, mul, div, mod, and, or, xor take the name of a variable as their number"
 
 
 def listed_ops(ops: Sequence[str]) -> str:
@@ -32,7 +32,7 @@ def problem_of_assignment(text: str, section: str, application: Application) -> 
     name, step, operator, value = found.groups()
     ops = ops_of_assignment(name, step, operator, value, application)
     meant = did_you_mean(listed_ops(ops)) if ops else ""
-    return Problem(found.start(1), len(text.rstrip(" ")), f'"{text.strip()}" is an assignment, and no op{meant}', MEMORY)
+    return Problem(found.start(1), len(text.rstrip(" ")), f'"{text.strip()}" is an assignment, not an op{meant}', MEMORY)
 
 
 def problem_of_comparison(text: str, section: str, application: Application) -> Optional[Problem]:
@@ -44,7 +44,7 @@ def problem_of_comparison(text: str, section: str, application: Application) -> 
     word = found[1] or "expect"
     is_fit = condition and Condition().fits_all(condition.split())
     meant = did_you_mean(listed_ops((f"load {found[2]}", f"{word} {condition}"))) if is_fit else ""
-    message = f'"{text[found.start(2) : found.end(4)]}" is a comparison, and a condition is about the last answer{meant}'
+    message = f'"{text[found.start(2) : found.end(4)]}" is a comparison, but a condition tests the last answer{meant}'
     return Problem(found.start(2), found.end(4), message, OPS[section][word].rule)
 
 
@@ -76,7 +76,7 @@ def no_number_but_name(argument: Argument, word: str, text: List[str], applicati
     is_variable = word in application.names_of(("variable",))
     if isinstance(argument, Value) and is_variable:
         ops = (f"load {word}", " ".join(ANSWER if it == word and at > 1 or it == word and text[0] == "mark" else it for at, it in enumerate(text)))
-        return f'"{word}" is a variable, and a number is expected{did_you_mean(listed_ops(ops))}'
+        return f'expected a number, found the variable "{word}"{did_you_mean(listed_ops(ops))}'
     if word == ANSWER and not isinstance(argument, (Wait, Turns, Condition, Operand)):
         return f'expected a number, {argument.least} to {argument.most}, found "answer"; {TAKES_ANSWER}'
     if is_variable or word == ANSWER:
@@ -96,7 +96,7 @@ def no_variable(op: Op, words: List[str], word: str, application: Application) -
     elif word == ANSWER:
         name = names[0] if names else "x"
         both = listed_ops((f"store {name} answer", f"{op.word} {name}"))
-        return f'{op.word} is about the last answer already, and "answer" is no variable; for the last answer twice, {both}'
+        return f'{op.word} already uses the last answer, and "answer" isn\'t a variable; to use the last answer twice, write {both}'
     return None
 
 

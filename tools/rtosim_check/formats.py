@@ -60,32 +60,32 @@ class Section:
 
 def number_key(name: str, least: int, most: int, what: str, default: Optional[int] = None) -> Key:
     rule = f"{name} is {what}, an integer from {least} to {most}"
-    rule += "" if default is None else f"; without the key it is {default}"
+    rule += "" if default is None else f"; the default is {default}"
     return Key(name, "an integer", rule, default is None, least, most)
 
 
 def texts_key(name: str, most: int, rule: str, example: str) -> Key:
-    return Key(name, "an array of texts", f"{rule}, as {example}", True, 0, most)
+    return Key(name, "an array of texts", f"{rule}, such as {example}", True, 0, most)
 
 
 def limit_of_ticks() -> Key:
-    key = number_key("ticks", 1, 1000000, "after how many elapsed ticks a run ends", 1000000)
-    key.rule += f"; with tickless = true it is up to {MOST_TICKLESS}"
+    key = number_key("ticks", 1, 1000000, "the number of elapsed ticks after which a run ends", 1000000)
+    key.rule += f"; with tickless = true it may be up to {MOST_TICKLESS}"
     key.most_tickless = MOST_TICKLESS
     return key
 
 
 TOGETHER = "a file has at most 32 queues, semaphores and mutexes together"
 ENDLESS = Key(
-    "endless", "a boolean", "endless is true where the task serves for ever, and a run passes without its end; without the key it is false",
+    "endless", "a boolean", "endless = true is for a task that serves forever: a run passes without its end; the default is false",
     False)
-THE_NAME = Key("name", "a name", f"{A_NAME}; no two things of a file have the same")
+THE_NAME = Key("name", "a name", f"{A_NAME}; each name of a file is used once")
 SECTIONS = {it.name: it for it in (
-    Section("limits", False, 1, "[limits] says where a run ends at the latest",
+    Section("limits", False, 1, "[limits] says when a run ends at the latest",
             limit_of_ticks(),
-            number_key("steps", 1, 1000000, "after how many steps a run ends", 1000000)),
+            number_key("steps", 1, 1000000, "the number of steps after which a run ends", 1000000)),
     Section("queue", True, 32, TOGETHER, THE_NAME,
-            number_key("length", 1, 256, "how many items the queue holds at most")),
+            number_key("length", 1, 256, "the number of items that fit into the queue")),
     Section("binary", True, 32, TOGETHER, THE_NAME),
     Section("counting", True, 32, TOGETHER, THE_NAME,
             number_key("max", 1, 65535, "the greatest count of the semaphore"),
@@ -96,24 +96,24 @@ SECTIONS = {it.name: it for it in (
             number_key("initial", 0, MOST_OF_A_NUMBER, "the variable's value at reset", 0)),
     Section("handler", True, 16, "a file has at most 16 handlers", THE_NAME,
             texts_key("ops", 16, "ops are what the handler does: an array of at most 16 texts", '["send rx 7"]')),
-    Section("task", True, 32, "a file has 1 to 32 tasks, each under a line [[task]]", THE_NAME,
-            number_key("priority", 0, 31, "the base priority, where a larger number is a higher priority"),
+    Section("task", True, 32, "a file has 1 to 32 tasks, each under its own [[task]]", THE_NAME,
+            number_key("priority", 0, 31, "the base priority (a larger number is a higher priority)"),
             ENDLESS,
             texts_key("script", 256, "script is what the task does: an array of at most 256 texts", '["work 3", "give s"]')),
     Section(DAEMON, False, 1, "[daemon] is the task that sets and clears bits for handlers, one of the 32 tasks", THE_NAME,
-            number_key("priority", 0, 31, "the daemon's priority, where a larger number is a higher priority"),
-            number_key("length", 1, 256, "how many commands wait for the daemon at most")),
-    Section("interrupt", True, 1024, "a file has at most 1024 base interrupts, 4 of them at one tick",
+            number_key("priority", 0, 31, "the daemon's priority (a larger number is a higher priority)"),
+            number_key("length", 1, 256, "the number of commands that fit into the daemon's queue")),
+    Section("interrupt", True, 1024, "a file has at most 1024 base interrupts, and at most 4 at one tick",
             number_key("tick", 1, 1000000, "the elapsed tick at which the handler runs"),
             Key("handler", "a handler's name", "handler is the name of the [[handler]] that runs at that tick")),
     Section("campaign", False, 1, "[campaign] has the points at which handlers are injected",
-            texts_key("points", 1000000, "points are where handlers are injected: an array of texts", '["all uart", "12 uart"]')),
+            texts_key("points", 1000000, "points say before which steps handlers are injected: an array of texts", '["all uart", "12 uart"]')),
 )}
 START = number_key("start", 0, MOST_OF_A_NUMBER, "the time at reset, above the first table", 0)
 TICKLESS = Key(
     "tickless", "a boolean",
-    "tickless, above the first table, is true where a step of idle passes all ticks up to the next thing to happen; "
-    "without the key it is false", False)
+    "tickless = true, above the first table, lets one step of idle pass all ticks up to the next event; "
+    "the default is false", False)
 # The keys above the first table.
 TOP_KEYS = {it.name: it for it in (START, TICKLESS)}
 EXAMPLE_OF_A_DAEMON = '[daemon] with name = "daemon", priority = 31, length = 10'
@@ -161,7 +161,7 @@ class Wait(Number):
 
     def __init__(self) -> None:
         super().__init__("w", 0, MOST_OF_A_NUMBER - 1)
-        self.rule = f"w is how many ticks it waits at most, 0 to {self.most}{self.or_else}"
+        self.rule = f"w is the timeout in ticks, 0 to {self.most}{self.or_else}"
 
     def fits(self, word: str) -> bool:
         return word == "forever" or super().fits(word)
@@ -174,7 +174,7 @@ class Turns(Number):
 
     def __init__(self) -> None:
         super().__init__("n", 1, 1000)
-        self.rule = f"n is how many turns, 1 to {self.most}, or forever, up to a break"
+        self.rule = f"n is the number of turns, 1 to {self.most}, or forever, which only a break ends"
 
     def fits(self, word: str) -> bool:
         return word == "forever" or super().fits(word)
@@ -187,7 +187,7 @@ class Value(Number):
 
     def __init__(self, letter: str, what: str) -> None:
         super().__init__(letter)
-        self.rule = f"{letter} is {what}, 0 to {self.most}, or answer, which is the last answer"
+        self.rule = f"{letter} is {what}, 0 to {self.most}, or the word answer for the last answer"
 
     def fits(self, word: str) -> bool:
         return word == ANSWER or super().fits(word)
@@ -243,7 +243,7 @@ class Action(Number):
         super().__init__("A")
         self.value = Value("V", "a number")
         self.rule = (f"A is {', '.join(self.ALONE)}, {', '.join(f'{it} V' for it in self.FRONTS[:-1])} or {self.FRONTS[-1]} V, "
-                     f"which is what becomes of its notification value; {self.value.rule}")
+                     f"which says what happens to its notification value; {self.value.rule}")
 
     def fits(self, word: str) -> bool:
         return word in self.ALONE
@@ -259,7 +259,7 @@ class Choice:
 
     def __init__(self, letter: str, rule: str, *words: str) -> None:
         self.letter, self.words = letter, words
-        self.rule = f"{letter} is {' or '.join(words)}, {rule}"
+        self.rule = f"{letter} is {' or '.join(words)}: {rule}"
 
     def fits(self, word: str) -> bool:
         return word in self.words
@@ -355,17 +355,17 @@ def table_of(*ops: Op) -> Dict[str, Op]:
 
 
 TASK_OPS = table_of(
-    Op("work", Number("n", 1, 1000000, "how many ticks"), does="computes for n ticks"),
-    Op("delay", Number("n", what="how many ticks"), does="sleeps for n ticks"),
-    Op("delay_until", Number("n", 1, what="how many ticks"), does="sleeps until n ticks after the time from which it counts"),
+    Op("work", Number("n", 1, 1000000, "the number of ticks"), does="computes for n ticks"),
+    Op("delay", Number("n", what="the number of ticks"), does="sleeps for n ticks"),
+    Op("delay_until", Number("n", 1, what="the number of ticks"), does="sleeps until n ticks after the time from which it counts"),
     Op("yield", does="lets the next task of its priority run"),
-    Op("time", does="answers the tick"),
+    Op("time", does="returns the tick"),
     Op("stamp", does="notes the time for the next since"),
-    Op("since", does="answers how many ticks have passed since the last stamp, or since reset"),
+    Op("since", does="returns the number of ticks since the last stamp, or since reset"),
     Op("mark", Value("V", "a number"), does="writes a line with V"),
-    Op("expect", Condition(), does="ends the run with check where C doesn't hold"),
-    Op("if", Condition(), does="goes on with the next op where C holds, and else behind its else, or behind its end, which closes it"),
-    Op("else", does="parts an if: what follows is done where its condition doesn't hold"),
+    Op("expect", Condition(), does="ends the run with check unless C holds"),
+    Op("if", Condition(), does="continues with the next op if C holds, and otherwise after its else, or after the end that closes it"),
+    Op("else", does="begins the part of an if that is done if its condition doesn't hold"),
     Op("repeat", Turns(), does="begins a loop of n turns, which an end closes"),
     Op("break", does="leaves the innermost loop"),
     Op("end", does="closes a loop or an if"),
@@ -373,20 +373,20 @@ TASK_OPS = table_of(
     Op("send_front", Q, V, W, does="puts an item first into a queue"),
     Op("overwrite", Name("q", "a queue of length 1", "queue"), V, does="puts an item in place of the one that is there"),
     Op("receive", Q, W, does="takes the first item of a queue"),
-    Op("peek", Q, W, does="answers the first item of a queue and leaves it there"),
-    Op("waiting", Q, does="answers how many items are in a queue"),
-    Op("spaces", Q, does="answers for how many more items a queue has room"),
+    Op("peek", Q, W, does="returns the first item of a queue and leaves it there"),
+    Op("waiting", Q, does="returns the number of items in a queue"),
+    Op("spaces", Q, does="returns the number of free places in a queue"),
     Op("take", S, W, does="takes a semaphore"),
     Op("give", S, does="gives a semaphore"),
     Op("lock", M, W, does="locks a mutex"),
     Op("unlock", M, does="unlocks a mutex that the task holds"),
     Op("set", G, B, does="sets bits of an event group"),
     Op("clear", G, B, does="clears bits of an event group"),
-    Op("bits", G, does="answers the bits of an event group"),
+    Op("bits", G, does="returns the bits of an event group"),
     Op("wait", G, B, Choice("c", "which of its bits must be set", "any", "all"),
-       Choice("k", "what becomes of them then", "keep", "clear"), W, does="waits for bits of an event group"),
+       Choice("k", "what happens to them then", "keep", "clear"), W, does="waits for bits of an event group"),
     Op("notify", T, Action(), does="notifies a task, perhaps itself, and returns 1, or 0 if keep finds a notification pending"),
-    Op("notify_take", Choice("k", "what becomes of the value then", "clear", "decrement"), W,
+    Op("notify_take", Choice("k", "what happens to the value then", "clear", "decrement"), W,
        does="waits until the task's own notification value isn't 0, and returns it"),
     Op("notify_wait", Number("E", what="a mask of bits to clear first, if no notification is pending"),
        Number("X", what="a mask of bits to clear at the end, if one is pending"), W,
@@ -400,30 +400,30 @@ TASK_OPS = table_of(
     Op("resume_all", does="ends one suspend_all"),
     Op("enter_critical", does="opens a critical section, in which no handler and no tick comes"),
     Op("exit_critical", does="closes one enter_critical"),
-    Op("load", X, does="answers the value of a variable"),
-    Op("store", X, Value("V", "its new value"), does="gives a variable a new value, and answers it"),
-    Op("add", Operand(), does="answers the last answer and O together, modulo 2^32"),
-    Op("sub", Operand(), does="answers the last answer less O, modulo 2^32"),
-    Op("mul", Operand(), does="answers the last answer times O, modulo 2^32"),
-    Op("div", Operand(1), does="answers the last answer divided by O, rounded down"),
-    Op("mod", Operand(1), does="answers what is left of the last answer divided by O"),
-    Op("and", Operand(), does="answers the bits that the last answer and O both have"),
-    Op("or", Operand(), does="answers the bits that the last answer or O has"),
-    Op("xor", Operand(), does="answers the bits that the last answer or O has, and not both"),
+    Op("load", X, does="returns the value of a variable"),
+    Op("store", X, Value("V", "its new value"), does="gives a variable a new value, and returns it"),
+    Op("add", Operand(), does="returns the last answer plus O, modulo 2^32"),
+    Op("sub", Operand(), does="returns the last answer minus O, modulo 2^32"),
+    Op("mul", Operand(), does="returns the last answer times O, modulo 2^32"),
+    Op("div", Operand(1), does="returns the last answer divided by O, rounded down"),
+    Op("mod", Operand(1), does="returns the remainder of the last answer divided by O"),
+    Op("and", Operand(), does="returns the bits that are set in both the last answer and O"),
+    Op("or", Operand(), does="returns the bits that are set in the last answer, in O, or in both"),
+    Op("xor", Operand(), does="returns the bits that are set in either the last answer or O, but not in both"),
 )
 HANDLER_OPS = table_of(
-    Op("send", Q, V, does="puts an item last into a queue, where it has room"),
-    Op("send_front", Q, V, does="puts an item first into a queue, where it has room"),
+    Op("send", Q, V, does="puts an item last into a queue, if it has room"),
+    Op("send_front", Q, V, does="puts an item first into a queue, if it has room"),
     TASK_OPS["overwrite"],
     Op("receive", Q, does="takes the first item of a queue, if there is one"),
-    Op("peek", Q, does="answers the first item of a queue, if there is one"),
+    Op("peek", Q, does="returns the first item of a queue, if there is one"),
     TASK_OPS["give"],
     Op("notify", T, Action(), does="notifies a task, and returns 1, or 0 if keep finds a notification pending"),
     TASK_OPS["resume"],
-    Op("set", G, B, does="has the daemon set bits of an event group, where its queue has room for the command"),
-    Op("clear", G, B, does="has the daemon clear bits of an event group, where its queue has room for the command"),
+    Op("set", G, B, does="has the daemon set bits of an event group, if its queue has room for the command"),
+    Op("clear", G, B, does="has the daemon clear bits of an event group, if its queue has room for the command"),
     TASK_OPS["bits"], TASK_OPS["mark"],
-    Op("expect", Condition(), does="ends the handler, and behind the step the run with check, where C doesn't hold"),
+    Op("expect", Condition(), does="unless C holds, ends the handler, and after this step the run with check"),
     TASK_OPS["if"], TASK_OPS["else"],
     Op("end", does="closes an if"),
     TASK_OPS["load"], TASK_OPS["store"], *(TASK_OPS[it] for it in ARITHMETIC),
@@ -498,8 +498,8 @@ NOT_SIMULATED_SECTIONS = {
 # Of what is simulated and has no section, by the beginning of the word, what it is a part of.
 WITHOUT_SECTION = {"notif": "each task has a notification of its own, which needs no section: the ops notify, notify_take and notify_wait use it"}
 IN_ITS_PLACE = {
-    "notifications of another index than 0": "each task has one notification, which notify and notify_wait are about",
-    "notifications that return the value before": "the notified task has the value as the answer of its notify_wait",
+    "notifications of another index than 0": "each task has one notification, and notify and notify_wait use it",
+    "notifications that return the value before": "the notified task gets the value from its notify_wait",
     "software timers": "a [[handler]] at an [[interrupt]], or an endless task with delay_until, represents one",
 }
 # Ops that do the like to things of other kinds.
@@ -528,8 +528,8 @@ MEANT_TURNS = ("always", "infinite", "infinity", "inf", "ever", "true", "endless
 # -- points
 
 STEP = Number("STEP", 0, 1000000, "a number")
-A_POINT = 'a point is a step, 0 to 1000000, and a handler, as "12 uart", or "all uart" for each step of the base run'
-SEVERAL = 'a point is one to three pairs of a step and a handler, whose steps don\'t fall, as "12 uart 15 timer"'
+A_POINT = 'a point is a step, 0 to 1000000, and a handler, such as "12 uart", or "all uart" for each step of the base run'
+SEVERAL = 'a point is one to three pairs of a step and a handler, in the order of their steps, such as "12 uart 15 timer"'
 MOST_PAIRS = 3
 # How many of them the schema takes, which is for this version alone.
 PAIRS = 3

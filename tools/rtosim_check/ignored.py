@@ -41,7 +41,7 @@ def of_section(member: Member) -> Finding:
     name, shown = member.key, member.shown
     owner = owner_of(name)
     if owner and not isinstance(member.value, Table) and shown[0] != "[":
-        message = f"{shown} is ignored: above the first table it is no key; it belongs under {owner}"
+        message = f"{shown} is ignored: it isn't a key above the first table; it belongs under {owner}"
         return warning("UnknownSection", member, message)
     left_out = not_simulated(name, NOT_SIMULATED_SECTIONS) if name.lower() not in MEANT_SECTIONS else None
     if left_out and shown[0] == "[":
@@ -76,11 +76,11 @@ def of_key(section: Section, label: str, name: str) -> Tuple[str, Optional[str]]
         return f"{start}, since it is below {section.header}; did you mean {SECTIONS[name].header}?", SECTIONS[name].rule
     meant = near(name, section.keys, MEANT_KEYS)
     if meant:
-        return f'{label}: {start}: it is no key of {section.header}; did you mean "{meant}"?', section.keys[meant].rule
+        return f'{label}: {start}: it isn\'t a key of {section.header}; did you mean "{meant}"?', section.keys[meant].rule
     owner = owner_of(name)
     if owner:
         return f"{start}, since it is below {section.header}; it belongs under {owner}", None
-    return f"{label}: {start}: it is no key of {section.header}", f"the keys of {section.header} are {', '.join(section.keys)}"
+    return f"{label}: {start}: it isn't a key of {section.header}", f"the keys of {section.header} are {', '.join(section.keys)}"
 
 
 def warning(kind: str, member: Member, message: str, rule: Optional[str] = None) -> Finding:

@@ -20,21 +20,21 @@ LOOKS = {"repeat", "break", "if", "else", "end", "mark", "expect", "time", "stam
          "notify_clear", "notify_value_clear", OPENS, CLOSES, *OF_VARIABLES}
 # Ops that neither wait nor switch.
 STAYS = LOOKS | {"work", HOLDS, RELEASES}
-RULE = "a misuse ends the run, since FreeRTOS asserts it or its manual forbids it"
+RULE = "a misuse ends the run: FreeRTOS asserts that it doesn't happen, or its manual forbids it"
 WHY = {
-    1: "it may wait or switch, and a suspend_all is active whichever way leads here", 2: "no suspend_all is active whichever way leads here",
-    3: "the task can't hold the mutex here", 4: "the script ends with it, and a suspend_all is active whichever way leads here",
-    5: "it has no place in a critical section, and one is open whichever way leads here",
-    6: "no critical section is open whichever way leads here",
-    7: "the script ends with it, and a critical section is open whichever way leads here",
+    1: "it may wait or switch, and a suspend_all is active on every path to it", 2: "no suspend_all is active on any path to it",
+    3: "the task can't hold the mutex here", 4: "the script ends with it, and a suspend_all is active on every path to it",
+    5: "it isn't allowed in a critical section, and one is open on every path to it",
+    6: "no critical section is open on any path to it",
+    7: "the script ends with it, and a critical section is open on every path to it",
 }
-AROUND = "put it before the enter_critical or after the exit_critical"
+AROUND = "put this op before the enter_critical or after the exit_critical"
 TO_DO = {
-    5: f"inside a section a task looks, decides and marks; a call that may wait or switch has no place there: {AROUND}",
-    6: "write one exit_critical for each enter_critical of this task, on each way",
-    7: "write an exit_critical for each enter_critical of this task, on each way to the end",
+    5: f"a call that may wait or switch isn't allowed in a section: {AROUND}",
+    6: "write one exit_critical for each enter_critical of this task, on every path",
+    7: "write an exit_critical for each enter_critical of this task, on every path to the end",
 }
-OF_WORK = f"no tick comes in a section, so one that takes a tick loses it: {AROUND}, or hold the scheduler with suspend_all, which keeps ticks"
+OF_WORK = f"a tick in a section would be lost: {AROUND}, or hold the scheduler with suspend_all, which keeps ticks"
 
 
 class Count(NamedTuple):
@@ -69,10 +69,10 @@ def warnings(scripts: List[Script]) -> Iterator[Finding]:
     for script in scripts:
         codes = misuses(script)
         for at, code in sorted(codes.items()):
-            yield warning(script, at, "Misuse", f"a misuse whenever it is done: {WHY[code]}", rule_of(script.ops[at][0], code))
+            yield warning(script, at, "Misuse", f"always a misuse: {WHY[code]}", rule_of(script.ops[at][0], code))
         if not {5, 7} & set(codes.values()):
             for at in left_open(script):
-                message = "this section stays open: no exit_critical follows, whichever way is taken"
+                message = "this section stays open: no exit_critical follows on any path"
                 yield warning(script, at, "LeftOpen", message, f"no handler and no tick comes while a section is open; {TO_DO[6]}")
 
 

@@ -20,8 +20,8 @@ def count(nodes: List[Text], steps: int) -> int:
 def too_many(nodes: List[Text], steps: int, root: Table, line: str) -> Finding:
     """The fault of a campaign of too many points."""
     message = f"campaign, points: {count(nodes, steps):,} points, and a campaign has at most {MOST_POINTS:,}"
-    message += f"; the base run has {steps:,} steps, each a point of an all"
-    rule = "`rtosim run` takes the file, `rtosim campaign` doesn't; [limits] steps makes runs shorter"
+    message += f"; the base run has {steps:,} steps, and all HANDLER is a point for each"
+    rule = "`rtosim run` accepts the file, and `rtosim campaign` doesn't; a smaller [limits] steps makes runs shorter"
     return Finding(FAULT, "TooManyPoints", root.get("campaign").members["points"].span, message, rule, line)
 
 

@@ -14,13 +14,13 @@ from .formats import AWAITS, COMMANDS, ENDLESS, SECTIONS, op_of
 from .nodes import Boolean, Text
 from .paths import Paths
 
-NOBODY = "no op that is ever reached"
+NOBODY = "no reachable op"
 WRITES = ("send", "send_front", "overwrite")
 FILLS = ("send", "send_front", "give", *COMMANDS)
 NOTIFIES, KEEPS = "notify", "keep"
 SLEEPS = ("delay", "delay_until")
 LIMIT = SECTIONS["limits"].keys["ticks"]
-PASSES = "a run passes when every task that isn't endless has come to the end of its script, and there is one"
+PASSES = "a run passes once every task that isn't endless has ended, and needs at least one such task"
 # In the place of a name: the daemon's queue has none.
 NAMELESS = ""
 
@@ -127,7 +127,7 @@ class Brought:
             # a wait for bits that a suspension has cut off ends at the resume, whatever the bits are
             return None if script.entry.name in self.resumed else self.lacks_bits(words)
         if word == "lock" and name in script.held[at]:
-            return f'this task has locked "{name}" itself before'
+            return f'this task has already locked "{name}"'
         return None
 
     def lacks_bits(self, words: List[str]) -> Optional[str]:
@@ -184,7 +184,7 @@ def never_ends(script: Script, brought: Brought) -> Finding:
     words, node = script.ops[stuck[0]]
     lack = brought.lacks(script, stuck[0])
     label = f'{script.entry.label}, script {stuck[0]}, "{node.value}"'
-    message = f"{label}: {lack}, so this op never ends, and no run passes"
+    message = f"{label}: {lack}, so this op never ends and no run passes"
     return Finding(WARNING, "NeverEnds", node.span, message, LIMIT.rule if words[0] in SLEEPS else PASSES)
 
 
@@ -193,7 +193,7 @@ def never_left(script: Script) -> Finding:
     at = next(it for it in sorted(script.held) if paths.is_endless(it) and paths.ends[it] + 1 not in script.held)
     node = script.ops[at][1]
     label = f'{script.entry.label}, script {at}, "{node.value}"'
-    message = f"{label}: no break leaves this loop, so the task never ends, and no run passes; did you mean the task to be endless?"
+    message = f"{label}: no break leaves this loop, so the task never ends and no run passes; did you mean endless = true?"
     return Finding(WARNING, "NeverEnds", node.span, message, ENDLESS.rule)
 
 
@@ -204,7 +204,7 @@ def of_unreached(scripts: List[Script]) -> Iterator[Finding]:
             node = script.ops[at][1]
             key = "script" if script.entry.section == "task" else "ops"
             message = f'{script.entry.label}, {key} {at}, "{node.value}": this op is never reached'
-            rule = "behind a break, and behind a repeat forever that no break leaves, nothing is reached"
+            rule = "nothing is reached after a break, or after a repeat forever that no break leaves"
             yield Finding(WARNING, "Unreached", node.span, message, rule)
 
 
@@ -248,12 +248,12 @@ def least(one: Dict[Any, int], other: Dict[Any, int]) -> Dict[Any, int]:
 
 def always_fails(script: Script, at: int, node: Text, room: int) -> Finding:
     words = node.value.split()
-    why, rule = f"the handler has filled \"{words[1]}\" before", "no task runs between the ops of a handler, so nobody makes room"
+    why, rule = f"the handler has already filled \"{words[1]}\"", "no task runs between the ops of a handler to make room"
     if words[0] in COMMANDS:
-        why = f"the length of the daemon's queue is {room}, and the handler has filled it before"
+        why = f"the length of the daemon's queue is {room}, and the handler has already filled it"
     elif words[0] == NOTIFIES:
-        why = f'the handler has notified "{words[1]}" before, so a notification is pending'
-        rule = "no task runs between the ops of a handler, so nobody takes the notification"
+        why = f'the handler has already notified "{words[1]}", so a notification is pending'
+        rule = "no task runs between the ops of a handler to take the notification"
     else:
         why = f"{'its greatest count is' if words[0] == 'give' else 'its length is'} {room}, and {why}"
     message = f'{script.entry.label}, ops {at}, "{node.value}": this call always fails: {why}'

@@ -111,7 +111,7 @@ class Reader:
         if not self.text.startswith("]" * brackets, self.at):
             wanted, line = "]" * brackets, self.text[start : self.at].rstrip()
             raise self.here(f"expected {wanted} after {line}, found {self.found()}; did you mean {line}{wanted}?",
-                            "a section begins as `[name]`, an entry of a list of them as `[[name]]`", start)
+                            "a section begins with `[name]`, and an entry of a list of them with `[[name]]`", start)
         self.at += brackets
         return key
 
@@ -130,7 +130,7 @@ class Reader:
         if self.text.startswith("//", self.at) or self.peek() == ";":
             return "a comment begins with #"
         if self.peek() == ",":
-            return "no comma separates the lines of a table"
+            return "the lines of a table have no commas between them"
         return "a key and its value have a line to themselves; the next key begins a line"
 
     # -- keys
@@ -188,7 +188,7 @@ class Reader:
             return self.string()
         if first and first in "[{":
             if depth == 0:
-                raise self.here(f"arrays and tables are at most {DEPTH} deep in one another")
+                raise self.here(f"arrays and tables nest at most {DEPTH} deep")
             return self.array(depth - 1) if first == "[" else self.inline_table(depth - 1)
         return self.word()
 
@@ -250,7 +250,7 @@ class Reader:
         self.not_over(start, what, closing)
         if self.peek() != ",":
             fault = self.here(f"expected , or {closing} in the {what} that begins in line {{line}}, found {self.found()}",
-                              f"commas separate what is in an {what}")
+                              f"the items of an {what} are separated by commas")
             fault.other = start
             raise fault
         self.at += 1
@@ -328,7 +328,7 @@ class Reader:
         rest = self.text[self.at : self.at + 7]
         count = len(rest) - len(rest.lstrip(quote))
         if count > 5:
-            raise self.here(f"expected the end of the text, found {count} quotes", "there are at most two quotes before the last three")
+            raise self.here(f"expected the end of the text, found {count} quotes", "at most two quotes may come before the last three")
         if count == 3:
             self.at += 3
         return count == 3
@@ -361,7 +361,7 @@ class Reader:
             return chr(int(digits, 16))
         if letter in ("", "\n", "\r"):
             raise NotToml(start, place + 1, 'this text is not closed: expected " before the end of the line', A_TEXT)
-        message = f"\\{letter} takes {size} hex digits of a character" if size else f"no escape is called \\{letter}"
+        message = f"\\{letter} takes {size} hex digits of a character" if size else f"\\{letter} isn't an escape"
         raise self.here(message, ESCAPES_ARE, place)
 
 

@@ -25,7 +25,7 @@ def along_dot(table: Table, part: Word) -> Table:
     inner = member.value
     if not isinstance(inner, Table) or inner.origin in (Table.HEADER, Table.INLINE):
         raise NotToml(start, end, f'the key "{key}" is already defined in line {{line}}',
-                      "a dotted key goes only through tables that dotted keys made", member.start)
+                      "a dotted key can extend only tables that dotted keys made", member.start)
     inner.origin = Table.DOTTED
     return inner
 
@@ -34,7 +34,7 @@ def define(table: Table, parts: List[Word], value: Node) -> None:
     key, start, end = parts[-1]
     if key in table.members:
         raise NotToml(start, end, f'the key "{key}" is there twice: it is already defined in line {{line}}',
-                      "a table has a key once", table.members[key].start)
+                      "a table has each key once", table.members[key].start)
     table.members[key] = Member(key, start, end, value)
 
 
@@ -91,6 +91,6 @@ class Builder:
         array = member.value
         if not isinstance(array, Array) or not array.is_of_headers:
             raise NotToml(*span, f"[[{name}]] is already defined in line {{line}} as {array.kind}",
-                          "a section is written in one way in all places", member.start)
+                          "a section is written in the same way everywhere", member.start)
         self.section = Table(*span, Table.HEADER)
         array.items.append(self.section)

@@ -45,7 +45,7 @@ def word_node(word: str, start: int, unquoted: str = "") -> Node:
 def integer(value: int, word: str, start: int, end: int) -> Integer:
     if LEAST <= value <= MOST:
         return Integer(value, start, end)
-    raise NotToml(start, end, f"{word} has no room in 64 bits", f"an integer is {LEAST} to {MOST}")
+    raise NotToml(start, end, f"{word} doesn't fit into 64 bits", f"an integer is {LEAST} to {MOST}")
 
 
 def float_node(word: str, start: int, end: int) -> Float:
@@ -58,7 +58,7 @@ def float_node(word: str, start: int, end: int) -> Float:
 def moment(word: str, start: int, end: int) -> Moment:
     found = MOMENT.fullmatch(word) or CLOCK.fullmatch(word)
     if found is None or not is_in_calendar(found.groupdict()):
-        raise NotToml(start, end, f"{word} is no date and no time", A_MOMENT)
+        raise NotToml(start, end, f"{word} is neither a date nor a time", A_MOMENT)
     return Moment(word, start, end)
 
 
@@ -87,7 +87,7 @@ def no_value(word: str, unquoted: str) -> Tuple[str, str]:
     if re.fullmatch(r"[+-]?[0-9_]+", word):
         return f"{word} has a `_` that isn't between two digits", AN_INTEGER
     if re.match(r"[+-]?(0[XOB]|[0-9])", word):
-        return f"{word} is no number", AN_INTEGER
+        return f"{word} isn't a number", AN_INTEGER
     if re.match(r"[A-Za-z]", word):
         return f'expected a value, found {word}; did you mean "{unquoted}"?', "a text is in quotes"
     return f"expected a value, found {word}", A_VALUE

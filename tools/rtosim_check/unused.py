@@ -59,7 +59,7 @@ def of_handlers(application: Application) -> Iterator[Finding]:
     idle = [it for it in application.entries["handler"] if it.name not in called]
     if idle and not nodes:
         names = ", ".join(f'"{it.name}"' for it in idle)
-        message = f"the file has no points, and no interrupt brings {names}: a campaign of it has no rows"
+        message = f"the file has no points, and no interrupt runs {names}: a campaign of it has no rows"
         rule = f'[campaign] points = ["all {idle[0].name}"] injects it before each step'
         yield Finding(WARNING, "NoPoints", idle[0].table.span, message, rule)
         return
@@ -67,8 +67,8 @@ def of_handlers(application: Application) -> Iterator[Finding]:
         message, rule = "points is empty: a campaign of this file has no rows", SECTIONS["campaign"].keys["points"].rule
         yield Finding(WARNING, "NoPoints", application.root.get("campaign").members["points"].span, message, rule)
     for it in idle:
-        rule = f'a point "all {it.name}" injects it before each step, an [[interrupt]] at a tick'
-        yield Finding(WARNING, "Unused", it.table.span, f'no point and no interrupt brings the handler "{it.name}"', rule)
+        rule = f'a point "all {it.name}" injects it before each step; an [[interrupt]] runs it at a tick'
+        yield Finding(WARNING, "Unused", it.table.span, f'no point and no interrupt runs the handler "{it.name}"', rule)
 
 
 def of_interrupts(application: Application) -> Iterator[Finding]:
@@ -91,7 +91,7 @@ def of_notifications(application: Application) -> Iterator[Finding]:
         if op and op.has_action and words[1] not in takers and is_task(application, words[1]):
             takers.add(words[1])
             message = f'{it.label}, {key} {at}, "{node.value}": no op of the task "{words[1]}" takes or waits for a notification'
-            rule = f"{' and '.join(AWAITS)} are about the notification of the task that does them"
+            rule = f"{' and '.join(AWAITS)} use the notification of their own task"
             yield Finding(WARNING, "NeverTaken", node.span, message, rule)
 
 

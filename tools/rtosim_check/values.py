@@ -20,10 +20,10 @@ LEAVES = {"work", "mark", "expect", "if", "else", "repeat", "break", "end", "sta
 MAY_FIND_NOTHING = ("receive", "peek", "notify_wait")
 DIVIDES = ("div", "mod")
 INITIAL = SECTIONS["variable"].keys["initial"]
-FAILS = "a failed check whenever it is done"
-NEEDS_A_NUMBER = 'an op before it must answer a number, as "load x" does; around it "if not none" leaves it out where nothing was answered'
-NEEDS_A_DIVISOR = "no op stores {name}, and its initial value is 0: give it another with the key initial, or store one before"
-IS_READ = "load reads a variable, and so do conditions and arithmetic that name it; pictures and --state show it in any case"
+FAILS = "always a failed check"
+NEEDS_A_NUMBER = 'put an op before it that returns a number, such as "load x", or put it into an "if not none"'
+NEEDS_A_DIVISOR = "no op stores {name}, and its initial value is 0: give it another one with the key initial, or store a number before"
+IS_READ = "load, conditions and arithmetic read a variable; pictures and --state show it in any case"
 
 
 def warnings(application: Application) -> Iterator[Finding]:
@@ -46,7 +46,7 @@ def of_failed_checks(application: Application, script: Script, uses: Uses) -> It
         if not OPS[script.entry.section][words[0]].uses_answer(words[1:]) or may_be_misuse(words, held.get(at)):
             continue
         if before == {NONE}:
-            yield warning(script, at, "the last answer is none here, whichever way leads here", NEEDS_A_NUMBER)
+            yield warning(script, at, "the last answer is none on every path to it", NEEDS_A_NUMBER)
         elif words[0] in DIVIDES and is_zero(application, words[1], uses):
             yield warning(script, at, f"{words[1]} is 0", NEEDS_A_DIVISOR.format(name=words[1]))
 
@@ -163,10 +163,10 @@ def of_uses(entry: Entry, uses: Uses) -> Iterator[Finding]:
 
 def of_name(entry: Entry) -> Iterator[Finding]:
     if entry.name in WORDS_OF_CONDITIONS:
-        message = f'variable "{entry.name}": in a condition "{entry.name}" is a word, so no condition can name this variable'
+        message = f'variable "{entry.name}": in a condition "{entry.name}" has a meaning of its own, so no condition can name this variable'
     elif entry.name == ANSWER:
         message = f'variable "{ANSWER}": in the place of a number "{ANSWER}" is the last answer, and not this variable'
     else:
         return
-    rule = f"a variable of another name than {', '.join((*WORDS_OF_CONDITIONS, ANSWER))} can be meant everywhere"
+    rule = f"any name but {', '.join((*WORDS_OF_CONDITIONS, ANSWER))} can be used everywhere"
     yield Finding(WARNING, "HiddenName", entry.table.get("name").span, message, rule)

@@ -278,7 +278,7 @@ class Api(Expressions):
         if call.result is Result.RECEIVED:
             return is_received()
         if call.result is Result.OTHER:
-            return lost(INT, Lost(f"what {call.function} returns isn't what the op answers", instead="the call without its result"))
+            return lost(INT, Lost(f"what {call.function} returns isn't what the op returns", instead="the call without its result"))
         type_ = UNSIGNED if call.answer in (Answer.COUNT, Answer.SET_BITS, Answer.NUMBER) else INT
         return the_answer(type_, path.state.answers)
 
@@ -328,7 +328,7 @@ class Api(Expressions):
             why = Lost(f"`{name}` isn't known if {call.function} returns pdFALSE",
                        instead=f"a test of what {call.function} returns, and `{name}` only if that is pdTRUE")
             return Piece(NONE, NONE, NUMBER if texts["bits"] == str(UNSIGNED.greatest) else LOST, 0, why)
-        before, why = path.state.locals[local], Lost(f"`{name}` isn't known where nothing was received", local)
+        before, why = path.state.locals[local], Lost(f"`{name}` isn't known if nothing was received", local)
         number = before.constant() if isinstance(before, Value) else None
         return Piece(NONE, NONE, LOST if number is None else NUMBER, number or 0, why)
 

@@ -93,8 +93,8 @@ SENT_BY_HANDLER = (A.QUEUE, A.ITEM, A.WOKEN)
 RECEIVED = (A.QUEUE, A.STORAGE, A.WAIT)
 A_SEMAPHORE = "a binary semaphore (xSemaphoreCreateBinary, xSemaphoreGive, xSemaphoreTake), or a counting one to count"
 A_HOLD = (
-    "vTaskSuspendAll() and xTaskResumeAll() where other tasks are kept out; where an interrupt is, leave it out and judge "
-    "the moments that fail inside it"
+    "vTaskSuspendAll() and xTaskResumeAll(), to keep other tasks out; to keep an interrupt out, leave the call out and judge "
+    "the moments that fail inside"
 )
 
 

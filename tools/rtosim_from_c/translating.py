@@ -91,7 +91,7 @@ class Translation(Handles):
             except LostUse as why:
                 if not self.learns(why.lost):
                     raise
-        raise Refusal(self.owner.place, "this function keeps too many answers at once", "a test right after each call")
+        raise Refusal(self.owner.place, "this function keeps too many results at once", "a test right after each call")
 
     def once_through(self) -> Script:
         self.notes, self.statements_done = {}, 0

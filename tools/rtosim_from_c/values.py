@@ -347,7 +347,7 @@ def after_an_answer(known: Known, before: Answers, local: str, by: str, at: Plac
     if reason is None or reason.local is None and any(it.kind != LOST for it in now.pieces):
         name = local.split("@")[0]
         reason = Lost(f"`{name}` holds an answer from before {by}, and a script keeps its last answer only", local, at,
-                      "a test right after its call; of a time, `xTaskGetTickCount() - t` where it is tested")
+                      "a test right after its call; for a time, `xTaskGetTickCount() - t` in the test itself")
     sets = [it.numbers() for it in now.pieces]
     among = answers(*(one for it in sets for one in it.ranges)) if all(sets) else None
     return Value(known.type, (Piece(NONE, GREATEST, LOST, 0, reason, among),))

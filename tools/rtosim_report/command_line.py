@@ -167,10 +167,10 @@ def add_common(parser: argparse.ArgumentParser) -> None:
 
 
 def add_options(parser: argparse.ArgumentParser) -> None:
-    parser.add_argument("--workers", type=workers, metavar="N|auto", help="of how many workers the program makes use")
+    parser.add_argument("--workers", type=workers, metavar="N|auto", help="how many workers the program uses")
     parser.add_argument("--partial", action="store_true", help="take the whole rows of a report that is cut off")
     parser.add_argument("--output", "-o", metavar="FILE", help="write to this file, when all of it is there")
-    parser.add_argument("--whole", action="store_true", help="read all rows whole, also where they are too many, and of a page those that pass")
+    parser.add_argument("--whole", action="store_true", help="read all rows whole, even if there are too many, and for a page also those that pass")
     parser.set_defaults(by=By.DEFAULT, row=None, about_a_run=False, accept=None, asks_for_states=False,
                         allow_empty=False, folds=False, source=None)
 
@@ -181,9 +181,9 @@ def add_classes(commands: Commands) -> None:
     parser.add_argument("--exact", action="store_const", const=By.EXACT, dest="by", help="ticks count too")
     choices = [it for it in By if it is not By.DEFAULT]
     metavar = "|".join(it.value for it in choices)
-    parser.add_argument("--by", type=By, choices=choices, metavar=metavar, help="what counts; else the cause of those that fail, \
+    parser.add_argument("--by", type=By, choices=choices, metavar=metavar, help="what makes a class; otherwise the cause of those that fail, \
 and the outcome of those that pass")
-    parser.add_argument("--failing", action="store_true", help="those that fail alone")
+    parser.add_argument("--failing", action="store_true", help="only those that fail")
     parser.add_argument("--names", action="store_true", help="the names of the classes with their numbers of rows, a line each")
     add_accept(parser)
     add_allow_empty(parser)
@@ -196,14 +196,14 @@ more rows of one")
 
 
 def add_allow_empty(parser: argparse.ArgumentParser) -> None:
-    help_text = "a campaign without points, or of points none of which is reached, is no failure"
+    help_text = "a campaign without points, or in which no point is reached, is no failure"
     parser.add_argument("--allow-empty", action="store_true", help=help_text)
 
 
 def add_compare(commands: Commands) -> None:
     parser = commands.add_parser("compare", help="two versions: which classes are new, gone, larger, smaller")
-    parser.add_argument("old", metavar="OLD", help="a report, or an application, FILE.toml, of which the program makes one")
-    parser.add_argument("new", metavar="NEW", help="the same of the new version; status 1 where a failure is new, or has more rows")
+    parser.add_argument("old", metavar="OLD", help="a report, or an application, FILE.toml, of which the program then writes one")
+    parser.add_argument("new", metavar="NEW", help="the same of the new version; status 1 if a failure is new, or has more rows")
     add_options(parser)
     add_allow_empty(parser)
     parser.set_defaults(do=do_compare, by=By.CAUSE, application=None, report=None, base=None)

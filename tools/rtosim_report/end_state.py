@@ -17,7 +17,7 @@ VARIABLE_LINE = re.compile(rb"variable (" + NUMBER + rb") = (" + NUMBER + rb")")
 FIRST_WORDS = (b"state ", b"held ", b"variable ")
 # Of each kind of line its form; the kinds are in this order.
 FORMS = {b"state": STATE_LINE, b"held": HELD_LINE, b"variable": VARIABLE_LINE}
-A_STATE_LINE = "`state NAME WORD`, `held OBJECT NAME` or `variable X = V`, as `run --state` writes them behind the run"
+A_STATE_LINE = "`state NAME WORD`, `held OBJECT NAME` or `variable X = V`, as `run --state` writes them after the run"
 
 
 class Status(enum.Enum):

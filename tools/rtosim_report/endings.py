@@ -16,9 +16,9 @@ OP_OF_RECEIVE = 0
 LOCKS = "lock"
 # What is wrong with the op of a misuse, by its code.
 MISUSES = {
-    1: "which may wait or switch, while a suspend_all is in force", 2: "while no suspend_all is in force",
-    3: "of a mutex that the task doesn't hold", 4: "which ends the task, while a suspend_all is in force",
-    5: "which may wait, switch or take ticks, or is about the scheduler, while a critical section is open",
+    1: "which may wait or switch, while a suspend_all is active", 2: "while no suspend_all is active",
+    3: "of a mutex that the task doesn't hold", 4: "which ends the task, while a suspend_all is active",
+    5: "which may wait or switch, takes ticks or holds the scheduler, while a critical section is open",
     6: "while no critical section is open", 7: "which ends the task, while a critical section is open",
 }
 PLAIN = {Status.RUNS: "runs", Status.READY: "is Ready", Status.AWAKE: "is Awake", Status.SUSPENDED: "is suspended"}

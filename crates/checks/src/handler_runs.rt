@@ -7,7 +7,8 @@ use model::{App, BadPlan, Event, HandlerId, Injection, Meter, Plan, What};
 use std::alloc::{AllocError, Global};
 use std::process::Abort;
 
-// A caller that is woken in vain, a task of its priority that works, and one above them that waits at another queue.
+// A caller that is woken unsuccessfully, a task of its priority that works, and one above them that waits at another
+// queue.
 const THREE_INJECTIONS: &str = r"
 queue = [{ name = 'p', length = 1 }, { name = 'q', length = 1 }]
 handler = [

@@ -444,7 +444,7 @@ fn notifies_waits_for_notifications_and_clears_are_loaded(rt: HostRuntime) {
     has_isr_ops(&rt, &app, &isr_ops);
 }
 
-// Wherever it is in the file, the daemon comes behind all tasks, and its queue behind all objects.
+// Wherever it is in the file, the daemon comes after all tasks, and its queue after all objects.
 const DAEMON: &str = "
 [daemon]
 name = 'timer_service'

@@ -128,7 +128,7 @@ fn row_of_two(rt: &impl Abort, alloc: Global, app: &App, stride: u32, steps: [u3
     row_of(rt, alloc, app, stride, point)
 }
 
-/// How many events the base run had reported by the stop before step 6, if the row of the first handler before this step comes to it.
+/// How many events the base run had reported by the stop before step 6, if the row of the first handler before this step reaches it.
 fn known_at_six(rt: &impl Abort, alloc: Global, app: &App, step: u32) -> Option<usize>
     requires { step < 6 }
 {

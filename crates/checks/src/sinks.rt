@@ -101,7 +101,7 @@ impl Source for Breaking {
     }
 }
 
-/// Compares a text with the one that is wanted, and shows both where they differ.
+/// Compares a text with the one that is wanted, and shows both if they differ.
 pub(crate) fn check_text(rt: &impl Abort, alloc: Global, name: &str, got: &[u8], wanted: &str) {
     if got != wanted.as_bytes() {
         let got = String::from_utf8_lossy(alloc, got).expect(rt, "memory");

@@ -120,7 +120,7 @@ fn sinks_that_take_a_byte_a_call(rt: HostRuntime) {
     check_byte_by_byte(&rt, alloc, &job, TWO_ROWS, 2, ("", line));
 }
 
-/// Runs a sound file, over a writer that has room for this many bytes of its report. Answers what was written.
+/// Runs a sound file, over a writer that has room for this many bytes of its report. Returns what was written.
 fn check_full_writer<R: Abort + Threads + Wait + Sync>(
     rt: &R,
     alloc: Global,

@@ -1,4 +1,4 @@
-//! Jobs of which nobody learns how far they have come.
+//! Jobs whose progress nobody watches.
 
 use campaign::Gate;
 use deal::Counts;

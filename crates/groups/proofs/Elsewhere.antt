@@ -46,7 +46,7 @@ same_awaken i s was = same_status i (awake_status (status_at s i)) s (awake_wait
 pub same_wake_one : (i : ℕ) (list : WaitList) (s : State) → event_wait (status_at s i) ≡ None → SameEventWaits s (wake_one i list s)
 same_wake_one i list s was = by_test (is_locked s.locked list) (λ t. rw t (same_awaken i s was)) (λ t. rw t (same_ready i s was))
 
--- who waits at an object doesn't wait for bits
+-- a task that waits at an object doesn't wait for bits
 
 waiter_elsewhere : (list : WaitList) (u : Status) (k : Key)
     → option_and_then (wait_key list) (wait_if_waiting u) ≡ Some k → event_wait u ≡ None

@@ -69,11 +69,11 @@ same_ticket i f s now was =
     let k = same_status i (f s.next_ticket) s now was in
     record { bits = k.bits; waits = k.waits; wants = k.wants }
 
--- its progress, where its call wants the same as before
+-- its progress, if its call wants the same as before
 pub same_progress : (i : ℕ) (p : Progress) (s : State) → p.call.wants ≡ (call_at s i).wants → SameEventWaits s (with_progress i p s)
 same_progress i p s wants = same_task i (record (task_at s i) { progress = p }) s refl (λ some. wants)
 
--- or where it doesn't wait for bits
+-- or if it doesn't wait for bits
 pub same_progress_free : (i : ℕ) (p : Progress) (s : State)
     → event_wait (status_at s i) ≡ None → SameEventWaits s (with_progress i p s)
 same_progress_free i p s was = same_free i (record (task_at s i) { progress = p }) s was was
@@ -116,7 +116,7 @@ same_all_ready (i ∷ is) s h =
       still [] h' = tt
       still (j ∷ js) h' = ((same_ready i s h.0).waits j ∙ h'.0, still js h'.1)
 
--- who is Ready doesn't wait for bits
+-- a Ready task doesn't wait for bits
 pub ready_waits_not : (s : State) (i : ℕ) → is_ready s i ≡ true → event_wait (status_at s i) ≡ None
 ready_waits_not s i on = ready_free_of_bits (status_at s i) on
 

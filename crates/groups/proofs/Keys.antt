@@ -1,4 +1,4 @@
--- Who waits for bits of a group or for a notification, by cases on the status.
+-- Which tasks wait for bits of a group or for a notification, by cases on the status.
 use Rattle.std.proofs.Common.{◌≡◌, ◌≢◌, ◌==◌, ℕ, ◌<◌, Bool, true, false, Option, Some, None, List, [], ◌∷◌, refl, ap, sym, ◌∙◌}
 use Rattle.std.proofs.Common.{subst, arith}
 use Rattle.std.specs.Prelude.{if◌then◌else◌, IfSome}
@@ -101,7 +101,7 @@ waits_at (Asleep w n) some apart = absurd cc
 waits_at Suspended some apart = absurd cc
 waits_at Ended some apart = absurd cc
 
--- who waits for nothing here doesn't wait for a notification
+-- a task that waits for nothing here doesn't wait for a notification
 pub unnotified : (u : Status) → event_wait u ≡ None → waits_for_notification u ≡ false
 unnotified (Ready n) none = refl
 unnotified (Awake w) none = refl
@@ -112,14 +112,14 @@ unnotified (Asleep w n) none = refl
 unnotified Suspended none = refl
 unnotified Ended none = refl
 
--- In the list of a group are those who wait for its bits.
+-- In the list of a group are the tasks that wait for its bits.
 pub waiters_are : (s : State) (group : ℕ) → group ≢ for_notifications → waiters_in s group ≡ waiters_for_bits s group
 waiters_are s group away =
     let by : Bool → Task → Option Key = λ b t.
     option_map (key 0) (if b then ticket_if_for_notification t.status else ticket_if_for_bits group t.status) in
     ap (λ (b : Bool). list_by (by b) s.tasks) (eqb-apart group for_notifications away)
 
--- nor does one who is Ready
+-- nor does a Ready one
 pub ready_free_of_bits : (u : Status) → is_some (ticket_if_ready u) ≡ true → event_wait u ≡ None
 ready_free_of_bits (Ready n) on = refl
 ready_free_of_bits (Awake w) on = absurd cc

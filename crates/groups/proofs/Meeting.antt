@@ -27,7 +27,7 @@ or-true : (b : Bool) → (b || true) ≡ true
 or-true true = refl
 or-true false = refl
 
--- what is true of each who is among entries
+-- what is true of each task that is among entries
 each_has : (P : ℕ → Type 0) (es : List (ℕ × ℕ)) → ((n : ℕ) → has_node n es ≡ true → P n) → Each (λ e. P e.0) es
 each_has P [] h = tt
 each_has P (e ∷ es) h =
@@ -115,7 +115,7 @@ stands_with_bits v s group bits known h = record {
   table = record { tickets = h.table.tickets; few = h.table.few; current = h.table.current; holders = h.table.holders };
 }
 
--- The mask's bits are set, whom they meet are woken, and what is left is the group's.
+-- The mask's bits are set, the tasks whose conditions they meet are woken, and what is left is the group's.
 pub stands_set : (v : EventGroups) (s : State) (group mask bits left : ℕ) (met : List ℕ) (waiting : List (List (ℕ × ℕ)))
     → group < length v.bits → bits ≡ bits_set group mask s → met ≡ met_by group (bits_set group mask s) s
     → left ≡ left_in_state (met_by group (bits_set group mask s) s) (bits_set group mask s) s

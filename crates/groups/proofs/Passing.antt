@@ -1,4 +1,4 @@
--- A pass along a list, from which those are taken out whom bits meet.
+-- A pass along a list, which takes out the tasks whose conditions bits meet.
 use Rattle.std.proofs.Common.{◌≡◌, ◌≢◌, ℕ, suc, ◌+◌, ◌<◌, ◌≤◌, inl, inr, true, false, not, Option, Some, None, List, [], ◌∷◌, ◌++◌}
 use Rattle.std.proofs.Common.{set, length, map, refl, ap, sym, ◌∙◌, subst, arith, append_assoc, append-nil, length-append}
 use Rattle.std.specs.Prelude.{◌==◌, if◌then◌else◌}
@@ -23,14 +23,14 @@ use Rattle.groups.specs.StandsFor.{StandsFor}
 use Rattle.groups.proofs.Meeting.{each_more, stands_woken}
 use Rattle.groups.proofs.Standing.{waiter}
 
--- ---- where a pass is
+-- ---- the place of a pass
 
 -- the entries from this node on
 abbrev from_node : ℕ → List (ℕ × ℕ) → List (ℕ × ℕ)
 from_node n [] = []
 from_node n (e ∷ es) = if e.0 == n then e ∷ es else from_node n es
 
--- those from where the pass is
+-- those from the place of the pass on
 abbrev pub from : Option ℕ → List (ℕ × ℕ) → List (ℕ × ℕ)
 from None es = []
 from (Some n) es = from_node n es
@@ -95,8 +95,8 @@ left-append wants bits ts n =
 
 -- ---- the pass
 
--- Of the list as it was, some entries are passed: those whom the bits meet are taken out, and the others are still before
--- the rest.
+-- Of the list as it was, some entries are passed: those whose conditions the bits meet are taken out, and the others are
+-- still before the rest.
 pub record Passed (old new : List (List (ℕ × ℕ))) (list : ℕ) (wants : List Condition)
     (bits : ℕ) (at : Option ℕ) (tasks : List ℕ) (left : ℕ) : Type 0 where
   pub before : List (ℕ × ℕ)
@@ -112,7 +112,7 @@ pub record Passed (old new : List (List (ℕ × ℕ))) (list : ℕ) (wants : Lis
   pub woken : (v : EventGroups) (s : State) → v.waiting ≡ old → StandsFor v s
       → StandsFor (record v { waiting = new }) (wake_all tasks bits s)
 
--- the entry where the pass is, and those behind it
+-- the entry at the place of the pass, and those after it
 pub record Head (n : ℕ) (rest : List (ℕ × ℕ)) : Type 0 where
   pub value : ℕ
   pub later : List (ℕ × ℕ)
@@ -139,7 +139,7 @@ module _ (old new : List (List (ℕ × ℕ))) (list : ℕ) (wants : List Conditi
   pub has : has_node n (entries_of new list) ≡ true
   has = ap (has_node n) now ∙ has_here n first.value (unmet_of wants bits h.before) first.later
 
-  -- the next entry is the first behind it
+  -- the next entry is the first after it
   pub next_is : next_of n (entries_of new list) ≡ first_of first.later
   next_is = ap (next_of n) now ∙ next_here n first.value (unmet_of wants bits h.before) first.later apart
 
@@ -158,7 +158,7 @@ module _ (old new : List (List (ℕ × ℕ))) (list : ℕ) (wants : List Conditi
       let le : length (met_of wants bits h.before) ≤ length h.before = few_met wants bits h.before in
       omega (arith, few, all, one, met, le)
 
-  -- one whom the bits don't meet stays
+  -- one whose condition the bits don't meet stays
   pub passes_unmet : (at : Option ℕ) → at ≡ first_of first.later
       → meets wants bits (n, first.value) ≡ false → Passed old new list wants bits at tasks left
   passes_unmet at is unmet =
@@ -193,7 +193,7 @@ module _ (old new : List (List (ℕ × ℕ))) (list : ℕ) (wants : List Conditi
     | inr away ↦ entries_of-without n k new ∙ without-apart n (entries_of new k) (apart_from_test n (entries_of new k) away)
   ]
 
-  -- one whom they meet is taken out
+  -- one whose condition they meet is taken out
   pub passes_met : (at : Option ℕ) → at ≡ first_of first.later → meets wants bits (n, first.value) ≡ true
       → IsSound 17 32 (map (without n) new)
       → Passed old (map (without n) new) list wants bits at (tasks ++ n ∷ []) (bits_left left (wanted_by wants n))

@@ -33,7 +33,7 @@ has_before : (i j : ℕ) (es : List (ℕ × ℕ)) → j ≢ i → has_node j (es
 has_before i j [] ne = has_node-other j (i, 0) [] (λ e. ne (sym e))
 has_before i j (e ∷ es) ne = ap (λ (b : Bool). e.0 == j || b) (has_before i j es ne)
 
--- the lists, with a task behind the others of one
+-- the lists, with a task after the others of one
 abbrev lined_up : EventGroups → (list task : ℕ) → List (List (ℕ × ℕ))
 lined_up v list task = set v.waiting list (waiting_in v list ++ (task, 0) ∷ [])
 
@@ -82,7 +82,7 @@ module _ (v : EventGroups) (s : State) (h : StandsFor v s) (i list : ℕ) (statu
         ∙ sym (ap tasks_of (elsewhere k ne))
   ]
 
-  -- another is in a list where it was
+  -- another is in a list if it was
   pub still_has : (k j : ℕ) → j ≢ i → has_node j (get_or (lined_up v list i) k []) ≡ true → has_node j (waiting_in v k) ≡ true
   still_has k j ne has = elim (cases_eq k list) [
     | inl same ↦
@@ -113,7 +113,7 @@ module _ (v : EventGroups) (s : State) (h : StandsFor v s) (i list : ℕ) (statu
       ap (λ (t : Task). t.progress.call.wants) (get_or-set_other s.tasks i j now no_task ne)
       ∙ h.conditions k j away (still_has k j ne has)
 
--- A task whose call wants these bits is put behind the others.
+-- A task whose call wants these bits is put after the others.
 begins : (v : EventGroups) (s : State) → StandsFor v s → (i group : ℕ) (c : Condition) (deadline : Option ℕ)
     → i < length s.tasks → IsSound 17 32 v.waiting → place_of v.waiting i ≡ None → length v.wants ≡ 32 → i < 32 → group < 16
     → (call_at s i).wants ≡ Some c
@@ -142,7 +142,7 @@ begins v s h i group c deadline l sound free many task_known group_known wanted 
       table = table-taken s i status h.table (is.below (s.next_ticket + 1) (omega arith));
     }
 
--- A task is put behind those who wait for a notification.
+-- A task is put after those that wait for a notification.
 begins_notified : (v : EventGroups) (s : State) → StandsFor v s → (i : ℕ) (deadline : Option ℕ)
     → i < length s.tasks → IsSound 17 32 v.waiting → place_of v.waiting i ≡ None
     → StandsFor (record v { waiting = lined_up v for_notifications i })
@@ -190,7 +190,7 @@ module _ (v : EventGroups) (s : State) (h : StandsFor v s) (i : ℕ) (l : i < le
   unfolding wait_for_notification
   stands_notified = begins_notified v s h i (call_at s i).deadline l sound free
 
--- where the deadline of the call has been set, and the scheduler is held
+-- when the deadline of the call has been set, and the scheduler is held
 timed : (v : EventGroups) (s : State) (i : ℕ) (ticks : Option ℕ) → StandsFor v s
     → StandsFor v (set_deadline i ticks (record s { call_hold = true }))
 unfolding set_deadline

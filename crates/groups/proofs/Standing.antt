@@ -28,14 +28,14 @@ use Rattle.groups.proofs.Keys.{key_none, key_same, waits_at}
 use Rattle.groups.proofs.Waiters.{InList, among, but, has_node-among, has_task-among, in_list, list_alike, tasks_in-without}
 use Rattle.groups.proofs.Waiters.{tasks_of-other}
 
--- ---- who is in a list
+-- ---- which tasks are in a list
 
 module _ (v : EventGroups) (s : State) (h : StandsFor v s) where
   pub listed : (i group : ℕ) → has_node i (waiting_in v group) ≡ has_task i (waiters_in s group)
   listed i group =
       has_node-among i (waiting_in v group) ∙ ap (among i) (h.tasks group) ∙ sym (has_task-among i (waiters_in s group))
 
-  -- who is in a list is in the table, and has a key
+  -- a task in a list is in the table, and has a key
   pub waiter : (i group : ℕ) → has_node i (waiting_in v group) ≡ true → InList (list_key group) s.tasks i
   waiter i group has = in_list (list_key group) s.tasks i (sym (listed i group) ∙ has)
 
@@ -61,14 +61,14 @@ module _ (v : EventGroups) (s : State) (h : StandsFor v s) where
         none_if None e = refl
         none_if (Some x) e = absurd cc
 
-  -- who is in no list doesn't wait for bits
+  -- a task in no list doesn't wait for bits
   pub free_waits : (i : ℕ) → IsSound 17 32 v.waiting → place_of v.waiting i ≡ None → event_wait (status_at s i) ≡ None
   free_waits i sound free = none_of (event_wait (status_at s i)) (sym (waiting_is i sound) ∙ ap is_some free) where
     none_of : {A : Type 0} (o : Option A) → is_some o ≡ false → o ≡ None
     none_of None e = refl
     none_of (Some x) e = absurd cc
 
-  -- who is in the last list waits for a notification
+  -- a task in the last list waits for a notification
   pub notified_by : (i l : ℕ) → IsSound 17 32 v.waiting → place_of v.waiting i ≡ Some l
       → (l == for_notifications) ≡ waits_for_notification (status_at s i)
   notified_by i l sound there =
@@ -81,7 +81,7 @@ module _ (v : EventGroups) (s : State) (h : StandsFor v s) where
 
 -- ---- changes that the groups don't see
 
--- who is in a list waits for bits
+-- a task in a list waits for bits
 waits_for_bits : (v : EventGroups) (s : State) (h : StandsFor v s) (i group : ℕ)
     → has_node i (waiting_in v group) ≡ true → is_some (event_wait (status_at s i)) ≡ true
 waits_for_bits v s h i group has = by_wait (event_wait (status_at s i)) refl where
@@ -172,7 +172,7 @@ stands_suspended v s i h l =
     let u : Task = record (task_at s i) { status = Suspended } in
     stands_left v s (with_status i Suspended s) i u h l refl refl refl (table-set s i u h.table tt)
 
--- where nobody waits for bits, nobody is in a list
+-- if no task waits for bits, none is in a list
 pub nobody_listed : (s : State) → ((task : ℕ) → event_wait (status_at s task) ≡ None)
     → (group : ℕ) → tasks_of (waiters_in s group) ≡ []
 nobody_listed s none group = nobody (waiters_in s group) (list_has (list_key group) s.tasks) where

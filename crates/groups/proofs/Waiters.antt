@@ -52,7 +52,7 @@ pub tasks_of-put : (n i : ℕ) (xs : List Entry) → AllByRecursion (λ e. e.key
     → tasks_of (put (entry i (key 0 n)) xs) ≡ tasks_of xs ++ i ∷ []
 tasks_of-put n i xs h = ap tasks_of (put_last (entry i (key 0 n)) xs (all_after n i xs h)) ∙ tasks_of-append xs (entry i (key 0 n))
 
--- who is in a list has a key there
+-- a task in a list has a key there
 
 pub record InList (f : Task → Option Key) (ts : List Task) (i : ℕ) : Type 0 where
   pub within : i < length ts

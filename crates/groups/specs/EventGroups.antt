@@ -1,4 +1,5 @@
--- What callers see of the event groups: their bits, who waits for bits of them, and for which; and who waits for a notification.
+-- What callers see of the event groups: their bits, which tasks wait for bits of them, and for which; and which wait for a
+-- notification.
 use Rattle.std.specs.Prelude.{◌≡◌, ℕ, Bool, false, not, List, []}
 use Rattle.std.specs.Prelude.{map, replicate, fold, filter, length, bit_or, slice_index_or, slice_set}
 use Rattle.model.specs.declared.call.Condition.{Condition}
@@ -15,7 +16,7 @@ pub record EventGroups : Type 0 where
   -- for which bits each task waits, or waited last
   pub wants : List Condition
 
--- the list of those who wait for a notification, behind those of the groups
+-- the list of the tasks that wait for a notification, after those of the groups
 abbrev pub for_notifications : ℕ
 for_notifications = 16
 
@@ -23,11 +24,11 @@ for_notifications = 16
 abbrev pub bits_in : EventGroups → ℕ → ℕ
 bits_in v group = slice_index_or v.bits group 0
 
--- those who wait for bits of a group
+-- the tasks that wait for bits of a group
 abbrev pub waiting_in : EventGroups → ℕ → List (ℕ × ℕ)
 waiting_in v group = entries_of v.waiting group
 
--- what is kept where there is no task
+-- what is kept if there is no task
 abbrev pub no_condition : Condition
 no_condition = record { mask = 0; all = false; clear = false }
 
@@ -43,7 +44,7 @@ wanted_by wants task = slice_index_or wants task no_condition
 abbrev pub meets : List Condition → ℕ → ℕ × ℕ → Bool
 meets wants bits e = is_met bits (wanted_by wants e.0)
 
--- those of the tasks whom the bits meet
+-- the tasks whose conditions the bits meet
 abbrev pub met_of : List Condition → ℕ → List (ℕ × ℕ) → List ℕ
 met_of wants bits entries = tasks_in (filter (meets wants bits) entries)
 
@@ -55,7 +56,8 @@ unmet_of wants bits entries = filter (λ e. not (meets wants bits e)) entries
 abbrev pub left_by : List Condition → ℕ → List ℕ → ℕ
 left_by wants bits tasks = fold bits_left bits (map (wanted_by wants) tasks)
 
--- The mask's bits of a group are set. Whom they meet waits no more; then what those asked to clear is cleared.
+-- The mask's bits of a group are set. The tasks whose conditions they meet no longer wait; then what these
+-- asked to clear is cleared.
 abbrev pub after_set : ℕ → ℕ → EventGroups → EventGroups
 after_set group mask v =
     let bits = bit_or (bits_in v group) mask in

@@ -1,5 +1,5 @@
--- What the event groups represent: the bits of a state of the definitions, who waits for bits, and who waits for a notification.
--- They don't have the tickets.
+-- What the event groups represent: the bits of a state of the definitions, which tasks wait for bits, and which wait for a
+-- notification. They don't have the tickets.
 use Rattle.std.specs.Prelude.{◌≡◌, ◌≢◌, ℕ, ◌==◌, if◌then◌else◌, IsTrue, is_some, List, Option, Some, None, IfSome, option_map}
 use Rattle.model.specs.State.{State, Task, Status, WaitingForBits, WaitingForNotification, ticket_if_for_bits, status_at, call_at}
 use Rattle.model.specs.State.{bits_at}
@@ -20,7 +20,7 @@ event_wait (WaitingForBits group ticket deadline) = Some (ForBits group ticket)
 event_wait (WaitingForNotification ticket deadline) = Some (ForNotification ticket)
 event_wait _ = None
 
--- It isn't for bits of a group in whose place the list of those is who wait for a notification.
+-- It isn't for bits of the group whose number is that of the list for notifications.
 abbrev pub IsApart : EventWait → Type 0
 IsApart (ForBits group ticket) = group ≢ for_notifications
 IsApart (ForNotification ticket) = Unit {0}
@@ -30,15 +30,15 @@ abbrev pub ticket_if_for_notification : Status → Option ℕ
 ticket_if_for_notification (WaitingForNotification ticket deadline) = Some ticket
 ticket_if_for_notification _ = None
 
--- the ticket of a task that is in this list: of those who wait for a notification, or for bits of this group
+-- the ticket of a task that is in this list: that of the waits for a notification, or for bits of this group
 abbrev pub ticket_in : ℕ → Status → Option ℕ
 ticket_in list status = if list == for_notifications then ticket_if_for_notification status else ticket_if_for_bits list status
 
--- Who is in a list is there by the ticket alone.
+-- A task's place in a list depends on its ticket alone.
 abbrev pub list_key : ℕ → Task → Option Key
 list_key list t = option_map (key 0) (ticket_in list t.status)
 
--- those who are in a list, in the order in which they began: those who wait for bits of a group, or for a notification
+-- the tasks in a list, in the order in which their waits began: for bits of a group, or for a notification
 abbrev pub waiters_in : State → ℕ → List Entry
 waiters_in s list = list_by (list_key list) s.tasks
 

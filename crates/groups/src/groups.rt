@@ -1,4 +1,4 @@
-//! The event groups, and who waits for bits of them or for a notification.
+//! The event groups, and the tasks that wait for bits of them or for a notification.
 ghost use Rattle.std.specs.Prelude.{bit_or, ◌≡◌, ◌<◌, ◌++◌, ◌∷◌, ℕ, List, [], None, Some, Option, length, map, replicate, slice_set, if◌then◌else◌, true, IsTrue};
 ghost use Rattle.std.specs.List.{list_any};
 ghost use Rattle.std.specs.Option.{is_some};
@@ -26,21 +26,20 @@ const NO_CONDITION: Condition = Condition {
 };
 
 /// 16 event groups, each of 24 bits, and the tasks that wait for bits of them, each task at one group at most, or for a notification. A
-/// mask is 0 to 16,777,215; its bits above, which FreeRTOS refuses, are treated as the others (profile).
+/// mask is 0 to 16,777,215; its upper 8 bits, which FreeRTOS refuses, are treated like the others (profile).
 ///
-/// A group is FreeRTOS's `EventGroup_t`, whose `xTasksWaitingForBits` has the tasks in the order in which they began to
-/// wait too, whatever their priorities. That the groups are in one table is profile, and that who waits for a notification is in a list of
-/// it too.
+/// A group is FreeRTOS's `EventGroup_t`, whose `xTasksWaitingForBits` has the tasks in the order in which they began to wait too, whatever
+/// their priorities. That the groups are in one table is profile, as is the list of it for tasks that wait for a notification.
 #[derive(Drop)]
 pub struct Groups {
     bits: [u32; 16],
     lists: TaskLists<17, 49>,
     wants: [Condition; 32],
-    /// Whether anything was done with a group. Where nothing was, nothing is copied or compared.
+    /// Whether anything was done with a group. If not, nothing is copied or compared.
     used: bool,
 }
 
-// Clauses see the bits of each group, who waits at it, and for which bits.
+// Clauses see the bits of each group, which tasks wait at it, and for which bits.
 impl Model for Groups {
     ghost use Rattle.std.specs.Prelude.{◌≡◌, false};
     ghost use Rattle.groups.specs.EventGroups.{EventGroups, AreGroups, unused};
@@ -53,10 +52,10 @@ impl Model for Groups {
         × (g.used ≡ false → record { bits = g.bits; waiting = g.lists; wants = g.wants } ≡ unused) };
 }
 
-/// The list of those who wait for a notification, after those of the groups.
+/// The list of the tasks that wait for a notification, after those of the groups.
 const FOR_NOTIFICATIONS: ListId = ListId { number: 16 };
 
-/// The list of those who wait for bits of a group.
+/// The list of the tasks that wait for bits of a group.
 fn list_id(group: GroupId) -> ListId
     ensures number { result.number ≡ group }
     ensures known { result.number < 16 }
@@ -156,7 +155,7 @@ impl Groups {
         is_met(self.bits(group), condition)
     }
 
-    /// Clears the mask's bits of a group, and answers the bits before (`xEventGroupClearBits`).
+    /// Clears the mask's bits of a group, and returns the bits before (`xEventGroupClearBits`).
     pub fn clear(&mut self, group: GroupId, mask: u32) -> u32
         ensures before { result ≡ bits_in self.old group }
         ensures cleared { self.new ≡ record self.old {
@@ -172,7 +171,7 @@ impl Groups {
         bits
     }
 
-    /// Answers the bits of a group, as a wait that is over does. Where they meet its condition, and that asks to clear
+    /// Returns the bits of a group, as a wait that is over does. If they meet its condition, and it asks to clear
     /// them, they are cleared (`xEventGroupWaitBits`).
     pub fn final_bits(&mut self, group: GroupId, condition: &Condition) -> u32
         ensures before { result ≡ bits_in self.old group }
@@ -219,8 +218,8 @@ impl Groups {
         false
     }
 
-    /// Puts a task that waits at no group (see `is_waiting`) behind all who wait for bits of this one, until its
-    /// condition is met (`vTaskPlaceOnUnorderedEventList`).
+    /// Puts a task that waits at no group (see `is_waiting`) after all tasks that wait for bits of this one,
+    /// until its condition is met (`vTaskPlaceOnUnorderedEventList`).
     pub fn place(&mut self, task: TaskId, group: GroupId, condition: Condition)
         requires free { place_of self.old.waiting task ≡ None }
         ensures put { self.new ≡ record self.old {
@@ -231,7 +230,7 @@ impl Groups {
         ensures stands { (s : State) → StandsFor self.old s → task < length s.tasks
             → StandsFor self.new
             (definitions.wait_for_bits task group (definitions.want task condition s)) }
-        // so that its call comes to its next phase.
+        // so that its call goes on to its next phase.
         ensures begins { (s : State) (ticks : Option ℕ) → StandsFor self.old s
             → task < length s.tasks
             → StandsFor self.new (definitions.begin_bits_wait task group condition ticks s) }
@@ -278,7 +277,8 @@ impl Groups {
         }
     }
 
-    /// Puts a task that waits for nothing here (see `is_waiting`) among those who wait for a notification.
+    /// Puts a task that waits for nothing here (see `is_waiting`) among the tasks that wait for a
+    /// notification.
     pub fn place_for_notification(&mut self, task: TaskId)
         requires free { place_of self.old.waiting task ≡ None }
         ensures put { self.new ≡ record self.old {
@@ -287,7 +287,7 @@ impl Groups {
         // In the definitions it begins to wait,
         ensures stands { (s : State) → StandsFor self.old s → task < length s.tasks
             → StandsFor self.new (wait_for_notification task s) }
-        // so that its call comes to its next phase.
+        // so that its call goes on to its next phase.
         ensures begins { (s : State) (ticks : Option ℕ) → StandsFor self.old s → task < length s.tasks
             → StandsFor self.new (begin_notification_wait task ticks s) }
     {
@@ -295,7 +295,7 @@ impl Groups {
         self.used = true;
     }
 
-    /// Takes a task out of the list of those who wait for bits or for a notification, if it is in one: it has timed out, is suspended, or
+    /// Takes a task out of the list in which it waits for bits or for a notification, if it is in one: it has timed out, is suspended, or
     /// is notified.
     pub fn drop_waiter(&mut self, task: TaskId)
         ensures gone { self.new ≡ record self.old { waiting = map (without task) self.old.waiting } }

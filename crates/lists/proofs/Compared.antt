@@ -1,4 +1,4 @@
--- What a comparison by `!=` has shown where it was false: that both are the same.
+-- What a comparison by `!=` has shown if it was false: that both are the same.
 use mathlib.Core.Bool.{beq}
 use Rattle.std.proofs.Common.{◌≡◌, ℕ, Bool, true, false, Some, None, List, [], ◌∷◌, ap, ap₂, sym, refl, arith}
 use Rattle.std.specs.Prelude.{nat_eq, not}

@@ -12,7 +12,7 @@ pub read_link : (links : List (Option ℕ)) (i : ℕ) (r : Option ℕ) {n : ℕ}
     → length links ≡ n → i < n → get_or links i r ≡ get_or links i None
 read_link links i r e l = get_or_default links i r None (omega (arith, e, l))
 
--- the last entry's node, or `a` where there is none
+-- the last entry's node, or `a` if there is none
 abbrev pub last_of : Option ℕ → List (ℕ × ℕ) → Option ℕ
 last_of a [] = a
 last_of a (e ∷ xs) = last_of (Some e.0) xs

@@ -284,7 +284,7 @@ module _ {L N M : ℕ} {next prev : List ℕ} {place : List (Option ℕ)} {value
       relinked n l (set ls l (fs ++ bs)) hn at_list (take_spells h.spells l n v fs bs (node_at N (get_or prev n 0))
       (node_at N (get_or next n 0)) a.list hn split (sym a.before_is) (sym a.after_is))
 
-  -- where a link splits a list
+  -- the place at which a link splits a list
   pub record Splits (l after : ℕ) : Type 0 where
     pub before_end : N ≤ get_or prev after 0 → get_or prev after 0 ≡ N + l
     pub before_is : node_at N (get_or prev after 0) ≡ at_link (links_of N prev) (get_or (ends_of N prev) l None) (node_at N after)

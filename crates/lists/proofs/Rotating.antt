@@ -76,7 +76,7 @@ module _ {L N M : ℕ} {next prev : List ℕ} {place : List (Option ℕ)} {value
   pub first_here : Some n ≡ first_of (get_or ls l [])
   first_here = sym at_first ∙ first_is h.spells l hl
 
-  -- what is behind the first node is among the links
+  -- what comes after the first node is among the links
   pub second_within : get_or next n 0 < M
   second_within =
       within h l (get_or next n 0) hl (around h n l below (first_placed h.spells l hl n at_first)).after_end

@@ -4,7 +4,7 @@ use Rattle.lists.specs.Links.{at_link, IsStored, Spells}
 use Rattle.lists.proofs.Entries.{Each-imp}
 use Rattle.lists.proofs.Links.{same_links}
 
--- the lists are spelled by other links and values too, where these are the same at each node of a list
+-- other links and values spell the lists too, if they are the same at each node of a list
 pub same_spells : {L N : ℕ} {next prev place : List (Option ℕ)} {values : List ℕ}
     {firsts lasts : List (Option ℕ)} {ls : List (List (ℕ × ℕ))} (next' : List (Option ℕ)) (values' : List ℕ)
     → Spells L N next prev place values firsts lasts ls → length next' ≡ N → length values' ≡ N

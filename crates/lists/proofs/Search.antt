@@ -10,7 +10,7 @@ use Rattle.lists.proofs.Entries.{none-some, Each-right, Each-imp, distinct-right
 use Rattle.lists.proofs.Links.{last_of, at_place, after_place}
 use Rattle.lists.proofs.Spelled.{walk-linked}
 
--- the search has come to `at`, with entries before it that are not greater
+-- the search has reached `at`, with entries before it that are not greater
 pub record Search (value : ℕ) (entries : List (ℕ × ℕ)) (at : Option ℕ) : Type 0 where
   pub before : List (ℕ × ℕ)
   pub rest : List (ℕ × ℕ)
@@ -108,6 +108,6 @@ module _ {L N : ℕ} {next prev place : List (Option ℕ)} {values : List ℕ} {
   ends_at value [] here same = ap first_of (sym same)
   ends_at value (x ∷ rest) here same = absurd (none-some x.0 here)
 
-  -- the search that comes to the end found none
+  -- the search that reaches the end found none
   pub ends : (value : ℕ) → Search value (get_or ls l []) None → None ≡ first_of (upper value (get_or ls l []))
   ends value s = ends_at value s.rest s.here s.same

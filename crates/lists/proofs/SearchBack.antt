@@ -10,7 +10,7 @@ use Rattle.lists.proofs.Entries.{none-some, Each-right, Each-imp, distinct-right
 use Rattle.lists.proofs.Links.{last_of, at_place}
 use Rattle.lists.proofs.Search.{walk-rest}
 
--- the search has come to `at`, the last of the entries before those that it has passed; all of these are greater, and
+-- the search has reached `at`, the last of the entries before those that it has passed; all of these are greater, and
 -- `after` is the first of them
 pub record SearchBack (value : ℕ) (entries : List (ℕ × ℕ)) (at after : Option ℕ) : Type 0 where
   pub before : List (ℕ × ℕ)
@@ -37,7 +37,7 @@ before-sorted : (xs : List (ℕ × ℕ)) (x : ℕ × ℕ) (ys : List (ℕ × ℕ
 before-sorted [] x ys h = tt
 before-sorted (f ∷ xs) x ys h = ((Each-right (λ (e : ℕ × ℕ). f.1 ≤ e.1) xs (x ∷ ys) h.0).0, before-sorted xs x ys h.1)
 
--- where the walk stops: an entry that is not greater, before entries that are
+-- the place at which the walk stops: an entry that is not greater, before entries that are
 upper-sorted : (value : ℕ) (xs : List (ℕ × ℕ)) (x : ℕ × ℕ) (ys : List (ℕ × ℕ)) → IsSorted (xs ++ x ∷ ys)
     → x.1 ≤ value → Each (λ e. value < e.1) ys → upper value (xs ++ x ∷ ys) ≡ ys
 upper-sorted value xs x ys sorted le greater =
@@ -145,7 +145,7 @@ module _ {L N : ℕ} {next prev place : List (Option ℕ)} {values : List ℕ} {
       let s = split_last x before in
       absurd (none-some s.1.0 (here ∙ s.3))
 
-  -- the search that comes to the front has passed all, and all are greater
+  -- the search that reaches the front has passed all, and all are greater
   pub ends_back : (value : ℕ) (at after : Option ℕ) → SearchBack value (get_or ls l []) at after
       → at ≡ None → after ≡ first_of (upper value (get_or ls l []))
   ends_back value at after s e = ends_at value after s.before s.rest s.whole (sym e ∙ s.here) s.behind s.greater

@@ -3,7 +3,7 @@ use Rattle.std.specs.Prelude.{◌≡◌, ◌⊎◌, ℕ, zero, suc, ◌+◌, ◌
 use Rattle.std.specs.Prelude.{◌++◌, get_or, set, length, map, take, drop}
 use Rattle.lists.specs.Lists.{Each, Apart, EachOnce, first_of}
 
--- where the number in a link leads: 65535 leads nowhere
+-- which list the number in a link means: 65535 means none
 abbrev pub led_to : ℕ → Option ℕ
 led_to number = if number == 65535 then None else Some number
 

@@ -6,9 +6,9 @@
 //! each node is. `Table::insert_sorted` walks along its list from the first node, and
 //! `Table::insert_sorted_from_back` from the last.
 //!
-//! `are_same` and `are_same_bytes` look at all of two lists, so that many numbers are compared at a time. So are the links and the
-//! values of two tables: a node that leaves its list keeps nothing of it. `Table::is_clear` passes nodes in no list four at a time, and
-//! `first_nonzero` zeros.
+//! `are_same` and `are_same_bytes` look at all of two lists, so that many numbers are compared at a time, like the links and the values
+//! of two tables: a node that leaves its list keeps nothing of it. `Table::is_clear` passes nodes in no list four at a time, and
+//! `first_nonzero` does so with zeros.
 #![tactic(auto)]
 
 mod ids;

@@ -1,14 +1,14 @@
-//! Where a node is: in which list, or in none.
+//! The list that a node is in, or none.
 ghost use Rattle.std.specs.Prelude.{◌≡◌, ◌<◌, Some, None, not, true};
 ghost use Rattle.std.specs.Option.{is_some};
 
 use crate::words::word_of;
 use std::marker::Model;
 
-/// The number of a list, 0 to 65534, or none. It takes two bytes, where an `Option<u16>` takes four.
+/// The number of a list, 0 to 65534, or none. It takes two bytes; an `Option<u16>` takes four.
 #[derive(Clone, Copy)]
 pub(crate) struct Link {
-    // 65535 where there is none.
+    // 65535 if there is none.
     number: u16,
 }
 

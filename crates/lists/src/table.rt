@@ -9,15 +9,15 @@ use crate::link::{Link, are_none};
 use crate::words::{are_same, are_same_values};
 use std::marker::Model;
 
-/// `L` lists over `N` nodes, where `L` and `N` are 4096 at most. A node is in one list at most, and there once. In
-/// every call the list is one below `L`, and the node one below `N`.
+/// `L` lists over `N` nodes; both are 4096 at most. A node is in one list at most, and there once. In every call the list is
+/// one below `L`, and the node one below `N`.
 ///
-/// These are the lists of FreeRTOS's kernel, whose `vListInsert` puts an entry behind those of the same value too. That
-/// the nodes are in one table of a fixed size is profile.
+/// These are the lists of FreeRTOS's kernel, whose `vListInsert` also puts an entry after those of the same value. That the
+/// nodes are in one table of a fixed size is profile.
 ///
-/// Each list is a ring, which its end closes: there the link forth is to the first node, and the link back to the last, as
-/// at `xListEnd`. So no node goes in or out in a way of its own. A link is the number of a node, or `N` more than that of the
-/// list whose end it leads to, and `M`, which is `N + L`, counts the links of a direction.
+/// Each list is a ring, which its end closes: there the link forth is to the first node, and the link back to the last, as at
+/// `xListEnd`. So no node is a special case. A link is the number of a node, or `N` more than that of the list whose end it
+/// leads to, and `M`, which is `N + L`, counts the links of a direction.
 #[derive(Drop)]
 pub struct Table<const L: usize, const N: usize, const M: usize> {
     next: [u16; M],
@@ -35,7 +35,7 @@ impl<const L: usize, const N: usize, const M: usize> Model for Table<L, N, M> {
     ghost invariant = { λ t. IsRingTable L N M t.next t.prev t.place t.values };
 }
 
-/// Links of which each leads to itself: a list's end does, where the list is empty.
+/// Links that each lead to themselves, as a list's end does if the list is empty.
 fn closed<const M: usize>() -> [u16; M]
     requires { M ≤ 8192 }
     ensures length { length result ≡ M }
@@ -72,7 +72,7 @@ fn list_of(place: Link) -> Option<ListId>
     }
 }
 
-/// Whether there are four nodes from this one on, of which none is in a list.
+/// Whether there are four nodes from this one on, none of them in a list.
 #[inline(always)]
 fn are_free<const N: usize>(place: &[Link; N], node: usize) -> bool
     requires node { node < N }
@@ -89,7 +89,7 @@ fn are_free<const N: usize>(place: &[Link; N], node: usize) -> bool
 }
 
 impl<const L: usize, const N: usize, const M: usize> Table<L, N, M> {
-    /// `L` empty lists over `N` nodes, none of which is in a list. Each of the two counts is 4096 at most, and `M` is their sum.
+    /// `L` empty lists over `N` nodes, which are in no list. Each of the two counts is 4096 at most, and `M` is their sum.
     pub fn new() -> Self
         requires lists { L ≤ 4096 }
         requires nodes { N ≤ 4096 }
@@ -146,7 +146,7 @@ impl<const L: usize, const N: usize, const M: usize> Table<L, N, M> {
         are_same(&self.next, &other.next) && are_same_values(&self.values, &other.values)
     }
 
-    /// The first node of a list below `L`; `None` where the list is empty.
+    /// The first node of a list below `L`; `None` if the list is empty.
     pub fn first(&self, list: ListId) -> Option<NodeId>
         requires { list.number < L }
         ensures first { option_map (λ node. node.number) result
@@ -188,7 +188,7 @@ impl<const L: usize, const N: usize, const M: usize> Table<L, N, M> {
         self.first(list).is_none()
     }
 
-    /// Whether no node is in a list. It may answer no of such a table too, where `N` is no multiple of 4.
+    /// Whether no node is in a list. It may also return false for such a table if `N` is no multiple of 4.
     pub fn is_clear(&self) -> bool
         ensures { result ≡ true → (node : ℕ) → place_of self.now node ≡ None }
     {
@@ -202,7 +202,7 @@ impl<const L: usize, const N: usize, const M: usize> Table<L, N, M> {
         true
     }
 
-    /// The list that a node below `N` is in; `None` where it is in no list.
+    /// The list that a node below `N` is in; `None` if it is in no list.
     pub fn place(&self, node: NodeId) -> Option<ListId>
         requires { node.number < N }
         ensures place { option_map (λ list. list.number) result ≡ place_of self.now node.number }
@@ -225,7 +225,7 @@ impl<const L: usize, const N: usize, const M: usize> Table<L, N, M> {
     /// The node after this one, which is below `N`, in its list; `None` after the last, and for a node in no list.
     pub fn next(&self, node: NodeId) -> Option<NodeId>
         requires { node.number < N }
-        // Of a node in a list, it is the one behind it there.
+        // Of a node in a list, it is the one after it there.
         ensures next { (list : ℕ) → IsTrue (has_node node.number (entries_of self.now list))
             → option_map (λ node. node.number) result
             ≡ next_of node.number (entries_of self.now list) }
@@ -241,7 +241,7 @@ impl<const L: usize, const N: usize, const M: usize> Table<L, N, M> {
     }
 
     /// As `next`, for a node below `N` that is in a list. Of a node in no list, any.
-    // It doesn't look where the node is.
+    // It doesn't check which list the node is in.
     pub fn next_in_list(&self, node: NodeId) -> Option<NodeId>
         requires { node.number < N }
         ensures next { (list : ℕ) → IsTrue (has_node node.number (entries_of self.now list))
@@ -281,9 +281,9 @@ impl<const L: usize, const N: usize, const M: usize> Table<L, N, M> {
         self.values[node.number as usize] = 0;
     }
 
-    /// Takes the first node out of a list below `L`, and answers it; `None` where the list is empty. The other entries keep
+    /// Takes the first node out of a list below `L`, and returns it; `None` if the list is empty. The other entries keep
     /// their order.
-    // It reads no link back, so it waits for one link alone where another node was taken just before.
+    // It reads no link back, so it waits for one link alone if another node was taken just before.
     pub fn pop_front(&mut self, list: ListId) -> Option<NodeId>
         requires { list.number < L }
         ensures first { option_map (λ node. node.number) result
@@ -307,8 +307,8 @@ impl<const L: usize, const N: usize, const M: usize> Table<L, N, M> {
         None
     }
 
-    /// Puts the first node of a list below `L` last, with the value that it has. Answers the second node, which is the
-    /// first from then on; `None` where there is no second, and the list stays as it is.
+    /// Puts the first node of a list below `L` last, with the value that it has. Returns the second node, which is the
+    /// first from then on; `None` if there is no second, and the list stays as it is.
     pub fn rotate(&mut self, list: ListId) -> Option<NodeId>
         requires { list.number < L }
         ensures rotated { self.new ≡ slice_set self.old list.number
@@ -350,7 +350,7 @@ impl<const L: usize, const N: usize, const M: usize> Table<L, N, M> {
     }
 
     /// Puts a node below `N`, which is in no list (see `place`), into a list below `L`, with a value of 0 to
-    /// 4294967295: before the first one of a greater value, or last where there is none.
+    /// 4294967295: before the first one of a greater value, or last if there is none.
     pub fn insert_sorted(&mut self, list: ListId, node: NodeId, value: u32)
         requires list { list.number < L }
         requires node { node.number < N }
@@ -364,9 +364,9 @@ impl<const L: usize, const N: usize, const M: usize> Table<L, N, M> {
     }
 
     /// As `insert_sorted`, into a list in which no value is smaller than one before it. It walks from the last node, so it
-    /// takes constant time where no value is greater.
+    /// takes constant time if no value is greater.
     ///
-    /// FreeRTOS's `vListInsert` walks from the first. That this one doesn't is profile: the place found is the same.
+    /// FreeRTOS's `vListInsert` walks from the first. That this one doesn't is profile: it finds the same place.
     pub fn insert_sorted_from_back(&mut self, list: ListId, node: NodeId, value: u32)
         requires list { list.number < L }
         requires node { node.number < N }

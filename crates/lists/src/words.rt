@@ -62,7 +62,7 @@ fn are_zero(numbers: &[u16], at: usize) -> bool
     (word as i64) < 1
 }
 
-/// The place of the first number from a place on that isn't 0, or the list's length where there is none. The numbers are
+/// The place of the first number from a place on that isn't 0, or the list's length if there is none. The numbers are
 /// below 32768. Zeros are passed four at a time.
 #[inline(always)]
 pub fn first_nonzero(numbers: &[u16], from: usize) -> usize

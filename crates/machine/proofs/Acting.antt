@@ -1,4 +1,4 @@
--- A task goes on, and its call answers: what that makes of the states that the kernel represents.
+-- A task goes on, and its call returns: what that makes of the states that the kernel represents.
 use Rattle.std.proofs.Common.{◌≡◌, ◌≢◌, ◌<◌, ◌+◌, ℕ, Bool, true, set, List, length, get_or-set_same, Option, Some, refl, ap, sym}
 use Rattle.std.proofs.Common.{subst, ◌∙◌}
 use Rattle.std.specs.Option.{is_some, option_or, IfSome}
@@ -54,7 +54,7 @@ Goes app k i op_index new = (log : List Event) (s : State) → At k log s → At
 abbrev pub Completes : Application → Machine → ℕ → Machine → Type 0
 Completes app k i new = (log : List Event) (s : State) → At k log s → At new log (complete app i (progress_at s i) s)
 
--- Where the task makes progress, and is placed then, all in all it is placed.
+-- If the task makes progress, and is placed then, all in all it is placed.
 pub placed_then : (k mid new : Machine) (i : ℕ) (p : Progress) → mid ≡ with_progress i p k → IsPlaced mid new i → IsPlaced k new i
 placed_then k mid new i p is n =
     (n.0, n.1 ∙ ap (with_progress i n.0) is ∙ ap (λ (ps : List Progress). record k { progress = ps }) (set-set k.progress i p n.0))

@@ -8,7 +8,7 @@ use Rattle.machine.specs.StandsFor.{AreBlankFrom, Stands}
 use Rattle.machine.specs.StandsFor.Stands.{Placed, Placing}
 use Rattle.machine.proofs.Either.{progress_is}
 
--- Behind the tasks of a state that it represents a kernel keeps nothing.
+-- After the tasks of a state that it represents a kernel keeps nothing.
 pub blank_behind : (k : Machine) (s : State) (tasks : ℕ) → Stands k s → length s.tasks ≤ tasks → AreBlankFrom tasks k.progress
 blank_behind k s tasks h few task behind =
     progress_is k s h task ∙ ap (λ (t : Task). t.progress) (get_or-eq_default s.tasks no_task (omega (arith, few, behind)))

@@ -161,7 +161,7 @@ stored_at k log s op a h = record {
   log = h.log;
 }
 
--- the same, where a task may be still to be placed
+-- the same, but a task may not be placed yet
 pub stored_any : (k : Machine) (log : List Event) (s : State) (op : ValueOp) (a : Option ℕ) → AtAny k log s
     → AtAny (record k { variables = stored op a k.variables }) log (store op a s)
 stored_any k log s op a h = record {

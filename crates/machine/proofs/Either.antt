@@ -14,7 +14,7 @@ use Rattle.machine.specs.Logged.{Logged}
 use Rattle.machine.specs.Can.{Agrees}
 use Rattle.machine.specs.StandsFor.Stands.{Placed, Placing}
 
--- Where each task is in its lists, one may be still to be placed.
+-- Even if each task is in its lists, the weaker form holds, in which one may not be placed yet.
 pub any : (k : Machine) (log : List Event) (s : State) → At k log s → AtAny k log s
 any k log s h = record { stands = Placed h.stands; log = h.log }
 
@@ -47,7 +47,7 @@ module _ (k : Machine) (s : State) where
   suspensions_are (Placed h) = h.sched.suspensions
   suspensions_are (Placing task list b) = b.sched.suspensions
 
-  -- Where no task holds the scheduler, no `suspend_all` is in force.
+  -- If no task holds the scheduler, no `suspend_all` is active.
   pub none_in_force : Stands k s → k.sched.suspensions ≡ 0 → s.suspensions ≡ 0
   none_in_force h none = none_suspends s (sym (suspensions_are h) ∙ none)
 
@@ -87,7 +87,7 @@ module _ (k : Machine) (s : State) where
   progress_is (Placed h) = h.rest.progress
   progress_is (Placing task list b) = b.progress
 
--- Where the parts agree, no task is still to be placed.
+-- If the parts agree, each task is placed.
 pub all_placed : (k : Machine) → Agrees k → (log : List Event) (s : State) → AtAny k log s → At k log s
 all_placed k a log s h =
     either k log s h (λ p. p)

@@ -1,4 +1,4 @@
--- The progress of the first tasks, and of nobody behind them.
+-- The progress of the first tasks, and of none after them.
 use Rattle.std.proofs.Common.{◌≡◌, ◌<◌, ◌≤◌, ◌+◌, ◌-◌, ◌++◌, ◌∙◌, ℕ, List, drop, inl, inr, length, length-append, min, replicate}
 use Rattle.std.proofs.Common.{refl, ap, sym, arith, take}
 use Rattle.std.proofs.lemmas.Bool.{cases_lt}
@@ -16,7 +16,7 @@ module _ (front : List Progress) (few : length front ≤ 32) where
   pub long : length (with_blanks front) ≡ 32
   long = omega (arith, few, length-append front blanks, length-replicate (32 - length front) no_progress)
 
-  -- Who is behind the front has done nothing.
+  -- A task after the front has done nothing.
   pub in_front : (task : ℕ) → task < 32 → progress_in (with_blanks front) task ≡ progress_in front task
   in_front task low = elim (cases_lt task (length front)) [
     | inl there ↦ get_or_append_left front blanks no_progress task there
@@ -26,14 +26,14 @@ module _ (front : List Progress) (few : length front ≤ 32) where
         ∙ sym (get_or-eq_default front no_progress behind)
   ]
 
-  -- It is the progress of all tasks that has this front, and is blank behind it.
+  -- It is the progress of all tasks that has this front, and is blank after it.
   pub is_whole : (ps : List Progress) → length ps ≡ 32
       → ((task : ℕ) → task < 32 → progress_in ps task ≡ progress_in front task) → ps ≡ with_blanks front
   is_whole ps full same =
       ext_get_or no_progress ps (with_blanks front) (full ∙ sym long)
       (λ task below. let low : task < 32 = omega (arith, below, full) in same task low ∙ sym (in_front task low))
 
-  -- So it is where it is the same as the front as far as that goes, blank behind it up to some task, and from that on.
+  -- Likewise if it is the same as the front as far as that goes, and blank after it, up to some task and from that on.
   pub is_same : (ps : List Progress) (tasks : ℕ) → length ps ≡ 32
       → ((task : ℕ) → task < length front → progress_in ps task ≡ progress_in front task)
       → ((task : ℕ) → length front ≤ task → task < min tasks 32 → progress_in ps task ≡ no_progress)
@@ -46,7 +46,7 @@ module _ (front : List Progress) (few : length front ≤ 32) where
     ]
   ])
 
--- The front of a progress that is blank behind it.
+-- The front of a progress that is blank after it.
 pub front_is : (tasks : ℕ) (ps front : List Progress) → length ps ≡ 32 → tasks ≤ 32 → AreBlankFrom tasks ps
     → front ≡ take tasks ps → with_blanks front ≡ ps
 front_is tasks ps front full few blank is =
@@ -68,7 +68,7 @@ filled front before few full blank =
     (λ i below. get_or-drop (length front) before i no_progress ∙ blank (length front + i) (omega arith)
     ∙ sym (get_or-replicate (32 - length front) i no_progress no_progress (omega (arith, below, behind, full)))))
 
--- The front of one progress, and what is behind that in another, where both are blank behind it.
+-- The front of one progress, and what comes after that in another, if both are blank after it.
 pub front_copied : (tasks count : ℕ) (ps qs : List Progress) → count ≡ min tasks 32 → length ps ≡ 32 → length qs ≡ 32
     → AreBlankFrom tasks ps → AreBlankFrom tasks qs → take count qs ++ drop count ps ≡ qs
 front_copied tasks count ps qs is full as_full blank other =

@@ -66,7 +66,7 @@ progress-kept ts i t e = each-set no_task (λ j (u : Task). u.progress ≡ (get_
 
 -- ---- the scheduler
 
--- The scheduler represents each state of the same tasks, where the same one runs, tasks hold it as often, and a call
+-- The scheduler represents each state of the same tasks, if the same one runs, tasks hold it as often, and a call
 -- holds it as before.
 pub sched-same : {v : Schedule} {s new : State} → sched.StandsFor v s → IsTable new
     → new.tasks ≡ s.tasks → new.current ≡ s.current → holds_of new ≡ holds_of s → sched.StandsFor v new
@@ -83,7 +83,7 @@ sched-same h table tasks current holds = record {
 
 -- ---- the clock
 
--- those who wake at a time, by the tasks alone
+-- the tasks that wake at a time, by the tasks alone
 asleep_until : List Task → ℕ → List ℕ
 asleep_until ts m =
     tasks_of
@@ -129,7 +129,7 @@ ended_alike (WaitingForNotification m d) t = record { key = rw t refl; wake_time
 ended_alike Suspended t = record { key = refl; wake_time = refl }
 ended_alike Ended t = record { key = refl; wake_time = refl }
 
--- Who is Ready in the scheduler is not asleep in the clock, and the other way round.
+-- A task that is Ready in the scheduler is not asleep in the clock, and the other way round.
 pub apart : (k : Machine) (s : State) → StandsFor k s → (i : ℕ) → schedule.is_ready k.sched i ≡ true → is_asleep k.clock i ≡ false
 apart k s h i t =
     let on : is_ready s i ≡ true = sym (on_sched.ready_same k.sched s i h.sched) ∙ t in
@@ -159,7 +159,7 @@ Kept = ℕ × Option End × List Source × ℕ × List ℕ × (ℕ → Notificat
 abbrev pub kept_of : State → Kept
 kept_of s = (s.steps, s.stopped, s.sources, s.sections, s.variables, s.notifications)
 
--- The clock represents the new state; each task is where it was in its script, and what is kept beside the parts stays.
+-- The clock represents the new state; each task keeps its place in its script, and what is kept beside the parts stays.
 module _ {k : Machine} {s new : State} {v : Schedule} {t : Timeline} (h : RestStandsFor k s) (on : clock.StandsFor t new)
     (progress : (i : ℕ) → progress_at new i ≡ progress_at s i) (kept : kept_of new ≡ kept_of s) where
   -- the objects and the groups are given too; the guess at the next interrupt may be another
@@ -294,7 +294,7 @@ not_for_bits s i ready some =
     absurd (cc)
 
 module _ (k : Machine) (s : State) (h : StandsFor k s) (i : ℕ) (l : i < length s.tasks) where
-  -- a Ready task goes behind its equals
+  -- a Ready task moves after its equals
   pub rest-made_ready : is_ready s i ≡ true → RestStandsFor k (make_ready i s)
   rest-made_ready on =
       let u : Status = status_at s i in

@@ -23,7 +23,7 @@ use Rattle.machine.specs.declared.machine.Machine.{Machine}
 use Rattle.machine.specs.StandsFor.{RestStandsFor, StandsFor, StandsBefore, At, AtAny, change}
 use Rattle.machine.proofs.Parts.{rest_again, rest_unseen, rest-made_ready}
 
--- The scheduler isn't held where its depth is 0.
+-- The scheduler isn't held if its depth is 0.
 pub unheld_by : (v : Schedule) (s : State) → sched.StandsFor v s → v.depth ≡ 0 → is_held s ≡ false
 unheld_by v s h z = held_by_depth s ∙ ap (λ (n : ℕ). nat_lt 0 n) (sym h.depth ∙ z)
 
@@ -34,7 +34,7 @@ same_self (Some i) = eqb-refl i
 same_runs : (s : State) → change s.steps s.time s.current s.current ≡ []
 same_runs s = rw same_self refl
 
--- What a switch reports: who runs, where that is a change.
+-- What a switch reports: which task runs, if that is a change.
 abbrev Tells : State → State → Type 0
 Tells s new = new.log ≡ s.log ++ change s.steps s.time s.current new.current
 
@@ -73,11 +73,11 @@ log-preempt s = by_test (is_outranked s)
     (λ t. rw t (log-yield_now s))
     (λ t. rw t (sym (append-nil s.log) ∙ ap (λ l. s.log ++ l) (sym (same_runs s))))
 
--- Where no task is above the running one, nothing is reported.
+-- If no task is above the running one, nothing is reported.
 pub none_above : (v new : Schedule) → new ≡ schedule.preempt v → schedule.is_outranked v ≡ false → new.current ≡ v.current
 none_above v new is none = ap (λ (w : Schedule). w.current) is ∙ rw none refl
 
--- So it is at the end of a tick where no other of its priority is Ready either.
+-- Likewise at the end of a tick, if no other of its priority is Ready either.
 pub none_in_turn : (v new : Schedule) → new ≡ schedule.slice v
     → schedule.is_outranked v || schedule.is_sharing v ≡ false → new.current ≡ v.current
 none_in_turn v new is none = ap (λ (w : Schedule). w.current) is ∙ rw none refl
@@ -185,7 +185,7 @@ pub sliced_free : (k : Machine) (log : List Event) (s : State)
     → is_held s ≡ false → At k log (slice s) → At k log (unless_held slice s)
 sliced_free k log s none a = subst (At k log) (sym (when_free slice s none)) a
 
--- Where it represents both the state and the settled one, it doesn't matter whether the scheduler is held.
+-- If it represents both the state and the settled one, it doesn't matter whether the scheduler is held.
 pub settled_either : (k : Machine) (log : List Event) (s : State)
     → At k log s → At k log (settle s) → At k log (unless_held settle s)
 settled_either k log s held free = by_test (is_held s) (λ t. settled_held k log s t held) (λ t. settled_free k log s t free)

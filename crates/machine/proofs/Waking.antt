@@ -1,4 +1,4 @@
--- Who is due becomes Ready, one after the other.
+-- The tasks that are due become Ready, one after the other.
 use Rattle.std.proofs.Common.{None, Some, ◌≡◌, ◌≢◌, ◌<◌, ◌+◌, ℕ, zero, suc, true, false, eqb, List, [], ◌∷◌, ◌++◌, length, get_or}
 use Rattle.std.proofs.Common.{take, drop, refl, ap, sym, subst, ◌∙◌, arith}
 use Rattle.std.specs.List.{AllByRecursion, IsDistinct, filter}
@@ -53,7 +53,7 @@ depth_woken v new i is = ap (λ (w : Schedule). w.depth) is ∙ by_test (eqb v.d
 pub suspensions_woken : (v new : Schedule) (i : ℕ) → new ≡ schedule.wake i v → new.suspensions ≡ v.suspensions
 suspensions_woken v new i is = ap (λ (w : Schedule). w.suspensions) is ∙ by_test (eqb v.depth 0) (λ t. rw t refl) (λ t. rw t refl)
 
--- Who sleeps isn't Ready, and nobody sleeps twice, so that all who are due can become Ready.
+-- A sleeping task isn't Ready, and none sleeps twice, so all that are due can become Ready.
 pub to_wake : (ticks : ℕ) (k : Machine) (s : State) → StandsFor k s
     → (new : Timeline) (ds : List ℕ) → Jumps ticks k.clock new ds → AreToWake k.sched ds
 unfolding IsDistinct
@@ -99,7 +99,7 @@ module _ (v : Schedule) (ts : List ℕ) (j : ℕ) (i : ℕ) (l : j < length ts) 
       let P : Schedule → Type 0 = λ x. AreToWake x (drop (j + 1) ts ++ more) in
       subst P (sym is) (still_to_wake v i (drop (j + 1) ts ++ more) w.1 w.2)
 
--- one of those who are there
+-- one of the tasks that are there
 at_there : (s : State) (ts : List ℕ) (j : ℕ) (d : ℕ) → j < length ts → AreThere s ts
     → (get_or ts j d < length s.tasks) × (can_resume (status_at s (get_or ts j d)) ≡ false)
 at_there s [] j d l h = absurd (omega arith)
@@ -129,7 +129,7 @@ due_unsuspended s (Asleep w n) e = refl
 due_unsuspended s Suspended e = absurd (cc)
 due_unsuspended s Ended e = refl
 
--- those who are due
+-- the tasks that are due
 pub due_there : (s : State) → AreThere s (tasks_of (due s))
 due_there s = of_list (delayed_list s) (list_within delayed_key s.tasks) where
   of_list : (es : List Entry) → AllByRecursion (λ (e : Entry). e.task < length s.tasks) es
@@ -171,7 +171,7 @@ pub kept-all_ready : (is : List ℕ) (s : State) → kept_of (for_each make_read
 kept-all_ready [] s = refl
 kept-all_ready (i ∷ is) s = kept-all_ready is (make_ready i s)
 
--- Where nothing holds the scheduler no tick is held.
+-- If nothing holds the scheduler no tick is held.
 pub ticks_not_held : (v : Schedule) (s : State) → sched.StandsFor v s → v.depth ≡ 0 → holds_ticks s ≡ false
 ticks_not_held v s h none =
     let off = nothing_holds s (held_by_depth s ∙ ap (λ (n : ℕ). nat_lt 0 n) (sym h.depth ∙ none)) in

@@ -28,7 +28,7 @@ pub record Runs (k : Machine) (task : ℕ) : Type 0 where
   pub ready : is_ready k.sched task ≡ true
   pub op_index : (progress_in k.progress task).op_index < 256
 
--- The object is there, and has room for what the call puts in, where nothing is in it.
+-- The object is there, and has room for what the call puts in, if nothing is in it.
 abbrev pub HasRoom : Machine → ℕ → Access ℕ → Type 0
 HasRoom k object access = objects.HasRoom k.objects object access
 
@@ -53,12 +53,12 @@ pub record IsInCall (k : Machine) (task : ℕ) : Type 0 where
   pub current : k.sched.current ≡ Some task
   pub agrees : Agrees k
 
--- A deadline, if there is one, is still to come, less than 2^32 ticks away.
+-- A deadline, if there is one, is in the future, less than 2^32 ticks away.
 abbrev pub IsAhead : ℕ → Option ℕ → Type 0
 IsAhead now deadline = IfSome deadline (λ time. (now < time) × (time < now + 2 ^ 32))
 
--- A run of which this many steps are done is under way: the kernel represents the state after them, and none of them came
--- after the end.
+-- A run with this many steps done is under way: the kernel represents the state after them, and none of them came after
+-- the end.
 pub record IsUnderWay (app : Application) (plan : List Injection) (limits : Limits) (k : Machine) : Type 0 where
   pub stands : Stands k (state_after app limits plan k.steps)
   pub goes_on : (n : ℕ) → n < k.steps → end_of app limits (state_after app limits plan n) ≡ None

@@ -1,4 +1,4 @@
--- Answers that are kept for tasks until they go on.
+-- Results that are kept for tasks until they go on.
 use Rattle.std.specs.Prelude.{ℕ, List, Some, fold, slice_set}
 use Rattle.model.specs.State.{Progress}
 use Rattle.machine.specs.StandsFor.{progress_in}

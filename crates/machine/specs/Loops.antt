@@ -17,13 +17,13 @@ abbrev pub cells_of : List Loop → List Loop
 cells_of [] = replicate 4 no_loop
 cells_of (l ∷ ls) = set (cells_of ls) (length ls) l
 
--- four cells, of which so many hold an open loop, and the others nothing
+-- four cells: so many of them hold an open loop, and the others nothing
 pub record AreCells (cells : List Loop) (nesting : ℕ) : Type 0 where
   pub few : nesting ≤ 4
   pub full : length cells ≡ 4
   pub blank : (level : ℕ) → nesting ≤ level → slice_index_or cells level no_loop ≡ no_loop
 
--- The turns that are left, this one included, are over with it; a loop for ever has always more.
+-- The turns that are left, this one included, are over with it; an endless loop always has more.
 abbrev pub is_last : Option ℕ → Bool
 is_last None = false
 is_last (Some left) = nat_le left 1

@@ -43,7 +43,7 @@ pub record AreSources (kept : Sources) (sources : List Source) : Type 0 where
   pub full : length kept.pending ≡ 17
   pub few : length sources ≤ 17
 
--- all but the scheduler, where no task has begun to wait without being in its lists yet
+-- all but the scheduler, if no task has begun to wait without being in its lists yet
 pub record RestStandsFor (k : Machine) (s : State) : Type 0 where
   pub progress : (task : ℕ) → progress_in k.progress task ≡ progress_at s task
   pub full : length k.progress ≡ 32
@@ -59,10 +59,10 @@ pub record RestStandsFor (k : Machine) (s : State) : Type 0 where
   pub stopped : k.stopped ≡ s.stopped
   pub placed : (task : ℕ) → (progress_in k.progress task).call.phase ≢ Place
 
--- Where each task is in its script is kept as it is. The scheduler represents who is Ready, who runs and what holds it, and the
--- clock the time and who wakes when. The objects represent what they hold, who waits at them, and which one is locked, and the
--- groups their bits, and who waits for them or for a notification. Beside them the notifications and the variables are kept, which
--- interrupt sources are pending, and how many critical sections are open.
+-- Each task's place in its script is kept as it is. The scheduler represents which tasks are Ready, which one runs and what holds
+-- it, and the clock the time and which task wakes when. The objects represent what they hold, which tasks wait at them, and which
+-- one is locked, and the groups their bits, and which tasks wait for them or for a notification. Beside them the notifications and
+-- the variables are kept, which interrupt sources are pending, and how many critical sections are open.
 pub record StandsFor (k : Machine) (s : State) : Type 0 where
   pub sched : sched.StandsFor k.sched s
   pub rest : RestStandsFor k s
@@ -72,7 +72,7 @@ abbrev pub decider : ℕ → WaitList → State → Decider
 decider task list s = record { task = task; list = list; priority = (task_at s task).priority }
 
 -- The same, except that the running task has begun to wait in this list, and is not placed yet. It is still among
--- the scheduler's Ready tasks, and neither in its waiting list nor among those who wake by themselves.
+-- the scheduler's Ready tasks, and neither in its waiting list nor among the tasks that wake by themselves.
 pub record StandsBefore (task : ℕ) (list : WaitList) (k : Machine) (s : State) : Type 0 where
   pub sched : sched.StandsBefore task k.sched s
   pub clock : clock.StandsBefore task (call_at s task).deadline k.clock s
@@ -103,20 +103,20 @@ pub record At (k : Machine) (told : List Event) (s : State) : Type 0 where
   pub stands : StandsFor k s
   pub log : told ≡ s.log
 
--- the same, where a task may be still to be placed
+-- the same, but a task may not be placed yet
 pub record AtAny (k : Machine) (told : List Event) (s : State) : Type 0 where
   pub stands : Stands k s
   pub log : told ≡ s.log
 
 -- The deed is done: for every state that the old kernel represents, the new one represents what the deed makes of it. At
--- most this many events are reported, each of which takes room of the log. The events before this step stay.
+-- most this many events are reported, and each takes room of the log. The events before this step stay.
 pub record Does (count : ℕ) (old : Machine) (old_log : Logged)
     (new : Machine) (new_log : Logged) (deed : State → State) : Type 0 where
   pub at : (s : State) → At old old_log.told s → At new new_log.told (deed s)
   pub few : old_log.room ≤ new_log.room + count
   pub before : new_log.before ≡ old_log.before
 
--- the same, where a task may be still to be placed, before the deed or after it
+-- the same, but a task may not be placed yet, before the deed or after it
 pub record DoesAny (count : ℕ) (old : Machine) (old_log : Logged)
     (new : Machine) (new_log : Logged) (deed : State → State) : Type 0 where
   pub at : (s : State) → AtAny old old_log.told s → AtAny new new_log.told (deed s)
@@ -130,7 +130,7 @@ Moves old new deed = (log : List Event) (s : State) → At old log s → At new 
 abbrev pub MovesAny : Machine → Machine → (State → State) → Type 0
 MovesAny old new deed = (log : List Event) (s : State) → AtAny old log s → AtAny new log (deed s)
 
--- the event that says who runs now, where that is a change
+-- the event that says which task runs now, if that is a change
 abbrev pub change : ℕ → ℕ → Option ℕ → Option ℕ → List Event
 change step time before now =
     if is_same now before then [] else record { step = step; tick = printed time; what = what.Run now } ∷ []

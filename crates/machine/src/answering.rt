@@ -1,4 +1,4 @@
-//! An op is complete, or is a misuse: the task goes on, and its call answers.
+//! An op is complete, or is a misuse: the task goes on, and its call returns.
 ghost use Rattle.std.specs.Prelude.{◌≡◌, ◌<◌, ◌≤◌, ◌+◌, true, Some, None};
 ghost use Rattle.std.specs.Option.{option_or};
 ghost use Rattle.model.specs.State.{progress_at};
@@ -22,7 +22,7 @@ fn called(task: TaskId, op_index: u16, given: Option<u32>) -> What
     }
 }
 
-/// What a call answers that did something, or did nothing.
+/// The result of a call that did something, or did nothing.
 pub fn one_if(did: bool) -> u32
     ensures { Some result ≡ one_if did }
 {
@@ -30,7 +30,7 @@ pub fn one_if(did: bool) -> u32
 }
 
 impl Machine {
-    /// The running task goes on at this op; past its last one it is Ended. It answers whether the task is still amid its script.
+    /// The running task goes on at this op; past its last one it is Ended. Returns whether the task's script goes on.
     // Most ops end so, and a call would cost a third of it.
     #[inline(always)]
     pub fn go_to(&mut self, app: &App, task: TaskId, op_index: u16) -> bool
@@ -51,7 +51,7 @@ impl Machine {
         true
     }
 
-    /// The op that the running task is at is complete. It answers whether the task is still amid its script.
+    /// The op that the running task is at is complete. Returns whether the task's script goes on.
     #[inline(always)]
     pub fn complete(&mut self, app: &App, task: TaskId) -> bool
         requires { Runs self.old task }
@@ -67,8 +67,8 @@ impl Machine {
         self.go_to(app, task, next)
     }
 
-    /// A call of the running task is complete with this answer, or with `none`. It answers whether the task is still amid its script.
-    // Apart from `answer`, since most calls answer a number, and the step is faster where that is known.
+    /// A call of the running task is complete with this result, or with `none`. Returns whether the task's script goes on.
+    // Apart from `answer`, since most calls return a number, and the step is faster if that is known.
     #[inline(always)]
     pub fn answer_given<L: Log>(
         &mut self,
@@ -92,7 +92,7 @@ impl Machine {
         self.complete(app, task)
     }
 
-    /// A call of the running task is complete with this number as its answer. It answers whether the task is still amid its script.
+    /// A call of the running task is complete with this number as its result. Returns whether the task's script goes on.
     #[inline(always)]
     pub fn answer<L: Log>(&mut self, app: &App, task: TaskId, number: u32, log: &mut L) -> bool
         requires room { 1 ≤ (L.logged log.old).room }
@@ -138,7 +138,7 @@ impl Machine {
         self.stopped = Some(End::Misuse(task, op_index, misuse));
     }
 
-    /// A check fails, which ends the run behind the step, unless one has failed in the step already.
+    /// A check fails, which ends the run after the step, unless one has failed in the step already.
     #[inline]
     pub fn fail(&mut self, check: End)
         ensures does { Moves self.old self.new (fail check) }

@@ -25,10 +25,10 @@ use model::{App, ObjectId, TaskDefinition, TaskId, WaitList};
 use objects::Objects;
 use sched::Sched;
 
-/// What is kept where no task is to be put into a waiting list: the same for all kernels, so that they can be compared.
+/// What is kept if no task must be put into a waiting list: the same for all kernels, so that they can be compared.
 pub const NO_WAIT_LIST: WaitList = WaitList::ToReceive(ObjectId { number: 0 });
 
-/// The progress where there are no tasks.
+/// The progress if there are no tasks.
 pub(crate) fn without_tasks() -> [Progress; 32]
     ensures progress { (task : ℕ) → progress_in result task ≡ no_progress }
     ensures full { length result ≡ 32 }

@@ -12,8 +12,8 @@ use crate::machine::Machine;
 use clock::Clock;
 use model::TaskId;
 
-/// A task that has begun to wait until this deadline is put among those who wake by themselves.
-// Most waits at objects are for ever, so it isn't inlined into what asks for the deadline.
+/// A task that has begun to wait until this deadline is put among the tasks that wake by themselves.
+// Most waits at objects have no limit, so it isn't inlined into what asks for the deadline.
 #[inline(never)]
 fn sleep_until(clock: &mut Clock, deadline: u64, task: TaskId)
     requires awake { is_asleep clock.old task ≡ false }
@@ -24,7 +24,8 @@ fn sleep_until(clock: &mut Clock, deadline: u64, task: TaskId)
     clock.sleep(task, ticks as u32);
 }
 
-/// A task that has begun to wait until a deadline, if there is one, is put among those who wake by themselves.
+/// A task that has begun to wait until a deadline, if there is one, is put among the tasks that wake by
+/// themselves.
 #[inline(always)]
 pub fn place_sleeper(clock: &mut Clock, deadline: Option<u64>, task: TaskId)
     requires awake { is_asleep clock.old task ≡ false }
@@ -36,8 +37,8 @@ pub fn place_sleeper(clock: &mut Clock, deadline: Option<u64>, task: TaskId)
     }
 }
 
-/// A task has begun to wait for this many ticks, or for ever. Where it is not for ever, the task is put among those who wake by themselves.
-// Where the ticks are still at hand, the time needn't be asked.
+/// A task has begun to wait for this many ticks, or forever. If not forever, the task is put among the tasks that wake by themselves.
+// With the ticks still at hand, the time needn't be asked.
 #[inline(always)]
 pub fn place_sleeper_for(clock: &mut Clock, ticks: Option<u32>, task: TaskId)
     requires awake { is_asleep clock.old task ≡ false }
@@ -51,8 +52,8 @@ pub fn place_sleeper_for(clock: &mut Clock, ticks: Option<u32>, task: TaskId)
 }
 
 impl Machine {
-    /// The call of the running task, which begins, may wait for this many ticks from now, or for ever.
-    // Mostly it is for ever, for which the time needn't be asked.
+    /// The call of the running task, which begins, may wait for this many ticks from now, or forever.
+    // Usually it is forever, and then the time needn't be asked.
     pub fn set_deadline(&mut self, task: TaskId, ticks: Option<u32>)
         requires can { IsInCall self.old task }
         requires time { self.old.clock.now + 2 ^ 32 < 2 ^ 63 }

@@ -1,4 +1,4 @@
-//! The progress of the first tasks, where nobody behind them has done anything.
+//! The progress of the first tasks, if no task after them has done anything.
 ghost use Rattle.std.specs.Prelude.{◌≡◌, ◌<◌, ◌≤◌, ℕ, length, min, true, IfOk, OnOk};
 ghost use Rattle.model.specs.State.{no_progress};
 ghost use Rattle.machine.specs.StandsFor.{AreBlankFrom, progress_in};
@@ -9,7 +9,8 @@ use crate::progress::Progress;
 use model::Memory;
 use std::alloc::Global;
 
-/// How many of so many first tasks there are, behind which nothing is done, where nothing is done behind these.
+/// How many of so many first tasks are needed so that nothing is done after them, if nothing is done after
+/// these.
 fn tasks_of(progress: &[Progress; 32], most: usize) -> usize
     ensures few { result ≤ 32 }
     ensures blank { AreBlankFrom most progress.now → AreBlankFrom result progress.now }
@@ -23,8 +24,8 @@ fn tasks_of(progress: &[Progress; 32], most: usize) -> usize
     0
 }
 
-/// The progress of the first tasks, behind which nothing is done. There are so many at most, and nobody behind these has done anything.
-/// `Memory` is answered only where a growth was refused.
+/// The progress of the first tasks after which nothing is done. There are so many at most, and no task after these has done anything.
+/// `Memory` is returned only if a growth was refused.
 pub(crate) fn front_of(
     alloc: Global,
     progress: &[Progress; 32],
@@ -38,8 +39,8 @@ pub(crate) fn front_of(
     Ok(front)
 }
 
-/// Makes a front that of the first tasks as they are now, as `front_of` does, in the memory that it has, and more only where that is too
-/// little. `Memory` is answered only where a growth was refused.
+/// Makes a front that of the first tasks as they are now, as `front_of` does, in the memory that it has, and more only if that is too
+/// little. `Memory` is returned only if a growth was refused.
 pub(crate) fn save_front(
     progress: &[Progress; 32],
     most: usize,
@@ -56,7 +57,7 @@ pub(crate) fn save_front(
     Ok(())
 }
 
-/// Makes it that of these first tasks, with nothing done behind them.
+/// Makes it that of these first tasks, with nothing done after them.
 pub(crate) fn fill_from(progress: &mut [Progress; 32], front: &[Progress])
     requires { length front.now ≤ 32 }
     ensures { progress.new ≡ with_blanks front.now }
@@ -78,7 +79,7 @@ fn are_same(progress: &[Progress; 32], other: &[Progress]) -> bool
     true
 }
 
-/// Whether that of the tasks between these two is blank; the second counts as 32 where it is more.
+/// Whether that of the tasks between these two is blank; the second counts as 32 if it is more.
 fn are_blank(progress: &[Progress; 32], first: usize, end: usize) -> bool
     ensures { result ≡ true → (task : ℕ) → first ≤ task → task < min end 32 → progress_in progress.now task ≡ no_progress }
 {
@@ -90,8 +91,8 @@ fn are_blank(progress: &[Progress; 32], first: usize, end: usize) -> bool
     true
 }
 
-/// Whether each progress is the same as the other at its place, and blank where there is no other. There are so many tasks, and nobody
-/// behind them has done anything.
+/// Whether each progress is the same as the other at its place, and blank if there is no other. There are so many tasks, and none
+/// after them has done anything.
 pub(crate) fn is_same_progress(progress: &[Progress; 32], other: &[Progress], tasks: usize) -> bool
     requires { length other.now ≤ 32 }
     ensures { result ≡ true → AreBlankFrom tasks progress.now → progress.now ≡ with_blanks other.now }

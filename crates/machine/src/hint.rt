@@ -18,7 +18,7 @@ pub(crate) fn numbered(number: Option<u64>) -> u64 {
 }
 
 impl Progress {
-    // Whether nothing of its script is done, as where there is no task.
+    // Whether nothing of its script is done, as if there is no task.
     #[inline(always)]
     fn is_first(&self) -> bool {
         self.op_index as u32 | self.used == 0
@@ -36,9 +36,9 @@ impl Progress {
 }
 
 impl Machine {
-    /// A number that kernels have in common which are the same (`is_at`), and most others don't: it is made of nothing else than what
-    /// `is_at` compares. It is a hint, on which nothing rests. It looks at so many of the first tasks, of which one that is at its
-    /// first op, with nothing done, is left out.
+    /// A number that is the same for kernels that are the same (`is_at`), and for most others isn't: it is made only of what `is_at`
+    /// compares. It is a hint, and nothing rests on it. It looks at so many of the first tasks, and leaves out one that is at its
+    /// first op with nothing done.
     pub fn hint(&self, tasks: usize) -> u64 {
         let runs = self.sched.current().map(|task| task.number as u64);
         let time = mixed(self.clock.now(), self.clock.elapsed());

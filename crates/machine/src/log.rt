@@ -1,4 +1,4 @@
-//! Where a step reports its events.
+//! What a step reports its events to.
 ghost use Rattle.std.specs.Prelude.{◌≡◌, ◌<◌, ◌+◌, ◌++◌, ◌∷◌, []};
 ghost use Rattle.machine.specs.Logged.{Logged};
 

@@ -12,8 +12,8 @@ const NO_LOOP: Loop = Loop {
     left: None,
 };
 
-/// The open loops of a task: at most four (profile). The cells behind them hold nothing of loops that are closed, so that loops
-/// are copied as they lie.
+/// The open loops of a task: at most four (profile). The cells after them keep nothing of closed loops, so loops are copied as
+/// they are.
 #[derive(Clone, Copy)]
 pub struct Loops {
     cells: [Loop; 4],
@@ -91,8 +91,8 @@ impl Loops {
         self.nesting += 1;
     }
 
-    /// Ends a turn of the innermost loop: the answer is the op at which the next turn begins. After the last turn the
-    /// loop is closed, and the answer is `None`, as where no loop is open.
+    /// Ends a turn of the innermost loop, and returns the op at which the next turn begins. After the last turn the
+    /// loop is closed, and `None` is returned, as if no loop is open.
     pub(crate) fn end_turn(&mut self) -> Option<u16>
         ensures loops { self.new ≡ after_turn self.old }
         ensures next { result ≡ next_turn self.old }

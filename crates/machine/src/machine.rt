@@ -1,4 +1,4 @@
-//! The kernel's state, and the parts of which each step is made.
+//! The kernel's state, and the parts that each step is made of.
 ghost use Rattle.std.specs.Prelude.{◌≡◌, ◌<◌, ◌≤◌, ◌+◌, ◌++◌, ◌∷◌, [], Some, drop, length, true};
 ghost use Rattle.model.specs.State.{no_call, printed};
 ghost use Rattle.model.specs.Switching.{write};
@@ -28,10 +28,10 @@ pub struct Machine {
     pub notifications: Notifications,
     pub variables: Variables,
     pub sources: Sources,
-    /// How many critical sections are open, each of which holds the scheduler once.
+    /// How many critical sections are open. Each of them holds the scheduler once.
     pub sections: u32,
-    /// The list in which a wait at an object has begun, whose task is still to be put there. Where there is none it is
-    /// `NO_WAIT_LIST`, on which nothing rests.
+    /// The list in which a wait at an object has begun, if its task isn't placed there yet. Otherwise it is
+    /// `NO_WAIT_LIST`, and nothing rests on it.
     pub wait_list: WaitList,
     /// The index of the base interrupt that is taken for the next. It is a guess, which is tested before it is used.
     pub next_interrupt: u32,
@@ -71,7 +71,7 @@ impl Machine {
         }
     }
 
-    /// Becomes a copy of the other, in place, where nobody behind so many tasks has done anything, in either. It takes no memory.
+    /// Becomes a copy of the other, in place, if no task after so many has done anything, in either. It takes no memory.
     pub fn set_from_first(&mut self, other: &Self, tasks: usize)
         ensures { AreBlankFrom tasks self.old.progress → AreBlankFrom tasks other.now.progress → self.new ≡ other.now }
     {
@@ -99,7 +99,7 @@ impl Machine {
         self.stopped = other.stopped;
     }
 
-    /// Where a task is in its script.
+    /// A task's place in its script.
     pub fn progress(&self, task: TaskId) -> &Progress
         ensures { result.now ≡ progress_in self.now.progress task }
     {
@@ -122,7 +122,7 @@ impl Machine {
         });
     }
 
-    /// Places a task at this op, of which nothing is used up.
+    /// Places a task at this op, with nothing of it used up.
     pub(crate) fn set_op_index(&mut self, task: TaskId, op_index: u16)
         ensures { self.new ≡ with_progress task
             (record (progress_in self.old.progress task) { op_index = op_index; used = 0; call = no_call }) self.old }
@@ -152,7 +152,7 @@ impl Machine {
         progress.call.waits = waits;
     }
 
-    /// A task's call waits until this time at the latest, in ticks without bound, or for ever.
+    /// A task's call waits until this time at the latest, in ticks without bound, or forever.
     pub(crate) fn set_call_deadline(&mut self, task: TaskId, deadline: Option<u64>)
         ensures { let p = progress_in self.old.progress task in
             self.new ≡ with_progress task (record p { call = record p.call { deadline = deadline } }) self.old }
@@ -241,8 +241,7 @@ impl Machine {
         progress.loops.open(innermost);
     }
 
-    /// A task's innermost loop ends a turn: the answer is the op at which the next turn begins, or `None` where there is
-    /// none.
+    /// A task's innermost loop ends a turn. Returns the op at which the next turn begins, or `None` if there is none.
     // A quarter of all steps end a turn, and a call would cost a tenth of one.
     #[inline(always)]
     pub fn end_turn(&mut self, task: TaskId) -> Option<u16>

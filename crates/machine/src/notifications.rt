@@ -18,7 +18,7 @@ const NONE: Notification = Notification {
 #[derive(Drop)]
 pub struct Notifications {
     of_tasks: [Notification; 32],
-    /// Whether anything was done with one. Where nothing was, nothing is copied or compared.
+    /// Whether anything was done with one. If not, nothing is copied or compared.
     used: bool,
 }
 
@@ -94,7 +94,7 @@ impl Notifications {
         }
     }
 
-    /// A number that equal ones have in common, and others mostly don't. Nothing rests on it.
+    /// A number that is the same for equal ones, and usually differs for others. Nothing rests on it.
     pub(crate) fn hint(&self) -> u64 {
         if !self.used {
             return 0;

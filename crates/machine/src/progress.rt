@@ -1,9 +1,9 @@
-//! Where a task is in its script.
+//! A task's place in its script.
 use crate::loops::Loops;
 use model::{CallProgress, Phase};
 use std::marker::Model;
 
-/// Where a task is in its script, and what it keeps there.
+/// A task's place in its script, and what it keeps there.
 #[derive(Clone, Copy)]
 pub struct Progress {
     /// The index of the op that the task is at.
@@ -36,7 +36,7 @@ impl Progress {
     ghost use Rattle.std.specs.Prelude.{◌≡◌, true};
     ghost use Rattle.model.specs.State.{no_progress};
 
-    /// At the first op, of which nothing is done, and counting from this time.
+    /// At the first op, with nothing of it done, and counting from this time.
     pub(crate) fn new(start: u64) -> Progress
         ensures { result ≡ record no_progress { previous_wake = start; stamp = start } }
     {
@@ -67,11 +67,11 @@ impl Progress {
         self.loops.is_same(&other.loops)
     }
 
-    /// Whether nothing is done, and nothing kept, as where there is no task.
+    /// Whether nothing is done, and nothing kept, as if there is no task.
     pub(crate) fn is_blank(&self) -> bool
         ensures { result ≡ true → self.now ≡ no_progress }
     {
-        // Where there is no task each of these is tested, so they are joined without jumps.
+        // If there is no task, each of these is tested, so they are joined without jumps.
         let call = &self.call;
         let is_marked = call.waits | call.inherited;
         let is_kept = self.answer.is_some() | call.deadline.is_some();

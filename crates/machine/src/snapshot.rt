@@ -22,7 +22,7 @@ use std::marker::Model;
 /// be: a snapshot has room for its application's tasks, and for the items of its queues.
 #[derive(Drop)]
 pub struct Snapshot {
-    // That of the first tasks, behind which nobody has done anything.
+    // That of the first tasks; no task after them has done anything.
     progress: Vec<Progress>,
     sched: Sched,
     clock: Clock,
@@ -59,7 +59,7 @@ impl Snapshot {
         self.steps
     }
 
-    /// How many of the first tasks there are, 32 at most, behind which nobody has done anything.
+    /// How many first tasks there are, 32 at most; no task after them has done anything.
     pub fn tasks(&self) -> usize
         ensures { AreBlankFrom result self.now.progress }
     {
@@ -71,7 +71,7 @@ impl Machine {
     /// The kernel as it is now, which is of so many tasks. It takes some 3 kB, and memory of 112 bytes for each task and of four for each
     /// item that the queues can hold.
     ///
-    /// `Memory` is answered only where a growth was refused.
+    /// `Memory` is returned only if a growth was refused.
     pub fn snapshot(&self, alloc: Global, tasks: usize) -> Result<Snapshot, Memory>
         ensures { IfOk result (λ snapshot. AreBlankFrom tasks self.now.progress → snapshot ≡ self.now) }
     {
@@ -114,8 +114,8 @@ impl Machine {
         }
     }
 
-    /// Makes a snapshot that of the kernel as it is now, which is of so many tasks, in the memory that it has, and more only where more tasks
-    /// have done something. `false` where that is refused, or the snapshot is of another application; then it is of no more use.
+    /// Makes a snapshot that of the kernel as it is now, which is of so many tasks, in the memory that it has, and more only if more tasks
+    /// have done something. `false` if that is refused, or if the snapshot is of another application; then it is of no more use.
     pub fn save(&self, snapshot: &mut Snapshot, tasks: usize) -> bool
         ensures { result ≡ true → AreBlankFrom tasks self.now.progress → snapshot.new ≡ self.now }
     {

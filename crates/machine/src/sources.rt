@@ -6,7 +6,7 @@ ghost use Rattle.machine.specs.Sources.{is_pending};
 use model::HandlerId;
 use std::marker::Model;
 
-/// Which interrupt sources are pending: raised while a critical section was open, and still to come.
+/// Which interrupt sources are pending: raised while a critical section was open, and not handled yet.
 #[derive(Drop)]
 pub struct Sources {
     /// How many sources there are.

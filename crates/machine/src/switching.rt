@@ -64,7 +64,7 @@ pub fn wake_all(sched: &mut Sched, clock: &mut Clock, tasks: &[TaskId])
 }
 
 impl Machine {
-    /// Reports who runs now, where that is a change.
+    /// Reports the task that runs now, if that is a change.
     // This, the slice and the end of a step come in most steps, and are at several places of the program, so the compiler doesn't inline
     // them by itself.
     #[inline(always)]
@@ -110,7 +110,7 @@ impl Machine {
         self.write_change(before, log);
     }
 
-    /// The running task goes behind its equals, and the choice runs.
+    /// The running task moves after its equals, and the choice runs.
     pub fn yield_now<L: Log>(&mut self, log: &mut L)
         requires room { 0 < (L.logged log.old).room }
         requires free { self.old.sched.depth ≡ 0 }
@@ -122,7 +122,7 @@ impl Machine {
     }
 
     /// The end of a tick: a task above the running one runs, otherwise the next of equal priority.
-    // Mostly nothing switches, and the tick that asks has at hand what shows it.
+    // Usually nothing switches, and the tick that asks has at hand what shows it.
     #[inline(always)]
     pub fn slice<L: Log>(&mut self, log: &mut L)
         requires room { 0 < (L.logged log.old).room }
@@ -136,7 +136,7 @@ impl Machine {
     }
 
     /// A task above the running one runs, if there is one.
-    // Mostly there is none, and nothing is to be reported.
+    // Usually there is none, and nothing must be reported.
     #[inline(always)]
     pub fn preempt<L: Log>(&mut self, log: &mut L)
         requires room { 0 < (L.logged log.old).room }
@@ -150,7 +150,7 @@ impl Machine {
         }
     }
 
-    /// The end of a step: where the running task isn't Ready any more, the choice runs, unless the scheduler is held.
+    /// The end of a step: if the running task isn't Ready any more, the choice runs, unless the scheduler is held.
     #[inline(always)]
     pub fn settle<L: Log>(&mut self, log: &mut L)
         requires { 0 < (L.logged log.old).room }
@@ -168,7 +168,8 @@ impl Machine {
         }
     }
 
-    /// A tick of the clock, where nothing holds the scheduler: who is due becomes Ready, in the order in which they began to sleep.
+    /// A tick of the clock, if nothing holds the scheduler: the tasks that are due become Ready, in the order in which they began
+    /// to sleep.
     // The step is twice in the program, so the compiler doesn't inline this by itself.
     #[inline(always)]
     pub fn advance(&mut self)
@@ -181,7 +182,8 @@ impl Machine {
         }
     }
 
-    /// The same, by way of a list of those who are due. Inlined, that list would be zeroed at every tick.
+    /// The same, by way of a list of the tasks that are due. Inlined, that list would be zeroed at every
+    /// tick.
     #[inline(never)]
     fn wake_due(&mut self)
         requires { CanAdvance self.old }
@@ -198,7 +200,7 @@ impl Machine {
         );
     }
 
-    /// This many ticks of the clock at once, 0 to 4294967295; nobody's wake time comes before the last of them. Those who are due then
+    /// This many ticks of the clock at once, 0 to 4294967295; no wake time comes before the last of them. The tasks that are due then
     /// become Ready, in the order in which they began to sleep.
     #[inline(never)]
     pub fn jump(&mut self, ticks: u32)

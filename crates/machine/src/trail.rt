@@ -11,17 +11,17 @@ use std::marker::Model;
 const FEW: usize = 4096;
 
 /// One of more takes room for this many at once: the system takes notice only of the room that is used, and gives that by large pages
-/// where it is asked to. With what the allocator puts before it the piece is of 32 MB, so large pages fit it from its beginning on.
+/// if it is asked to. With what the allocator puts before it the piece is of 32 MB, so large pages fit it from its beginning on.
 const MANY: usize = 2_097_150;
 
-/// Events in the order in which they were reported, of which the last are those of the present step. Before each step `begin`
+/// Events in the order in which they were reported. The last ones are those of the present step. Before each step `begin`
 /// makes room for its events, so that reporting one takes no memory and doesn't fail.
 #[derive(Drop)]
 pub struct Trail {
     events: Vec<Event>,
     /// How many events come before this step.
     start: usize,
-    /// Where there are fewer events than this many, there is room for those of a step.
+    /// If there are fewer events than this many, there is room for those of a step.
     roomy_below: usize,
 }
 
@@ -73,8 +73,8 @@ impl Trail {
         self.events.len() == self.start
     }
 
-    /// The next step begins. It has reported nothing yet, and there is room for 128 events of it. At `Err(Memory)`, where
-    /// the growth was refused, there is less room.
+    /// The next step begins. It has reported nothing yet, and there is room for 128 events of it. At `Err(Memory)` the
+    /// growth was refused, and there is less room.
     #[inline]
     pub fn begin(&mut self) -> Result<(), Memory>
         ensures before { self.new.before ≡ all_of self.old }
@@ -89,7 +89,7 @@ impl Trail {
         self.make_room()
     }
 
-    /// Makes room for 128 events more, or for many. At `Err(Memory)`, where the growth was refused, there is less room.
+    /// Makes room for 128 events more, or for many. At `Err(Memory)` the growth was refused, and there is less room.
     #[cold]
     #[inline(never)]
     fn make_room(&mut self) -> Result<(), Memory>
@@ -99,7 +99,7 @@ impl Trail {
         ensures refused { OnErr result (self.new.room < 128) }
     {
         if self.events.len() >= FEW && self.events.capacity() < MANY {
-            // Where room for this many is refused, there may be room for one step.
+            // If room for this many is refused, there may be room for one step.
             let more = MANY - self.events.len();
             let _refused = self.events.reserve_exact(more).is_err();
         }
@@ -110,8 +110,8 @@ impl Trail {
         Ok(())
     }
 
-    /// This step reports these events too, whatever room there is. At `Err(Memory)`, where there was less room and the growth was
-    /// refused, it has reported none of them.
+    /// This step reports these events too, whatever room there is. At `Err(Memory)` there was less room and the growth was
+    /// refused, and it has reported none of them.
     pub fn append(&mut self, events: &[Event]) -> Result<(), Memory>
         ensures before { self.new.before ≡ self.old.before }
         ensures told { OnOk result (self.new.told ≡ self.old.told ++ events.now) }
@@ -124,7 +124,7 @@ impl Trail {
         Ok(())
     }
 
-    /// Keeps this many events, those reported first; all, where there are no more.
+    /// Keeps this many events, those reported first; all, if there are no more.
     pub fn truncate(&mut self, count: usize)
         ensures { all_of self.new ≡ take count (all_of self.old) }
     {

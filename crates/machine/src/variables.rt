@@ -81,7 +81,7 @@ impl Variables {
         self.set(other.values.as_slice());
     }
 
-    /// This one becomes this number. Where there is no such variable nothing changes.
+    /// This one becomes this number. If there is no such variable nothing changes.
     pub fn store(&mut self, variable: VariableId, value: u32)
         ensures { self.new ≡ slice_set self.old variable.number value }
     {
@@ -97,7 +97,7 @@ impl Variables {
         self.values.as_slice() == other.values.as_slice()
     }
 
-    /// A number that equal ones have in common, and others mostly don't. Nothing rests on it.
+    /// A number that is the same for equal ones, and usually differs for others. Nothing rests on it.
     pub(crate) fn hint(&self) -> u64 {
         let mut hash = 0;
         for value in self.values.as_slice() {
@@ -108,7 +108,7 @@ impl Variables {
 }
 
 impl Machine {
-    /// What an op on values answers is stored, if it says so.
+    /// The result of an op on values is stored, if it says so.
     #[inline]
     pub fn store(&mut self, op: ValueOp, answer: Option<u32>)
         ensures does { Moves self.old self.new (store op answer) }

@@ -1,4 +1,4 @@
--- The entries of a list are tasks, and so are the choice and those who are due.
+-- The entries of a list are tasks, and so are the choice and the tasks that are due.
 use Rattle.std.proofs.Common.{◌≡◌, ◌<◌, ℕ, Bool, List, [], ◌∷◌, ◌++◌, length, Option, refl, true, Some, None, ap}
 use Rattle.std.specs.List.{filter, AllByRecursion}
 use Rattle.std.specs.Option.{IfSome}

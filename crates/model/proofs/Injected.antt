@@ -37,7 +37,7 @@ pub all_from : (m n : ℕ) (is : List Injection) → m ≤ n → AllByRecursion 
 all_from m n [] l all = tt
 all_from m n (i ∷ is) l all = ((let from = all.0 in omega arith), all_from m n is l all.1)
 
--- All are from there on where the first one is.
+-- All are from there on if the first one is.
 pub from_first : (is : List Injection) → AreInOrder is → (n : ℕ)
     → n ≤ first_step is → AllByRecursion (λ (i : Injection). n ≤ i.step) is
 from_first [] order n l = tt

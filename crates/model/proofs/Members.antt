@@ -1,4 +1,4 @@
--- Who is in a list: the tasks that have a key.
+-- The members of a list: the tasks that have a key.
 use Rattle.std.proofs.Common.{◌≡◌, ℕ, ◌+◌, zero, suc, Bool, true, false, List, [], ◌∷◌, Option, Some, None, refl, ap, ◌∙◌, arith}
 use Rattle.std.proofs.Common.{eqb, get_or, ◌++◌}
 use Rattle.std.specs.Prelude.{◌||◌}

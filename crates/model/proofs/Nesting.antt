@@ -26,7 +26,7 @@ blocks_after-append : (bs : List Block) (es : List Edge) (e : Edge)
 blocks_after-append bs [] e = refl
 blocks_after-append bs (o ∷ es) e = blocks_after-append (blocks_past o bs) es e
 
--- the blocks that are open behind one more op
+-- the blocks that are open after one more op
 pub open_behind-append : (ops : List Op) (op : Op) → open_behind (ops ++ op ∷ []) ≡ blocks_past (edge_of op) (open_behind ops)
 open_behind-append ops op = ap (blocks_after []) (edges-append ops op) ∙ blocks_after-append [] (edges_of ops) (edge_of op)
 
@@ -39,7 +39,7 @@ nests-closed : (bs : List Block) (es : List Edge) → NestsSoFar bs es → block
 nests-closed bs [] nests closed = closed
 nests-closed bs (o ∷ es) nests closed = (nests.0, nests-closed (blocks_past o bs) es nests.1 closed)
 
--- one more of which it is true
+-- one more, for which it is true
 pub all-append : {X : Type 0} (P : X → Type 0) (xs : List X) (x : X) → AllByRecursion P xs → P x → AllByRecursion P (xs ++ x ∷ [])
 all-append P [] x all one = (one, tt)
 all-append P (y ∷ ys) x all one = (all.0, all-append P ys x all.1 one)
@@ -73,7 +73,7 @@ ending_in_range bs op range = by_end (ends_loop (edge_of op) && is_innermost (λ
   by_end true = refl
   by_end false = range
 
--- ---- where an op jumps to
+-- ---- the op that an op jumps to
 
 -- the entry of an op of this index among those from another one on
 jump_at : (i k d : ℕ) (es : List Edge) → k < length es → slice_index_or (jumps_from i es) k d ≡ i + k + 1 + jumped_over (drop k es)

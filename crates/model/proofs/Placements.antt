@@ -552,7 +552,7 @@ module _ (app : Application) (limits : Limits) (handlers : List ℕ) (most : ℕ
       (begun app limits handlers most n) (all_begun n)))
       (ended app limits handlers most n) (ends_of n))))
 
-  -- Where no run gets beyond a step, those that end before it are all placements.
+  -- If no run gets beyond a step, those that end before it are all placements.
   pub all_ended : AreDistinct handlers → (n : ℕ) → begun app limits handlers most n ≡ []
       → AreAll app limits handlers most (ended app limits handlers most n)
   all_ended differ n none = record {

@@ -104,13 +104,13 @@ in_order ps risen = (rises 0 ps risen).1
 pub falls_not : (ps : List Injection) → AreInOrder ps → falls_from 0 ps ≡ false
 falls_not ps rising = rises_back 0 ps (from_0 ps) rising
 
--- Few points of points in order are at one step, where none is at the step of the third after it.
+-- Few points of points in order are at one step, if none is at the step of the third after it.
 pub few_at_once : (ps : List Injection) → AreInOrder ps → fourth_found ps ≡ false → (n : ℕ) → length (injected ps n) ≤ most_injected
 few_at_once ps rising spread n =
     let most = few n ps rising spread in
     omega (arith, length-map (at n ps) (λ (p : Injection). p.handler))
 
--- Where some point is at the step of the third after it, both that are between are too.
+-- If some point is at the step of the third after it, both that are between are too.
 at_first : (n : ℕ) (p : Injection) (ps : List Injection) → p.step ≡ n → length (at n (p ∷ ps)) ≡ suc (length (at n ps))
 at_first n p ps same = rw (eq-eqb p.step n same) refl
 

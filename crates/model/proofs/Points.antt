@@ -1,4 +1,4 @@
--- Points are the same where a test of their places says so.
+-- Points are the same if a test of their places says so.
 use Rattle.std.proofs.Common.{◌≡◌, ◌≤◌, ◌&&◌, ℕ, true, eqb, List, [], ◌∷◌, length, take, refl, ap₂, sym, ◌∙◌}
 use lib.Pointwise.{pointwise}
 use Rattle.std.proofs.lemmas.Bool.{and_parts}

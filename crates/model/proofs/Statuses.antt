@@ -1,4 +1,4 @@
--- What a status says: who is Ready neither waits nor sleeps, and who doesn't wait hasn't been woken.
+-- What a status says: a Ready task neither waits nor sleeps, and one that doesn't wait hasn't been woken.
 use Rattle.std.proofs.Common.{◌≡◌, true, None, refl}
 use Rattle.std.specs.Option.{is_some}
 use Rattle.model.specs.State.{Status, Ready, Awake, Waiting, Asleep, WaitingForBits, WaitingForNotification, Suspended, Ended}

@@ -96,7 +96,7 @@ table-taken s i f h b = record {
 pub table-make_ready : (s : State) (i : ℕ) → IsTable s → IsTable (make_ready i s)
 table-make_ready s i h = table-taken s i Ready h (omega arith)
 
--- what holds of every other place holds of each where one was changed
+-- what holds of the changed place, and of every other one, holds of each
 pub each-set_but : {A : Type 0} (none : A) (P : ℕ → A → Type 0) (xs : List A) (i : ℕ) (x : A) → i < length xs
     → P i x → ((j : ℕ) → j ≢ i → P j (get_or xs j none)) → (j : ℕ) → P j (get_or (set xs i x) j none)
 each-set_but none P [] i x l p h j = absurd (omega arith)
@@ -106,7 +106,7 @@ each-set_but none P (y ∷ ys) (suc i) x l p h zero = h zero (λ e. omega arith)
 each-set_but none P (y ∷ ys) (suc i) x l p h (suc j) =
     each-set_but none (λ k. P (suc k)) ys i x (omega arith) p (λ k ne. h (suc k) (λ e. ne (omega arith))) j
 
--- what holds of each place still holds where one was changed
+-- what holds of each place still holds if one was changed
 pub each-set : {A : Type 0} (none : A) (P : ℕ → A → Type 0) (xs : List A) (i : ℕ) (x : A)
     → P i x → ((j : ℕ) → P j (get_or xs j none)) → (j : ℕ) → P j (get_or (set xs i x) j none)
 each-set none P [] i x p h j = h j

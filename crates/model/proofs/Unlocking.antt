@@ -1,4 +1,4 @@
--- Who was Awake is Ready after an unlock.
+-- A task that was Awake is Ready after an unlock.
 use Rattle.std.proofs.Common.{◌≡◌, ◌<◌, ◌||◌, ℕ, zero, suc, true, false, eqb, arith, List, [], ◌∷◌, ◌++◌, length, get_or, Option}
 use Rattle.std.proofs.Common.{Some, None, refl, ap, sym, subst, ◌∙◌, get_or-set_same}
 use Rattle.std.specs.Prelude.{Bool}
@@ -68,7 +68,7 @@ not_woken_still s (j ∷ js) i n =
     not_woken_still (make_ready j s) js i (each-set no_task P s.tasks j (record (task_at s j) { status = Ready s.next_ticket })
     (λ _. refl) (λ k e. subst (λ (m : ℕ). wait_if_awake (status_at s m) ≡ None) (sym e) n) i refl)
 
--- those whom the unlock of an object makes Ready
+-- the tasks that the unlock of an object makes Ready
 abbrev pub opened_by : State → ℕ → List ℕ
 opened_by s o = tasks_of (awakened s (ToReceive o)) ++ tasks_of (awakened s (ToSend o))
 
@@ -140,7 +140,7 @@ pub current-all_ready : (s : State) (js : List ℕ) → (for_each make_ready js 
 current-all_ready s [] = refl
 current-all_ready s (j ∷ js) = current-all_ready (make_ready j s) js
 
--- where nothing is locked nobody is Awake
+-- if nothing is locked no task is Awake
 unlocked_none : (list : WaitList) → is_locked None list ≡ true → ⊥
 unlocked_none (ToReceive o) t = absurd (cc)
 unlocked_none (ToSend o) t = absurd (cc)

@@ -25,7 +25,7 @@ pub record Interrupt : Type 0 where
   pub tick : ℕ
   pub handler : ℕ
 
--- where a run ends at the latest: elapsed ticks, and steps (profile)
+-- when a run ends at the latest: elapsed ticks, and steps (profile)
 pub record Limits : Type 0 where
   pub ticks : ℕ
   pub steps : ℕ
@@ -44,7 +44,7 @@ pub record Application : Type 0 where
   pub variables : List ℕ
   pub handlers : List Handler
   pub interrupts : List Interrupt
-  -- those of the file, and behind them the daemon, where there is one
+  -- those of the file, and after them the daemon, if there is one
   pub tasks : List Definition
   -- the number of the daemon; its queue is the last object
   pub daemon : Option ℕ

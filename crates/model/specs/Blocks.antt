@@ -1,4 +1,5 @@
--- The blocks of a script, loops and branches: which op opens and ends which, and where an op jumps to (profile).
+-- The blocks of a script, loops and branches: which op opens and ends which, and the op that an op jumps to
+-- (profile).
 use Rattle.std.specs.Prelude.{◌≡◌, ℕ, ◌+◌, ◌-◌, ◌==◌, ◌&&◌, Bool, true, false, not, nat_lt, List, [], ◌∷◌, length, map, filter}
 use Rattle.std.specs.Prelude.{drop, if◌then◌else◌}
 use Rattle.model.specs.declared.block.Block.{Block}
@@ -62,7 +63,7 @@ abbrev pub is_innermost : (Block → Bool) → List Block → Bool
 is_innermost is [] = false
 is_innermost is (b ∷ blocks) = is b
 
--- the blocks that are open after an op, where these are open before it
+-- the blocks that are open after an op, if these are open before it
 abbrev pub blocks_past : Edge → List Block → List Block
 blocks_past OpensLoop blocks = block.Loop ∷ blocks
 blocks_past EndsLoop blocks = drop 1 blocks
@@ -72,7 +73,7 @@ blocks_past EndsIf blocks = drop 1 blocks
 blocks_past Breaks blocks = blocks
 blocks_past Inside blocks = blocks
 
--- An op is allowed where these blocks are open. No block may be opened past the most. The end of a loop has to be in a loop,
+-- An op is allowed while these blocks are open. No block may be opened past the most. The end of a loop has to be in a loop,
 -- that of an `if` in an `if`, an `else` in the first branch of an `if`, and a `break` somewhere inside a loop.
 abbrev pub may_stand : Edge → List Block → Bool
 may_stand OpensLoop blocks = nat_lt (loops_in blocks) most_loops && nat_lt (length blocks) most_blocks
@@ -83,12 +84,13 @@ may_stand EndsIf blocks = is_innermost (λ b. not (is_loop b)) blocks
 may_stand Breaks blocks = nat_lt 0 (loops_in blocks)
 may_stand Inside blocks = true
 
--- Ops that begin where these blocks are open: each is allowed where it is, and at the end every block is closed.
+-- Ops that begin while these blocks are open: each is allowed at its place, and at the end every block is
+-- closed.
 abbrev pub Nests : List Block → List Edge → Type 0
 Nests blocks [] = blocks ≡ []
 Nests blocks (edge ∷ edges) = (may_stand edge blocks ≡ true) × Nests (blocks_past edge blocks) edges
 
--- the same, where blocks may still be open at the end
+-- the same, but blocks may still be open at the end
 abbrev pub NestsSoFar : List Block → List Edge → Type 0
 NestsSoFar blocks [] = Unit {0}
 NestsSoFar blocks (edge ∷ edges) = (may_stand edge blocks ≡ true) × NestsSoFar (blocks_past edge blocks) edges
@@ -113,18 +115,18 @@ abbrev pub with_ends : List Block → List Op → List Op
 with_ends blocks [] = []
 with_ends blocks (op ∷ ops) = ending blocks op ∷ with_ends (blocks_past (edge_of (ending blocks op)) blocks) ops
 
--- the blocks that are open behind the beginning of a script
+-- the blocks that are open after the beginning of a script
 abbrev pub open_behind : List Op → List Block
 open_behind ops = blocks_after [] (edges_of ops)
 
--- The op whose text is this one's may come next, behind the beginning of a script.
+-- The op whose text is this one's may come next, after the beginning of a script.
 abbrev pub may_come : Op → List Op → Bool
 may_come op ops = may_stand (edge_of (ending (open_behind ops) op)) (open_behind ops)
 
--- ---- where an op jumps to
+-- ---- the op that an op jumps to
 
--- how many ops there are to the end of the branch in which they begin, its `else` or `end` included,
--- where this many `if` are open in it
+-- how many ops there are to the end of the branch in which they begin, its `else` or `end` included, if this
+-- many `if` are open in it
 abbrev pub past_branch : ℕ → List Edge → ℕ
 past_branch inner [] = 0
 past_branch inner (OpensIf ∷ edges) = past_branch (inner + 1) edges + 1
@@ -132,14 +134,14 @@ past_branch inner (OpensElse ∷ edges) = if inner == 0 then 1 else past_branch 
 past_branch inner (EndsIf ∷ edges) = if inner == 0 then 1 else past_branch (inner - 1) edges + 1
 past_branch inner (edge ∷ edges) = past_branch inner edges + 1
 
--- how many there are to the end of the loop in which they begin, its `end` included, where this many loops are open in it
+-- how many there are to the end of the loop in which they begin, its `end` included, if this many loops are open in it
 abbrev pub past_loop : ℕ → List Edge → ℕ
 past_loop inner [] = 0
 past_loop inner (OpensLoop ∷ edges) = past_loop (inner + 1) edges + 1
 past_loop inner (EndsLoop ∷ edges) = if inner == 0 then 1 else past_loop (inner - 1) edges + 1
 past_loop inner (edge ∷ edges) = past_loop inner edges + 1
 
--- over how many ops the first of these jumps: an `if` and an `else` over the branch that begins behind them, and a `break` over
+-- over how many ops the first of these jumps: an `if` and an `else` over the branch that begins after them, and a `break` over
 -- what is left of its loop
 abbrev pub jumped_over : List Edge → ℕ
 jumped_over [] = 0
@@ -148,11 +150,11 @@ jumped_over (OpensElse ∷ edges) = past_branch 0 edges
 jumped_over (Breaks ∷ edges) = past_loop 0 edges
 jumped_over (edge ∷ edges) = 0
 
--- the op of a script that is next where that of this index jumps
+-- the op of a script that is next if that of this index jumps
 abbrev pub jump_from : List Op → ℕ → ℕ
 jump_from script op_index = op_index + 1 + jumped_over (drop op_index (edges_of script))
 
--- where each op of a script goes on if it jumps, from the op of this index on
+-- the op that each op of a script goes on at if it jumps, from the op of this index on
 abbrev pub jumps_from : ℕ → List Edge → List ℕ
 jumps_from op_index [] = []
 jumps_from op_index (edge ∷ edges) = (op_index + 1 + jumped_over (edge ∷ edges)) ∷ jumps_from (op_index + 1) edges

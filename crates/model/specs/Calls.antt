@@ -23,7 +23,7 @@ try app task object access s =
 abbrev pub lock : ℕ → ℕ → Phase → State → State
 lock task object phase s = go_on task phase (record s { call_hold = true; locked = Some object })
 
--- The object is locked, and the task waits, but not where its call is possible by now or its deadline has come
+-- The object is locked, and the task waits, unless its call is possible by now or its deadline has come
 -- (`prvIsQueueEmpty`, `prvIsQueueFull`, `xTaskCheckForTimeOut`).
 unfoldable pub decide : ℕ → ℕ → Access ℕ → State → State
 decide task object access s =
@@ -31,15 +31,15 @@ decide task object access s =
     then lock task object Unlock s
     else lock task object Place (wait_in task (list_for object access) (inherit task object s))
 
--- The hold ends (`xTaskResumeAll`, `portYIELD_WITHIN_API`): after a wait has begun the choice runs, and a caller who was
--- woken meanwhile keeps its ticket; otherwise a higher task may run. The call will try again.
+-- The hold ends (`xTaskResumeAll`, `portYIELD_WITHIN_API`): after a wait has begun the choice runs, and a caller that
+-- was woken in the meantime keeps its ticket; otherwise a higher task may run. The call will try again.
 unfoldable pub leave_call : ℕ → State → State
 leave_call task s =
     let free = end_hold task Try s in
     if (call_at s task).waits then choose free else preempt free
 
 -- The phases of a call that may wait for this many ticks (`xQueueReceive` and the like). Its deadline is fixed at the first
--- try; Place is where the code puts the task into its list (`vTaskPlaceOnEventList`), and changes nothing here.
+-- try; at Place the code puts the task into its list (`vTaskPlaceOnEventList`), and nothing changes here.
 abbrev pub await : Application → ℕ → ℕ → Access ℕ → Option ℕ → Phase → State → State
 await app task object access ticks Start s = try app task object access (set_deadline task ticks s)
 await app task object access ticks Try s = try app task object access s
@@ -48,6 +48,6 @@ await app task object access ticks Place s = go_on task Unlock s
 await app task object access ticks Unlock s = go_on task Leave (unlock s)
 await app task object access ticks _ s = leave_call task s
 
--- A call that does not wait is done if it is possible, and answers.
+-- A call that does not wait is done if it is possible, and returns.
 unfoldable pub do_now : Application → ℕ → ℕ → Access ℕ → State → State
 do_now app task object access s = preempt (answer app task (answer_to s object access) (attempt (Some task) object access s))

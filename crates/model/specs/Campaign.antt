@@ -20,7 +20,7 @@ one_point handler step = record { step = step; handler = handler } ∷ []
 abbrev pub every_step : (handler steps : ℕ) → List (List Injection)
 every_step handler steps = map (one_point handler) (range_with_len 0 steps)
 
--- the points that an entry of the file means, where the base run has this many steps
+-- the points that an entry of the file means, if the base run has this many steps
 abbrev pub points_of : (steps : ℕ) → PointEntry → List (List Injection)
 points_of steps (One point) = point ∷ []
 points_of steps (Every handler) = every_step handler steps

@@ -38,7 +38,7 @@ take_command app task object s =
     then preempt (received app task (answer_to s object Receive) (fulfil (Some task) object Receive s))
     else go_on task Decide s
 
--- The phases are those of a receive that waits for ever.
+-- The phases are those of a receive that waits forever.
 abbrev pub next_command : Application → ℕ → ℕ → Phase → State → State
 next_command app task object Start s = take_command app task object s
 next_command app task object Try s = take_command app task object s

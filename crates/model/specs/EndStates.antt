@@ -34,12 +34,12 @@ situations_of s = map (situation_of s) (range_with_len 0 (length s.tasks))
 abbrev pub held_by : (object holder : ℕ) → HeldMutex
 held_by object holder = record { object = object; holder = holder }
 
--- of these objects, of which the first is the one of this number, the mutexes that are held
+-- the mutexes that are held, of these objects; the first has this number
 abbrev pub held_from : ℕ → List Object → List HeldMutex
 held_from object [] = []
 held_from object (o ∷ os) = cons_option (option_map (held_by object) o.holder) (held_from (object + 1) os)
 
--- the end state where a run ends in this state
+-- the end state if a run ends in this state
 pub record EndState : Type 0 where
   pub situations : List Situation
   pub held : List HeldMutex

@@ -35,11 +35,11 @@ keep_answer task bits s = with_call task (record (call_at s task) { kept = Some 
 
 -- ---- set and clear
 
--- Who waits for bits of a group is in its list, by the ticket alone.
+-- A task that waits for bits of a group is in its list, by the ticket alone.
 abbrev pub bits_key : ℕ → Task → Option Key
 bits_key group t = option_map (key 0) (ticket_if_for_bits group t.status)
 
--- those who wait for bits of a group, in the order in which they began (`xTasksWaitingForBits`)
+-- the tasks that wait for bits of a group, in the order in which they began (`xTasksWaitingForBits`)
 abbrev pub waiters_for_bits : State → ℕ → List Entry
 waiters_for_bits s group = list_by (bits_key group) s.tasks
 
@@ -51,7 +51,7 @@ is_met_for bits s task = unwrap_or (option_map (is_met bits) (call_at s task).wa
 abbrev pub met_by : ℕ → ℕ → State → List ℕ
 met_by group bits s = filter (is_met_for bits s) (tasks_of (waiters_for_bits s group))
 
--- what is left of the bits when those whom they meet have cleared what they asked to clear
+-- what is left of the bits when the tasks whose conditions they meet have cleared what they asked to clear
 abbrev pub left_by : (met : List ℕ) → (bits : ℕ) → State → ℕ
 left_by met bits s = fold bits_left bits (filter_map (λ task. (call_at s task).wants) met)
 
@@ -59,7 +59,7 @@ left_by met bits s = fold bits_left bits (filter_map (λ task. (call_at s task).
 abbrev pub wake_with_bits : ℕ → ℕ → State → State
 wake_with_bits task bits s = make_ready task (keep_answer task bits s)
 
--- Those whom the bits meet are woken with them, one after another.
+-- The tasks whose conditions the bits meet are woken with them, one after another.
 abbrev pub wake_all : (met : List ℕ) → (bits : ℕ) → State → State
 wake_all met bits s = for_each (λ task. wake_with_bits task bits) met s
 
@@ -67,8 +67,8 @@ wake_all met bits s = for_each (λ task. wake_with_bits task bits) met s
 abbrev pub bits_set : ℕ → ℕ → State → ℕ
 bits_set group mask s = bit_or (bits_at s group) mask
 
--- The mask's bits are set. All whom the bits then meet are woken with them; then what those asked to clear is cleared
--- (`xEventGroupSetBits`).
+-- The mask's bits are set. All tasks whose conditions the bits then meet are woken with them; then what these asked
+-- to clear is cleared (`xEventGroupSetBits`).
 unfoldable pub set : ℕ → ℕ → State → State
 set group mask s =
     let bits = bits_set group mask s in
@@ -93,7 +93,7 @@ clear app task group mask s =
 
 -- ---- wait
 
--- The call answers the bits of now; where its condition is met it may clear them.
+-- The call returns the present bits; if its condition is met it may clear them.
 unfoldable pub answer_bits : Application → ℕ → ℕ → Condition → State → State
 answer_bits app task group c s =
     let bits = bits_at s group in
@@ -110,20 +110,20 @@ unfoldable pub begin_bits_wait : ℕ → ℕ → Condition → Option ℕ → St
 begin_bits_wait task group c ticks s =
     go_on task Leave (wait_for_bits task group (want task c (set_deadline task ticks (record s { call_hold = true }))))
 
--- A call whose condition is met, or that has no ticks to wait, answers. Otherwise the task waits.
+-- A call whose condition is met, or that has no ticks to wait, returns. Otherwise the task waits.
 unfoldable pub check : Application → ℕ → ℕ → Condition → Option ℕ → State → State
 check app task group c ticks s =
     if is_met (bits_at s group) c || option_eq nat_eq ticks (Some 0)
     then answer_bits app task group c s
     else begin_bits_wait task group c ticks s
 
--- Woken, it answers the bits that are kept for it, otherwise those of now.
+-- Woken, it returns the bits that are kept for it, otherwise the present ones.
 abbrev pub final_bits : Application → ℕ → ℕ → Condition → Option ℕ → State → State
 final_bits app task group c None s = answer_bits app task group c s
 final_bits app task group c (Some bits) s = answer app task (Some bits) s
 
--- The phases of a wait: Start, Leave, and Try, in which it answers (`xEventGroupWaitBits`). At Leave a caller who was woken keeps
--- its ticket.
+-- The phases of a wait: Start, Leave, and Try, in which it returns (`xEventGroupWaitBits`). At Leave a caller that was woken
+-- keeps its ticket.
 abbrev pub wait_bits : Application → ℕ → ℕ → Condition → Option ℕ → Phase → State → State
 wait_bits app task group c ticks Start s = check app task group c ticks s
 wait_bits app task group c ticks Leave s = choose (end_hold task Try s)

@@ -1,4 +1,4 @@
--- What is true of every state that a run comes to, by the definitions alone.
+-- What is true of every state that a run reaches, by the definitions alone.
 use Rattle.std.specs.Prelude.{◌≡◌, ◌<◌, ◌≤◌, ℕ, ◌+◌, Bool, true, false, List, [], ◌∷◌, Option, Some, None, ◌⊎◌, length, drop}
 use Rattle.std.specs.Prelude.{slice_get, IfSome}
 use Rattle.std.specs.List.{AllByRecursion}
@@ -50,7 +50,7 @@ abbrev pub IsUsedBy : ℕ → Option Op → Type 0
 IsUsedBy used (Some (Work n)) = used < n
 IsUsedBy used _ = Unit {0}
 
--- This many loops are open where these ops begin.
+-- This many loops are open before these ops.
 pub record AreOpen (loops : ℕ) (edges : List Edge) : Type 0 where
   -- the blocks that are open there, which the ops end
   pub blocks : List Block
@@ -102,7 +102,7 @@ pub data Course : Type 0 where
   UntilWoken : Course
   ToSetBits : Course
 
--- that of an op, where there is one
+-- that of an op, if there is one
 abbrev pub course : Option Op → Course
 course (Some (Await object access ticks)) = OnObject object
 course (Some (WaitBits group condition ticks)) = UntilWoken
@@ -172,7 +172,7 @@ pub record IsSound (app : Application) (hold : Hold) (s : State) : Type 0 where
   -- the time is none before the start; with the held ticks it is the start and the elapsed ticks
   pub time : (app.start ≤ s.time) × (s.time + s.held_ticks ≡ app.start + s.elapsed)
 
--- how many `suspend_all` are in force, how many ticks are held, and how many critical sections are open
+-- how many `suspend_all` are active, how many ticks are held, and how many critical sections are open
 pub record Suspension : Type 0 where
   pub suspensions : ℕ
   pub held_ticks : ℕ
@@ -189,17 +189,17 @@ holds Unlock = true
 holds Leave = true
 holds _ = false
 
--- A task that is to be placed has begun to wait, with the priority that it has, and its deadline is still to come. A handler
--- may have woken it already.
+-- A task that isn't placed yet has begun to wait, with the priority that it has, and its deadline is in the future. A
+-- handler may have woken it already.
 abbrev pub IsPlacing : ℕ → Task → Option Wait → Type 0
 IsPlacing now t None = ⊥
 IsPlacing now t (Some w) = (w.priority ≡ t.priority) × IfSome w.deadline (λ deadline. now < deadline)
 
--- The task has come to the end of its script while a task holds the scheduler, and so it runs on.
+-- The task has reached the end of its script while a task holds the scheduler, so it runs on.
 abbrev pub IsStranded : Application → State → ℕ → Type 0
 IsStranded app s task = (is_held_by_task s ≡ true) × (op_at app task (progress_at s task).op_index ≡ None)
 
--- A task runs: it holds the scheduler where a call does, and otherwise it is Ready, or stranded. In a set of bits it stays Ready.
+-- A task runs: it holds the scheduler if a call does, and otherwise it is Ready, or stranded. In a set of bits it stays Ready.
 pub record IsRunning (app : Application) (s : State) (task : ℕ) : Type 0 where
   pub holding : holds (call_at s task).phase ≡ s.call_hold
   pub ready : s.call_hold ≡ false → (is_ready s task ≡ true) ⊎ IsStranded app s task

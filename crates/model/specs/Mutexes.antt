@@ -10,7 +10,7 @@ use Rattle.model.specs.Switching.{to_back, preempt, is_same}
 use Rattle.model.specs.Waiting.{waiters, wake_best}
 use Rattle.model.specs.Ops.{answer}
 
--- The task has this priority from now on; where that is a change it goes behind its new equals, if it is Ready.
+-- The task has this priority from now on; if that is a change it moves after its new equals, if it is Ready.
 unfoldable pub set_priority : ℕ → ℕ → State → State
 set_priority task priority s =
     let t = task_at s task in
@@ -22,7 +22,7 @@ mutexes_held s task = length (filter (λ (o : Object). is_same o.holder (Some ta
 
 -- ---- a task waits
 
--- A wait of the task inherits where the holder is another task, of lower base priority.
+-- A wait of the task inherits if the holder is another task, of lower base priority.
 abbrev pub inherits : ℕ → ℕ → State → Bool
 inherits task holder s = not (holder == task) && nat_lt (task_at s holder).base_priority (task_at s task).priority
 
@@ -30,7 +30,7 @@ inherits task holder s = not (holder == task) && nat_lt (task_at s holder).base_
 abbrev pub note_inherited : ℕ → ℕ → State → State
 note_inherited task holder s = with_call task (record (call_at s task) { inherited = inherits task holder s }) s
 
--- The holder takes this priority, where its own is lower.
+-- The holder takes this priority, if its own is lower.
 abbrev pub raise : ℕ → ℕ → State → State
 raise holder priority s = if nat_lt (task_at s holder).priority priority then set_priority holder priority s else s
 
@@ -40,25 +40,25 @@ inherit_from task holder s =
     let t = note_inherited task holder s in
     raise holder (task_at s task).priority t
 
--- Where the object has a holder, that one inherits from the task, which will wait (`xTaskPriorityInherit`). A task for which
+-- If the object has a holder, that one inherits from the task, which will wait (`xTaskPriorityInherit`). A task for which
 -- the holder waits does not.
 unfoldable pub inherit : ℕ → ℕ → State → State
 inherit task object s = for_one (inherit_from task) (object_at s object).holder s
 
--- ---- a wait was in vain
+-- ---- a wait was unsuccessful
 
--- the priority of the best waiter of a list; 0 where none waits (`prvGetDisinheritPriorityAfterTimeout`)
+-- the priority of the best waiter of a list; 0 if none waits (`prvGetDisinheritPriorityAfterTimeout`)
 abbrev pub best_priority : State → WaitList → ℕ
 best_priority s list = unwrap_or (option_map (λ (e : Entry). e.key.priority) (first (waiters s list))) 0
 
--- A holder of this mutex alone has its base priority again, or the best waiter's where that is greater.
+-- A holder of this mutex alone has its base priority again, or the best waiter's if that is greater.
 abbrev pub fall_back : ℕ → ℕ → State → State
 fall_back object holder s =
     if mutexes_held s holder == 1
     then set_priority holder (max (task_at s holder).base_priority (best_priority s (ToReceive object))) s
     else s
 
--- The task's call fails: where its last wait has inherited, whoever holds the mutex now falls back
+-- The task's call fails: if its last wait has inherited, the present holder of the mutex falls back
 -- (`vTaskPriorityDisinheritAfterTimeout`).
 unfoldable pub after_timeout : ℕ → ℕ → State → State
 after_timeout task object s =
@@ -70,7 +70,8 @@ after_timeout task object s =
 unfoldable pub disinherit : ℕ → State → State
 disinherit task s = if mutexes_held s task == 0 then set_priority task (task_at s task).base_priority s else s
 
--- The holder gives the mutex back, and one who waits for it is woken, whether it was the holder's last or not.
+-- The holder gives the mutex back, and one task that waits for it is woken, whether it was the holder's last
+-- or not.
 unfoldable pub give_mutex : Application → ℕ → ℕ → State → State
 give_mutex app task object s =
     let free = with_object object (record (object_at s object) { holder = None }) s in

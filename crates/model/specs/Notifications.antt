@@ -56,7 +56,7 @@ notified_value (Keep value) n = if n.pending then n.value else value
 abbrev pub notified : NotifyAction ℕ → Notification → Notification
 notified action n = record { value = notified_value action n; pending = true }
 
--- what it answers: 0 if it keeps the value of a pending one (`pdFAIL`), otherwise 1
+-- what it returns: 0 if it keeps the value of a pending one (`pdFAIL`), otherwise 1
 abbrev pub notify_answer : NotifyAction ℕ → Notification → Option ℕ
 notify_answer (Keep value) n = one_if (not n.pending)
 notify_answer _ n = Some 1
@@ -86,7 +86,7 @@ abbrev pub entered : NotificationWait → Notification → Notification
 entered (Take clears) n = n
 entered (Wait masks) n = if n.pending then n else record n { value = bits_without n.value masks.entry }
 
--- what the call answers at its end
+-- what the call returns at its end
 abbrev pub wait_answer : NotificationWait → Notification → Option ℕ
 wait_answer (Take clears) n = Some n.value
 wait_answer (Wait masks) n = if n.pending then Some n.value else None
@@ -100,7 +100,7 @@ value_left (Wait masks) n = if n.pending then bits_without n.value masks.exit el
 abbrev pub left_by_wait : NotificationWait → Notification → Notification
 left_by_wait wait n = record { value = value_left wait n; pending = false }
 
--- The call is over: it answers, and none is pending any more.
+-- The call is over: it returns, and none is pending any more.
 unfoldable pub end_notification_wait : Application → ℕ → NotificationWait → State → State
 end_notification_wait app task wait s =
     let n = notification_at s task in answer app task (wait_answer wait n) (with_notification task (left_by_wait wait n) s)
@@ -132,7 +132,7 @@ await_notification app task wait ticks _ s = end_notification_wait app task wait
 
 -- ---- clear
 
--- what a call that clears answers: whether one was pending, or the value before
+-- what a call that clears returns: whether one was pending, or the value before
 abbrev pub clear_answer : NotificationClear → Notification → Option ℕ
 clear_answer Pending n = one_if n.pending
 clear_answer (Bits bits) n = Some n.value

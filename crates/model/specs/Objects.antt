@@ -20,7 +20,7 @@ allows o Take = nat_lt 0 o.count
 allows o Give = nat_lt o.count o.max_count
 allows o Lock = is_none o.holder
 
--- what a call answers: the first item, or `none`; any other 1 where it is possible, otherwise 0
+-- what a call returns: the first item, or `none`; any other 1 if it is possible, otherwise 0
 abbrev pub reply : Object → Access ℕ → Option ℕ
 reply o Receive = slice_get o.items 0
 reply o Peek = slice_get o.items 0
@@ -38,8 +38,8 @@ object_after caller Take o = record o { count = o.count - 1 }
 object_after caller Give o = record o { count = o.count + 1 }
 object_after caller Lock o = record o { holder = caller }
 
--- the list of which a possible call wakes the best waiter; a task's peek passes the wake on (in `xQueuePeek`), and that
--- of a handler wakes nobody (profile)
+-- the list whose best waiter a possible call wakes; a task's peek passes the wake on (in `xQueuePeek`), and that of a
+-- handler wakes no task (profile)
 abbrev pub list_woken : Option ℕ → ℕ → Access ℕ → Option WaitList
 list_woken caller object (Send item) = Some (ToReceive object)
 list_woken caller object (SendFront item) = Some (ToReceive object)
@@ -61,7 +61,7 @@ list_for object _ = ToReceive object
 abbrev pub possible : State → ℕ → Access ℕ → Bool
 possible s object access = allows (object_at s object) access
 
--- what the call answers now
+-- what the call returns now
 abbrev pub answer_to : State → ℕ → Access ℕ → Option ℕ
 answer_to s object access = reply (object_at s object) access
 

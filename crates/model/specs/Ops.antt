@@ -1,4 +1,4 @@
--- Where a task is in its script: an op is complete, a call answers, loops turn.
+-- A task's place in its script: an op is complete, a call returns, loops turn.
 use Rattle.std.specs.Prelude.{ℕ, ◌+◌, ◌-◌, ◌==◌, Bool, List, [], ◌∷◌, drop, min, Option, Some, None, nat_lt, nat_le, if◌then◌else◌}
 use Rattle.model.specs.declared.answer.AnswerCondition.{AnswerCondition}
 use Rattle.model.specs.declared.loops.Loop.{Loop}
@@ -18,7 +18,7 @@ use Rattle.model.specs.Time.{sleep, set_previous_wake}
 
 -- ---- an op is complete
 
--- the task at this op, of which nothing is done; past the last op, whatever that was, it is Ended, and keeps its
+-- the task at this op, with nothing of it done; past the last op, whatever that was, it is Ended, and keeps its
 -- mutexes (profile)
 abbrev pub moved_to : ℕ → ℕ → Progress → Task → Task
 moved_to count op_index p t = record t {
@@ -57,14 +57,14 @@ use_up app task n s =
     let p = progress_at s task in
     if p.used + 1 == n then complete app task p s else with_progress task (record p { used = p.used + 1 }) s
 
--- The task sleeps for this many ticks, or yields where that is none (`vTaskDelay`); it answers 0 (profile). Of a sleeper
+-- The task sleeps for this many ticks, or yields if that is none (`vTaskDelay`); it returns 0 (profile). If it sleeps,
 -- the step's end makes the choice (`settle`).
 unfoldable pub delay : Application → ℕ → ℕ → State → State
 delay app task n s =
     let t = answer app task (Some 0) s in
     if n == 0 then yield_now t else sleep task (s.time + n) t
 
--- The task sleeps until this time if that is still to come, otherwise it goes on (profile: FreeRTOS yields then); the next
+-- The task sleeps until this time if that is in the future, otherwise it goes on (profile: FreeRTOS yields then); the next
 -- one counts from that time (`xTaskDelayUntil`).
 unfoldable pub delay_until : Application → ℕ → ℕ → State → State
 delay_until app task wake_time s =
@@ -76,17 +76,17 @@ delay_until app task wake_time s =
 unfoldable pub stamp : Application → ℕ → State → State
 stamp app task s = complete app task (record (progress_at s task) { stamp = s.time }) s
 
--- It answers how many ticks have passed since then, in 32 bits at most.
+-- It returns how many ticks have passed since then, in 32 bits at most.
 unfoldable pub since : Application → ℕ → State → State
 since app task s = answer app task (Some (min (s.time - (progress_at s task).stamp) 4294967295)) s
 
 -- ---- values (profile)
 
--- What the op answers is stored, where it says so.
+-- What the op returns is stored, if it says so.
 abbrev pub store : ValueOp → Option ℕ → State → State
 store op a s = record s { variables = stored op a s.variables }
 
--- The op loads a variable, stores one, or calculates, and answers.
+-- The op loads a variable, stores one, or calculates, and returns.
 unfoldable pub calculate : Application → ℕ → ValueOp → State → State
 calculate app task op s =
     let a = answer_of s.variables (progress_at s task).answer op in answer app task a (store op a s)
@@ -101,17 +101,18 @@ with_sections app task n s = complete app task (progress_at s task) (record s { 
 abbrev pub enter_critical : Application → ℕ → State → State
 enter_critical app task s = with_sections app task (s.sections + 1) s
 
--- One less is open (`taskEXIT_CRITICAL`). Where it was the last, what is pending comes before the next step.
+-- One fewer is open (`taskEXIT_CRITICAL`). If it was the last, the pending handlers come before the next
+-- step.
 abbrev pub exit_critical : Application → ℕ → State → State
 exit_critical app task s = with_sections app task (s.sections - 1) s
 
 -- ---- ops of the script alone (profile)
 
--- A check fails, which ends the run behind the step, unless one has failed in the step already.
+-- A check fails, which ends the run after the step, unless one has failed in the step already.
 abbrev pub fail : End → State → State
 fail check s = record s { stopped = option_or s.stopped (Some check) }
 
--- The op is complete if the condition holds of the last answer; otherwise the run ends, and the task stays where it is.
+-- The op is complete if the condition holds of the last answer; otherwise the run ends, and the task stays at its op.
 unfoldable pub expect : Application → ℕ → AnswerCondition → State → State
 expect app task condition s =
     let p = progress_at s task in
@@ -123,7 +124,7 @@ open_loop app task turns s =
     let p = progress_at s task in
     complete app task (record p { loops = record { start = p.op_index + 1; left = turns } ∷ p.loops }) s
 
--- The next turn of the innermost loop begins, of which this many are left, this one included; the last one leaves the loop.
+-- The next turn of the innermost loop begins, with this many left, this one included; the last one leaves the loop.
 abbrev pub next_turn : Application → ℕ → Progress → Loop → List Loop → Option ℕ → State → State
 next_turn app task p l ls None s = go_to app task l.start p s
 next_turn app task p l ls (Some left) s =
@@ -131,7 +132,7 @@ next_turn app task p l ls (Some left) s =
     then complete app task (record p { loops = ls }) s
     else go_to app task l.start (record p { loops = record l { left = Some (left - 1) } ∷ ls }) s
 
--- The innermost loop has one turn less. Where none is open the op is complete.
+-- The innermost loop has one turn fewer. If none is open the op is complete.
 abbrev pub turn : Application → ℕ → Progress → List Loop → State → State
 turn app task p [] s = complete app task p s
 turn app task p (l ∷ ls) s = next_turn app task p l ls l.left s
@@ -140,11 +141,11 @@ turn app task p (l ∷ ls) s = next_turn app task p l ls l.left s
 unfoldable pub close_turn : Application → ℕ → State → State
 close_turn app task s = turn app task (progress_at s task) (progress_at s task).loops s
 
--- The task, whose progress is now as given, goes on where its op jumps to.
+-- The task, whose progress is now as given, goes on at the op that its op jumps to.
 abbrev pub jump : Application → ℕ → Progress → State → State
 jump app task p s = go_to app task (jump_from (script_of app task) p.op_index) p s
 
--- An `if` goes on with its first branch where the condition holds of the last answer, and otherwise jumps over it.
+-- An `if` goes on with its first branch if the condition holds of the last answer, and otherwise jumps over it.
 unfoldable pub branch : Application → ℕ → AnswerCondition → State → State
 branch app task condition s =
     let p = progress_at s task in if holds s.variables condition p.answer then complete app task p s else jump app task p s

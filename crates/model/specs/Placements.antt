@@ -9,7 +9,7 @@ use Rattle.model.specs.Application.{Application, Limits}
 use Rattle.model.specs.State.{State}
 use Rattle.model.specs.Run.{Run, IsRun, end_of, state_after}
 
--- injections, and what the run with all of them comes to
+-- injections, and the run with all of them
 pub record Placed : Type 0 where
   pub injections : List Injection
   pub steps : ℕ

@@ -12,7 +12,7 @@ use Rattle.model.specs.Application.{Application, Interrupt, Limits, without_endl
 use Rattle.model.specs.State.{State, Task, wake_time_of}
 use Rattle.model.specs.Step.{is_ended, step, reset}
 
--- Every task but the endless ones has come to the end of its script, and there is one.
+-- Every task but the endless ones has reached the end of its script, and there is one.
 abbrev pub are_all_ended : Application → State → Bool
 are_all_ended app s = is_any_awaited app && list_all (λ (t : Task). is_ended t.status) (without_endless app.tasks s.tasks)
 
@@ -20,7 +20,7 @@ are_all_ended app s = is_any_awaited app && list_all (λ (t : Task). is_ended t.
 abbrev pub will_wake : State → Bool
 will_wake s = list_any (λ (t : Task). is_some (wake_time_of t.status)) s.tasks
 
--- Some base interrupt is still to come.
+-- Some base interrupt hasn't come yet.
 abbrev pub is_interrupt_to_come : Application → State → Bool
 is_interrupt_to_come app s = list_any (λ (i : Interrupt). nat_lt s.elapsed i.tick) app.interrupts
 
@@ -51,23 +51,23 @@ abbrev pub events_after : Application → Limits → List Injection → ℕ → 
 events_after app limits plan zero = []
 events_after app limits plan (suc n) = events_after app limits plan n ++ (state_after app limits plan (suc n)).log
 
--- what a run comes to: its events, steps and elapsed ticks, and its end
+-- the result of a run: its events, steps and elapsed ticks, and its end
 pub record Run : Type 0 where
   pub events : List Event
   pub steps : ℕ
   pub ticks : ℕ
   pub end : End
 
--- The run of the application with this plan, under these limits, comes to this.
+-- The run of the application with this plan, under these limits, is this one.
 pub record IsRun (app : Application) (plan : List Injection) (limits : Limits) (run : Run) : Type 0 where
   pub goes_on : (n : ℕ) → n < run.steps → end_of app limits (state_after app limits plan n) ≡ None
   pub ends : end_of app limits (state_after app limits plan run.steps) ≡ Some run.end
   pub trace : run.events ≡ events_after app limits plan run.steps
   pub elapsed : run.ticks ≡ (state_after app limits plan run.steps).elapsed
 
--- The row of a point. The point is reached where the base run, into which nothing is injected, gets beyond the step of its first
--- injection. The row is the run with all its injections then, of which those at or past its end do nothing. Where the point isn't
--- reached, the row is the base run.
+-- The row of a point. The point is reached if the base run, into which nothing is injected, gets beyond the step of its first
+-- injection. Then the row is the run with all its injections; those at or past its end do nothing. If the point isn't reached,
+-- the row is the base run.
 abbrev pub IsRow : Application → Limits → (point : List Injection) → (reached : Bool) → (row : Run) → Type 0
 IsRow app limits point true row =
     (base : Run) × IsRun app [] limits base × (first_step point < base.steps) × IsRun app point limits row

@@ -95,7 +95,7 @@ last_interrupt = 1000000
 abbrev pub most_ticks : ℕ
 most_ticks = 281474976710656
 
--- of steps of a run, and of its ticks where no step lets more than one pass
+-- of steps of a run, and of its ticks if no step lets more than one pass
 abbrev pub most_steps : ℕ
 most_steps = 1000000
 
@@ -109,7 +109,7 @@ most_points = 1000000
 abbrev pub is_within : ℕ → ℕ → ℕ → Bool
 is_within least most n = nat_le least n && nat_le n most
 
--- The longest wait that isn't for ever is one tick less than `portMAX_DELAY`.
+-- The longest wait that isn't forever is one tick less than `portMAX_DELAY`.
 abbrev pub is_wait : Option ℕ → Bool
 is_wait None = true
 is_wait (Some ticks) = nat_lt ticks 4294967295
@@ -222,13 +222,13 @@ abbrev pub knows_value : Application → Value → Bool
 knows_value app (Variable x) = has_variable app x.number
 knows_value app _ = true
 
--- It has those of which the op on values speaks.
+-- It has those that the op on values names.
 abbrev pub knows_values : Application → ValueOp → Bool
 knows_values app (Load x) = has_variable app x.number
 knows_values app (Store x value) = has_variable app x.number && knows_value app value
 knows_values app (Compute kind value) = knows_value app value
 
--- It has the one of which the condition speaks, if it speaks of one.
+-- It has the one that the condition names, if it names one.
 abbrev pub knows_condition : Application → AnswerCondition → Bool
 knows_condition app (Is wanted) = unwrap_or (option_map (knows_value app) wanted) true
 knows_condition app (IsNot other) = unwrap_or (option_map (knows_value app) other) true
@@ -260,7 +260,7 @@ knows app _ = true
 abbrev pub KnowsAll : Application → Definition → Type 0
 KnowsAll app task = AllByRecursion (λ op. knows app op ≡ true) task.script
 
--- the same of an op of a handler, where no call waits
+-- the same of an op of a handler, in which no call waits
 abbrev pub knows_isr : Application → IsrOp → Bool
 knows_isr app (isr.Do object access) = fits_object app object access && may_interrupt access
 knows_isr app (isr.Command c) = is_some app.daemon && (has_group app c.group && is_mask c.mask)
@@ -306,8 +306,8 @@ pub record IsDefinition (task : Definition) : Type 0 where
   pub priority : task.priority < priorities
   pub script : IsScript task.script
 
--- The daemon is the task behind those of the file, of which there is one at least. It asks for a command and does it, again and
--- again, without an end; its queue is the last object (profile).
+-- The daemon is the task after those of the file, which has at least one. It asks for a command and does it, again and again,
+-- without an end; its queue is the last object (profile).
 pub record IsDaemon (app : Application) (daemon : ℕ) : Type 0 where
   pub last : daemon + 1 ≡ length app.tasks
   pub some : 1 ≤ daemon

@@ -83,7 +83,7 @@ wake_time_of _ = None
 
 -- ---- tasks, objects, and the whole
 
--- where a task is in its script
+-- a task's place in its script
 pub record Progress : Type 0 where
   -- the index of its op
   pub op_index : ℕ
@@ -147,7 +147,7 @@ pub record State : Type 0 where
   pub locked : Option ℕ
   -- whether a call holds the scheduler (`uxSchedulerSuspended` counts this and the next)
   pub call_hold : Bool
-  -- how many `suspend_all` are in force
+  -- how many `suspend_all` are active
   pub suspensions : ℕ
   -- the ticks that came meanwhile, which are still to be applied (`xPendedTicks`)
   pub held_ticks : ℕ
@@ -168,11 +168,11 @@ pub record State : Type 0 where
 abbrev pub no_call : CallProgress
 no_call = record { phase = Start; deadline = None; waits = false; inherited = false; wants = None; kept = None }
 
--- at the first op, of which nothing is done
+-- at the first op, with nothing of it done
 abbrev pub no_progress : Progress
 no_progress = record { op_index = 0; used = 0; loops = []; answer = None; previous_wake = 0; stamp = 0; call = no_call }
 
--- what is kept where there is no task
+-- what is kept if there is no task
 abbrev pub no_task : Task
 no_task = record { base_priority = 0; priority = 0; progress = no_progress; status = Ended }
 
@@ -184,7 +184,7 @@ task_at s task = slice_index_or s.tasks task no_task
 abbrev pub status_at : State → ℕ → Status
 status_at s task = (task_at s task).status
 
--- where this task is in its script
+-- this task's place in its script
 abbrev pub progress_at : State → ℕ → Progress
 progress_at s task = (task_at s task).progress
 
@@ -217,7 +217,7 @@ abbrev pub take_ticket : ℕ → (ℕ → Status) → State → State
 take_ticket task status s =
     record (with_status task (status s.next_ticket) s) { next_ticket = s.next_ticket + 1 }
 
--- what is kept where there is no object
+-- what is kept if there is no object
 abbrev pub no_object : Object
 no_object = record { size = 0; items = []; max_count = 0; count = 0; holder = None }
 
@@ -229,7 +229,7 @@ object_at s object = slice_index_or s.objects object no_object
 abbrev pub with_object : ℕ → Object → State → State
 with_object object o s = record s { objects = slice_set s.objects object o }
 
--- what is kept where there is no source, and of each source at reset
+-- what is kept if there is no source, and of each source at reset
 abbrev pub no_source : Source
 no_source = record { pending = false }
 

@@ -30,7 +30,7 @@ abbrev pub phase_resumed : Phase → Phase
 phase_resumed Decide = Try
 phase_resumed phase = phase
 
--- A sleep that was cut off is over: the task counts from now, where its wake time is still to come (profile).
+-- A sleep that was cut off is over: the task counts from now, if its wake time is in the future (profile).
 abbrev pub resumed : ℕ → Progress → Progress
 resumed now p = record p {
   previous_wake = min p.previous_wake now;
@@ -54,16 +54,16 @@ call_resume app task other s = preempt (answer app task (one_if (can_resume (sta
 
 -- ---- the scheduler
 
--- One `suspend_all` more is in force (`vTaskSuspendAll`); it answers 0 (profile).
+-- One more `suspend_all` is active (`vTaskSuspendAll`); it returns 0 (profile).
 unfoldable pub suspend_all : Application → ℕ → State → State
 suspend_all app task s = answer app task (Some 0) (record s { suspensions = s.suspensions + 1 })
 
--- One `suspend_all` less is in force; after the last the held ticks are applied, with no time slice (profile).
+-- One `suspend_all` fewer is active; after the last the held ticks are applied, with no time slice (profile).
 unfoldable pub resume_scheduler : State → State
 resume_scheduler s =
     let t : State = record s { suspensions = s.suspensions - 1 } in
     if s.suspensions == 1 then release t else t
 
--- That is done, and after the last a higher task may run (`xTaskResumeAll`); it answers 0 (profile).
+-- That is done, and after the last a higher task may run (`xTaskResumeAll`); it returns 0 (profile).
 unfoldable pub resume_all : Application → ℕ → State → State
 resume_all app task s = unless_held preempt (answer app task (Some 0) (resume_scheduler s))

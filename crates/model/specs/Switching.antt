@@ -22,11 +22,11 @@ ready_list s = list_by ready_key s.tasks
 abbrev pub is_ready : State → ℕ → Bool
 is_ready s task = is_some (ticket_if_ready (status_at s task))
 
--- The task is Ready, behind all others of its priority (`prvAddTaskToReadyList`).
+-- The task is Ready, after all others of its priority (`prvAddTaskToReadyList`).
 abbrev pub make_ready : ℕ → State → State
 make_ready task s = take_ticket task Ready s
 
--- The task goes behind the others of its priority, where it is Ready.
+-- The task moves after the others of its priority, if it is Ready.
 unfoldable pub to_back : ℕ → State → State
 to_back task s = if is_ready s task then make_ready task s else s
 
@@ -38,7 +38,7 @@ write w s = record s { log = s.log ++ record { step = s.steps; tick = printed s.
 
 -- ---- who runs
 
--- the choice: the Ready task of highest priority, among equals the one of least ticket; where none is Ready, idle
+-- the choice: the Ready task of highest priority, among equals the one of least ticket; if none is Ready, idle
 -- (profile: FreeRTOS's idle is a task of the lowest priority)
 abbrev pub choice : State → Option ℕ
 choice s = task_of (first (ready_list s))
@@ -55,7 +55,7 @@ dispatch c s = if is_same c s.current then s else write (Run c) (record s { curr
 unfoldable pub choose : State → State
 choose s = dispatch (choice s) s
 
--- The running task goes behind the others of its priority, where it is Ready, and the choice runs (`taskYIELD`).
+-- The running task moves after the others of its priority, if it is Ready, and the choice runs (`taskYIELD`).
 unfoldable pub yield_now : State → State
 yield_now s = choose (for_one to_back s.current s)
 
@@ -78,11 +78,11 @@ is_outranked s = list_any (is_above s s.current) (ready_list s)
 abbrev pub is_sharing : State → Bool
 is_sharing s = list_any (is_beside s s.current) (ready_list s)
 
--- Where a Ready task is above the running one, that one yields. Equals don't preempt (profile).
+-- If a Ready task is above the running one, the running one yields. Equals don't preempt (profile).
 unfoldable pub preempt : State → State
 preempt s = if is_outranked s then yield_now s else s
 
--- The same, and also where another Ready task has the running one's priority: the end of a tick
+-- The same, and also if another Ready task has the running one's priority: the end of a tick
 -- (`configUSE_TIME_SLICING`).
 unfoldable pub slice : State → State
 slice s = if is_outranked s || is_sharing s then yield_now s else s
@@ -98,7 +98,7 @@ settle s = if is_off s s.current then choose s else s
 
 -- ---- the scheduler held
 
--- A `suspend_all` is in force.
+-- A `suspend_all` is active.
 abbrev pub is_scheduler_suspended : State → Bool
 is_scheduler_suspended s = nat_lt 0 s.suspensions
 

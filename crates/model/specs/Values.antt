@@ -27,7 +27,7 @@ abbrev pub is_missing : (answer : Option ℕ) → Value → Bool
 is_missing answer Answer = is_none answer
 is_missing answer _ = false
 
--- the value as a number; where there is none, it isn't asked for
+-- the value as a number; if there is none, it isn't asked for
 abbrev pub number_of : (variables : List ℕ) → (answer : Option ℕ) → Value → ℕ
 number_of variables answer value = unwrap_or (value_of variables answer value) 0
 
@@ -68,14 +68,14 @@ computed And a b = Some (bit_and a b)
 computed Or a b = Some (bit_or a b)
 computed Xor a b = Some (bit_xor a b)
 
--- what an op on values answers; `None` where it has no value to work with
+-- what an op on values returns; `None` if it has no value to work with
 abbrev pub answer_of : (variables : List ℕ) → (answer : Option ℕ) → ValueOp → Option ℕ
 answer_of variables answer (Load x) = Some (variable_in variables x.number)
 answer_of variables answer (Store x value) = value_of variables answer value
 answer_of variables answer (Compute kind value) =
     option_and_then (λ a. option_and_then (computed kind a) (value_of variables answer value)) answer
 
--- the variables after an op that answers this
+-- the variables after an op that returns this
 abbrev pub stored : ValueOp → (answer : Option ℕ) → List ℕ → List ℕ
 stored (Store x value) (Some n) variables = slice_set variables x.number n
 stored _ answer variables = variables

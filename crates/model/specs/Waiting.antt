@@ -11,7 +11,7 @@ use Rattle.model.specs.Order.{Key, Entry, key, list_by, tasks_of, first, task_of
 use Rattle.model.specs.Switching.{make_ready, is_same}
 use Rattle.model.specs.Time.{release}
 
--- ---- the lists of those who wait
+-- ---- the lists of the waiting tasks
 
 -- It is one and the same list.
 abbrev pub same_list : WaitList → WaitList → Bool
@@ -23,11 +23,11 @@ same_list _ _ = false
 abbrev pub wait_key : WaitList → Wait → Option Key
 wait_key list wait = if same_list wait.list list then Some (key wait.priority wait.ticket) else None
 
--- those who wait in a list, the best waiter first
+-- the tasks that wait in a list, the best waiter first
 abbrev pub waiters : State → WaitList → List Entry
 waiters s list = list_by (λ (t : Task). option_and_then (wait_key list) (wait_if_waiting t.status)) s.tasks
 
--- those who waited in a list until the locked queue woke them
+-- the tasks that waited in a list until the locked queue woke them
 abbrev pub awakened : State → WaitList → List Entry
 awakened s list = list_by (λ (t : Task). option_and_then (wait_key list) (wait_if_awake t.status)) s.tasks
 
@@ -43,7 +43,7 @@ wait_in task list s =
     Waiting (record { list = list; priority = priority; ticket = ticket; deadline = call.deadline }) in
     take_ticket task status (with_call task (record call { waits = true }) s)
 
--- The task's call may wait for this many ticks from now, or for ever (`vTaskInternalSetTimeOutState`).
+-- The task's call may wait for this many ticks from now, or forever (`vTaskInternalSetTimeOutState`).
 unfoldable pub set_deadline : ℕ → Option ℕ → State → State
 set_deadline task ticks s =
     with_call task (record (call_at s task) { deadline = option_map (λ n. s.time + n) ticks }) s
@@ -77,7 +77,7 @@ abbrev pub is_locked : Option ℕ → WaitList → Bool
 is_locked locked (ToReceive object) = is_same locked (Some object)
 is_locked locked (ToSend object) = is_same locked (Some object)
 
--- A task that waits in the list is woken: it is Ready at once, or Awake where the list is the locked object's.
+-- A task that waits in the list is woken: it is Ready at once, or Awake if the list is the locked object's.
 abbrev pub wake_one : ℕ → WaitList → State → State
 wake_one task list s = if is_locked s.locked list then awaken task s else make_ready task s
 
@@ -85,7 +85,8 @@ wake_one task list s = if is_locked s.locked list then awaken task s else make_r
 unfoldable pub wake_best : WaitList → State → State
 wake_best list s = for_one (λ task. wake_one task list) (task_of (first (waiters s list))) s
 
--- The object is unlocked, and its Awake tasks are Ready: first those who waited to receive, then those who waited to send.
+-- The object is unlocked, and its Awake tasks are Ready: first those that waited to receive, then those that waited to
+-- send.
 abbrev pub unlock_object : ℕ → State → State
 unlock_object object s =
     for_each make_ready (tasks_of (awakened s (ToReceive object)) ++ tasks_of (awakened s (ToSend object)))

@@ -113,7 +113,7 @@ fn is_any_awaited(tasks: &[TaskDefinition]) -> bool
     false
 }
 
-// The first task that is not endless; where each is, the first.
+// The first task that is not endless; if each is, the first.
 fn first_awaited(tasks: &[TaskDefinition]) -> TaskId {
     for number in 0..32 {
         if let Some(task) = tasks.get(number as usize) {
@@ -338,7 +338,7 @@ impl App {
         self.tickless
     }
 
-    /// Where a run ends at the latest.
+    /// When a run ends at the latest.
     pub fn limits(&self) -> Limits
         ensures { result ≡ self.now.limits }
     {
@@ -389,7 +389,7 @@ impl App {
     }
 
     /// Whether the base interrupt at the index `next`, in the order in which they come, shows that none comes at an elapsed
-    /// tick. It does where it is the next after this tick.
+    /// tick. It does if it is the next after this tick.
     #[inline]
     pub fn is_none_due(&self, tick: u64, next: usize) -> bool
         ensures { result ≡ true → interrupts_at self.now tick ≡ [] }
@@ -398,7 +398,7 @@ impl App {
     }
 
     /// The base interrupts at an elapsed tick, in the order of the file, and how many come up to this tick. The first of them
-    /// is at the index `taken` in the order in which they come; where it isn't, it is found by bisection.
+    /// is at the index `taken` in the order in which they come; if it isn't, it is found by bisection.
     #[inline]
     pub fn interrupts_at(&self, tick: u64, taken: usize) -> (&[Interrupt], usize)
         ensures due { map (λ (i : application.Interrupt). i.handler) result.0.now ≡ interrupts_at self.now tick }
@@ -428,7 +428,7 @@ impl App {
         self.daemon
     }
 
-    /// The daemon's queue, where there is a daemon: the last object.
+    /// The daemon's queue, if there is a daemon: the last object.
     pub fn commands(&self) -> ObjectId
         ensures { result ≡ commands_of self.now }
     {
@@ -459,7 +459,7 @@ impl App {
         self.first_awaited
     }
 
-    /// Whether no run waits for the end of this task; `false` where there is no such task.
+    /// Whether no run waits for the end of this task; `false` if there is no such task.
     pub fn is_endless(&self, task: TaskId) -> bool
         ensures { result ≡ is_endless self.now task }
     {
@@ -476,7 +476,7 @@ impl App {
         self.points.as_slice()
     }
 
-    /// The op of this index in a task's script; `None` past its end, or where there is no such task.
+    /// The op of this index in a task's script; `None` past its end, or if there is no such task.
     pub fn op(&self, task: TaskId, op_index: u16) -> Option<Op>
         ensures { result ≡ op_at self.now task op_index }
     {
@@ -484,7 +484,7 @@ impl App {
         definition.ops().get(op_index as usize).copied()
     }
 
-    /// The index of the op that is next where the op of this index of a task's script jumps.
+    /// The index of the op that is next if the op of this index of a task's script jumps.
     #[inline]
     pub fn jump_from(&self, task: TaskId, op_index: u16) -> u16
         requires { op_index < most_ops }
@@ -496,7 +496,7 @@ impl App {
         }
     }
 
-    /// How many ops the script of a task has; 0 where there is no such task.
+    /// How many ops the script of a task has; 0 if there is no such task.
     pub fn op_count(&self, task: TaskId) -> usize
         ensures { result ≡ op_count self.now task }
     {
@@ -506,7 +506,7 @@ impl App {
         }
     }
 
-    /// The name of a task; empty where there is no such task.
+    /// The name of a task; empty if there is no such task.
     pub fn name(&self, task: TaskId) -> &str
         ensures { result.now ≡ name_of self.now task }
     {
@@ -524,7 +524,7 @@ impl App {
         source.number as usize == self.handlers.len()
     }
 
-    /// The ops of a handler; none where there is no such handler.
+    /// The ops of a handler; none if there is no such handler.
     pub fn handler_ops(&self, handler: HandlerId) -> &[IsrOp]
         ensures { result.now ≡ ops_of self.now handler }
     {
@@ -534,7 +534,7 @@ impl App {
         }
     }
 
-    /// The op of this index of a handler; `None` past its end, or where there is no such handler.
+    /// The op of this index of a handler; `None` past its end, or if there is no such handler.
     pub fn isr_op(&self, handler: HandlerId, op_index: u16) -> Option<IsrOp>
         ensures { result ≡ isr_op_at self.now handler op_index }
     {
@@ -542,7 +542,7 @@ impl App {
         definition.ops().get(op_index as usize).copied()
     }
 
-    /// The name of a handler; empty where there is no such handler.
+    /// The name of a handler; empty if there is no such handler.
     pub fn handler_name(&self, handler: HandlerId) -> &str
         ensures { result.now ≡ handler_name_of self.now handler }
     {
@@ -576,7 +576,7 @@ impl App {
         None
     }
 
-    /// The first handler of this name; `None` where none has it.
+    /// The first handler of this name; `None` if none has it.
     pub fn handler_named(&self, name: &str) -> Option<HandlerId>
         ensures { result ≡ handler_named self.now name.now }
     {

@@ -38,7 +38,7 @@ pub enum Edge {
     Inside,
 }
 
-/// The blocks that are open where an op is.
+/// The blocks that are open around an op.
 #[derive(Drop)]
 pub struct OpenBlocks {
     // the innermost first
@@ -61,7 +61,7 @@ impl OpenBlocks {
     /// The most loops that are open at once (profile).
     pub const MOST_LOOPS: usize = 4;
 
-    /// Where a script begins.
+    /// The beginning of a script.
     pub fn new() -> Self
         ensures { result ≡ [] }
     {
@@ -130,7 +130,7 @@ impl OpenBlocks {
         }
     }
 
-    /// Those that are open behind the op, which is allowed there.
+    /// Those that are open after the op, which is allowed there.
     pub fn pass(&mut self, edge: Edge)
         requires { may_stand edge self.old ≡ true }
         ensures { self.new ≡ blocks_past edge self.old }
@@ -161,7 +161,7 @@ impl OpenBlocks {
         }
     }
 
-    /// An op whose text is this one's, where an `end` is that of the innermost block.
+    /// An op whose text is this one's; an `end` becomes that of the innermost block.
     pub fn ending(&self, op: Op) -> Op
         ensures { result ≡ ending self.now op }
     {

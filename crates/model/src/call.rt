@@ -10,7 +10,7 @@ pub enum Phase {
     /// at them, as a wait for a notification looks at that.
     #[default]
     Start,
-    /// A later try. A wait for bits or for a notification, which is over then, answers.
+    /// A later try. A wait for bits or for a notification is over then, and returns.
     Try,
     /// The scheduler is held and the queue locked; the task begins to wait, if that is still due.
     Decide,
@@ -47,7 +47,7 @@ pub enum WaitList {
 pub struct CallProgress {
     /// The phase that is next.
     pub phase: Phase,
-    /// Until when it may wait, in ticks without bound; `None`: for ever.
+    /// Until when it may wait, in ticks without bound; `None`: forever.
     pub deadline: Option<u64>,
     /// Whether it has begun to wait at an object, until its hold of the scheduler ends.
     pub waits: bool,

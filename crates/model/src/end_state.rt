@@ -12,7 +12,7 @@ pub enum Situation {
     Ready { op_index: u16 },
     /// It was woken through an object that is locked, and isn't Ready yet.
     Awake { op_index: u16 },
-    /// It waits until this printed tick, or for ever.
+    /// It waits until this printed tick, or forever.
     Waits { op_index: u16, until: Option<u32> },
     /// It sleeps until this printed tick.
     Sleeps { op_index: u16, until: u32 },

@@ -1,4 +1,4 @@
-//! What a run reports: its events, each of which is a line of the report, and how it ends.
+//! What a run reports: its events, each a line of the report, and how it ends.
 use crate::ids::{HandlerId, TaskId};
 
 /// What an event reports.
@@ -45,19 +45,19 @@ const _: () = prove!(size_of::<Event>() == 16);
 /// What a task must not do (profile). FreeRTOS asserts it, or its manual forbids it, and its effect is undefined.
 #[derive(Clone, Copy, PartialEq, Eq)]
 pub enum Misuse {
-    /// While a `suspend_all` is in force it does an op that may switch, or wait.
+    /// While a `suspend_all` is active it does an op that may switch, or wait.
     WhileSuspended,
-    /// It takes a `suspend_all` back, and none is in force.
+    /// It takes a `suspend_all` back, and none is active.
     NotSuspended,
     /// It gives a mutex back that it doesn't hold.
     NotHolder,
-    /// It comes to the end of its script while a `suspend_all` is in force.
+    /// It reaches the end of its script while a `suspend_all` is active.
     EndedSuspended,
     /// While a critical section is open it does an op that may switch or wait, lets time pass, or suspends the scheduler.
     WhileCritical,
     /// It closes a critical section, and none is open.
     NotCritical,
-    /// It comes to the end of its script while a critical section is open.
+    /// It reaches the end of its script while a critical section is open.
     EndedCritical,
 }
 

@@ -1,10 +1,10 @@
-//! Where a run ends at the latest, and how many steps were run.
+//! When a run ends at the latest, and how many steps were run.
 ghost use Rattle.std.specs.Prelude.{◌≡◌, ◌<◌, ◌+◌, ◌^◌, ◌↔◌, ℕ, IsSome, IfSome};
 ghost use Rattle.model.specs.Scripts.{AreLimits};
 
 use std::marker::Model;
 
-/// Where a run ends at the latest: elapsed ticks, 1 to 2^48, and steps, 1 to 1,000,000 (profile).
+/// When a run ends at the latest: elapsed ticks, 1 to 2^48, and steps, 1 to 1,000,000 (profile).
 #[derive(Clone, Copy, PartialEq, Eq)]
 pub struct Limits {
     pub ticks: u64,
@@ -26,14 +26,14 @@ impl Model for Limits {
 }
 
 impl Limits {
-    /// The most steps of a run, and the most ticks that a file without `tickless` may ask for (profile); also where a file names
-    /// no limit.
+    /// The most steps of a run, and the most ticks that a file without `tickless` may ask for (profile); also if a file names no
+    /// limit.
     pub const MOST: u32 = 1_000_000;
 
     /// The most ticks of a run (profile).
     pub const MOST_TICKS: u64 = 281_474_976_710_656;
 
-    /// The limits; `None` where the ticks are not 1 to 2^48, or the steps not 1 to 1,000,000.
+    /// The limits; `None` if the ticks are not 1 to 2^48, or the steps not 1 to 1,000,000.
     pub fn new(ticks: u64, steps: u32) -> Option<Self>
         ensures known { IsSome result ↔ AreLimits ticks steps }
         ensures value { IfSome result (λ limits. limits ≡ record { ticks = ticks; steps = steps }) }

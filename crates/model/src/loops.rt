@@ -5,6 +5,6 @@
 pub struct Loop {
     /// The index of the op at which its turns begin.
     pub start: u16,
-    /// How many turns are left, this one included; `None` is for ever.
+    /// How many turns are left, this one included; `None` is forever.
     pub left: Option<u16>,
 }

@@ -174,7 +174,7 @@ impl NotificationWait {
         }
     }
 
-    /// What it leaves then of the task's notification, of which none is pending.
+    /// What it leaves then of the task's notification, which isn't pending.
     pub fn left(self, notification: Notification) -> Notification
         ensures { result ≡ left_by_wait self notification }
     {

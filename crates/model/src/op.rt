@@ -17,7 +17,7 @@ pub enum Access<Item> {
     Overwrite(Item),
     /// Takes the first item (`xQueueReceive`).
     Receive,
-    /// Answers the first item and leaves it (`xQueuePeek`).
+    /// Returns the first item and leaves it (`xQueuePeek`).
     Peek,
     /// Takes one from the count of a semaphore (`xSemaphoreTake`).
     Take,
@@ -177,23 +177,23 @@ pub enum Op {
     /// Sleeps for this many ticks, 0 to 4,294,967,295 (`vTaskDelay`); for 0 it gives way to its equals and doesn't sleep.
     Delay(u32),
     /// Sleeps until this many ticks after the time from which it counts, 1 to 4,294,967,295 (`xTaskDelayUntil`); goes on at
-    /// once where that is not still to come (profile: FreeRTOS gives way to equals then).
+    /// once if that is not in the future (profile: FreeRTOS yields to equals then).
     DelayUntil(u32),
     /// Gives way to the tasks of equal priority (`taskYIELD`).
     Yield,
-    /// Answers the printed tick (`xTaskGetTickCount`).
+    /// Returns the printed tick (`xTaskGetTickCount`).
     Time,
     /// Writes a mark line with this number, 0 to 4,294,967,295 (profile).
     Mark(Value),
-    /// Ends the run where this doesn't hold of the last answer (profile).
+    /// Ends the run if this doesn't hold of the last answer (profile).
     Expect(AnswerCondition),
-    /// Opens a loop of this many turns, 1 to 1,000; `None` is for ever: only a `break` ends it (profile).
+    /// Opens a loop of this many turns, 1 to 1,000; `None` is forever: only a `break` ends it (profile).
     Repeat(Option<u16>),
     /// Ends a turn of the innermost loop (profile).
     End,
-    /// Goes on where this holds of the last answer, and otherwise behind its `else`, or behind its `end` where it has none (profile).
+    /// Goes on if this holds of the last answer, and otherwise after its `else`, or after its `end` if it has none (profile).
     If(AnswerCondition),
-    /// Goes on behind the `end` of its `if` (profile).
+    /// Goes on after the `end` of its `if` (profile).
     Else,
     /// Ends an `if`, and does nothing (profile). Its word is that of `End`.
     EndIf,
@@ -201,32 +201,32 @@ pub enum Op {
     Break,
     /// Notes the time, from which `since` counts (profile).
     Stamp,
-    /// Answers how many ticks have passed since the last `stamp`, at first since reset, at most 4,294,967,295 (profile).
+    /// Returns how many ticks have passed since the last `stamp`, at first since reset, at most 4,294,967,295 (profile).
     Since,
-    /// A call that waits until the object allows it, at most for this many ticks, 0 to 4,294,967,294; `None` is for ever
+    /// A call that waits until the object allows it, at most for this many ticks, 0 to 4,294,967,294; `None` is forever
     /// (`portMAX_DELAY`). It is one of send, send_front, receive, peek, take and lock.
     Await(ObjectId, Access<Value>, Option<u32>),
     /// A call that doesn't wait: overwrite or give.
     Do(ObjectId, Access<Value>),
     /// Gives a mutex back, which the task holds (`xSemaphoreGive` of a mutex).
     GiveMutex(ObjectId),
-    /// Answers how many items are in a queue (`uxQueueMessagesWaiting`).
+    /// Returns how many items are in a queue (`uxQueueMessagesWaiting`).
     MessagesWaiting(ObjectId),
-    /// Answers for how many more items a queue has room (`uxQueueSpacesAvailable`).
+    /// Returns for how many more items a queue has room (`uxQueueSpacesAvailable`).
     SpacesAvailable(ObjectId),
-    /// Sets these bits of an event group, 1 to 16,777,215; answers those that are set after it (`xEventGroupSetBits`).
+    /// Sets these bits of an event group, 1 to 16,777,215; returns those that are set after it (`xEventGroupSetBits`).
     SetBits(GroupId, u32),
-    /// Clears these bits of an event group, 1 to 16,777,215; answers those that were set before it (`xEventGroupClearBits`).
+    /// Clears these bits of an event group, 1 to 16,777,215; returns those that were set before it (`xEventGroupClearBits`).
     ClearBits(GroupId, u32),
-    /// Answers which bits of an event group are set (`xEventGroupGetBits`).
+    /// Returns which bits of an event group are set (`xEventGroupGetBits`).
     GetBits(GroupId),
-    /// Waits until bits of an event group are set, at most for this many ticks, 0 to 4,294,967,294; `None` is for ever
+    /// Waits until bits of an event group are set, at most for this many ticks, 0 to 4,294,967,294; `None` is forever
     /// (`xEventGroupWaitBits`).
     WaitBits(GroupId, Condition, Option<u32>),
     /// Notifies a task, perhaps itself (`xTaskNotify`, `xTaskNotifyGive`): its notification value changes so, a notification is pending,
     /// and a task that waits for one is Ready.
     Notify(TaskId, NotifyAction<Value>),
-    /// Waits for a notification, at most for this many ticks, 0 to 4,294,967,294; `None` is for ever (`ulTaskNotifyTake`,
+    /// Waits for a notification, at most for this many ticks, 0 to 4,294,967,294; `None` is forever (`ulTaskNotifyTake`,
     /// `xTaskNotifyWait`).
     AwaitNotification(NotificationWait, Option<u32>),
     /// Clears something of its own notification (`xTaskNotifyStateClear`, `ulTaskNotifyValueClear`).
@@ -324,17 +324,17 @@ pub enum IsrOp {
     Command(Command),
     /// Resumes a suspended task (`xTaskResumeFromISR`).
     Resume(TaskId),
-    /// Answers which bits of an event group are set (`xEventGroupGetBitsFromISR`).
+    /// Returns which bits of an event group are set (`xEventGroupGetBitsFromISR`).
     GetBits(GroupId),
     /// Notifies a task (`xTaskNotifyFromISR`, `vTaskNotifyGiveFromISR`).
     Notify(TaskId, NotifyAction<Value>),
     /// Writes a mark line with this number, 0 to 4,294,967,295 (profile).
     Mark(Value),
-    /// Ends the handler, and the run behind the step, where this doesn't hold of the answer of the handler's op before (profile).
+    /// Ends the handler, and the run after the step, if this doesn't hold of the handler's last answer (profile).
     Expect(AnswerCondition),
-    /// Goes on where this holds of that answer, and otherwise behind its `else`, or behind its `end` where it has none (profile).
+    /// Goes on if this holds of that answer, and otherwise after its `else`, or after its `end` if it has none (profile).
     If(AnswerCondition),
-    /// Goes on behind the `end` of its `if` (profile).
+    /// Goes on after the `end` of its `if` (profile).
     Else,
     /// Ends an `if`, and does nothing (profile).
     EndIf,

@@ -1,4 +1,4 @@
-//! What a run comes to.
+//! The result of a run.
 use crate::event::{End, Event};
 use std::alloc::{AllocError, AllocFailed};
 use std::marker::Model;

@@ -13,7 +13,7 @@ use std::marker::Model;
 #[derive(Drop)]
 pub struct Script {
     ops: Vec<Op>,
-    // where each goes on if it jumps
+    // the op that each goes on at if it jumps
     jumps: Vec<u16>,
 }
 
@@ -40,7 +40,7 @@ impl Script {
         self.ops.as_slice()
     }
 
-    /// The index of the op that is next where the op of this index jumps.
+    /// The index of the op that is next if the op of this index jumps.
     #[inline]
     pub fn jump_from(&self, op_index: u16) -> u16
         requires { op_index < most_ops }
@@ -94,7 +94,7 @@ fn past_loop(ops: &[Op]) -> u16
     passed
 }
 
-// Over how many ops this one jumps, behind which are these.
+// Over how many ops this one jumps, if these come after it.
 fn jumped_over(op: &Op, behind: &[Op]) -> u16
     requires { length behind.now ≤ most_ops }
     ensures value { result ≡ jumped_over (edges_of (op.now ∷ behind.now)) }
@@ -107,7 +107,7 @@ fn jumped_over(op: &Op, behind: &[Op]) -> u16
     }
 }
 
-// Where each of these ops goes on if it jumps.
+// The op that each of these ops goes on at if it jumps.
 fn jumps_of(alloc: Global, ops: &[Op]) -> Result<Vec<u16>, AllocError>
     requires { length ops.now ≤ most_ops }
     ensures { IfOk result (λ v. v.items ≡ jumps_from 0 (edges_of ops.now)) }
@@ -120,7 +120,7 @@ fn jumps_of(alloc: Global, ops: &[Op]) -> Result<Vec<u16>, AllocError>
     Ok(jumps)
 }
 
-/// Whether a call may wait for this many ticks, or for ever.
+/// Whether a call may wait for this many ticks, or forever.
 fn is_wait(ticks: Option<u32>) -> bool
     ensures { result ≡ is_wait ticks }
 {
@@ -147,7 +147,7 @@ impl Op {
     /// The most turns of a loop (profile).
     pub const MOST_TURNS: u16 = 1000;
 
-    /// The most ticks of a wait that isn't for ever: one less than `portMAX_DELAY`.
+    /// The most ticks of a wait that isn't forever: one less than `portMAX_DELAY`.
     pub const MOST_WAIT: u32 = u32::MAX - 1;
 
     /// The greatest set of bits: an event group has 24 (as with ticks of 32 bits in FreeRTOS).
@@ -212,7 +212,7 @@ impl ScriptBuilder {
     }
 
     /// Appends an op, whose numbers are in their ranges, to fewer than 256; an `end` ends the innermost block. At an `Err` the
-    /// script is as it was: `BadNesting` where the op is not allowed there, whatever memory is left, and `Memory` only where it is.
+    /// script is as it was: `BadNesting` if the op is not allowed there, whatever memory is left, and `Memory` only if it is.
     pub fn push(&mut self, op: Op) -> Result<(), NestingFault>
         requires range { InRange op }
         requires room { length self.old < 256 }
@@ -234,7 +234,7 @@ impl ScriptBuilder {
         }
     }
 
-    /// The script, where every block is closed; otherwise `BadNesting`, whatever memory is left.
+    /// The script, if every block is closed; otherwise `BadNesting`, whatever memory is left.
     pub fn finish(self, alloc: Global) -> Result<Script, NestingFault>
         ensures closed { OnOk result (open_behind self ≡ []) }
         ensures script { IfOk result (λ script. (script ≡ self) × IsScript script) }

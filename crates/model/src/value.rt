@@ -16,7 +16,7 @@ impl Value {
     ghost use Rattle.std.specs.Prelude.{◌≡◌};
     ghost use Rattle.model.specs.Values.{is_missing, number_of, value_of};
 
-    /// The value by these variables and this last answer; `None` where it is the last answer, and that is `none`.
+    /// The value by these variables and this last answer; `None` if it is the last answer, and that is `none`.
     #[inline]
     pub fn get(self, variables: &[u32], answer: Option<u32>) -> Option<u32>
         ensures { result ≡ value_of variables.now answer self }
@@ -36,7 +36,7 @@ impl Value {
         matches!(self, Value::Answer) && answer.is_none()
     }
 
-    /// The same number as that of `get`; 0 where there is none.
+    /// The same number as that of `get`; 0 if there is none.
     #[inline]
     pub fn number(self, variables: &[u32], answer: Option<u32>) -> u32
         ensures { result ≡ number_of variables.now answer self }
@@ -49,7 +49,7 @@ impl VariableId {
     ghost use Rattle.std.specs.Prelude.{◌≡◌};
     ghost use Rattle.model.specs.Values.{variable_in};
 
-    /// This one of these variables; 0 where there is none.
+    /// This one of these variables; 0 if there is none.
     #[inline]
     pub fn get(self, variables: &[u32]) -> u32
         ensures { result ≡ variable_in variables.now self.number }
@@ -121,10 +121,10 @@ impl Arithmetic {
     }
 }
 
-/// An op on values: each answers a number, unless it has none to work with (profile).
+/// An op on values: each returns a number, unless it has none to work with (profile).
 #[derive(Clone, Copy, PartialEq, Eq)]
 pub enum ValueOp {
-    /// Answers what the variable is.
+    /// Returns what the variable is.
     Load(VariableId),
     /// The variable becomes this value, which is the answer.
     Store(VariableId, Value),
@@ -138,7 +138,7 @@ impl ValueOp {
     ghost use Rattle.model.specs.Values.{answer_of};
     ghost use Rattle.model.specs.Words.{word_of_value_op};
 
-    /// What it answers by these variables and this last answer; `None` where it has no value, and isn't done.
+    /// What it returns by these variables and this last answer; `None` if it has no value, and isn't done.
     #[inline]
     pub fn answer(self, variables: &[u32], answer: Option<u32>) -> Option<u32>
         ensures { result ≡ answer_of variables.now answer self }

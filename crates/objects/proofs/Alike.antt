@@ -54,7 +54,7 @@ same_past a b is_u is_v lengths counts from end within zeros same q below = elim
       ∙ ap (λ (objects : List Object). object_in objects q) is_v
 ]
 
--- item k of a queue, which is read `at` places behind the base, lies in the front of a pool
+-- item k of a queue, which is read `at` places after the base, lies in the front of a pool
 module _ {a : Fields} (h : IsFront a) (q k size at : ℕ) (hq : q < object_places) (hk : k < count_of a q)
     (sizes : size ≡ size_of a q) (steps : at ≡ wrap size (head_of a q + k)) where
   place_is : base_of a q + at ≡ place a q k

@@ -1,4 +1,4 @@
--- Who is Awake waited at the locked object: what keeps that.
+-- A task that is Awake waited at the locked object: what keeps that.
 use Rattle.std.proofs.Common.{◌≡◌, ℕ, ◌<◌, true, Option, Some, None, List, [], ◌∷◌, length, set, get_or, sym, ◌∙◌, ap, subst, refl}
 use Rattle.std.proofs.Common.{eqb}
 use Rattle.std.specs.List.{AllByRecursion}
@@ -29,7 +29,7 @@ use Rattle.objects.proofs.Kept.{same_go_on}
 abbrev WokenAt : Option ℕ → Option Wait → Type 0
 WokenAt locked o = IfSome o (λ w. is_locked locked w.list ≡ true)
 
--- Where nothing is locked nobody is Awake.
+-- If nothing is locked no task is Awake.
 pub nobody_awake : (d : Option Decider) (s : State) → s.locked ≡ None
     → AtLocked d s → (i : ℕ) → wait_if_awake (status_at s i) ≡ None
 nobody_awake d s none h i = none_awake s.locked (wait_if_awake (status_at s i)) none (h.awake i)
@@ -74,7 +74,7 @@ at_locked-stored d o x s h = record { awake = h.awake; to_place = h.to_place }
 
 -- ---- a wake
 
--- who waits in a list of the locked object, and is woken
+-- a task that waits in a list of the locked object, and is woken
 woken_at : (locked : Option ℕ) (list : WaitList) (k : Key) (u : Status) → is_locked locked list ≡ true
     → option_and_then (wait_key list) (wait_if_waiting u) ≡ Some k → WokenAt locked (wait_if_awake (awake_status u))
 woken_at locked list k (Ready n) shown e = absurd cc
@@ -127,7 +127,7 @@ module _ (s : State) (i o : ℕ) (a : Access ℕ) (none : s.locked ≡ None) (h 
       let begun : AtLocked d w = record { awake = (at_locked-nobody w (nobody_then l)).awake; to_place = is_locked-own o a } in
       at_locked_same d w (go_on i Place w) (same_go_on i Place w) begun
 
--- the one who was to be placed is placed
+-- the one that wasn't placed yet is placed
 pub at_locked-placed : (d : Option Decider) (s : State) → AtLocked d s → AtLocked None s
 at_locked-placed d s h = record { awake = h.awake; to_place = tt }
 

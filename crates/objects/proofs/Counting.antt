@@ -218,7 +218,7 @@ locked_after s q (Some i) shown = rw shown refl
 locks : (s : State) (o : ℕ) → s.locked ≡ Some o → is_same s.locked (Some o) ≡ true
 locks s o e = ap (λ x. is_same x (Some o)) e ∙ eqb-refl o
 
--- A wake of who waits to receive from the locked object, or to send to it, counts.
+-- A wake of a task that waits to receive from the locked object, or to send to it, counts.
 pub stands_received : (v : List (List (ℕ × ℕ))) (d : Option Decider) (o receivers senders : ℕ) (s : State)
     → StandLocked v d o receivers senders s → StandLocked v d o (one_more receivers) senders (wake_best (ToReceive o) s)
 unfolding wake_best

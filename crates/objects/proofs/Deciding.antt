@@ -62,7 +62,7 @@ pub stands_gone_on : (v : Objects) (d : Option Decider) (s : State) (i : ℕ) (p
 stands_gone_on v d s i phase h =
     stands_staying v d s i (record (progress_at s i) { call = record (call_at s i) { phase = phase } }) h
 
--- Who is woken stays in its list.
+-- A woken task stays in its list.
 pub stands_awaken : (v : Objects) (d : Option Decider) (s : State) (i : ℕ)
     → StandsFor v d s → IfSome v.lock (Counts (awaken i s)) → StandsFor v d (awaken i s)
 stands_awaken v d s i h counts =

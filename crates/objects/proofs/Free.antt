@@ -1,4 +1,4 @@
--- Who is in a waiting list: those who wait, but not the one who is still to be placed.
+-- The members of a waiting list: the waiting tasks, but not the one that isn't placed yet.
 use Rattle.std.proofs.Common.{◌≡◌, ◌≢◌, ℕ, zero, suc, ◌+◌, get_or, ◌&&◌, ◌||◌, Bool, true, false, not, List, [], ◌∷◌, Option, Some}
 use Rattle.std.proofs.Common.{None, refl, ap, sym, subst, ◌∙◌, arith, eqb}
 use Rattle.std.specs.Prelude.{nat_lt, ◌==◌}
@@ -67,7 +67,7 @@ once_priorities : (es : List Entry) → Distinct es → EachOnce (with_prioritie
 once_priorities [] d = tt
 once_priorities (e ∷ es) d = (apart_priorities e.task es d.0, once_priorities es d.1)
 
--- ---- those who are in a list
+-- ---- the tasks in a list
 
 standing_apart : (s : State) (i : ℕ) (list : WaitList) → standing_key list (task_at s i) ≡ None
     → Apart (Some i) (with_priorities (standing s list))
@@ -87,7 +87,7 @@ has_key f ts i (x ∷ es) h e = by_test (eqb x.task i)
 no_wait : (s : State) (i : ℕ) (list : WaitList) → wait_of (status_at s i) ≡ None → standing_key list (task_at s i) ≡ None
 no_wait s i list none = ap (option_and_then (wait_key list)) none
 
--- ---- nobody is to be placed
+-- ---- every task is placed
 
 module _ (v : Objects) (s : State) (h : StandsFor v None s) (i : ℕ) where
   pub absent : wait_of (status_at s i) ≡ None → (list : WaitList) → Apart (Some i) (waiting_in v.waiting list)
@@ -122,7 +122,7 @@ module _ (v : Objects) (s : State) (d : Decider) (h : StandsFor v (Some d) s) wh
   pub still_free : place_of v.waiting d.task ≡ None
   still_free = no_place v.waiting d.task still_absent
 
-  -- any other is where it is
+  -- any other keeps its place
   pub others_listed : (i : ℕ) → d.task ≢ i → (list : WaitList)
       → has_node i (waiting_in v.waiting list) ≡ has_node i (with_priorities (standing s list))
   others_listed i ne list = by_test (same_list d.list list)
@@ -138,7 +138,7 @@ wait_cases : (o : Option Wait) → (P : Option Wait → Type 0) → (o ≡ None 
 wait_cases None P n w = n refl
 wait_cases (Some x) P n w = w x refl
 
--- It is, where it waits.
+-- It is, if it waits.
 pub waiting_is : (v : List (List (ℕ × ℕ))) (s : State) (i : ℕ) → IsSound list_places 32 v
     → ((list : WaitList) → has_node i (waiting_in v list) ≡ has_node i (with_priorities (standing s list)))
     → is_some (place_of v i) ≡ is_some (wait_of (status_at s i))

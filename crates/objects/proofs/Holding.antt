@@ -9,7 +9,7 @@ use Rattle.model.proofs.Lists.{eqb-apart, eqb-refl}
 use Rattle.objects.specs.Places.{object_places}
 use Rattle.objects.specs.Mutexes.{AreMutexes, count_held, holder_in, named_by}
 
--- 1 where this task is the holder
+-- 1 if this task is the holder
 abbrev one_of : ℕ → Option ℕ → ℕ
 one_of task holder = cond (is_same holder (Some task)) 1 0
 

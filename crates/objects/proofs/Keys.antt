@@ -1,4 +1,4 @@
--- Where a task is, by cases on its status and on the list.
+-- The place of a task, by cases on its status and on the list.
 use Rattle.std.proofs.Common.{◌≡◌, ◌≢◌, ℕ, ◌+◌, ◌<◌, true, false, Option, None, List, [], ◌∷◌, ◌++◌, refl, ap, ap₂, sym, ◌∙◌, arith}
 use Rattle.std.proofs.Common.{get_or, length, suc}
 use Rattle.std.specs.List.{AllByRecursion, cons_option}
@@ -68,7 +68,7 @@ pub below_standing : (n : ℕ) (list : WaitList) (ts : List Task) → AllTickets
 below_standing n list [] h = tt
 below_standing n list (t ∷ ts) h = (standing_below n list t.status h.0, below_standing n list ts h.1)
 
--- an awakening changes neither where a task is nor its ticket
+-- an awakening changes neither a task's place nor its ticket
 pub wait_of-awake : (u : Status) → wait_of (awake_status u) ≡ wait_of u
 wait_of-awake (Ready m) = refl
 wait_of-awake (Awake w) = refl
@@ -89,7 +89,7 @@ ticket_of-awake (WaitingForNotification m d) = refl
 ticket_of-awake Suspended = refl
 ticket_of-awake Ended = refl
 
--- where an object isn't locked, all who are there wait
+-- if an object isn't locked, all tasks that are there wait
 
 abbrev pub AwakeAtLocked : State → Type 0
 AwakeAtLocked s = (task : ℕ) → IfSome (wait_if_awake (status_at s task)) (λ w. is_locked s.locked w.list ≡ true)

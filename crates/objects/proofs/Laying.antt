@@ -1,4 +1,4 @@
--- The regions of a new storage, laid one behind the other.
+-- The regions of a new storage, laid one after the other.
 use Rattle.std.proofs.Common.{◌≡◌, ℕ, ◌+◌, ◌-◌, ◌*◌, ◌<◌, ◌≤◌, inl, inr, List, [], ◌++◌, get_or, set, length, drop, replicate, sym}
 use Rattle.std.proofs.Common.{◌∙◌, ap, subst, arith, refl}
 use Rattle.std.proofs.lemmas.List.{get_or-set_same, get_or-set_other, length-set, length-append, length-replicate, drop-replicate}
@@ -10,7 +10,7 @@ use Rattle.objects.specs.Rings.{Fields, IsItems, place, object_of, objects_of}
 use Rattle.model.specs.State.{no_object}
 use Rattle.objects.proofs.Listed.{get_or-listed, listed-none}
 
--- the first i regions lie one behind the other, and end at `used`
+-- the first i regions lie one after the other, and end at `used`
 pub record IsLaid (sizes bases : List ℕ) (used i : ℕ) : Type 0 where
   pub sizes_length : length sizes ≡ object_places
   pub bases_length : length bases ≡ object_places
@@ -77,7 +77,7 @@ zero_at n q = elim (cases_lt q n) [
 zeros_length : (n : ℕ) → length (zeros n) ≡ n
 zeros_length n = length-replicate n 0
 
--- the lengths that are asked for, with those of the other queues behind them
+-- the lengths that are asked for, with those of the other queues after them
 pub padded : (lengths front : List ℕ) → front ≡ lengths
     → front ++ drop (length lengths) (zeros object_places) ≡ lengths ++ replicate (object_places - length lengths) 0
 padded lengths front e =

@@ -1,4 +1,4 @@
--- Those who wait in a list and those who are Awake are parts of those who are there.
+-- The tasks that wait in a list and those that are Awake are parts of those that are there.
 use Rattle.std.proofs.Common.{◌≡◌, ℕ, ◌+◌, zero, suc, Bool, not, cond, List, [], ◌∷◌, ◌++◌, Option, Some, None, refl, ap, sym, ◌∙◌}
 use Rattle.std.proofs.Common.{arith, get_or, length, take, drop, append_assoc, length-append}
 use Rattle.std.specs.List.{filter}
@@ -61,7 +61,7 @@ module _ (f g : Task → Option Key) (p : Task → Bool) (h : (t : Task) → f t
   pub list_by-part : (ts : List Task) → list_by f ts ≡ filter (has p ts) (list_by g ts)
   list_by-part ts = ap in_order (keyed-part 0 [] ts refl) ∙ sym (filter-in_order (has p ts) (keyed g 0 ts))
 
--- those who are Awake, and the others
+-- those that are Awake, and the others
 
 awake-part : (list : WaitList) (u : Status)
     → option_and_then (wait_key list) (wait_if_awake u)
@@ -99,7 +99,7 @@ filter-not_awake s (suc k) [] h = refl
 filter-not_awake s zero (e ∷ es) h = rw h.0 (ap (λ l. e ∷ l) (filter-not_awake s zero es h.1))
 filter-not_awake s (suc k) (e ∷ es) h = rw h.0 (filter-not_awake s k es h.1)
 
--- Of those who are there this many, the first ones, are Awake, and the others wait.
+-- Of those that are there this many, the first ones, are Awake, and the others wait.
 pub awakened_first : (s : State) (list : WaitList) (k : ℕ)
     → FirstAwake s k (standing s list) → awakened s list ≡ take k (standing s list)
 awakened_first s list k h =

@@ -58,7 +58,7 @@ module _ (v : List (List (ℕ × ℕ))) (i : ℕ) (absent : (list : WaitList) �
       stands_kept v None s i u h (λ list. refl) (ticket_at s.next_ticket i s.tasks h.table.tickets) in
       takes t q (task_at s i).priority (call_at s i).deadline before (subst (λ (k : ℕ). i < k) (sym (length-set s.tasks i u)) l)
 
--- It is placed: the lists come to be what they were counted as.
+-- It is placed: the lists become what they were counted as.
 pub stands_placed : (v : List (List (ℕ × ℕ))) (s : State) (q : WaitList) (p i : ℕ) → length v ≡ list_places
     → number_of q < list_places → WaitersStand v (Some (record { task = i; list = q; priority = p })) s
     → WaitersStand (set v (number_of q) (insert_by_priority (i, p) (waiting_in v q))) None s

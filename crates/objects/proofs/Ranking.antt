@@ -17,7 +17,7 @@ pub record KeepsWaits (old new : State) : Type 0 where
   pub same : SameWaits old new
   pub table : IsTable old → IsTable new
 
--- then the objects represent the new state too, and who is Awake waited at the locked object
+-- then the objects represent the new state too, and a task that is Awake waited at the locked object
 pub stands_kept : (v : Objects) (d : Option Decider) (s t : State) → KeepsWaits s t → StandsFor v d s → StandsFor v d t
 stands_kept v d s t k h = stands_same s t k.same v d h (k.table h.waiters.table)
 

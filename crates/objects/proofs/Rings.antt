@@ -178,7 +178,7 @@ module _ {a : Fields} (h : IsItems a) where
         ap (λ (i : ℕ). get_or (set a.pool p x) (base_of a r + wrap (size_of a r) (i + k)) 0) same_head
         ∙ get_or-set_other a.pool p (place a r k) x 0 (place-apart q r k p hq hr ne (omega (arith, hk, few)) from to))
 
-    -- the queues after the write, where queue q's items are known
+    -- the queues after the write, if queue q's items are known
     pub written_queues : (xs : List ℕ)
         → listed (λ k. get_or (set a.pool p x) (base_of a q + wrap (size_of a q) (head + k)) 0) count ≡ xs
         → objects_of (written a q p x head count) ≡ set (objects_of a) q (record no_object { size = size_of a q; items = xs })
@@ -193,7 +193,7 @@ module _ {a : Fields} (h : IsItems a) where
         ∙ ap (λ (ys : List ℕ). set (listed (object_of a) object_places) q (record no_object { size = size_of a q; items = ys }))
         here
 
-  -- an item is put behind the others
+  -- an item is put after the others
   pub pushed_back : (q x : ℕ) → q < object_places → count_of a q < size_of a q
       → listed (λ k. get_or (set a.pool (place a q (count_of a q)) x) (place a q k) 0) (count_of a q + 1) ≡ ring a q ++ x ∷ []
   pushed_back q x hq room =
@@ -490,7 +490,7 @@ copied {a} h front back e =
     get_or_append_left front back 0 i (omega (arith, len, hi))
     ∙ ap (λ (xs : List ℕ). get_or xs i 0) e ∙ get_or-take used a.pool i 0 hi)
 
--- ---- a storage without what lies behind its last region
+-- ---- a storage without what comes after its last region
 
 -- It is the front of the storage's pool, and holds the same queues.
 module _ {a : Fields} (h : IsItems a) (front : List ℕ) (e : front ≡ take (base_of a last_place + size_of a last_place) a.pool) where
@@ -510,7 +510,7 @@ module _ {a : Fields} (h : IsItems a) (front : List ℕ) (e : front ≡ take (ba
   pub front_holds : objects_of (with_pool front a) ≡ objects_of a
   front_holds = ap (λ (pool : List ℕ). objects_of (with_pool pool a)) (sym (append-nil front)) ∙ copied h front [] e
 
--- Whatever comes behind it, it holds the same queues.
+-- Whatever comes after it, it holds the same queues.
 module _ {a : Fields} (h : IsFront a) (back : List ℕ) where
   refilled_front : a.pool ≡ take (base_of a last_place + size_of a last_place) (a.pool ++ h.back)
   refilled_front = sym (ap (λ (n : ℕ). take n (a.pool ++ h.back)) (sym h.front) ∙ take-append_seam a.pool h.back)

@@ -36,7 +36,7 @@ there [] o a t = absurd cc
 there (kind ∷ kinds) zero a t = omega arith
 there (kind ∷ kinds) (suc o) a t = let h = there kinds o a t in omega (arith, h)
 
--- An object of which an op speaks is there, and has the room that its call wants, in the objects that represent a state of a run.
+-- An object that an op names is there, and has the room that its call wants, in the objects that represent a state of a run.
 pub has_room : (app : Application) (hold : Hold) (v : Objects) (d : Option Decider) (s : State) (o : ℕ) (a : Access ℕ)
     → IsSound app hold s → StandsFor v d s → fits_object app o a ≡ true → HasRoom v o a
 has_room app hold v d s o a h stands known = (

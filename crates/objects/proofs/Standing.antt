@@ -26,7 +26,7 @@ use Rattle.objects.proofs.Keys.{AwakeAtLocked, below_standing, standing_key, tic
 
 -- lists of entries, as tasks with their priorities
 
--- an entry whose ticket is above all goes behind its equals
+-- an entry whose ticket is above all goes after its equals
 with_priorities-put : (e : Entry) (xs : List Entry) → AllByRecursion (λ (x : Entry). x.key.ticket < e.key.ticket) xs
     → with_priorities (put e xs) ≡ insert_by_priority (e.task, e.key.priority) (with_priorities xs)
 with_priorities-put e [] h = refl
@@ -70,7 +70,7 @@ module _ (s : State) (i : ℕ) (status : ℕ → Status) (h : IsTable s) (l : i 
       let t : Task = record (task_at s i) { status = status s.next_ticket } in
       ap with_priorities (list-gone (standing_key list) i t s.tasks l is) ∙ with_priorities-filter i (standing s list)
 
--- a task that changes and stays where it was
+-- a task that changes and keeps its place
 pub stands_kept : (v : List (List (ℕ × ℕ))) (d : Option Decider) (s : State) (i : ℕ) (t : Task) → WaitersStand v d s
     → ((list : WaitList) → standing_key list t ≡ standing_key list (task_at s i)) → HasTicketBelow s.next_ticket t.status
     → WaitersStand v d (record s { tasks = set s.tasks i t })
@@ -79,7 +79,7 @@ stands_kept v d s i t h same below = record {
   table = table-set s i t h.table below;
 }
 
--- Who is woken through the locked object stays where it was.
+-- A task that is woken through the locked object keeps its place.
 pub standing-awakened : (s : State) (i : ℕ) (list : WaitList) → standing (awaken i s) list ≡ standing s list
 standing-awakened s i list =
     list-kept (standing_key list) i (record (task_at s i) { status = awake_status (status_at s i) })
@@ -105,7 +105,7 @@ stands_readied v s i h l = record {
   table = table-taken s i Ready h.table (omega arith);
 }
 
--- So is who is suspended.
+-- Likewise for a suspended task.
 pub stands_suspended : (v : List (List (ℕ × ℕ))) (s : State) (i : ℕ) → WaitersStand v None s
     → i < length s.tasks → WaitersStand (map (without i) v) None (with_status i Suspended s)
 stands_suspended v s i h l =
@@ -144,7 +144,7 @@ module _ (v : List (List (ℕ × ℕ))) (s : State) (list : WaitList) (h : waiti
   head_key i e =
       first_key (standing_key list) s.tasks i (standing s list) (list_has (standing_key list) s.tasks) (e ∙ ap first_of h)
 
-  -- the first of the list, where its object isn't locked
+  -- the first of the list, if its object isn't locked
   pub best_is : AwakeAtLocked s → is_locked s.locked list ≡ false → first_of (waiting_in v list) ≡ task_of (first (waiters s list))
   best_is awake shut =
       ap first_of h ∙ first_priorities (standing s list)

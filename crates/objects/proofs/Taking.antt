@@ -77,7 +77,7 @@ none_out ls l first = sym (set-self ls l (drop 1 (entries_of ls l)) (none (entri
   none [] e = refl
   none (x ∷ xs) e = absurd (none-some x.0 e)
 
--- this many are taken out of a list, or all where there are fewer
+-- this many are taken out of a list, or all if there are fewer
 pub record TakenOut (old new : List (List (ℕ × ℕ))) (list : WaitList) (count : ℕ) (taken : List ℕ) : Type 0 where
   pub tasks : taken ≡ take count (tasks_in (waiting_in old list))
   pub left : new ≡ set old (number_of list) (drop count (waiting_in old list))

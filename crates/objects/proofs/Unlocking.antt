@@ -23,7 +23,7 @@ stands_opened v s h =
       table = record { tickets = h.table.tickets; few = h.table.few; current = h.table.current; holders = h.table.holders };
     }
 
--- Who is taken out of those who wait to receive doesn't wait to send.
+-- A task that is taken out of those that wait to receive doesn't wait to send.
 pub senders_stay : (v : List (List (ℕ × ℕ))) (o receivers senders : ℕ)
     → best_of (ToSend o) senders (without_best (ToReceive o) receivers v) ≡ best_of (ToSend o) senders v
 senders_stay v o receivers senders = ap (λ (es : List (ℕ × ℕ)). take senders (tasks_in es))

@@ -1,4 +1,4 @@
--- The best waiter of a list is woken, where its object isn't locked, and another one may be.
+-- The best waiter of a list is woken, if its object isn't locked, and another one may be.
 use Rattle.std.proofs.Common.{◌≡◌, ◌≢◌, ℕ, ◌<◌, true, false, Option, Some, None, List, [], ◌∷◌, map, length, sym, ◌∙◌, ap, subst}
 use Rattle.std.proofs.Common.{refl}
 use Rattle.std.specs.Prelude.{nat_lt}
@@ -54,7 +54,7 @@ apart_inserted i e (x ∷ xs) h = by_test (nat_lt x.1 e.1)
     (λ t. let k = rw t at h in (k.0, k.1))
     (λ t. let k = rw t at h in let r = apart_inserted i e xs k.1 in (r.0, (k.0, r.1)))
 
--- Who is first in a list becomes Ready, also while another is to be placed at the locked object.
+-- The first task of a list becomes Ready, also while another isn't placed yet at the locked object.
 stands_taken : (v : List (List (ℕ × ℕ))) (s : State) (d : Option Decider) (list : WaitList) (i : ℕ)
     → WaitersStand v d s → IfSome d (λ d. is_locked s.locked d.list ≡ true) → is_locked s.locked list ≡ false
     → waiting_in v list ≡ with_priorities (standing s list) → Some i ≡ first_of (waiting_in v list)
@@ -73,7 +73,7 @@ stands_taken v s (Some d) list i h a shut here e =
     stands_readied_but v s d i h (head_within v s list here i e)
     (λ q. both.0 (ap Some q)) (has_node-apart i (waiting_in v d.list) both.1)
 
--- In a list where it isn't, the same ones are Awake.
+-- In a list without it, the same ones are Awake.
 awake_elsewhere : (s : State) (i k : ℕ) (q : WaitList) → i < length s.tasks → standing_key q (task_at s i) ≡ None
     → FirstAwake s k (standing s q) → FirstAwake (make_ready i s) k (standing (make_ready i s) q)
 awake_elsewhere s i k q l none h =

@@ -28,7 +28,7 @@ abbrev pub CanHold : Access ℕ → Object → Type 0
 CanHold (Overwrite item) o = 0 < o.size
 CanHold _ o = Unit {0}
 
--- The object is there, and has room for what the call puts in, where nothing is in it.
+-- The object is there, and has room for what the call puts in, if nothing is in it.
 abbrev pub HasRoom : Objects → ℕ → Access ℕ → Type 0
 HasRoom v object access = (object < v.number) × CanHold access (object_in v.objects object)
 
@@ -36,7 +36,7 @@ HasRoom v object access = (object < v.number) × CanHold access (object_in v.obj
 abbrev pub locked_by : Option Lock → Option ℕ
 locked_by lock = option_map (λ (l : Lock). l.object) lock
 
--- the lock with one more wake counted, where the list is one of the locked object's
+-- the lock with one more wake counted, if the list is one of the locked object's
 abbrev pub counted : WaitList → Lock → Option Lock
 counted (ToReceive object) lock =
     if lock.object == object then Some (record lock { receivers = one_more lock.receivers }) else None
@@ -52,7 +52,7 @@ abbrev pub after_wake : Option Lock → WaitList → Objects → Objects
 after_wake (Some lock) list v = record v { lock = Some lock }
 after_wake None list v = record v { waiting = without_best list 1 v.waiting }
 
--- Who becomes Ready by it: nobody where a lock counts it.
+-- The task that becomes Ready by it: none if a lock counts it.
 abbrev pub readied_by : Option Lock → WaitList → Objects → Option ℕ
 readied_by (Some lock) list v = None
 readied_by None list v = first_of (waiting_in v.waiting list)
@@ -63,8 +63,8 @@ after_unlock (Some lock) v =
     record v { lock = None; waiting = without_woken lock.object lock.receivers lock.senders v.waiting }
 after_unlock None v = v
 
--- The best of those who wait to receive from the locked object, as many as its lock has counted, are these, in order, and
--- the best of those who wait to send to it are those.
+-- The best tasks that wait to receive from the locked object, as many as its lock has counted, are the first of these
+-- lists, in order, and the best that wait to send to it are the second.
 abbrev pub AreCounted : Lock → Objects → List ℕ → List ℕ → Type 0
 AreCounted lock v receivers senders =
     (receivers ≡ best_of (ToReceive lock.object) lock.receivers v.waiting)
@@ -79,8 +79,8 @@ Counts s lock =
 abbrev pub CountsNobody : Objects → Type 0
 CountsNobody v = IfSome v.lock (λ (l : Lock). (l.receivers ≡ 0) × (l.senders ≡ 0))
 
--- The objects are the state's, and as many. The waiting lists are the tasks that wait there, together with the one who is still to
--- be placed, if there is one. The same object is locked, and its wakes are counted.
+-- The objects are the state's, and as many. The waiting lists are the tasks that wait there, together with the one that isn't
+-- placed yet, if there is one. The same object is locked, and its wakes are counted.
 pub record StandsFor (v : Objects) (decider : Option Decider) (s : State) : Type 0 where
   pub number : length s.objects ≡ v.number
   pub objects : (object : ℕ) → object_in v.objects object ≡ object_at s object

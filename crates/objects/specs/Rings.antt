@@ -9,7 +9,7 @@ listed f zero = []
 listed f (suc n) = f 0 ∷ listed (λ k. f (suc k)) n
 
 -- The arrays of the storage. A queue's region of the pool begins at its base, and has its length; its first item
--- is `head` behind the base, and the others follow it around the region
+-- is `head` places after the base, and the others follow it around the region
 pub record Fields : Type 0 where
   pub pool : List ℕ
   pub bases : List ℕ
@@ -33,7 +33,7 @@ count_of a q = get_or a.counts q 0
 abbrev pub wrap : ℕ → ℕ → ℕ
 wrap size at = if nat_lt at size then at else at - size
 
--- where in the pool item k of a queue is
+-- the place of item k of a queue in the pool
 abbrev pub place : Fields → ℕ → ℕ → ℕ
 place a q k = base_of a q + wrap (size_of a q) (head_of a q + k)
 
@@ -65,7 +65,7 @@ pub record IsItems (a : Fields) : Type 0 where
 abbrev pub with_pool : List ℕ → Fields → Fields
 with_pool pool a = record { pool = pool; bases = a.bases; lengths = a.lengths; heads = a.heads; counts = a.counts }
 
--- The pool ends with the last region: with what lies behind it there, these are the arrays of a storage.
+-- The pool ends with the last region: with what comes after it there, these are the arrays of a storage.
 pub record IsFront (a : Fields) : Type 0 where
   pub back : List ℕ
   pub storage : IsItems (with_pool (a.pool ++ back) a)

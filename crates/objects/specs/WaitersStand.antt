@@ -11,7 +11,7 @@ use Rattle.task_lists.specs.Priorities.{with_priorities}
 use Rattle.objects.specs.WaitingLists.{waiting_in}
 use Rattle.task_lists.specs.Tasks.{insert_by_priority}
 
--- those who wait in a list, or waited there until the locked object woke them
+-- the tasks that wait in a list, or waited there until the locked object woke them
 abbrev pub standing : State → WaitList → List Entry
 standing s list = list_by (λ (t : Task). option_and_then (wait_key list) (wait_of t.status)) s.tasks
 
@@ -21,13 +21,13 @@ pub record Decider : Type 0 where
   pub list : WaitList
   pub priority : ℕ
 
--- the tasks of a list together with that one, if it is to be placed there
+-- the tasks of a list together with that one, if that list is its place
 abbrev pub joined_by : Option Decider → WaitList → List (ℕ × ℕ) → List (ℕ × ℕ)
 joined_by None list entries = entries
 joined_by (Some d) list entries =
     if same_list d.list list then insert_by_priority (d.task, d.priority) entries else entries
 
--- With the one who is still to be placed, if there is one, each list is the tasks that are there, in order, each with
+-- With the task that isn't placed yet, if there is one, each list is the tasks that are there, in order, each with
 -- the priority that it had when it began to wait.
 pub record WaitersStand (v : List (List (ℕ × ℕ))) (decider : Option Decider) (s : State) : Type 0 where
   pub lists : (list : WaitList) → joined_by decider list (waiting_in v list) ≡ with_priorities (standing s list)
@@ -39,7 +39,7 @@ pub record WaitersStand (v : List (List (ℕ × ℕ))) (decider : Option Decider
 abbrev pub is_awake : State → ℕ → Bool
 is_awake s task = is_some (wait_if_awake (status_at s task))
 
--- Whoever is Awake waited at the locked object, and the one who is still to be placed, if there is one, will wait there.
+-- A task that is Awake waited at the locked object, and the one that isn't placed yet, if there is one, will wait there.
 pub record AtLocked (decider : Option Decider) (s : State) : Type 0 where
   pub awake : (task : ℕ) → IfSome (wait_if_awake (status_at s task)) (λ w. is_locked s.locked w.list ≡ true)
   pub to_place : IfSome decider (λ d. is_locked s.locked d.list ≡ true)
@@ -54,7 +54,7 @@ FirstAwake s (suc count) (e ∷ es) = (is_awake s e.task ≡ true) × FirstAwake
 abbrev pub one_more : ℕ → ℕ
 one_more count = if nat_lt count 32 then count + 1 else count
 
--- Since this object was locked, this many were woken of those who wait to receive from it, and of those who wait to send to
+-- Since this object was locked, this many tasks that wait to receive from it were woken, and this many that wait to send to
 -- it (`cTxLock`, `cRxLock`): they are Awake, and come first.
 pub record StandLocked (v : List (List (ℕ × ℕ))) (decider : Option Decider)
     (object receivers senders : ℕ) (s : State) : Type 0 where
@@ -63,8 +63,8 @@ pub record StandLocked (v : List (List (ℕ × ℕ))) (decider : Option Decider)
   pub to_receive : FirstAwake s receivers (standing s (ToReceive object))
   pub to_send : FirstAwake s senders (standing s (ToSend object))
 
--- Those who waited to receive from an object until it woke them while it was locked are these, in order, and those who
--- waited to send are those.
+-- The tasks that waited to receive from an object until it woke them while it was locked are the first of these lists,
+-- in order, and those that waited to send are the second.
 abbrev pub AreAwakened : State → ℕ → List ℕ → List ℕ → Type 0
 AreAwakened s object receivers senders =
     (receivers ≡ tasks_of (awakened s (ToReceive object))) × (senders ≡ tasks_of (awakened s (ToSend object)))

@@ -15,12 +15,12 @@ number_of (ToSend object) = 2 * object + 1
 abbrev pub waiting_in : List (List (ℕ × ℕ)) → WaitList → List (ℕ × ℕ)
 waiting_in lists list = entries_of lists (number_of list)
 
--- the priority of the first; 0 where there is none
+-- the priority of the first; 0 if there is none
 abbrev pub first_priority : List (ℕ × ℕ) → ℕ
 first_priority [] = 0
 first_priority (e ∷ entries) = e.1
 
--- this many of the best waiters of a list, in order, or all where there are fewer
+-- this many of the best waiters of a list, in order, or all if there are fewer
 abbrev pub best_of : WaitList → ℕ → List (List (ℕ × ℕ)) → List ℕ
 best_of list count lists = take count (tasks_in (waiting_in lists list))
 
@@ -28,12 +28,13 @@ best_of list count lists = take count (tasks_in (waiting_in lists list))
 abbrev pub without_best : WaitList → ℕ → List (List (ℕ × ℕ)) → List (List (ℕ × ℕ))
 without_best list count lists = slice_set lists (number_of list) (drop count (waiting_in lists list))
 
--- This many are taken out of the two lists of an object, of those who wait to receive and of those who wait to send.
+-- This many are taken out of the two lists of an object: of the tasks that wait to receive, and of those that wait
+-- to send.
 abbrev pub without_woken : ℕ → ℕ → ℕ → List (List (ℕ × ℕ)) → List (List (ℕ × ℕ))
 without_woken object receivers senders lists =
     without_best (ToSend object) senders (without_best (ToReceive object) receivers lists)
 
--- a task with its priority, where a list's entry has the value 31 - priority; and back
+-- a task with its priority, of a list's entry whose value is 31 - priority; and back
 abbrev pub mirror : ℕ × ℕ → ℕ × ℕ
 mirror e = (e.0, 31 - e.1)
 

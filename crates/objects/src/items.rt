@@ -74,7 +74,7 @@ fn wrapped(size: u16, at: u16) -> u16
     if at < size { at } else { at - size }
 }
 
-/// The length of a queue; 0 where the object is none.
+/// The length of a queue; 0 if the object is none.
 fn length_of(object: ObjectKind) -> u16
     ensures { result ≡ (object_at_reset object).size }
 {
@@ -157,7 +157,7 @@ impl Items {
         (self.lengths[queue] - self.counts[queue]) as usize
     }
 
-    /// The item that leaves a queue first; `None` where it is empty.
+    /// The item that leaves a queue first; `None` if it is empty.
     pub(crate) fn first(&self, queue: usize) -> Option<u32>
         requires { queue < object_places }
         ensures first { result ≡ slice_get (object_in self.now queue).items 0 }
@@ -170,7 +170,7 @@ impl Items {
         }
     }
 
-    /// Puts an item behind those of a queue that has room (see `room`).
+    /// Puts an item after those of a queue that has room (see `room`).
     pub(crate) fn push_back(&mut self, queue: usize, item: u32)
         requires known { queue < object_places }
         requires room { length (object_in self.old queue).items < (object_in self.old queue).size }
@@ -198,7 +198,7 @@ impl Items {
         self.counts[queue] += 1;
     }
 
-    /// Takes the first item out of a queue; `None` where it is empty.
+    /// Takes the first item out of a queue; `None` if it is empty.
     #[inline(always)]
     pub(crate) fn pop_front(&mut self, queue: usize) -> Option<u32>
         requires { queue < object_places }
@@ -229,7 +229,7 @@ impl Items {
         self.counts[queue] = 1;
     }
 
-    /// Makes the queues those of another storage. What lies in the pool behind the last region is not copied.
+    /// Makes the queues those of another storage. What is in the pool after the last region is not copied.
     pub(crate) fn set_from(&mut self, other: &Items)
         ensures same { self.new ≡ other.now }
         ensures sound { IsSound self.new }
@@ -259,7 +259,7 @@ impl Items {
         })
     }
 
-    /// Makes a snapshot that of the queues as they are now, in the memory that it has. `false` where the regions of its queues are of
+    /// Makes a snapshot that of the queues as they are now, in the memory that it has. `false` if the regions of its queues have
     /// another size.
     pub(crate) fn save(&self, snapshot: &mut ItemsSnapshot) -> bool
         ensures { result ≡ true → snapshot.new ≡ self.now }
@@ -276,12 +276,12 @@ impl Items {
         true
     }
 
-    /// Whether the queues are as in a snapshot: each has as many items, the same and in the same order. Where in the pool
-    /// they lie doesn't count.
+    /// Whether the queues are as in a snapshot: each has as many items, the same and in the same order. Their places in
+    /// the pool don't count.
     pub(crate) fn is_at(&self, snapshot: &ItemsSnapshot) -> bool
         ensures { result ≡ true → self.now ≡ snapshot.now }
     {
-        // Where queues differ, a count mostly does.
+        // If queues differ, a count usually does.
         if !are_same(&self.counts, &snapshot.counts)
             || !are_same(&self.lengths, &snapshot.lengths)
         {

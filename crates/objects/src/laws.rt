@@ -30,7 +30,7 @@ pub(crate) fn wakes_count()
 
 /// A task that begins to wait leaves the objects as they are until it is placed.
 pub fn decides()
-    // Who doesn't wait is in no list, and who is still to be placed is in none yet.
+    // A task that doesn't wait is in no list, and neither is one that isn't placed yet.
     ensures free { (v : Objects) (s : State) (task : ℕ) → StandsFor v None s
         → wait_of (status_at s task) ≡ None → place_of v.waiting task ≡ None }
     ensures still_free { (v : Objects) (s : State) (decider : Decider)
@@ -54,7 +54,7 @@ pub fn decides()
     // A task goes on with its call, or in its script.
     ensures stays { (v : Objects) (decider : Option Decider) (s : State) (task : ℕ) (progress : Progress)
         → StandsFor v decider s → StandsFor v decider (with_progress task progress s) }
-    // Who is woken through the locked object stays in its list, if only the wake is counted.
+    // A task that is woken through the locked object stays in its list, if only the wake is counted.
     ensures awakened { (v : Objects) (decider : Option Decider) (s : State) (task : ℕ)
         → StandsFor v decider s → IfSome v.lock (Counts (awaken task s))
         → StandsFor v decider (awaken task s) }
@@ -83,7 +83,7 @@ pub fn ranks()
         → StandsFor v decider s → StandsFor v decider (inherit task object s) }
     ensures inherited_awake { (decider : Option Decider) (s : State) (task object : ℕ)
         → AtLocked decider s → AtLocked decider (inherit task object s) }
-    // when its wait was in vain,
+    // when its wait was unsuccessful,
     ensures timed_out { (v : Objects) (decider : Option Decider) (s : State) (task object : ℕ)
         → StandsFor v decider s → StandsFor v decider (after_timeout task object s) }
     ensures timed_out_awake { (decider : Option Decider) (s : State) (task object : ℕ)

@@ -1,5 +1,5 @@
-//! The objects that tasks share: queues (profile: of numbers of 32 bits), semaphores and mutexes, and the lists of those who
-//! wait at them.
+//! The objects that tasks share: queues (profile: of numbers of 32 bits), semaphores and mutexes, and the lists of the tasks
+//! that wait at them.
 #![tactic(auto)]
 
 mod items;

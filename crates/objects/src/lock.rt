@@ -21,7 +21,7 @@ fn one_more(count: u8) -> u8
 }
 
 impl Lock {
-    /// The lock with one more wake counted, where the list is one of the locked object's; otherwise `None`.
+    /// The lock with one more wake counted, if the list is one of the locked object's; otherwise `None`.
     pub(crate) fn counted(self, list: WaitList) -> Option<Lock>
         ensures counted { result ≡ counted list self }
     {

@@ -8,7 +8,7 @@ use lists::are_same_bytes;
 use model::TaskId;
 use std::marker::Model;
 
-/// The byte that is kept where there is no holder.
+/// The byte that is kept if there is no holder.
 const NOBODY: u8 = 255;
 
 /// The holder of each object, and how many each task holds, which is kept and never searched for. An object that is
@@ -78,7 +78,7 @@ impl Mutexes {
         are_same_bytes(&self.holders, &other.holders)
     }
 
-    /// The holder of an object; `None` where it has none.
+    /// The holder of an object; `None` if it has none.
     pub(crate) fn holder(&self, object: usize) -> Option<TaskId>
         requires { object < object_places }
         ensures holder { result ≡ holder_in self.now object }

@@ -1,4 +1,5 @@
-//! The objects that tasks share: queues, semaphores and mutexes, who waits at them, and which one is locked.
+//! The objects that tasks share: queues, semaphores and mutexes, which tasks wait at them, and which one is
+//! locked.
 ghost use Rattle.std.specs.Prelude.{◌≡◌, ◌==◌, ◌&&◌, not, ℕ, ◌-◌, ◌<◌, ◌≤◌, [], length, replicate, slice_index_or, slice_set, map, ◌++◌, ◌↔◌, if◌then◌else◌, true, false, Some, None, Option, IsSome, IfSome, IsTrue, IfOk, IsOk, OnOk, OnErr};
 ghost use Rattle.std.specs.List.{AllByRecursion, list_any};
 ghost use Rattle.std.specs.Option.{is_some};
@@ -83,8 +84,8 @@ impl Model for ObjectsSnapshot {
 }
 
 impl Objects {
-    /// These objects as they are at reset, 33 at most, where nobody waits and nothing is locked: queues are empty, semaphores
-    /// have their initial counts, mutexes are free. Those past the last have no room, no count and no holder.
+    /// These objects as they are at reset, 33 at most: no task waits, nothing is locked, queues are empty, semaphores have
+    /// their initial counts, mutexes are free. Those past the last have no room, no count and no holder.
     pub fn new(objects: &[ObjectKind]) -> Self
         requires few { length objects.now ≤ object_places }
         requires kinds { AllByRecursion IsObjectKind objects.now }
@@ -130,7 +131,7 @@ impl Objects {
 
     /// The objects as they are now. It takes four bytes of memory for each item that the queues can hold.
     ///
-    /// `Memory` is answered only where a growth was refused.
+    /// `Memory` is returned only if a growth was refused.
     pub fn snapshot(&self, alloc: Global) -> Result<ObjectsSnapshot, Memory>
         ensures { IfOk result (λ snapshot. snapshot ≡ self.now) }
     {
@@ -144,8 +145,8 @@ impl Objects {
         })
     }
 
-    /// Makes a snapshot that of the objects as they are now. It takes no memory. `false` where the snapshot has other memory than these
-    /// objects ask for: so it is where it is of another application.
+    /// Makes a snapshot that of the objects as they are now. It takes no memory. `false` if the snapshot has other memory than these
+    /// objects ask for, as one of another application has.
     pub fn save(&self, snapshot: &mut ObjectsSnapshot) -> bool
         ensures { result ≡ true → snapshot.new ≡ self.now }
     {
@@ -217,9 +218,9 @@ impl Objects {
         self.items.room(queue.number as usize)
     }
 
-    /// Whether a call is possible on an object now. One that puts an item in is where there is room, one that takes or
-    /// reads the first item where there is one, and `overwrite` always. `take` is possible where the count isn't 0,
-    /// `give` where it is below its greatest, and `lock` where nobody holds the mutex.
+    /// Whether a call is possible on an object now. One that puts an item in is if there is room, one that takes or
+    /// reads the first item if there is one, and `overwrite` always. `take` is possible if the count isn't 0, `give`
+    /// if it is below its greatest, and `lock` if no task holds the mutex.
     #[inline(always)]
     pub fn possible(&self, object: ObjectId, access: Access<u32>) -> bool
         ensures possible { result ≡ allows (object_in self.now.objects object) access }
@@ -240,8 +241,8 @@ impl Objects {
         }
     }
 
-    /// Does a possible call (see `possible`) of a task, or of a handler (`None`), on an object that is there. It answers what the call
-    /// answers: `receive` and `peek` the first item, and any other 1. Nobody is woken.
+    /// Does a possible call (see `possible`) of a task, or of a handler (`None`), on an object that is there. Returns the call's
+    /// result: of `receive` and `peek` the first item, and of any other 1. No task is woken.
     #[inline(always)]
     pub fn carry_out(
         &mut self,
@@ -256,7 +257,7 @@ impl Objects {
           objects = slice_set self.old.objects object
               (object_after caller access (object_in self.old.objects object));
         } }
-        // In the definitions too, where the caller is a task that there is.
+        // In the definitions too, if the caller is a task that exists.
         ensures stands { (s : State) (decider : Option Decider) → StandsFor self.old decider s
             → IfSome caller (λ task. task < length s.tasks) → StandsFor self.new decider
             (with_object object (object_after caller access (object_at s object)) s) }
@@ -292,7 +293,7 @@ impl Objects {
         }
     }
 
-    /// The task that holds a mutex (`xSemaphoreGetMutexHolder`); `None` where nobody does.
+    /// The task that holds a mutex (`xSemaphoreGetMutexHolder`); `None` if none does.
     pub fn holder(&self, object: ObjectId) -> Option<TaskId>
         ensures holder { result ≡ (object_in self.now.objects object).holder }
         ensures stands { (s : State) (decider : Option Decider) → StandsFor self.now decider s
@@ -354,7 +355,7 @@ impl Objects {
         // In the definitions it waits, or has been woken and isn't Ready yet.
         ensures stands { (s : State) → StandsFor self.now None s
             → result ≡ is_some (wait_of (status_at s task)) }
-        // Who is still to be placed is in none, and any other where it waits.
+        // A task that isn't placed yet is in none, and any other in the list in which it waits.
         ensures placing { (s : State) (decider : Decider) → StandsFor self.now (Some decider) s
             → result ≡ not (task == decider.task) && is_some (wait_of (status_at s task)) }
     {
@@ -375,7 +376,7 @@ impl Objects {
         false
     }
 
-    /// The priority of the best waiter of a list, 0 to 31 (`prvGetDisinheritPriorityAfterTimeout`); 0 where nobody waits
+    /// The priority of the best waiter of a list, 0 to 31 (`prvGetDisinheritPriorityAfterTimeout`); 0 if no task waits
     /// there.
     pub fn best_priority(&self, list: WaitList) -> u8
         ensures best { result ≡ first_priority (waiting_in self.now.waiting list) }
@@ -387,7 +388,7 @@ impl Objects {
         self.waiting.best_priority(list)
     }
 
-    /// Locks an object, where none is (see `is_locked`; `prvLockQueue`).
+    /// Locks an object, if none is locked (see `is_locked`; `prvLockQueue`).
     pub fn lock(&mut self, object: ObjectId)
         requires free { self.old.lock ≡ None }
         ensures lock { self.new ≡ record self.old {
@@ -405,8 +406,8 @@ impl Objects {
         });
     }
 
-    /// Wakes the best waiter of a list (`xTaskRemoveFromEventList`). It answers who becomes Ready; `None` where nobody
-    /// waits there, and where its object is locked: then the wake is counted.
+    /// Wakes the best waiter of a list (`xTaskRemoveFromEventList`). Returns the task that becomes Ready; `None` if no
+    /// task waits there, or if its object is locked: then the wake is counted.
     pub fn wake_best(&mut self, list: WaitList) -> Option<TaskId>
         ensures objects { self.new.objects ≡ self.old.objects }
         ensures woken { self.new ≡ after_wake (counted_by list self.old.lock) list self.old }
@@ -428,19 +429,20 @@ impl Objects {
         }
     }
 
-    /// The lock with one more wake counted, where the list is one of the locked object's; otherwise `None`.
+    /// The lock with one more wake counted, if the list is one of the locked object's; otherwise `None`.
     fn counted(&self, list: WaitList) -> Option<Lock>
         ensures counted { result ≡ counted_by list self.now.lock }
     {
         self.lock?.counted(list)
     }
 
-    /// Unlocks the locked object (`prvUnlockQueue`): takes out of its lists those who were woken since, who become Ready,
-    /// first those who waited to receive. `None` where nothing is locked.
+    /// Unlocks the locked object (`prvUnlockQueue`): takes the tasks that were woken since out of its lists. They become
+    /// Ready, first those that waited to receive. `None` if nothing is locked.
     pub fn unlock(&mut self) -> Option<Unlocked>
         ensures locked { IsSome result ↔ IsSome self.old.lock }
         ensures left { self.new ≡ after_unlock self.old.lock self.old }
-        // Whom it answers are the first of the two lists, in order, as many of each as the lock has counted.
+        // The tasks that it returns are the first of the two lists, in order, as many of each as the lock has
+        // counted.
         ensures counted { IfSome result (λ unlocked. IfSome self.old.lock (λ lock.
             AreCounted lock self.old unlocked.to_receive.items unlocked.to_send.items)) }
         ensures free { self.new.lock ≡ None }
@@ -463,7 +465,7 @@ impl Objects {
         )
     }
 
-    /// Unlocks the locked object where nobody was woken since, and answers whether that is so; otherwise nothing changes.
+    /// Unlocks the locked object if no task was woken since, and returns whether that is so; otherwise nothing changes.
     pub fn unlock_if_none_woken(&mut self) -> bool
         ensures answers { IsTrue result ↔ (IsSome self.old.lock × CountsNobody self.old) }
         ensures kept { result ≡ false → self.new ≡ self.old }
@@ -481,7 +483,7 @@ impl Objects {
     }
 
     /// Puts a task that has begun to wait, and is in no list (see `is_waiting`), into its list, with its priority of 0 to
-    /// 31 (`vTaskPlaceOnEventList`): behind all that are not of lower priority.
+    /// 31 (`vTaskPlaceOnEventList`): after all that are not of lower priority.
     #[inline(always)]
     pub fn place(&mut self, list: WaitList, task: TaskId, priority: u8)
         requires priority { priority < 32 }

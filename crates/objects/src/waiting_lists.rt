@@ -39,9 +39,9 @@ pub struct Unlocked {
 }
 
 /// The tasks that wait to receive from each object, and those that wait to send to it: each task is in one list at most.
-/// In a list a task comes before those of lower priority, and behind those of its own that came before it.
+/// In a list a task comes before those of lower priority, and after those of its own that came before it.
 ///
-/// These are FreeRTOS's event lists, whose items have the value `configMAX_PRIORITIES` less the priority too, so that
+/// These are FreeRTOS's event lists, whose items also have the value `configMAX_PRIORITIES` minus the priority, so that
 /// `vListInsert` puts the highest priority first.
 #[derive(Drop)]
 pub(crate) struct WaitingLists {
@@ -118,7 +118,7 @@ impl WaitingLists {
         self.lists.contains(task)
     }
 
-    /// Puts a task that is in no list (see `is_waiting`) into a list, with its priority of 0 to 31: behind all that are
+    /// Puts a task that is in no list (see `is_waiting`) into a list, with its priority of 0 to 31: after all that are
     /// not of lower priority.
     #[inline(always)]
     pub(crate) fn wait(&mut self, list: WaitList, task: TaskId, priority: u8)
@@ -139,10 +139,10 @@ impl WaitingLists {
             .insert_sorted(list_id(list), task, 31 - priority as u32);
     }
 
-    /// The best waiter of a list, its first; `None` where nobody waits there.
+    /// The best waiter of a list, its first; `None` if no task waits there.
     pub(crate) fn best(&self, list: WaitList) -> Option<TaskId>
         ensures best { result ≡ first_of (waiting_in self.now list) }
-        // In the definitions it is the best of those who wait there, where its object isn't locked.
+        // In the definitions it is the best of the tasks that wait there, if its object isn't locked.
         ensures waiter { (s : State) (decider : Option Decider) → WaitersStand self.now decider s
             → AtLocked decider s → is_locked s.locked list ≡ false
             → result ≡ order.task_of (order.first (waiters s list)) }
@@ -151,7 +151,7 @@ impl WaitingLists {
         self.lists.first(list_id(list))
     }
 
-    /// The priority of the best waiter of a list, 0 to 31; 0 where nobody waits there.
+    /// The priority of the best waiter of a list, 0 to 31; 0 if no task waits there.
     pub(crate) fn best_priority(&self, list: WaitList) -> u8
         ensures best { result ≡ first_priority (waiting_in self.now list) }
         ensures known { result < 32 }
@@ -162,7 +162,7 @@ impl WaitingLists {
         }
     }
 
-    /// Takes the best waiter out of a list; `None` where nobody waits there.
+    /// Takes the best waiter out of a list; `None` if no task waits there.
     pub(crate) fn take_best(&mut self, list: WaitList) -> Option<TaskId>
         ensures best { result ≡ first_of (waiting_in self.old list) }
         ensures left { self.new ≡ slice_set self.old (number_of list)
@@ -170,16 +170,16 @@ impl WaitingLists {
         ensures waiter { (s : State) (decider : Option Decider) → WaitersStand self.old decider s
             → AtLocked decider s → is_locked s.locked list ≡ false
             → result ≡ order.task_of (order.first (waiters s list)) }
-        // In the definitions the best waiter is woken, where its object isn't locked;
+        // In the definitions the best waiter is woken, if its object isn't locked;
         ensures wakes { (s : State) (decider : Option Decider) → WaitersStand self.old decider s
             → AtLocked decider s → is_locked s.locked list ≡ false
             → WaitersStand self.new decider (wake_best list s) }
-        // and where another object is, its counts stay;
+        // and if another object is, its counts stay;
         ensures counts { (s : State) (decider : Option Decider) (object receivers senders : ℕ)
             → StandLocked self.old decider object receivers senders s → AtLocked decider s
             → is_locked s.locked list ≡ false
             → StandLocked self.new decider object receivers senders (wake_best list s) }
-        // and in any case who is taken out becomes Ready.
+        // and in any case the task that is taken out becomes Ready.
         ensures woken { (s : State) → WaitersStand self.old None s
             → WaitersStand self.new None (for_one make_ready result s) }
         ensures sound { IsSound list_places 32 self.new }
@@ -198,7 +198,7 @@ impl WaitingLists {
         // or Suspended,
         ensures suspended { (s : State) → WaitersStand self.old None s → task < length s.tasks
             → WaitersStand self.new None (with_status task Suspended s) }
-        // Ready also while another is to be placed, in whose list it isn't.
+        // It becomes Ready also while another task isn't placed yet, in whose list it isn't.
         ensures readied_but { (s : State) (decider : Decider) → WaitersStand self.old (Some decider) s
             → task < length s.tasks → task ≢ decider.task
             → has_node task (waiting_in self.old decider.list) ≡ false
@@ -208,7 +208,7 @@ impl WaitingLists {
         self.lists.remove(task);
     }
 
-    /// Takes this many of the best waiters out of a list, or all where there are fewer, and answers them in order.
+    /// Takes this many of the best waiters out of a list, or all if there are fewer, and returns them in order.
     pub(crate) fn take(&mut self, list: WaitList, count: u8) -> Taken
         ensures taken { result.items ≡ take count (tasks_in (waiting_in self.old list)) }
         ensures left { self.new ≡ slice_set self.old (number_of list)
@@ -230,8 +230,8 @@ impl WaitingLists {
         taken
     }
 
-    /// Takes those out of the lists of an object that were woken while it was locked: this many of those who wait to
-    /// receive, and of those who wait to send. They become Ready, the former first.
+    /// Takes the tasks out of the lists of an object that were woken while it was locked: this many that wait to
+    /// receive, and this many that wait to send. They become Ready, the former first.
     pub(crate) fn unlock(&mut self, object: ObjectId, receivers: u8, senders: u8) -> Unlocked
         ensures left { self.new ≡ without_woken object receivers senders self.old }
         ensures to_receive { result.to_receive.items ≡ best_of (ToReceive object) receivers self.old }

@@ -57,7 +57,7 @@ pub priority-kept : (ts : List Task) (i : ℕ) (t : Task) → t.priority ≡ (ge
     → (j : ℕ) → (get_or (set ts i t) j no_task).priority ≡ (get_or ts j no_task).priority
 priority-kept ts i t e = each-set no_task (λ j (u : Task). u.priority ≡ (get_or ts j no_task).priority) ts i t e (λ j. refl)
 
--- The scheduler, the clock, the objects and the groups are given; each task is where it was in its script, and what is kept beside
+-- The scheduler, the clock, the objects and the groups are given; each task keeps its place in its script, and what is kept beside
 -- the parts stays.
 pub before_with_groups : {task : ℕ} {list : WaitList} {k : Machine} {s new : State} {v : Schedule} {t : Timeline} {q : Objects}
     {g : EventGroups} → StandsBefore task list k s → sched.StandsBefore task v new
@@ -88,7 +88,7 @@ before_with_groups {task} {list} {k} {s} {new} {v} {t} {q} {g} b on awake there 
   placed = b.placed;
 }
 
--- the same, where the same tasks wait for bits or for a notification
+-- the same, if the same tasks wait for bits or for a notification
 before_with : {task : ℕ} {list : WaitList} {k : Machine} {s new : State} {v : Schedule} {t : Timeline} {q : Objects}
     → StandsBefore task list k s → sched.StandsBefore task v new → clock.StandsBefore task (call_at s task).deadline t new
     → objects.StandsFor q (Some (decider task list s)) new → AtLocked (Some (decider task list s)) new → SameEventWaits s new
@@ -136,7 +136,7 @@ keyed_at key ts i (e ∷ es) has t = by_test (eqb e.task i)
     (λ u. (e.key, subst (λ (j : ℕ). key (get_or ts j no_task) ≡ Some e.key) (eqb-same e.task i u) has.0.key))
     (λ u. keyed_at key ts i es has.1 (rw u at t))
 
--- who waits in one list, and is in another: they are one list
+-- a task waits in one list, and is in another: they are one list
 one_list : (a b : WaitList) (k m : Key) (u : Status) → option_and_then (wait_key a) (wait_if_waiting u) ≡ Some k
     → option_and_then (wait_key b) (wait_of u) ≡ Some m → a ≡ b
 one_list a b k m (Ready n) e f = absurd (cc)
@@ -165,7 +165,7 @@ module _ (task : ℕ) (list : WaitList) (k : Machine) (s : State) (b : StandsBef
       keyed_at (λ (t : Task). option_and_then (wait_key list) (wait_of t.status)) s.tasks task (standing s list)
       (list_has (λ (t : Task). option_and_then (wait_key list) (wait_of t.status)) s.tasks) node
 
-  -- Who is woken from a list that isn't locked is another.
+  -- A task that is woken from a list that isn't locked is another.
   pub woken_apart : (i : ℕ) (other : WaitList) (n : Key) → is_locked s.locked other ≡ false
       → option_and_then (wait_key other) (wait_if_waiting (status_at s i)) ≡ Some n → task ≢ i
   woken_apart i other n off e same =
@@ -176,7 +176,7 @@ module _ (task : ℕ) (list : WaitList) (k : Machine) (s : State) (b : StandsBef
       let f : false ≡ true = sym off ∙ ap (is_locked s.locked) one ∙ on in
       absurd (cc)
 
-  -- Another is Ready in the scheduler where it is in the state.
+  -- Another is Ready in the scheduler if it is in the state.
   pub ready_beside : (i : ℕ) → task ≢ i → schedule.is_ready k.sched i ≡ is_ready s i
   ready_beside i ne =
       let gone : Schedule = record k.sched { ready = without task (lined_up k.sched); pending = [] } in
@@ -241,7 +241,7 @@ module _ (task : ℕ) (list : WaitList) (k : Machine) (s : State) (b : StandsBef
       t b.clock l refl refl refl (awake_alike (status_at s i)) table in
       before_with b on awake there locked bits (progress-kept s.tasks i t refl) (priority-kept s.tasks i t refl task) refl refl refl
 
--- who is woken becomes Ready
+-- a woken task becomes Ready
 module _ (task : ℕ) (tl : WaitList) (k : Machine) (s : State) (b : StandsBefore task tl k s)
     (list : WaitList) (i : ℕ) (is : Some i ≡ (if is_locked s.locked list then None else best s list)) where
   apart_there : task ≢ i
@@ -266,7 +266,7 @@ module _ (task : ℕ) (tl : WaitList) (k : Machine) (s : State) (b : StandsBefor
       subst (StandsBefore task tl (record k { sched = v; clock = t; objects = q })) (sym one)
       (before_with b (on apart_there l) (awake apart_there l) left locked bits (progress-ready s i) priority refl refl refl)
 
--- in either case whoever is woken isn't Ready in the scheduler
+-- in either case a woken task isn't Ready in the scheduler
 pub woken_free_any : (k : Machine) (s : State) (list : WaitList) (i : ℕ) → Stands k s
     → ((d : Option Decider) → objects.StandsFor k.objects d s → AtLocked d s
     → Some i ≡ (if is_locked s.locked list then None else best s list))

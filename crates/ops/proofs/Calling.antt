@@ -145,7 +145,7 @@ module _ (k : Machine) (q : Objects) (caller : Option ℕ) (o : ℕ) (a : Access
     unfolding fulfil
     fulfilled_none_any is h = subst (λ (x : Option WaitList). AtAny new log (for_one wake_best x (stored s))) is h
 
--- ---- it is done where it is possible
+-- ---- it is done if it is possible
 
 module _ (new : Machine) (log : List Event) (s : State) (caller : Option ℕ) (o : ℕ) (a : Access ℕ) where
   pub attempted : possible s o a ≡ true → At new log (fulfil caller o a s) → At new log (attempt caller o a s)

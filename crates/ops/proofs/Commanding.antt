@@ -33,7 +33,7 @@ module _ (app : Application) (new : Machine) (log : List Event) (s : State) (i o
   unfolding take_command
   took_none t h = rw t h
 
--- After its tries the daemon's receive goes as any that waits for ever.
+-- After its tries the daemon's receive goes as any that waits forever.
 pub same_after : (app : Application) (task object : ℕ) (phase : Phase) (s : State) → (phase ≡ Start → ⊥)
     → (phase ≡ Try → ⊥) → await app task object Receive None phase s ≡ next_command app task object phase s
 same_after app task object Start s a b = absurd (a refl)

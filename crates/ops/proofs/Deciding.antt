@@ -1,4 +1,4 @@
--- Where a call decides to wait, and is placed: what that makes of the states that the kernel represents.
+-- A call decides to wait, and is placed: what that makes of the states that the kernel represents.
 use Rattle.std.proofs.Common.{◌≡◌, ◌≢◌, ◌<◌, ◌+◌, ◌||◌, ℕ, Bool, true, false, eqb, set, List, [], length, get_or, get_or-set_same}
 use Rattle.std.proofs.Common.{get_or-set_other, Option, Some, None, refl, ap, sym, subst, ◌∙◌, arith}
 use Rattle.std.specs.Prelude.{if◌then◌else◌}

@@ -94,7 +94,7 @@ module _ (k : Machine) (log : List Event) (s : State) (h : At k log s) (group : 
 
 -- ---- a call holds the scheduler
 
--- where nothing is held
+-- if nothing is held
 pub held_then : (k : Machine) (log : List Event) (s : State) → At k log s → k.sched.depth ≡ 0
     → (v : Schedule) → (s.call_hold ≡ false → sched.StandsFor v (record s { call_hold = true }))
     → At (record k { sched = v }) log (record s { call_hold = true })
@@ -103,7 +103,7 @@ held_then k log s h free v holds =
 
 -- ---- a task begins to wait for bits
 
--- A call that needs not wait answers, and another waits.
+-- A call that need not wait returns, and another waits.
 module _ (app : Application) (new : Machine) (log : List Event) (s : State) (i group : ℕ) (c : Condition) (ticks : Option ℕ) where
   pub checked : (is_met (bits_at s group) c || option_eq eqb ticks (Some 0)) ≡ true
       → At new log (answer_bits app i group c s) → At new log (check app i group c ticks s)
@@ -225,7 +225,7 @@ placed_in call [] i = refl
 placed_in call (p ∷ ps) zero = refl
 placed_in call (p ∷ ps) (suc i) = placed_in call ps i
 
--- The answers that are kept change no task's place in its script, nor how many tasks there are.
+-- The results that are kept change no task's place in its script, nor how many tasks there are.
 pub kept_place : (bits : ℕ) (is : List ℕ) (ps : List Progress) (i : ℕ)
     → (progress_in (kept_by bits is ps) i).op_index ≡ (progress_in ps i).op_index
 kept_place bits [] ps i = refl
@@ -241,7 +241,7 @@ pub kept_length : (bits : ℕ) (is : List ℕ) (ps : List Progress) → length (
 kept_length bits [] ps = refl
 kept_length bits (j ∷ is) ps = kept_length bits is (keep_in bits ps j) ∙ length-set ps j _
 
--- who waits for bits can become Ready
+-- a task that waits for bits can become Ready
 pub record CanMeet (s : State) (i : ℕ) : Type 0 where
   pub within : i < length s.tasks
   pub unready : is_ready s i ≡ false
@@ -286,7 +286,7 @@ module _ (s : State) (group : ℕ) (p : ℕ → Bool) where
       (λ t. rw t (off e.task w.0, each_apart e.task es d.0, all_wake v off es has.1 d.1))
       (λ t. rw t (all_wake v off es has.1 d.1))
 
--- those whom these bits meet
+-- the tasks whose conditions these bits meet
 pub met_can : (s : State) (group bits : ℕ) → AllByRecursion (CanMeet s) (met_by group bits s)
 met_can s group bits = can_meet s group (is_met_for bits s) (waiters_for_bits s group) (list_has (bits_key group) s.tasks)
 

@@ -36,7 +36,7 @@ use Rattle.machine.specs.Can.{Leaves, Runs}
 use Rattle.machine.proofs.Parts.{rest_unseen, rest_with_clock, same_parts, sched-same}
 use Rattle.ops.proofs.Suspending.{ready_by, runs_by}
 
--- ---- how many `suspend_all` are in force
+-- ---- how many `suspend_all` are active
 
 module _ (k : Machine) (log : List Event) (s : State) (h : At k log s) where
   -- another number of them
@@ -139,12 +139,12 @@ applied_more now log n s h = let same : n + 1 ≡ suc n = omega arith in rw same
 
 -- ---- a hold ends
 
--- Where nothing holds the scheduler no task does.
+-- If nothing holds the scheduler no task does.
 pub unheld_by_tasks : (k : Machine) (s : State) → StandsFor k s → k.sched.depth ≡ 0 → is_held_by_task s ≡ false
 unheld_by_tasks k s h none =
     no_task_holds s (held_by_depth s ∙ ap (λ (n : ℕ). ltb 0 n) (sym h.sched.depth ∙ none))
 
--- Where none is held there is nothing to apply.
+-- If none is held there is nothing to apply.
 pub none_to_apply : (k : Machine) (log : List Event) (s : State) → At k log s → k.clock.held ≡ 0 → At k log (release s)
 none_to_apply k log s h none =
     subst (λ (n : ℕ). At k log (apply_held n s)) (sym (sym h.stands.rest.clock.held ∙ none)) h
@@ -212,14 +212,14 @@ module _ (app : Application) (new : Machine) (log : List Event) (s : State) wher
     unfolding resume_all
     resumed_held held h = subst (At new log) (sym (when_held preempt t held)) h
 
--- Where no section is open, what tasks hold the scheduler by are `suspend_all`.
+-- If no section is open, tasks hold the scheduler by `suspend_all` alone.
 pub in_force : (s : State) (k : Machine) → StandsFor k s → 0 < k.sched.suspensions → k.sections ≡ 0 → 0 < s.suspensions
 in_force s k h some none =
     let all : k.sched.suspensions ≡ task_holds_of s = h.sched.suspensions in
     let open_ : k.sections ≡ s.sections = h.rest.sections in
     omega arith
 
--- where some are in force still, the scheduler is held
+-- if some are still active, the scheduler is held
 pub still_held : (app : Application) (i : ℕ) (mid : Machine) (log : List Event) (u : State)
     → At mid log u → mid.sched.suspensions ≢ 0 → is_held (answer app i (Some 0) u) ≡ true
 still_held app i mid log u h ne =

@@ -56,7 +56,7 @@ use Rattle.ops.specs.Can.{CanDecide}
 use Rattle.ops.proofs.Before.{before_with_groups, priority-kept, ready_beside, stands_there}
 use Rattle.ops.proofs.EventBits.{held_then}
 
--- ---- who is notified
+-- ---- the task that is notified
 
 -- what the groups see
 pub groups_are : (k : Machine) (s : State) → Stands k s → groups.StandsFor k.groups s

@@ -139,7 +139,7 @@ module _ (P : State → Type 0) (s : State) where
 
 -- ---- a mutex is given back
 
--- an unlock by the holder, where no task holds the scheduler
+-- an unlock by the holder, if no task holds the scheduler
 pub gave : (app : Application) (new : Machine) (log : List Event) (s : State) (i o : ℕ)
     → is_held_by_task s ≡ false → own_misuse s i (GiveMutex o) ≡ None
     → At new log (preempt (answer app i (Some 1)

@@ -47,7 +47,7 @@ use Rattle.machine.proofs.Parts.{there_if, progress-kept, progress-set, ready_al
 use Rattle.machine.proofs.Either.{any, either}
 use Rattle.ops.proofs.Before.{ready_beside, stands_there}
 
--- ---- whom a suspend changes
+-- ---- which task a suspend changes
 
 pub ready_can : (u : Status) → is_some (ticket_if_ready u) ≡ true → can_suspend u ≡ true
 ready_can (Ready n) t = refl
@@ -79,7 +79,7 @@ waiting_can (WaitingForNotification n d) t = refl
 waiting_can Suspended t = absurd (cc)
 waiting_can Ended t = absurd (cc)
 
--- of the others those who wait for bits
+-- of the others those that wait for bits
 pub rest_can : (u : Status) → is_some (ticket_if_ready u) ≡ false → is_some (wake_time_of u) ≡ false
     → is_some (wait_of u) ≡ false → is_some (event_wait u) ≡ can_suspend u
 rest_can (Ready n) r a w = absurd (cc)
@@ -95,7 +95,7 @@ rest_can Ended r a w = refl
 pub within_if : (s : State) (i : ℕ) → can_suspend (status_at s i) ≡ true → i < length s.tasks
 within_if s i t = there_if can_suspend refl s i t
 
--- so is who is suspended
+-- likewise a suspended one
 pub suspended_within : (s : State) (i : ℕ) → can_resume (status_at s i) ≡ true → i < length s.tasks
 suspended_within s i t = there_if can_resume refl s i t
 
@@ -122,7 +122,8 @@ module _ (k : Machine) (log : List Event) (s : State) (h : At k log s) (i : ℕ)
   unfolding suspend
   suspended_not not = rw not h
 
--- A task that has answered is suspended, or one that is suspended answers: where it was Ready, both come to the same.
+-- A task whose call has returned is suspended, or the call of one that is suspended returns: if it was Ready, the
+-- result is the same.
 set_apart : (ts : List Task) (i j : ℕ) (t u : Task) → i ≢ j → set (set ts i t) j u ≡ set (set ts j u) i t
 set_apart [] i j t u ne = refl
 set_apart (x ∷ xs) zero zero t u ne = absurd (ne refl)
@@ -208,7 +209,7 @@ is_resumed s i t l =
     rw t (ap (λ (x : Task). W (set (set s.tasks i t1) i (record x { status = Ready s.next_ticket }))) at
     ∙ ap W (set-set s.tasks i t1 (resumed_task s i)))
 
--- who is suspended waits for nothing, and doesn't sleep
+-- a suspended task waits for nothing, and doesn't sleep
 module _ (u : Status) (t : can_resume u ≡ true) where
   is_suspended : u ≡ Suspended
   is_suspended = by_status u t where
@@ -323,7 +324,7 @@ pub log-resume : (s : State) (i : ℕ) → (resume i s).log ≡ s.log
 unfolding resume
 log-resume s i = by_test (can_resume (status_at s i)) (λ t. rw t refl) (λ t. rw t refl)
 
--- ---- who is suspended isn't Ready
+-- ---- a suspended task isn't Ready
 
 unready_suspended : (u : Status) → can_resume u ≡ true → is_some (ticket_if_ready u) ≡ false
 unready_suspended u t = rw (is_suspended u t) refl
@@ -408,7 +409,7 @@ module _ (app : Application) (new : Machine) (log : List Event) (s : State) (i j
   unfolding call_resume
   called_resume is h = subst (λ (a : Option ℕ). At new log (preempt (answer app i a (resume j s)))) is h
 
--- who runs runs still, where nothing of its task changes
+-- the running task still runs, if nothing of it changes
 pub runs_by : (k new : Machine) (i : ℕ) (s t : State) → Runs k i → StandsFor k s
     → StandsFor new t → t.current ≡ s.current → task_at t i ≡ task_at s i → Runs new i
 runs_by k new i s t r h g current same = record {

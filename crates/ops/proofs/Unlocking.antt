@@ -1,4 +1,4 @@
--- A queue is unlocked, and whoever is Awake becomes Ready.
+-- A queue is unlocked, and the Awake tasks become Ready.
 use Rattle.std.proofs.Common.{◌≡◌, ◌≢◌, ℕ, true, false, List, [], ◌∷◌, ◌++◌, Option, Some, None, IsSome, refl, ap, sym, subst, ◌∙◌}
 use Rattle.std.specs.List.{AllByRecursion}
 use Rattle.std.specs.Option.{option_and_then}
@@ -35,7 +35,7 @@ use Rattle.machine.proofs.Parts.{clock-same, rest_again, rest_with_objects, sche
 use Rattle.machine.proofs.Waking.{kept-all_ready, progress-all_ready, log-all_ready}
 use Rattle.ops.proofs.Waits.{unready_awake, awake_unsuspended}
 
--- ---- those who are Awake can all become Ready
+-- ---- the Awake tasks can all become Ready
 
 awake_key : WaitList → Task → Option Key
 awake_key list t = option_and_then (wait_key list) (wait_if_awake t.status)
@@ -171,7 +171,7 @@ front_apart : (i : ℕ) (is js : List ℕ) → AllByRecursion (λ other. other �
 front_apart i [] js h = tt
 front_apart i (j ∷ is) js h = (h.0, front_apart i is js h.1)
 
--- the first of those who can become Ready
+-- the first of those that can become Ready
 pub front_wakes : (v : Schedule) (is js : List ℕ) → AreToWake v (is ++ js) → AreToWake v is
 front_wakes v [] js h = tt
 front_wakes v (i ∷ is) js h = (h.0, front_apart i is js h.1, front_wakes v is js h.2)
@@ -190,7 +190,7 @@ pub in_turn : (P : State → Type 0) (s : State) (is js : List ℕ)
     → P (for_each make_ready js (for_each make_ready is s)) → P (for_each make_ready (is ++ js) s)
 in_turn P s is js h = subst P (sym (each_append is js s)) h
 
--- where nothing was unlocked
+-- if nothing was unlocked
 pub none_by : {Y : Type 0} (lock : Option Y) → (IsSome lock → false ≡ true) → lock ≡ None
 none_by None h = refl
 none_by (Some l) h = let f = h refl in absurd (cc)

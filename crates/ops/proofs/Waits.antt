@@ -62,7 +62,7 @@ pub record WaitsThere (s : State) (list : WaitList) (i : ℕ) : Type 0 where
 waits_key : WaitList → Task → Option Key
 waits_key list t = option_and_then (wait_key list) (wait_if_waiting t.status)
 
--- who waits isn't Ready
+-- a waiting task isn't Ready
 unready : (u : Status) → is_some (wait_of u) ≡ true → is_some (ticket_if_ready u) ≡ false
 unready (Ready n) e = absurd (cc)
 unready (Awake w) e = refl
@@ -130,23 +130,23 @@ waiting_unsuspended (WaitingForNotification m d) e = refl
 waiting_unsuspended Suspended e = absurd (cc)
 waiting_unsuspended Ended e = refl
 
--- who waits there isn't suspended
+-- a task that waits there isn't suspended
 pub there_unsuspended : (s : State) (list : WaitList) (i : ℕ) → WaitsThere s list i → can_resume (status_at s i) ≡ false
 there_unsuspended s list i w =
     waiting_unsuspended (status_at s i)
     (waiting_waits (status_at s i) (some_wait list (wait_if_waiting (status_at s i)) w.key w.there))
 
--- nor who was woken there
+-- nor is one that was woken there
 pub awake_unsuspended : (list : WaitList) (u : Status) (k : Key)
     → option_and_then (wait_key list) (wait_if_awake u) ≡ Some k → can_resume u ≡ false
 awake_unsuspended list u k e = waiting_unsuspended u (awake_waits u (some_wait list (wait_if_awake u) k e))
 
--- the answer where someone becomes Ready
+-- the result if some task becomes Ready
 open_then : (b : Bool) (o : Option ℕ) (i : ℕ) → Some i ≡ (if b then None else o) → (b ≡ false) × (Some i ≡ o)
 open_then true o i e = absurd (cc)
 open_then false o i e = (refl, e)
 
--- someone becomes Ready, who waits there
+-- some task that waits there becomes Ready
 module _ (s : State) (list : WaitList) (i : ℕ) (is : Some i ≡ (if is_locked s.locked list then None else best s list)) where
   pub opened : is_locked s.locked list ≡ false
   opened = (open_then (is_locked s.locked list) (best s list) i is).0
@@ -185,7 +185,7 @@ module _ (k : Machine) (s : State) (h : StandsFor k s) (list : WaitList) (i : �
 none_open : (o : Option ℕ) (b : Bool) → b ≡ false → None ≡ (if b then None else o) → o ≡ None
 none_open o b t e = sym (rw t at e)
 
--- what the wake comes to then
+-- the result of the wake then
 pub data Unwoken (s : State) (list : WaitList) : Type 0 where
   Nobody : wake_best list s ≡ s → Unwoken s list
   Counted : (i : ℕ) → i < length s.tasks → wake_best list s ≡ awaken i s → Unwoken s list

@@ -114,7 +114,7 @@ module _ (app : Application) (k new : Machine) (log : List Event) (s : State) (h
       record p { loops = record { start = p.op_index + 1; left = n } ∷ p.loops } in
       completes app k mid new log s h i r (opened v) (opened (progress_at s i)) is (ap opened same) placed refl g
 
-  -- a loop for ever has no last turn
+  -- an endless loop has no last turn
   after_forever : (l : Loop) (ls : List Loop) → l.left ≡ None → after_turn (l ∷ ls) ≡ l ∷ ls
   after_forever l ls e =
       ap (λ (o : Option ℕ). if is_last o then ls else record l { left = option_map (λ left. left - 1) o } ∷ ls) e
@@ -168,7 +168,7 @@ module _ (app : Application) (k new : Machine) (log : List Event) (s : State) (h
         (goes app k mid new log s h i r (record v { loops = after_turn v.loops })
         (record (progress_at s i) { loops = after_turn (progress_at s i).loops }) is mid_is placed refl start g)
 
--- `since` answers what the clock and the stamp of the kernel say
+-- `since` returns what the clock and the stamp of the kernel say
 pub since_at : (app : Application) (new : Machine) (told : List Event) (s : State) (i now stamp : ℕ)
     → now ≡ s.time → stamp ≡ (progress_at s i).stamp
     → At new told (answer app i (Some (min (now - stamp) 4294967295)) s) → At new told (since app i s)
@@ -195,7 +195,7 @@ module _ (app : Application) (new : Machine) (log : List Event) (s : State) (i :
       let P : ℕ → Type 0 = λ time. At new log (sleep i (time + n) t) in
       rw (ne_eqb n 0 z) (subst P (time-answer app i (Some 0) s) a)
 
--- The time of a `delay_until` is still to come, or it isn't.
+-- The time of a `delay_until` is in the future, or it isn't.
 module _ (app : Application) (k new : Machine) (log told : List Event) (s : State) (h : At k log s) (i : ℕ)
     (v : Progress) (e : v ≡ progress_in k.progress i) (n now : ℕ) (is_now : now ≡ k.clock.now) where
   time_is : now ≡ s.time
@@ -248,7 +248,7 @@ counts k new log s h i l time is =
     (let Q : Progress → Type 0 = λ p. p.call.phase ≢ Place in subst Q (h.stands.rest.progress i) (h.stands.rest.placed i))
     (λ _. refl)))
 
--- the running task is a task after it has answered, and when it sleeps
+-- the running task is a task after its call has returned, and when it sleeps
 pub still_task : (app : Application) (k : Machine) (log : List Event) (s : State) → At k log s
     → (i : ℕ) → k.sched.current ≡ Some i → (n : ℕ) → i < length (answer app i (Some n) s).tasks
 still_task app k log s h i r n = rw (keeps-answer app i (Some n) s).tasks (within k log s h i r)

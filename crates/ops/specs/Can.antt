@@ -80,7 +80,7 @@ pub record CanTry (k : Machine) (task object : ℕ) (access : Access ℕ) : Type
   pub depth : k.sched.depth ≡ 0
   pub room : HasRoom k object access
 
--- Its call may wait for less than 2^32 ticks, or for ever.
+-- Its call may wait for less than 2^32 ticks, or forever.
 abbrev pub IsShort : Option ℕ → Type 0
 IsShort ticks = IfSome ticks (λ n. n < 2 ^ 32)
 
@@ -144,7 +144,7 @@ pub record CanHold (app : Application) (k : Machine) (task : ℕ) (op : Op) : Ty
   pub nesting : HasLoopRoom op (length (progress_in k.progress task).loops)
   pub stamp : (progress_in k.progress task).stamp ≤ k.clock.now
 
--- What another priority of a task leaves as it is: all but priorities, and who is before whom in the ready lists.
+-- What another priority of a task leaves as it is: all but priorities, and the order in the ready lists.
 pub record Reranks (old new : Machine) : Type 0 where
   pub depth : new.sched.depth ≡ old.sched.depth
   pub current : new.sched.current ≡ old.sched.current

@@ -43,7 +43,7 @@ fn is_expired(machine: &Machine, task: TaskId) -> bool
     }
 }
 
-/// The call is done where it is possible; it fails where its deadline has come; otherwise it decides next.
+/// The call is done if it is possible; it fails if its deadline has come; otherwise it decides next.
 #[inline(always)]
 fn try_call<L: Log>(
     machine: &mut Machine,
@@ -79,7 +79,7 @@ fn need_not_wait(machine: &Machine, task: TaskId, object: ObjectId, access: Acce
     machine.objects.possible(object, access) || is_expired(machine, task)
 }
 
-/// The scheduler is held and the object locked. The task begins to wait where its call still isn't possible and its
+/// The scheduler is held and the object locked. The task begins to wait if its call still isn't possible and its
 /// deadline hasn't come. Before that the holder of a mutex inherits from it.
 #[inline(always)]
 fn decide(machine: &mut Machine, task: TaskId, object: ObjectId, access: Access<u32>)
@@ -123,7 +123,8 @@ fn begin_wait(machine: &mut Machine, task: TaskId, object: ObjectId, access: Acc
     machine.set_wait(task, Phase::Place, true);
 }
 
-/// The task is put into its waiting list and, if it waits until a deadline, among those who wake by themselves.
+/// The task is put into its waiting list and, if it waits until a deadline, among the tasks that wake by
+/// themselves.
 #[inline(always)]
 fn place(machine: &mut Machine, task: TaskId)
     requires { CanPlace machine.old task }
@@ -141,8 +142,8 @@ fn place(machine: &mut Machine, task: TaskId)
     machine.set_phase(task, Phase::Unlock);
 }
 
-/// Who was woken while the queue was locked becomes Ready, and the queue is unlocked.
-// Inlined, the lists of those who were woken would be zeroed at every unlock.
+/// The tasks that were woken while the queue was locked become Ready, and the queue is unlocked.
+// Inlined, the lists of the woken tasks would be zeroed at every unlock.
 #[inline(never)]
 fn unlock_and_wake(machine: &mut Machine)
     requires { Agrees machine.old }
@@ -166,7 +167,7 @@ fn unlock_and_wake(machine: &mut Machine)
     }
 }
 
-/// The queue is unlocked, and who was woken meanwhile, if anyone was, becomes Ready.
+/// The queue is unlocked, and the tasks that were woken in the meantime, if any, become Ready.
 #[inline(always)]
 fn unlock(machine: &mut Machine, task: TaskId)
     requires { IsInCall machine.old task }
@@ -221,7 +222,7 @@ pub fn go_on_silently(
     }
 }
 
-/// The next phase of a call that may wait for this many ticks, or for ever.
+/// The next phase of a call that may wait for this many ticks, or forever.
 #[inline(always)]
 pub fn go_on_waiting<L: Log>(
     machine: &mut Machine,

@@ -21,7 +21,8 @@ pub fn enter_critical(machine: &mut Machine, app: &App, task: TaskId)
     machine.complete(app, task);
 }
 
-/// `exit_critical`, where one is open: one less is (`taskEXIT_CRITICAL`). After the last, what is pending comes before the next step.
+/// `exit_critical` while one is open: one fewer is (`taskEXIT_CRITICAL`). After the last, the pending handlers come before the next
+/// step.
 #[inline(always)]
 pub fn exit_critical(machine: &mut Machine, app: &App, task: TaskId)
     requires runs { Runs machine.old task }

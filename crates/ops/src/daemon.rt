@@ -15,7 +15,7 @@ use crate::queues::fulfil;
 use machine::{Log, Machine};
 use model::{Access, App, Command, GroupId, ObjectId, Phase, TaskId};
 
-/// A command that is there is taken. Otherwise the daemon decides to wait for one. It answers whether there was one.
+/// A command that is there is taken. Otherwise the daemon decides to wait for one. Returns whether there was one.
 #[inline(always)]
 fn take_command<L: Log>(
     machine: &mut Machine,
@@ -39,7 +39,7 @@ fn take_command<L: Log>(
     false
 }
 
-/// The next phase of the daemon's receive, which waits for ever, and which no event reports. It answers whether a command was
+/// The next phase of the daemon's receive, which waits forever, and which no event reports. Returns whether a command was
 /// received.
 // Few applications have a daemon, so it is no part of the step.
 #[inline(never)]

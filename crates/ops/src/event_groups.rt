@@ -23,7 +23,7 @@ use groups::Met;
 use machine::{Log, Machine, place_sleeper_for, wake_all};
 use model::{App, Condition, GroupId, Phase, TaskId};
 
-/// The bits of a group are the answer of the task's call; where they meet its condition it may clear them.
+/// The bits of a group are the result of the task's call; if they meet its condition it may clear them.
 #[inline(always)]
 fn answer_bits<L: Log>(
     machine: &mut Machine,
@@ -60,8 +60,7 @@ pub fn clear_bits<L: Log>(
     machine.answer(app, task, bits, log);
 }
 
-/// `bits`: the bits of a group are the answer. It answers whether the task is still
-/// amid its script.
+/// `bits`: the bits of a group are the result. Returns whether the task's script goes on.
 pub fn get_bits<L: Log>(
     machine: &mut Machine,
     app: &App,
@@ -88,7 +87,7 @@ fn keep_answers(machine: &mut Machine, tasks: &[TaskId], bits: u32)
     }
 }
 
-/// Those whom a set has met are woken, with the bits that met them.
+/// The tasks whose conditions a set has met are woken, with the bits that met them.
 fn wake_met(machine: &mut Machine, met: &Met)
     requires free { AreToWake machine.old.sched met.now.tasks.items }
     ensures kept { machine.new ≡ record machine.old {
@@ -112,7 +111,7 @@ fn wake_met(machine: &mut Machine, met: &Met)
 }
 
 /// The scheduler is held, and the bits are set; what is left of them will be the answer.
-// Inlined, the list of those who are met would be part of every step.
+// Inlined, the list of these tasks would be part of every step.
 #[inline(never)]
 pub fn begin_set(machine: &mut Machine, task: TaskId, group: GroupId, mask: u32)
     requires { CanDecide machine.old task }
@@ -129,7 +128,7 @@ pub fn begin_set(machine: &mut Machine, task: TaskId, group: GroupId, mask: u32)
     machine.set_phase(task, Phase::Leave);
 }
 
-/// The hold ends, and the set answers the bits that are kept.
+/// The hold ends, and the set returns the bits that are kept.
 // Inlined, it would be the half of the main loop that hardly any step goes through.
 #[inline(never)]
 pub fn end_set<L: Log>(machine: &mut Machine, app: &App, task: TaskId, log: &mut L)
@@ -145,7 +144,7 @@ pub fn end_set<L: Log>(machine: &mut Machine, app: &App, task: TaskId, log: &mut
     machine.preempt(log);
 }
 
-/// The next phase of a set. It answers whether the set has begun: then nothing was reported, its call holds the scheduler, and lets go of
+/// The next phase of a set. Returns whether the set has begun: then nothing was reported, and its call holds the scheduler and releases
 /// it next.
 // Most steps of a task that sets bits come through here, and a call would cost a third of it.
 #[inline(always)]
@@ -220,7 +219,8 @@ fn need_not_wait_for_bits(
     machine.groups.check(group, condition) || ticks == Some(0)
 }
 
-/// A wait whose condition is met, or that has no ticks to wait, answers. Otherwise the task waits, and `true` is answered.
+/// A wait whose condition is met, or that has no ticks to wait, is complete. Otherwise the task waits, and `true` is
+/// returned.
 #[inline(always)]
 fn check_bits<L: Log>(
     machine: &mut Machine,
@@ -261,12 +261,12 @@ pub fn leave_bits_wait<L: Log>(machine: &mut Machine, task: TaskId, log: &mut L)
     machine.choose(log);
 }
 
-/// What the next phase of a wait for bits has come to.
+/// How the next phase of a wait for bits has ended.
 #[derive(Clone, Copy, PartialEq)]
 pub enum BitsWait {
     /// The task waits from now on, and its call holds the scheduler.
     Begun,
-    /// It has answered the bits that were kept for it, and the task is still amid its script; nothing else changed.
+    /// It has returned the bits that were kept for it, and the task's script goes on; nothing else changed.
     Answered,
     /// Anything else.
     Other,
@@ -276,7 +276,7 @@ impl BitsWait {
     ghost use Rattle.std.specs.Prelude.{◌≡◌, ◌≢◌, true};
     ghost use Rattle.ops.specs.declared.event_groups.BitsWait.TheVariants as wait;
 
-    /// At its start it has begun, or has come to anything else.
+    /// At its start it has begun, or has ended in any other way.
     #[inline]
     fn begun_if(waits: bool) -> BitsWait
         ensures begun { result ≡ wait.Begun → waits ≡ true }
@@ -289,7 +289,7 @@ impl BitsWait {
         }
     }
 
-    /// At its end it has answered so, or has come to anything else.
+    /// At its end it has returned those bits, or has ended in any other way.
     #[inline]
     fn answered_if(stays: bool) -> BitsWait
         ensures answered { result ≡ wait.Answered → stays ≡ true }
@@ -303,8 +303,8 @@ impl BitsWait {
     }
 }
 
-/// Woken, the task answers the bits that are kept for it, otherwise those of now. It answers whether they were kept, and the task is still
-/// amid its script: then nothing else changed.
+/// The woken task returns the bits that are kept for it, otherwise the present ones. Returns whether they were kept, and the task's script
+/// goes on: then nothing else changed.
 #[inline(always)]
 fn finish_wait<L: Log>(
     machine: &mut Machine,
@@ -329,7 +329,7 @@ fn finish_wait<L: Log>(
     }
 }
 
-/// The next phase of a wait for bits. It answers what the wait has come to.
+/// The next phase of a wait for bits. Returns how it has ended.
 // The step has what it takes at hand, and a call with so many arguments would cost a third of it.
 #[inline(always)]
 pub fn wait_bits<L: Log>(

@@ -34,7 +34,7 @@ fn apply_held(machine: &mut Machine)
     }
 }
 
-/// The same, where some may be held. Who runs goes on.
+/// The same, if some may be held. The running task goes on.
 #[inline(always)]
 pub(crate) fn release(machine: &mut Machine)
     requires can { CanApply machine.old }
@@ -47,8 +47,8 @@ pub(crate) fn release(machine: &mut Machine)
     }
 }
 
-/// A call lets go of the scheduler, and goes on with this phase: who was woken meanwhile is Ready, and then the ticks that came
-/// meanwhile are applied.
+/// A call releases the scheduler, and goes on with this phase: the tasks that were woken in the meantime are Ready, and then
+/// the ticks that came in the meantime are applied.
 #[inline(always)]
 pub(crate) fn end_hold(machine: &mut Machine, task: TaskId, next: Phase)
     requires can { CanLeave machine.old task }

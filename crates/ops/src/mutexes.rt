@@ -18,7 +18,7 @@ use machine::{Log, Machine};
 use model::{App, Misuse, ObjectId, TaskId, WaitList};
 use objects::NotHolder;
 
-/// A task has this priority, of 0 to 31, from now on; where that is a change it goes behind its new equals, if it is Ready.
+/// A task has this priority, of 0 to 31, from now on; if that is a change it moves after its new equals, if it is Ready.
 fn set_priority(machine: &mut Machine, task: TaskId, priority: u8)
     requires priority { priority < 32 }
     requires depth { machine.old.sched.depth ≡ 0 }
@@ -30,7 +30,7 @@ fn set_priority(machine: &mut Machine, task: TaskId, priority: u8)
     machine.sched.set_priority(task, priority);
 }
 
-/// The holder of a mutex takes this priority, of 0 to 31, where its own is lower.
+/// The holder of a mutex takes this priority, of 0 to 31, if its own is lower.
 fn raise(machine: &mut Machine, holder: TaskId, priority: u8)
     requires priority { priority < 32 }
     requires depth { machine.old.sched.depth ≡ 0 }
@@ -52,7 +52,7 @@ fn inherits(machine: &Machine, task: TaskId, holder: TaskId) -> bool
 }
 
 /// A task will wait for what this one holds, and lends it its priority.
-// Few waits come to it.
+// Few waits get here.
 #[inline(never)]
 fn inherit_from(machine: &mut Machine, task: TaskId, holder: TaskId)
     requires { CanDecide machine.old task }
@@ -68,7 +68,7 @@ fn inherit_from(machine: &mut Machine, task: TaskId, holder: TaskId)
 }
 
 /// A task will wait for an object, whose holder, if it has one, inherits from it.
-// Mostly nobody holds it, and a call would cost more than to see so.
+// Usually no task holds it, and a call would cost more than this test.
 #[inline(always)]
 pub(crate) fn inherit(machine: &mut Machine, task: TaskId, object: ObjectId)
     requires { CanDecide machine.old task }
@@ -82,7 +82,7 @@ pub(crate) fn inherit(machine: &mut Machine, task: TaskId, object: ObjectId)
     }
 }
 
-/// The holder of this mutex alone has its base priority again, or the best waiter's where that is greater.
+/// The holder of this mutex alone has its base priority again, or the best waiter's if that is greater.
 fn fall_back(machine: &mut Machine, object: ObjectId, holder: TaskId)
     requires depth { machine.old.sched.depth ≡ 0 }
     requires free { machine.old.objects.lock ≡ None }
@@ -97,7 +97,7 @@ fn fall_back(machine: &mut Machine, object: ObjectId, holder: TaskId)
     }
 }
 
-/// A task's call fails: where its last wait has inherited, whoever holds the mutex now falls back.
+/// A task's call fails: if its last wait has inherited, the present holder of the mutex falls back.
 #[cold]
 pub(crate) fn after_timeout(machine: &mut Machine, task: TaskId, object: ObjectId)
     requires depth { machine.old.sched.depth ≡ 0 }
@@ -126,7 +126,8 @@ fn disinherit(machine: &mut Machine, task: TaskId)
     }
 }
 
-/// `unlock`: the task, which is the holder of the mutex, gives it back, and one who waits for it is woken.
+/// `unlock`: the task, which is the holder of the mutex, gives it back, and one task that waits for it is
+/// woken.
 pub fn give_mutex<L: Log>(
     machine: &mut Machine,
     app: &App,
@@ -145,8 +146,8 @@ pub fn give_mutex<L: Log>(
     }
 }
 
-/// A task that has given this mutex back has its base priority again, if it holds no other; then one who waits for the
-/// mutex is woken, and the call answers.
+/// A task that has given this mutex back has its base priority again, if it holds no other; then one task that waits
+/// for the mutex is woken, and the call is complete.
 fn let_go<L: Log>(machine: &mut Machine, app: &App, task: TaskId, object: ObjectId, log: &mut L)
     requires room { 2 ≤ (L.logged log.old).room }
     requires runs { Runs machine.old task }

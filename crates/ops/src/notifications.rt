@@ -45,7 +45,7 @@ pub fn notify(machine: &mut Machine, task: TaskId, action: NotifyAction<u32>)
     wake_notified(machine, task);
 }
 
-/// A handler notifies a task, where this is its last answer. It answers what the call returns: 0 if it keeps the value of a pending
+/// A handler, whose last answer is this one, notifies a task. Returns the call's result: 0 if it keeps the value of a pending
 /// notification, otherwise 1.
 #[inline(never)]
 pub fn notify_by_handler(
@@ -97,7 +97,7 @@ pub fn call_notify<L: Log>(
     machine.preempt(log);
 }
 
-/// The wait is over: the call answers, and no notification is pending any more.
+/// The wait is over: the call is complete, and no notification is pending any more.
 fn end_notification_wait<L: Log>(
     machine: &mut Machine,
     app: &App,

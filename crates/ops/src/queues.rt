@@ -16,7 +16,7 @@ use crate::values::{call_with_number, fail_check, lacks_item};
 use machine::{Log, Machine};
 use model::{Access, App, ObjectId, TaskId, Value, WaitList};
 
-/// What a call answers that isn't possible.
+/// The result of a call that isn't possible.
 pub(crate) fn refusal(access: Access<u32>) -> Option<u32>
     ensures { (o : Object) → allows o access ≡ false → result ≡ reply o access }
 {
@@ -26,8 +26,7 @@ pub(crate) fn refusal(access: Access<u32>) -> Option<u32>
     }
 }
 
-/// The list of which a possible call wakes the best waiter, if of any: the peek of a handler, which is no task's call, wakes
-/// nobody.
+/// The list whose best waiter a possible call wakes, if any: the peek of a handler, which is no task's call, wakes no task.
 fn list_woken(caller: Option<TaskId>, object: ObjectId, access: Access<u32>) -> Option<WaitList>
     ensures { result ≡ definitions.list_woken caller object access }
 {
@@ -59,8 +58,8 @@ pub(crate) fn wake_best(machine: &mut Machine, list: WaitList)
     }
 }
 
-/// A possible call is done, of the running task or (none) of a handler: the object changes, and one waiter is woken. It
-/// answers what the call answers.
+/// A possible call is done, of the running task or (none) of a handler: the object changes, and one waiter is woken.
+/// Returns the call's result.
 // Inlined, it knows whose call it is.
 #[inline(always)]
 pub(crate) fn fulfil(
@@ -88,7 +87,7 @@ pub(crate) fn fulfil(
     answer
 }
 
-/// A call is done if it is possible. It answers what the call answers.
+/// A call is done if it is possible. Returns the call's result.
 pub fn attempt(
     machine: &mut Machine,
     caller: Option<TaskId>,
@@ -111,7 +110,7 @@ pub fn attempt(
     }
 }
 
-/// `overwrite` and `give`: the call is done if it is possible, and answers.
+/// `overwrite` and `give`: the call is done if it is possible, and is complete.
 #[inline(always)]
 pub fn do_now<L: Log>(
     machine: &mut Machine,
@@ -132,7 +131,7 @@ pub fn do_now<L: Log>(
     machine.preempt(log);
 }
 
-/// The same of a call whose item is a value. The check fails where that is missing.
+/// The same of a call whose item is a value. The check fails if that is missing.
 #[inline(never)]
 pub fn do_by_value<L: Log>(
     machine: &mut Machine,
@@ -155,8 +154,7 @@ pub fn do_by_value<L: Log>(
     do_now(machine, app, task, object, access, log);
 }
 
-/// `waiting`: the number of items in a queue is the answer. It answers whether the task is still
-/// amid its script.
+/// `waiting`: the number of items in a queue is the result. Returns whether the task's script goes on.
 pub fn messages_waiting<L: Log>(
     machine: &mut Machine,
     app: &App,
@@ -174,8 +172,8 @@ pub fn messages_waiting<L: Log>(
     machine.answer(app, task, waiting, log)
 }
 
-/// `spaces`: the number of items that a queue still has room for is the answer. It answers whether the task is still
-/// amid its script.
+/// `spaces`: the number of items that a queue still has room for is the result. Returns whether the task's script
+/// goes on.
 pub fn spaces_available<L: Log>(
     machine: &mut Machine,
     app: &App,

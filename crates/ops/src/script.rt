@@ -16,8 +16,8 @@ use crate::values::{fail_check, is_missing, number_of};
 use machine::{Log, Machine};
 use model::{AnswerCondition, App, End, Loop, TaskId, Value, What};
 
-/// `mark`: a mark event is reported, with this number for its value. It answers whether the task is still
-/// amid its script.
+/// `mark`: a mark event is reported, with this number for its value. Returns whether the task's script goes
+/// on.
 #[inline(always)]
 fn mark_number<L: Log>(
     machine: &mut Machine,
@@ -36,8 +36,8 @@ fn mark_number<L: Log>(
     machine.complete(app, task)
 }
 
-/// `mark`: a mark event is reported, or the check fails where its value is missing. It answers whether the task is still
-/// amid its script.
+/// `mark`: a mark event is reported, or the check fails if its value is missing. Returns whether the task's script goes
+/// on.
 #[inline(always)]
 pub fn mark<L: Log>(
     machine: &mut Machine,
@@ -60,7 +60,7 @@ pub fn mark<L: Log>(
     mark_number(machine, app, task, number, log)
 }
 
-/// `expect`: the run ends where the condition doesn't hold of the last answer.
+/// `expect`: the run ends if the condition doesn't hold of the last answer.
 // The condition isn't copied, since most steps need no room for one.
 pub fn expect(machine: &mut Machine, app: &App, task: TaskId, condition: &AnswerCondition) -> bool
     requires runs { Runs machine.old task }
@@ -102,7 +102,7 @@ pub fn close_turn(machine: &mut Machine, app: &App, task: TaskId) -> bool
     }
 }
 
-// The op that is next where the task's op jumps.
+// The next op, if the task's op jumps.
 #[inline(always)]
 fn jump_from(machine: &Machine, app: &App, task: TaskId) -> u16
     requires { (progress_in machine.now.progress task).op_index < 256 }
@@ -111,7 +111,7 @@ fn jump_from(machine: &Machine, app: &App, task: TaskId) -> u16
     app.jump_from(task, machine.progress(task).op_index)
 }
 
-/// `if`: the first branch is next where the condition holds of the last answer, and otherwise what is behind it.
+/// `if`: the first branch is next if the condition holds of the last answer, and otherwise what follows it.
 #[inline(always)]
 pub fn branch(machine: &mut Machine, app: &App, task: TaskId, condition: AnswerCondition) -> bool
     requires runs { Runs machine.old task }
@@ -127,7 +127,7 @@ pub fn branch(machine: &mut Machine, app: &App, task: TaskId, condition: AnswerC
     }
 }
 
-/// `else`: what is behind the `end` of its `if` is next.
+/// `else`: what follows the `end` of its `if` is next.
 #[inline(always)]
 pub fn skip_branch(machine: &mut Machine, app: &App, task: TaskId) -> bool
     requires runs { Runs machine.old task }
@@ -148,7 +148,7 @@ pub fn end_if(machine: &mut Machine, app: &App, task: TaskId) -> bool
     machine.complete(app, task)
 }
 
-/// `break`: the innermost loop is left; what is behind its `end` is next.
+/// `break`: the innermost loop is left; what follows its `end` is next.
 #[inline(always)]
 pub fn leave_loop(machine: &mut Machine, app: &App, task: TaskId) -> bool
     requires runs { Runs machine.old task }

@@ -36,8 +36,8 @@ fn suspend(machine: &mut Machine, task: TaskId)
     }
 }
 
-/// A suspended task is Ready again, counts from now where its wake time is still to come, and tries its call again. It
-/// answers whether the task was Suspended.
+/// A suspended task is Ready again, counts from now if its wake time is in the future, and tries its call again.
+/// Returns whether the task was Suspended.
 pub fn resume(machine: &mut Machine, task: TaskId) -> bool
     requires stands { StandsForSome machine.old }
     ensures does { Moves machine.old machine.new (definitions.resume task) }
@@ -91,7 +91,7 @@ pub fn call_resume<L: Log>(
     machine.preempt(log);
 }
 
-/// `suspend_all`: one more is in force.
+/// `suspend_all`: one more is active.
 // Who calls it does little else.
 #[inline(always)]
 pub fn suspend_all<L: Log>(machine: &mut Machine, app: &App, task: TaskId, log: &mut L)
@@ -106,7 +106,7 @@ pub fn suspend_all<L: Log>(machine: &mut Machine, app: &App, task: TaskId, log: 
     machine.answer(app, task, 0, log);
 }
 
-/// One `suspend_all` less is in force; after the last the held ticks are applied.
+/// One `suspend_all` fewer is active; after the last the held ticks are applied.
 // It is in `resume_all` alone.
 #[inline(always)]
 fn resume_scheduler(machine: &mut Machine, app: &App, task: TaskId)
@@ -122,7 +122,7 @@ fn resume_scheduler(machine: &mut Machine, app: &App, task: TaskId)
     }
 }
 
-/// `resume_all` where no critical section is open: one less is in force; after the last the held ticks are applied, and a higher task
+/// `resume_all` while no critical section is open: one fewer is active; after the last the held ticks are applied, and a higher task
 /// may run.
 pub fn resume_all<L: Log>(machine: &mut Machine, app: &App, task: TaskId, log: &mut L)
     requires room { 2 ≤ (L.logged log.old).room }

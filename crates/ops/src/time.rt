@@ -31,7 +31,7 @@ pub fn use_up(machine: &mut Machine, app: &App, task: TaskId, ticks: u32)
     }
 }
 
-/// The running task sleeps for some ticks, where it is still Ready.
+/// The running task sleeps for some ticks, if it is still Ready.
 fn sleep(machine: &mut Machine, task: TaskId, ticks: u32)
     requires some { 0 < ticks }
     requires agrees { Agrees machine.old }
@@ -59,8 +59,8 @@ pub fn delay<L: Log>(machine: &mut Machine, app: &App, task: TaskId, ticks: u32,
     }
 }
 
-/// `delay_until`: the task sleeps until this many ticks after the time from which it counts, and counts from there; where
-/// that is not still to come, it goes on.
+/// `delay_until`: the task sleeps until this many ticks after the time from which it counts, and counts from there; if
+/// that is not in the future, it goes on.
 pub fn delay_until<L: Log>(machine: &mut Machine, app: &App, task: TaskId, ticks: u32, log: &mut L)
     requires room { 1 ≤ (L.logged log.old).room }
     requires can { Can app.now machine.old task (op.DelayUntil ticks) }
@@ -79,7 +79,7 @@ pub fn delay_until<L: Log>(machine: &mut Machine, app: &App, task: TaskId, ticks
     }
 }
 
-/// `yield`: the task goes behind its equals.
+/// `yield`: the task moves after its equals.
 #[inline(always)]
 pub fn call_yield<L: Log>(machine: &mut Machine, app: &App, task: TaskId, log: &mut L)
     requires room { 2 ≤ (L.logged log.old).room }
@@ -91,8 +91,7 @@ pub fn call_yield<L: Log>(machine: &mut Machine, app: &App, task: TaskId, log: &
     machine.yield_now(log);
 }
 
-/// `time`: the printed tick is the answer. It answers whether the task is still
-/// amid its script.
+/// `time`: the printed tick is the result. Returns whether the task's script goes on.
 #[inline(always)]
 pub fn time<L: Log>(machine: &mut Machine, app: &App, task: TaskId, log: &mut L) -> bool
     requires room { 1 ≤ (L.logged log.old).room }
@@ -105,8 +104,7 @@ pub fn time<L: Log>(machine: &mut Machine, app: &App, task: TaskId, log: &mut L)
     machine.answer(app, task, tick, log)
 }
 
-/// `stamp`: the task notes the time. It answers whether the task is still
-/// amid its script.
+/// `stamp`: the task notes the time. Returns whether the task's script goes on.
 pub fn stamp(machine: &mut Machine, app: &App, task: TaskId) -> bool
     requires runs { Runs machine.old task }
     ensures does { Moves machine.old machine.new (stamp app.now task) }
@@ -117,8 +115,7 @@ pub fn stamp(machine: &mut Machine, app: &App, task: TaskId) -> bool
     machine.complete(app, task)
 }
 
-/// `since`: how many ticks have passed since the task's last `stamp` is the answer, or 4294967295 where there are more. It answers whether the task is still
-/// amid its script.
+/// `since`: the result is the number of ticks since the task's last `stamp`, at most 4294967295. Returns whether the task's script goes on.
 pub fn since<L: Log>(machine: &mut Machine, app: &App, task: TaskId, log: &mut L) -> bool
     requires room { 1 ≤ (L.logged log.old).room }
     requires runs { Runs machine.old task }

@@ -64,7 +64,7 @@ pub fn fail_check(machine: &mut Machine, task: TaskId)
     machine.fail(failed);
 }
 
-// What an op on values answers for a task; `None` where it has no value to work with.
+// The result of an op on values for a task; `None` if it has no value to work with.
 #[inline(always)]
 fn answer_of(machine: &Machine, task: TaskId, op: ValueOp) -> Option<u32>
     ensures { (s : State) → Stands machine.now s → result ≡ answer_of s.variables (progress_at s task).answer op }
@@ -72,8 +72,8 @@ fn answer_of(machine: &Machine, task: TaskId, op: ValueOp) -> Option<u32>
     op.answer(machine.variables.values(), machine.progress(task).answer)
 }
 
-/// An op that loads a variable, stores one, or calculates: it answers, or the check fails where it has no value to work with. It answers
-/// whether the task is still amid its script, while no variable changed.
+/// An op that loads a variable, stores one, or calculates: it is complete, or the check fails if it has no value to work with. Returns
+/// whether the task's script goes on and no variable changed.
 #[inline(never)]
 pub fn calculate<L: Log>(
     machine: &mut Machine,

@@ -7,7 +7,7 @@ use std::alloc::Global;
 use std::process::Abort;
 use std::test::Fail;
 
-// What the lane of this number is answered, where there is one.
+// What the lane of this number is given, if there is one.
 fn turn(lanes: &mut Vec<Lane>, lane: usize) -> Next
     ensures { (g : Game) → AreLanesOf g lanes.old.items → AreLanesOf g lanes.new.items }
 {
@@ -18,7 +18,7 @@ fn turn(lanes: &mut Vec<Lane>, lane: usize) -> Next
     lane.next()
 }
 
-// Compares what the lane of this number is answered.
+// Compares what the lane of this number is given.
 fn is_answered(rt: &impl Abort, lanes: &mut Vec<Lane>, lane: usize, next: Next)
     ensures { (g : Game) → AreLanesOf g lanes.old.items → AreLanesOf g lanes.new.items }
 {

@@ -21,7 +21,7 @@ fn advance(rt: &impl Abort, clock: &mut Clock, expected: &[TaskId]) {
     assert!(rt; due.as_slice() == expected, "{expected:?} wake");
 }
 
-/// Lets a tick pass where nobody is due, and compares whether it did.
+/// Lets a tick pass if no task is due, and compares whether it did.
 fn advance_if_none_due(rt: &impl Abort, clock: &mut Clock, expected: bool) {
     assert!(rt; clock.age() < 1000);
     assert!(rt;

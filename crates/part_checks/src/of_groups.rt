@@ -12,7 +12,7 @@ fn condition(mask: u32, all: bool, clear: bool) -> Condition {
     Condition { mask, all, clear }
 }
 
-/// Puts a task that waits at no group behind those who wait.
+/// Puts a task that waits at no group after the tasks that wait.
 fn wait(rt: &impl Abort, groups: &mut Groups, number: u8, condition: Condition)
     requires { number < 32 }
 {

@@ -14,7 +14,7 @@ fn put(rt: &impl Abort, table: &mut Table<2, 8, 10>, node: NodeId, value: u32)
     table.insert_sorted(LIST, node, value);
 }
 
-/// Puts a node that is in no list behind all others of the list.
+/// Puts a node that is in no list after all others of the list.
 fn put_last(rt: &impl Abort, table: &mut Table<2, 8, 10>, node: NodeId)
     requires { node.number < 8 }
 {
@@ -32,7 +32,7 @@ fn has_nodes(rt: &impl Abort, table: &Table<2, 8, 10>, expected: &[u16]) {
     assert!(rt; found.is_none(), "no more than {expected:?}");
 }
 
-/// The node behind this one in its list.
+/// The node after this one in its list.
 fn after(table: &Table<2, 8, 10>, node: Option<NodeId>) -> Option<NodeId> {
     let node = node?;
     if node.number < 8 {
@@ -42,7 +42,7 @@ fn after(table: &Table<2, 8, 10>, node: Option<NodeId>) -> Option<NodeId> {
     }
 }
 
-/// Puts the first node last, and compares the nodes then. The answer is the one that is first then, where there are two.
+/// Puts the first node last, and compares the nodes then. The call returns the one that is first then, if there are two.
 fn rotate(rt: &impl Abort, table: &mut Table<2, 8, 10>, expected: &[u16]) {
     let first = table.rotate(LIST);
     if expected.len() < 2 {

@@ -8,7 +8,7 @@ use machine::Machine;
 use model::{App, Loop, TaskId, Value, ValueOp, VariableId};
 use std::process::Abort;
 
-/// The kernel at reset, where no task has an open loop.
+/// The kernel at reset, with no open loop of a task.
 fn at_reset(app: &App) -> Machine
     ensures { (task : ℕ) → (progress_in result.progress task).loops ≡ [] }
 {

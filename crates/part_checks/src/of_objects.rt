@@ -47,7 +47,7 @@ fn most_queues() -> Objects
     Objects::new(&[ObjectKind::Queue(256); 33])
 }
 
-/// Compares the greatest priority of those who wait to receive.
+/// Compares the greatest priority of the tasks that wait to receive.
 fn has_best(rt: &impl Abort, objects: &Objects, expected: u8) {
     assert!(rt;
         objects.best_priority(RECEIVERS) == expected,
@@ -55,7 +55,7 @@ fn has_best(rt: &impl Abort, objects: &Objects, expected: u8) {
     );
 }
 
-/// Wakes those who wait to receive, one after the other, and compares who they are.
+/// Wakes the tasks that wait to receive, one after the other, and compares which they are.
 fn wake_all(rt: &impl Abort, objects: &mut Objects, expected: &[u8]) {
     for number in expected {
         let woken = objects.wake_best(RECEIVERS);
@@ -78,7 +78,7 @@ fn lock(rt: &impl Abort, objects: &mut Objects) {
     objects.lock(QUEUE);
 }
 
-/// Unlocks, and compares who is woken then.
+/// Unlocks, and compares which tasks are woken then.
 fn unlock(rt: &impl Abort, objects: &mut Objects, to_receive: &[TaskId], to_send: &[TaskId]) {
     match objects.unlock() {
         None => panic!(rt; "locked"),
@@ -196,7 +196,7 @@ fn has_holder(rt: &impl Abort, objects: &Objects, holder: Option<TaskId>, held: 
     );
 }
 
-/// Makes a call that is possible, and answers 1. It is no `overwrite`.
+/// Makes a call that is possible, and returns 1. It is no `overwrite`.
 fn succeed(
     rt: &impl Abort,
     objects: &mut Objects,

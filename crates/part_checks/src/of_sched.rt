@@ -3,7 +3,7 @@ use model::TaskId;
 use sched::Sched;
 use std::process::Abort;
 
-/// What is done to the scheduler, with what it answers, and what is seen of it.
+/// What is done to the scheduler, with what it returns, and what is seen of it.
 #[derive(Clone, Copy)]
 enum Move {
     Wake(TaskId),
@@ -16,7 +16,7 @@ enum Move {
     /// How deep it is held then.
     Unhold(u32),
     Choose(Option<TaskId>),
-    /// The task that runs then, where the switch is made.
+    /// The task that runs then, if the switch is made.
     Preempt(Option<TaskId>),
     Slice(Option<TaskId>),
     Yield(TaskId),
@@ -55,7 +55,7 @@ fn set_priority(rt: &impl Abort, sched: &mut Sched, task: TaskId, priority: u8) 
     sched.set_priority(task, priority);
 }
 
-/// Ends a task's suspension, and answers whether it was suspended.
+/// Ends a task's suspension, and returns whether it was suspended.
 fn resume(rt: &impl Abort, sched: &mut Sched, task: TaskId) -> bool {
     if !sched.is_suspended(task) {
         return sched.resume(task);
@@ -64,7 +64,7 @@ fn resume(rt: &impl Abort, sched: &mut Sched, task: TaskId) -> bool {
     sched.resume(task)
 }
 
-/// The task that runs after a switch, or `None` where none was made.
+/// The task that runs after a switch, or `None` if none was made.
 fn switched(sched: &Sched, is_switch: bool) -> Option<TaskId> {
     if is_switch { sched.current() } else { None }
 }
@@ -102,7 +102,7 @@ fn is_switched(sched: &mut Sched, switch: Move) -> bool {
     }
 }
 
-/// Makes a move, and answers whether the scheduler answers what the move says.
+/// Makes a move, and returns whether the scheduler returns what the move says.
 fn is_answered(rt: &impl Abort, sched: &mut Sched, step: Move) -> bool {
     match step {
         Wake(task) => wake(rt, sched, task),
@@ -228,13 +228,13 @@ fn a_task_goes_behind_its_new_equals(rt: HostRuntime) {
             Priority(LOW, 1),
             Choose(Some(LOW)),
             Wake(HIGH),
-            // It inherits, and goes behind the one that was there.
+            // It inherits, and moves after the one that was there.
             Priority(LOW, 2),
             HasPriority(LOW, 2),
             HasBasePriority(LOW, 1),
             Choose(Some(HIGH)),
             Yield(LOW),
-            // Back at its base priority it is behind the other.
+            // Back at its base priority it is after the other.
             Priority(LOW, 1),
             Preempt(Some(HIGH)),
             Block(HIGH),

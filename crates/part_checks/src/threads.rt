@@ -24,7 +24,7 @@ fn run<R: Wait>(rt: &R, mut lane: Lane) -> Lane
     lane
 }
 
-// Each lane in a thread of its own, where one can be started.
+// Each lane in a thread of its own, if one can be started.
 fn run_all<R: Threads + Wait + Sync>(rt: &R, lanes: Vec<Lane>) -> Result<Vec<Lane>, AllocError>
     ensures { IfOk result (λ back. (g : Game) → AreLanesOf g lanes.items → AreLanesOf g back.items) }
 {

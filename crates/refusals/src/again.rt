@@ -1,4 +1,4 @@
-//! Each call by itself, which is made once more where memory was refused to it.
+//! Each call by itself, which is made once more if memory was refused to it.
 ghost use Rattle.std.specs.Prelude.{IfOk};
 ghost use Rattle.shelf.specs.Shelves.{IsShelf};
 
@@ -13,7 +13,7 @@ use std::alloc::Global;
 use std::sync::Wait;
 use std::thread::Threads;
 
-// What a call gives, at the second time where memory was refused at the first.
+// What a call gives, at the second time if memory was refused at the first.
 macro_rules! again {
     ($call:expr) => {
         match $call {

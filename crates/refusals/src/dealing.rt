@@ -13,7 +13,7 @@ pub(crate) fn divided(alloc: Global) -> Result<Division, Fault> {
     }
 }
 
-// What the first of these lanes is answered.
+// What the first of these lanes is given.
 fn first_next(lanes: &mut Vec<Lane>) -> Result<Next, Fault> {
     match lanes.first_mut() {
         Some(lane) => Ok(lane.next()),
@@ -21,7 +21,7 @@ fn first_next(lanes: &mut Vec<Lane>) -> Result<Next, Fault> {
     }
 }
 
-/// What the first of two lanes is answered at first.
+/// What the first of two lanes is given at first.
 pub(crate) fn dealt(alloc: Global) -> Result<Next, Fault> {
     let division = divided(alloc)?;
     match Deal::new(alloc, division, 2, true) {
@@ -30,7 +30,7 @@ pub(crate) fn dealt(alloc: Global) -> Result<Next, Fault> {
     }
 }
 
-/// The counts of a tally of three seats, none of which has added.
+/// The counts of a tally of three seats, which haven't added yet.
 pub(crate) fn counted(alloc: Global) -> Result<Counts, Fault> {
     let Ok((tally, seats)) = Tally::make(alloc, 3) else {
         return Err(Fault::Memory);

@@ -1,7 +1,7 @@
 //! Each call that takes memory, and what it gives. A call to which memory is refused is made once more, of the same values.
 //!
 //! `tests/refusals` runs this with the first growth refused, then the second, and so on. What it writes must be the same each
-//! time: a call answers `Memory`, and leaves what it was given as it was, or gives what it gives with ample memory.
+//! time: a call returns `Memory`, and leaves what it was given as it was, or gives what it gives with ample memory.
 #![tactic(auto)]
 
 ghost use Rattle.shelf.specs.Shelves.{IsShelf};

@@ -58,7 +58,7 @@ highest_is {lists} {occupied} h some fits =
       ],
     )
 
--- a list is the highest where no bit above its own is set
+-- a list is the highest if no bit above its own is set
 only_bit : (n p : ℕ) → n / 2 ^ p ≡ 1 → n < 2 ^ suc p
 only_bit n p one =
     let twice : 2 ^ suc p ≡ 2 * 2 ^ p = omega arith in

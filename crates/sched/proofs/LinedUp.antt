@@ -153,7 +153,7 @@ without_task-same i t ts e = let eq : (t == i) ≡ true = eq-eqb t i e in rw eq 
 pub without_task-other : (i t : ℕ) (ts : List ℕ) → t ≢ i → without_task i (t ∷ ts) ≡ t ∷ without_task i ts
 without_task-other i t ts ne = let eq : (t == i) ≡ false = ne_eqb t i ne in rw eq refl
 
--- who is among the tasks without one is another
+-- a task among the tasks without one is another
 pub among-without : (i t : ℕ) (ts : List ℕ) → is_among i (without_task t ts) ≡ true → (i ≢ t) × (is_among i ts ≡ true)
 among-without i t [] h = absurd (cc)
 among-without i t (u ∷ us) h = elim (cases_eq u t) [
@@ -170,7 +170,7 @@ among-without i t (u ∷ us) h = elim (cases_eq u t) [
   ]
 ]
 
--- who is among tasks and one more is that one, or among them
+-- a task among tasks and one more is that one, or among them
 pub among-more : {X : Type 0} (i t : ℕ) (ts : List ℕ)
     → is_among i (ts ++ t ∷ []) ≡ true → (i ≡ t → X) → (is_among i ts ≡ true → X) → X
 among-more i t [] h f g = f (sym (eqb-same t i (sym (or-false (t == i)) ∙ h)))
@@ -216,7 +216,7 @@ line_up-without i (t ∷ ts) ps es h =
 pub lined_up-block : (i : ℕ) (v : Schedule) → IsFalling v.ready → lined_up (block i v) ≡ without i (lined_up v)
 lined_up-block i v h = line_up-without i v.pending v.priorities v.ready h
 
--- ---- who is Ready
+-- ---- which tasks are Ready
 
 pub listed_ready : (i : ℕ) (ts ps : List ℕ) (es : List (ℕ × ℕ)) → has_node i es ≡ true → has_node i (line_up ts ps es) ≡ true
 listed_ready i [] ps es h = h
@@ -269,7 +269,7 @@ module _ {A : Type 0} (part : Schedule → A) where
       (λ t. rw t (same v (insert_by_priority (i, priority_in v.priorities i) (without i v.ready))))
       (λ t. rw t refl)
 
--- who is Ready after another task has become Ready, or is Ready no more
+-- which tasks are Ready after another task has become Ready, or is Ready no more
 
 pub ready_made : (v : Schedule) (i j : ℕ) → j ≢ i → is_ready (make_ready i v) j ≡ is_ready v j
 ready_made v i j ne =
@@ -318,7 +318,7 @@ first_free [] (Some task) v apart is once = absurd (cc)
 first_free (t ∷ ts) (Some task) v apart is once =
     is_unready task v (apart task (among-same task t ts (sym (same_Some task t is)))) once
 
--- where nobody is pending, the Ready tasks are those in the ready lists
+-- if no task is pending, the Ready tasks are those in the ready lists
 pub lined_up_calm : (v : Schedule) → v.pending ≡ [] → lined_up v ≡ v.ready
 lined_up_calm v none = ap (λ (ts : List ℕ). line_up ts v.priorities v.ready) none
 

@@ -31,7 +31,7 @@ add-before e f fs less = let b : nat_lt f.1 e.1 ≡ true = lt-ltb f.1 e.1 less i
 pub add-after : (e f : ℕ × ℕ) (fs : List (ℕ × ℕ)) → e.1 ≤ f.1 → insert_by_priority e (f ∷ fs) ≡ f ∷ insert_by_priority e fs
 add-after e f fs le = let b : nat_lt f.1 e.1 ≡ false = le-ltb f.1 e.1 le in rw b refl
 
--- behind entries that are not of lower priority
+-- after entries that are not of lower priority
 add-last : (e : ℕ × ℕ) (fs : List (ℕ × ℕ)) → Each (λ f. e.1 ≤ f.1) fs → insert_by_priority e fs ≡ fs ++ e ∷ []
 add-last e [] h = refl
 add-last e (f ∷ fs) h = add-after e f fs h.0 ∙ ap (λ (gs : List (ℕ × ℕ)). f ∷ gs) (add-last e fs h.1)
@@ -200,7 +200,7 @@ any_in_highest test ls p h highest passes =
     ∙ any_first test (entries_of ls p) l.rest highest.1 (Each-imp (λ e. e.1 ≡ 0 + p) (λ e. test e ≡ true)
     (entries_of ls p) (λ e at. passes e (omega (arith, at))) (home_at 0 p ls h))
 
--- a Ready task is above the running one where the highest list is
+-- a Ready task is above the running one if the highest list is
 pub any_above : (priorities : List ℕ) (ls : List (List (ℕ × ℕ))) (p task : ℕ) → AtHome 0 ls → IsHighest ls (Some p)
     → list_any (is_above priorities (Some task)) (ready_list_of ls) ≡ nat_lt (priority_in priorities task) p
 any_above priorities ls p task h highest = elim (cases_lt (priority_in priorities task) p) [
@@ -234,7 +234,7 @@ pub any_where_idle : (priorities : List ℕ) (ls : List (List (ℕ × ℕ))) (o 
 any_where_idle priorities ls None h highest = sym (none_in_ready_list (is_above priorities None) ls highest)
 any_where_idle priorities ls (Some list) h highest = sym (any_above_idle priorities ls list.number h highest)
 
--- a Ready task is beside the running one where the list of its priority has another
+-- a Ready task is beside the running one if the list of its priority has another
 
 and-true : (b : Bool) → (b && true) ≡ b
 and-true true = refl

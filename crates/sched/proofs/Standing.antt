@@ -48,7 +48,7 @@ depth_by holds = holds.0 + (if holds.1 then 1 else 0)
 
 -- the ready list, as tasks with their priorities
 
--- an entry whose ticket is above all goes behind its equals
+-- an entry whose ticket is above all goes after its equals
 with_priorities-put : (e : Entry) (xs : List Entry) → AllByRecursion (λ (x : Entry). x.key.ticket < e.key.ticket) xs
     → with_priorities (put e xs) ≡ insert_by_priority (e.task, e.key.priority) (with_priorities xs)
 with_priorities-put e [] h = refl
@@ -67,7 +67,7 @@ with_priorities-filter i (x ∷ xs) =
     by_test (eqb x.task i) (λ t. rw t (with_priorities-filter i xs))
     (λ t. rw t (ap (λ (l : List (ℕ × ℕ)). (x.task, x.key.priority) ∷ l) (with_priorities-filter i xs)))
 
--- a task that becomes Ready with the next ticket goes behind its equals
+-- a task that becomes Ready with the next ticket goes after its equals
 ready_list-entered : (s new : State) (i p : ℕ) (t : Task) → IsTable s → i < length s.tasks
     → new.tasks ≡ set s.tasks i t → ready_key t ≡ Some (key p s.next_ticket)
     → with_priorities (ready_list new) ≡ insert_by_priority (i, p) (without i (with_priorities (ready_list s)))
@@ -88,7 +88,7 @@ ready_list-make_ready s i h l =
     ready_list-entered s (make_ready i s) i (task_at s i).priority
     (record (task_at s i) { status = Ready s.next_ticket }) h l refl refl
 
--- these are each task's numbers still, where the task that changes keeps its own
+-- these are each task's numbers still, if the task that changes keeps its own
 pub numbers_kept : (number : Task → ℕ) (ns : List ℕ) (s new : State) (i : ℕ) (t : Task)
     → ((j : ℕ) → priority_in ns j ≡ number (task_at s j)) → new.tasks ≡ set s.tasks i t
     → number t ≡ number (task_at s i) → (j : ℕ) → priority_in ns j ≡ number (task_at new j)
@@ -96,21 +96,21 @@ numbers_kept number ns s new i t h is same =
     subst (λ (ts : List Task). (j : ℕ) → priority_in ns j ≡ number (get_or ts j no_task)) (sym is)
     (each-set no_task (λ j u. priority_in ns j ≡ number u) s.tasks i t (h i ∙ sym same) h)
 
--- the same where a task becomes Ready
+-- the same if a task becomes Ready
 numbers_readied : (number : Task → ℕ) (ns : List ℕ) (s : State) (i : ℕ) → ((j : ℕ) → priority_in ns j ≡ number (task_at s j))
     → number (record (task_at s i) { status = Ready s.next_ticket }) ≡ number (task_at s i) → (j : ℕ)
     → priority_in ns j ≡ number (task_at (make_ready i s) j)
 numbers_readied number ns s i h same =
     numbers_kept number ns s (make_ready i s) i (record (task_at s i) { status = Ready s.next_ticket }) h refl same
 
--- these say still who is suspended, where the task that changes is it as before
+-- these still say which tasks are suspended, if the task that changes is so as before
 suspended_kept : (f : ℕ → Bool) (s new : State) (i : ℕ) (t : Task) → ((j : ℕ) → f j ≡ can_resume (status_at s j))
     → new.tasks ≡ set s.tasks i t → can_resume t.status ≡ can_resume (status_at s i) → (j : ℕ) → f j ≡ can_resume (status_at new j)
 suspended_kept f s new i t h is same =
     subst (λ (ts : List Task). (j : ℕ) → f j ≡ can_resume (get_or ts j no_task).status) (sym is)
     (each-set no_task (λ j u. f j ≡ can_resume u.status) s.tasks i t (h i ∙ sym same) h)
 
--- and these, where they are changed with it
+-- and these, if they are changed with it
 pub suspended_changed : (f g : ℕ → Bool) (s new : State) (i : ℕ) (t : Task)
     → ((j : ℕ) → f j ≡ can_resume (status_at s j)) → ((j : ℕ) → j ≢ i → g j ≡ f j) → g i ≡ can_resume t.status
     → i < length s.tasks → new.tasks ≡ set s.tasks i t → (j : ℕ) → g j ≡ can_resume (status_at new j)
@@ -136,7 +136,7 @@ ready_unsuspended (WaitingForNotification m d) t = absurd cc
 ready_unsuspended Suspended t = absurd cc
 ready_unsuspended Ended t = absurd cc
 
--- a task goes to the back, from wherever it was, where nobody is pending and it isn't suspended
+-- a task goes to the back, from wherever it was, if no task is pending and it isn't suspended
 stands_back : (v : Schedule) (s : State) (i : ℕ) → v.pending ≡ [] → StandsFor v s → i < length s.tasks
     → can_resume (status_at s i) ≡ false → StandsFor (mine.make_ready i (record v { ready = without i v.ready })) (make_ready i s)
 stands_back v s i none h l awake = record {
@@ -157,7 +157,7 @@ stands_back v s i none h l awake = record {
   table = table-make_ready s i h.table;
 }
 
--- ---- a task that isn't Ready becomes so: it goes behind its equals among those lined up
+-- ---- a task that isn't Ready becomes so: it goes after its equals among those lined up
 
 -- in the schedule w, which is v except for its lists, and for the task, which isn't suspended
 pub record Adds (i : ℕ) (v w : Schedule) : Type 0 where
@@ -252,7 +252,7 @@ placing_added v w s decider i adds still falling h ne l free =
       table = table-make_ready s i h.table;
     }
 
--- it goes to its ready list, where nobody is pending
+-- it goes to its ready list, if no task is pending
 pub stands_made_ready : (v : Schedule) (s : State) (i : ℕ) → v.pending ≡ [] → StandsFor v s → i < length s.tasks
     → can_resume (status_at s i) ≡ false → mine.is_ready v i ≡ false → StandsFor (mine.make_ready i v) (make_ready i s)
 stands_made_ready v s i none h l awake free =
@@ -294,7 +294,7 @@ ready_at s i p (WaitingForNotification m d) ep eu = has_task-none ready_key i s.
 ready_at s i p Suspended ep eu = has_task-none ready_key i s.tasks (ready_key_of ep eu)
 ready_at s i p Ended ep eu = has_task-none ready_key i s.tasks (ready_key_of ep eu)
 
--- a task is in the ready list where it is Ready
+-- a task is in the ready list if it is Ready
 pub ready_in_list : (s : State) (i : ℕ) → has_task i (ready_list s) ≡ is_ready s i
 ready_in_list s i = ready_at s i (task_at s i).priority (task_at s i).status refl refl
 
@@ -302,7 +302,7 @@ pub ready_same : (v : Schedule) (s : State) (i : ℕ) → StandsFor v s → mine
 ready_same v s i h =
     ap (has_node i) h.ready ∙ has_node-with_priorities i (ready_list s) ∙ ready_in_list s i
 
--- whether a Ready task is above the running one, or beside it, where nobody is pending
+-- whether a Ready task is above the running one, or beside it, if no task is pending
 
 any-with_priorities : (p : ℕ × ℕ → Bool) (q : Entry → Bool) (es : List Entry)
     → ((e : Entry) → p (e.task, e.key.priority) ≡ q e) → list_any p (with_priorities es) ≡ list_any q es
@@ -335,7 +335,7 @@ sharing_same v s none h =
     ∙ any-with_priorities (mine.is_beside v.priorities s.current) (is_beside s s.current)
     (ready_list s) (beside_same v.priorities s s.current h.priorities)
 
--- the choice, where nobody is pending
+-- the choice, if no task is pending
 
 first_task : (es : List Entry) → first_of (with_priorities es) ≡ task_of (first es)
 first_task [] = refl
@@ -393,21 +393,21 @@ stands_yielded v s none h =
     subst (λ (o : Option ℕ). StandsFor (mine.for_one mine.to_back o v) (for_one to_back s.current s)) (sym h.current) back in
     stands_chosen (mine.for_one mine.to_back v.current v) (for_one to_back s.current s) (pending_kept v v.current ∙ none) mine_back
 
--- the same where a test says so
+-- the same if a test says so
 yielded_if : (v : Schedule) (s : State) (b c : Bool) → b ≡ c → v.pending ≡ [] → StandsFor v s
     → StandsFor (if b then mine.yield_now v else v) (if c then yield_now s else s)
 yielded_if v s b c same none h = by_test c
     (λ t. let u = same ∙ t in rw (t, u) (stands_yielded v s none h))
     (λ t. let u = same ∙ t in rw (t, u) h)
 
--- Where no task holds the scheduler, no `suspend_all` is in force, and no critical section is open.
+-- If no task holds the scheduler, no `suspend_all` is active, and no critical section is open.
 pub none_suspends : (s : State) → task_holds_of s ≡ 0 → s.suspensions ≡ 0
 none_suspends s none = omega arith
 
 pub none_open : (s : State) → task_holds_of s ≡ 0 → s.sections ≡ 0
 none_open s none = omega arith
 
--- the scheduler is held where it is held at least once
+-- the scheduler is held if it is held at least once
 pub held_by_depth : (s : State) → is_held s ≡ nat_lt 0 (depth_of s)
 held_by_depth s = either s.call_hold s.suspensions s.sections where
   of_two : (n m : ℕ) → (nat_lt 0 n || nat_lt 0 m) ≡ nat_lt 0 (n + m + 0)
@@ -531,7 +531,7 @@ priority_changed ps s new i p t h lp ls is has j =
           ∙ sym (get_or-set_other ps i j p 0 apart ∙ h j)
     ])
 
--- a Ready one goes behind its new equals
+-- a Ready one moves after its new equals
 stands_moved : (v : Schedule) (s : State) (i p : ℕ) → v.pending ≡ [] → StandsFor v s → i < length s.tasks → i < length v.priorities
     → is_ready s i ≡ true
     → StandsFor (mine.make_ready i (record v { ready = without i v.ready; priorities = set v.priorities i p }))
@@ -692,7 +692,7 @@ stands_before_kept v s new i j t h l is current held key_same same same_base tab
   table = table;
 }
 
--- A call holds the scheduler, where none did.
+-- A call holds the scheduler, if none did.
 pub stands_before_held : (v : Schedule) (s new : State) (i : ℕ) → StandsBefore i v s → s.call_hold ≡ false
     → new.tasks ≡ s.tasks → new.current ≡ s.current → holds_of new ≡ (task_holds_of s, true) → IsTable new
     → StandsBefore i (record v { depth = v.depth + 1 }) new

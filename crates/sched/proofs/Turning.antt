@@ -1,4 +1,4 @@
--- The first task of a list goes behind its equals.
+-- The first task of a list moves after its equals.
 use Rattle.std.proofs.Common.{◌≡◌, ◌≢◌, ℕ, ◌<◌, ◌+◌, inl, inr, Bool, true, false, not, Option, Some, None, List, [], ◌∷◌, ◌++◌}
 use Rattle.std.proofs.Common.{get_or, set, length, map, sym, ◌∙◌, ap, ap₂, subst, arith, refl}
 use Rattle.std.specs.Prelude.{◌==◌, ◌||◌, if◌then◌else◌}
@@ -25,7 +25,7 @@ first_still : (n : ℕ) (xs : List (ℕ × ℕ)) (e : ℕ × ℕ) → Some n ≡
 first_still n [] e is = absurd cc
 first_still n (x ∷ xs) e is = is
 
--- the slice, where a test says so
+-- the slice, if a test says so
 abbrev sliced_if : Schedule → Bool → Schedule
 sliced_if s ended = if ended then yield_now s else s
 
@@ -120,7 +120,7 @@ module _ {lists : List (List (ℕ × ℕ))} {priorities : List ℕ} (h : AreByPr
   schedule_turned pending current base depth suspensions suspended =
       rw is_in (ap (with_ready (schedule_of lists pending current priorities base depth suspensions suspended)) ready_turned)
 
-  -- where it runs and no task is above it, its turn ends if it has an equal
+  -- if it runs and no task is above it, its turn ends if it has an equal
   module _ (pending base : List ℕ) (depth suspensions : ℕ) (suspended : List Bool) (highest : IsHighest lists (Some p)) where
     not_outranked : is_outranked (schedule_of lists pending (Some task) priorities base depth suspensions suspended) ≡ false
     not_outranked =

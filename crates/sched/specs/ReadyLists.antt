@@ -20,7 +20,7 @@ abbrev pub is_below : ℕ → Option ℕ → Bool
 is_below list None = false
 is_below list (Some top) = nat_lt list top
 
--- the bit of a list: 1 where it is not empty
+-- the bit of a list: 1 if it is not empty
 abbrev pub bit_of : List (ℕ × ℕ) → ℕ
 bit_of [] = 0
 bit_of (e ∷ entries) = 1
@@ -30,7 +30,7 @@ pub record AreReadyLists (lists : List (List (ℕ × ℕ))) (occupied : ℕ) : T
   pub sound : IsSound 32 32 lists
   pub bits : (list : ℕ) → list < 32 → bit_at occupied list ≡ bit_of (entries_of lists list)
 
--- each value is the number of its list, where the first list is that of `priority`
+-- each value is the number of its list, if the first list is that of `priority`
 abbrev pub AtHome : ℕ → List (List (ℕ × ℕ)) → Type 0
 AtHome priority [] = Unit {0}
 AtHome priority (entries ∷ lists) = Each (λ e. e.1 ≡ priority) entries × AtHome (suc priority) lists
@@ -41,8 +41,8 @@ pub record AreByPriority (lists : List (List (ℕ × ℕ))) (priorities : List �
   pub at_home : AtHome 0 lists
   pub known : (task : ℕ) → priority_in priorities task < 32
 
--- what is true of a scheduler between two calls: no pending task is in a ready list, and nobody is pending where it isn't
--- held
+-- what is true of a scheduler between two calls: no pending task is in a ready list, and no task is pending while it
+-- isn't held
 pub record IsSched (lists : List (List (ℕ × ℕ))) (pending priorities base_priorities : List ℕ) (depth : ℕ) : Type 0 where
   pub lists_are : AreByPriority lists priorities
   pub base_known : (task : ℕ) → priority_in base_priorities task < 32

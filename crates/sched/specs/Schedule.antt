@@ -18,7 +18,7 @@ pub record Schedule : Type 0 where
   pub base_priorities : List ℕ
   -- how often the scheduler is held, by calls, by `suspend_all` and by critical sections together
   pub depth : ℕ
-  -- how many `suspend_all` are in force and critical sections open, each of which holds it once
+  -- how many `suspend_all` are active and critical sections open, each of them a hold of its own
   pub suspensions : ℕ
   -- of each task whether it is suspended (`xSuspendedTaskList`)
   pub suspended : List Bool
@@ -31,11 +31,11 @@ priority_in priorities task = slice_index_or priorities task 0
 abbrev pub is_suspended : Schedule → ℕ → Bool
 is_suspended s task = slice_index_or s.suspended task false
 
--- these tasks put in turn behind the others of their priority
+-- these tasks put one by one after the others of their priority
 abbrev pub line_up : List ℕ → List ℕ → List (ℕ × ℕ) → List (ℕ × ℕ)
 line_up tasks priorities ready = fold (λ entries task. insert_by_priority (task, priority_in priorities task) entries) ready tasks
 
--- the Ready tasks in order, once the pending ones are put in turn behind the others of their priority
+-- the Ready tasks in order, once the pending ones are put one by one after the others of their priority
 abbrev pub lined_up : Schedule → List (ℕ × ℕ)
 lined_up s = line_up s.pending s.priorities s.ready
 
@@ -43,11 +43,11 @@ lined_up s = line_up s.pending s.priorities s.ready
 abbrev pub is_ready : Schedule → ℕ → Bool
 is_ready s task = has_node task (lined_up s)
 
--- Nobody is pending where the scheduler isn't held.
+-- No task is pending while the scheduler isn't held.
 abbrev pub IsCalm : Schedule → Type 0
 IsCalm s = s.depth ≡ 0 → s.pending ≡ []
 
--- The task, which isn't Ready, becomes so, behind the others of its priority.
+-- The task, which isn't Ready, becomes so, after the others of its priority.
 abbrev pub make_ready : ℕ → Schedule → Schedule
 make_ready task s = record s { ready = insert_by_priority (task, priority_in s.priorities task) s.ready }
 
@@ -55,7 +55,7 @@ make_ready task s = record s { ready = insert_by_priority (task, priority_in s.p
 abbrev pub pend_ready : ℕ → Schedule → Schedule
 pend_ready task s = record s { pending = s.pending ++ task ∷ [] }
 
--- The task, which isn't Ready, is woken: it becomes so, in its ready list or pending where the scheduler is held.
+-- The task, which isn't Ready, is woken: it becomes so, in its ready list, or pending if the scheduler is held.
 abbrev pub wake : ℕ → Schedule → Schedule
 wake task s = if s.depth == 0 then make_ready task s else pend_ready task s
 
@@ -79,7 +79,7 @@ resume task s = if is_suspended s task then wake task (unsuspend task s) else s
 abbrev pub hold : Schedule → Schedule
 hold s = record s { depth = s.depth + 1 }
 
--- One `suspend_all` more is in force (`vTaskSuspendAll`).
+-- One more `suspend_all` is active (`vTaskSuspendAll`).
 abbrev pub suspend_all : Schedule → Schedule
 suspend_all s = record s { depth = s.depth + 1; suspensions = s.suspensions + 1 }
 
@@ -91,15 +91,15 @@ line_up_pending s = record s { ready = lined_up s; pending = [] }
 abbrev pub unhold : Schedule → Schedule
 unhold s = record (if s.depth == 1 then line_up_pending s else s) { depth = s.depth - 1 }
 
--- One `suspend_all` less is in force, whose hold is taken back so (`xTaskResumeAll`).
+-- One `suspend_all` fewer is active, and its hold is taken back (`xTaskResumeAll`).
 abbrev pub resume_all : Schedule → Schedule
 resume_all s = record (unhold s) { suspensions = s.suspensions - 1 }
 
--- The task goes behind the others of its priority, where it is in a ready list.
+-- The task moves after the others of its priority, if it is in a ready list.
 abbrev pub to_back : ℕ → Schedule → Schedule
 to_back task s = if has_node task s.ready then make_ready task (record s { ready = without task s.ready }) else s
 
--- The task has this priority from now on; where that is a change it goes behind its new equals, if it is in a ready list.
+-- The task has this priority from now on; if that is a change it moves after its new equals, if it is in a ready list.
 abbrev pub set_priority : ℕ → ℕ → Schedule → Schedule
 set_priority task priority s =
     if priority_in s.priorities task == priority then s
@@ -114,7 +114,7 @@ for_one deed (Some task) s = deed task s
 abbrev pub choose : Schedule → Schedule
 choose s = record s { current = first_of s.ready }
 
--- The running task goes behind the others of its priority, where it is in a ready list, and the choice runs (`taskYIELD`).
+-- The running task moves after the others of its priority, if it is in a ready list, and the choice runs (`taskYIELD`).
 abbrev pub yield_now : Schedule → Schedule
 yield_now s = choose (for_one to_back s.current s)
 
@@ -136,11 +136,11 @@ is_outranked s = list_any (is_above s.priorities s.current) s.ready
 abbrev pub is_sharing : Schedule → Bool
 is_sharing s = list_any (is_beside s.priorities s.current) s.ready
 
--- Where a task in a ready list is above the running one, that one yields.
+-- If a task in a ready list is above the running one, the running one yields.
 abbrev pub preempt : Schedule → Schedule
 preempt s = if is_outranked s then yield_now s else s
 
--- The same, and also where another task in a ready list has the running one's priority (`configUSE_TIME_SLICING`).
+-- The same, and also if another task in a ready list has the running one's priority (`configUSE_TIME_SLICING`).
 abbrev pub slice : Schedule → Schedule
 slice s = if is_outranked s || is_sharing s then yield_now s else s
 

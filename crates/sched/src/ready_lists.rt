@@ -150,7 +150,7 @@ impl ReadyLists {
         self.occupied |= 1 << list.number;
     }
 
-    /// Puts the first task of a list last. Answers the second, which is the first from then on, if there is one.
+    /// Puts the first task of a list last. Returns the second, which is the first from then on, if there is one.
     pub(crate) fn rotate(&mut self, list: ListId) -> Option<TaskId>
         requires { list.number < 32 }
         ensures rotated { self.new ≡ slice_set self.old list.number

@@ -22,7 +22,7 @@ use std::marker::Model;
 /// A task that is woken while the scheduler is held is Ready, but goes to its ready list only when the last hold ends;
 /// until then it is pending.
 ///
-/// Idle is no task here: it runs where no task is Ready, and is below every priority (profile).
+/// Idle is no task here: it runs if no task is Ready, and is below every priority (profile).
 #[derive(Drop)]
 pub struct Sched {
     ready: ReadyLists,
@@ -125,7 +125,7 @@ impl Sched {
         self.ready.is_same(&other.ready) && self.pending.is_same(&other.pending)
     }
 
-    /// The running task; `None` where idle runs.
+    /// The running task; `None` if idle runs.
     pub fn current(&self) -> Option<TaskId>
         ensures current { result ≡ self.now.current }
     {
@@ -155,8 +155,8 @@ impl Sched {
         self.base_priorities[task.number as usize]
     }
 
-    /// Gives a task this priority, 0 to 31, while the scheduler isn't held. Where that is a change, and the task is in a
-    /// ready list, it goes behind its new equals.
+    /// Gives a task this priority, 0 to 31, while the scheduler isn't held. If that is a change, and the task is in a
+    /// ready list, it moves after its new equals.
     pub fn set_priority(&mut self, task: TaskId, priority: u8)
         requires priority { priority < 32 }
         requires calm { self.old.depth ≡ 0 }
@@ -190,7 +190,7 @@ impl Sched {
         self.depth
     }
 
-    /// How many `suspend_all` are in force and critical sections open, each of which holds the scheduler once.
+    /// How many `suspend_all` are active and critical sections open. Each of them holds the scheduler once.
     #[inline(always)]
     pub fn suspensions(&self) -> u32
         ensures suspensions { result ≡ self.now.suspensions }
@@ -204,15 +204,15 @@ impl Sched {
         requires { self.old.depth < 4294967295 }
         ensures schedule { self.new ≡ hold self.old }
         ensures calm { IsCalm self.old }
-        // In the definitions a call holds it, where none did.
+        // In the definitions a call holds it, if none did.
         ensures stands { (s : State) → StandsFor self.old s → s.call_hold ≡ false
             → StandsFor self.new (record s { call_hold = true }) }
     {
         self.depth += 1;
     }
 
-    /// Takes back a call's hold, of which there is one, and with the last hold of all moves the pending tasks to their
-    /// ready lists (`xTaskResumeAll`). It switches nothing by itself.
+    /// Takes back a call's hold, which there is, and with the last hold of all moves the pending tasks to their ready
+    /// lists (`xTaskResumeAll`). It switches nothing by itself.
     #[inline(always)]
     pub fn unhold(&mut self)
         requires { 0 < self.old.depth }
@@ -228,7 +228,7 @@ impl Sched {
         self.depth -= 1;
     }
 
-    /// One `suspend_all` more is in force, or one critical section more is open, and holds the scheduler once more
+    /// One more `suspend_all` is active, or one more critical section is open, and holds the scheduler once more
     /// (`vTaskSuspendAll`, `taskENTER_CRITICAL`). Either count is below 4294967295 before.
     #[inline(always)]
     pub fn suspend_all(&mut self)
@@ -244,8 +244,8 @@ impl Sched {
         self.suspensions += 1;
     }
 
-    /// One `suspend_all` less is in force, or one critical section less is open, of which there is one, and its hold ends as a
-    /// call's does (`xTaskResumeAll`, `taskEXIT_CRITICAL`).
+    /// One `suspend_all` fewer is active, or one critical section fewer is open; there is one, and its hold ends as a call's
+    /// does (`xTaskResumeAll`, `taskEXIT_CRITICAL`).
     #[inline(always)]
     pub fn resume_all(&mut self)
         requires held { 0 < self.old.depth }
@@ -262,13 +262,13 @@ impl Sched {
         self.suspensions -= 1;
     }
 
-    /// Makes a task Ready that isn't (see `is_ready`), behind the others of its priority, while the scheduler isn't
+    /// Makes a task Ready that isn't (see `is_ready`), after the others of its priority, while the scheduler isn't
     /// held.
     pub fn make_ready(&mut self, task: TaskId)
         requires free { is_ready self.old task ≡ false }
         requires calm { self.old.depth ≡ 0 }
         ensures schedule { self.new ≡ make_ready task self.old }
-        // In the definitions, where it isn't suspended, it takes the next ticket.
+        // In the definitions, if it isn't suspended, it takes the next ticket.
         ensures stands { (s : State) → StandsFor self.old s → task < length s.tasks
             → can_resume (status_at s task) ≡ false → StandsFor self.new (switching.make_ready task s) }
         ensures current { self.new.current ≡ self.old.current }
@@ -282,7 +282,7 @@ impl Sched {
         requires held { 0 < self.old.depth }
         ensures schedule { self.new ≡ pend_ready task self.old }
         ensures current { self.new.current ≡ self.old.current }
-        // In the definitions, where it isn't suspended, it is Ready at once, with the next ticket.
+        // In the definitions, if it isn't suspended, it is Ready at once, with the next ticket.
         ensures stands { (s : State) → StandsFor self.old s → task < length s.tasks
             → can_resume (status_at s task) ≡ false → StandsFor self.new (switching.make_ready task s) }
         // Another that is still to be placed stays so.
@@ -293,7 +293,7 @@ impl Sched {
         self.pending.push_back(task);
     }
 
-    /// Makes a task Ready that isn't: behind the others of its priority, or pending where the scheduler is held.
+    /// Makes a task Ready that isn't: after the others of its priority, or pending if the scheduler is held.
     pub fn wake(&mut self, task: TaskId)
         requires free { is_ready self.old task ≡ false }
         ensures schedule { self.new ≡ wake task self.old }
@@ -353,7 +353,7 @@ impl Sched {
         false
     }
 
-    /// Ends a task's suspension, however often it was suspended, and answers whether it was: then it is Ready, as `wake`
+    /// Ends a task's suspension, however often it was suspended, and returns whether it was: then it is Ready, as `wake`
     /// makes it (`vTaskResume`, `xTaskResumeFromISR`). One that isn't suspended is left as it is.
     pub fn resume(&mut self, task: TaskId) -> bool
         // As in each schedule that represents some state.
@@ -385,8 +385,8 @@ impl Sched {
         self.current
     }
 
-    /// Sends the running task behind the others of its priority, if it is in a ready list, and lets the
-    /// choice run (`taskYIELD`).
+    /// Moves the running task after the others of its priority, if it is in a ready list, and lets the choice
+    /// run (`taskYIELD`).
     #[inline(never)]
     pub fn yield_now(&mut self)
         ensures schedule { self.new ≡ yield_now self.old }
@@ -398,8 +398,8 @@ impl Sched {
         self.choose();
     }
 
-    /// Where a task in a ready list has a higher priority than the running one, or idle runs and a ready list
-    /// has a task, yields. Answers whether it did. One of equal priority changes nothing (profile).
+    /// Yields if a task in a ready list has a higher priority than the running one, or if idle runs and a
+    /// ready list has a task. Returns whether it did. One of equal priority changes nothing (profile).
     #[inline(always)]
     pub fn preempt(&mut self) -> bool
         ensures outranked { result ≡ is_outranked self.old }
@@ -413,8 +413,8 @@ impl Sched {
         outranked
     }
 
-    /// As `preempt`, and yields also where another task in a ready list has the running one's priority:
-    /// its turn has come, at the end of a tick (`configUSE_TIME_SLICING`). Answers whether it did.
+    /// As `preempt`, but also yields if another task in a ready list has the running one's priority: its turn
+    /// has come, at the end of a tick (`configUSE_TIME_SLICING`). Returns whether it did.
     #[inline(always)]
     pub fn slice(&mut self) -> bool
         ensures ended { result ≡ (is_outranked self.old || is_sharing self.old) }
@@ -423,7 +423,7 @@ impl Sched {
     {
         if let Some(task) = self.current {
             let list = self.list_of(task);
-            // Mostly the running task is the first of the highest list, whose second then runs.
+            // Usually the running task is the first of the highest list, whose second then runs.
             if self.ready.is_highest(list) && self.ready.is_first(list, task) {
                 if let Some(next) = self.ready.rotate(list) {
                     self.current = Some(next);
@@ -478,7 +478,7 @@ impl Sched {
         self.pending.pop_front()
     }
 
-    /// Sends a task behind the others of its priority, if it is in a ready list (profile: FreeRTOS moves its list's index
+    /// Moves a task after the others of its priority, if it is in a ready list (profile: FreeRTOS moves its list's index
     /// instead).
     fn to_back(&mut self, task: TaskId)
         ensures schedule { self.new ≡ to_back task self.old }

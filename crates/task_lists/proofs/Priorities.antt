@@ -1,4 +1,4 @@
--- Who is in a list of the definitions is in the list of tasks.
+-- A task in a list of the definitions is in the list of tasks.
 use Rattle.std.proofs.Common.{◌≡◌, ℕ, Bool, List, [], ◌∷◌, ap, refl}
 use Rattle.std.specs.Prelude.{◌==◌, ◌||◌}
 use Rattle.model.specs.Order.{Entry}

@@ -6,7 +6,7 @@ use Rattle.std.specs.List.{list_any}
 abbrev pub tasks_in : List (ℕ × ℕ) → List ℕ
 tasks_in entries = map (λ (e : ℕ × ℕ). e.0) entries
 
--- a task with its priority put behind all that are not of lower priority (`vListInsert`, `prvAddTaskToReadyList`)
+-- a task with its priority put after all that are not of lower priority (`vListInsert`, `prvAddTaskToReadyList`)
 abbrev pub insert_by_priority : ℕ × ℕ → List (ℕ × ℕ) → List (ℕ × ℕ)
 insert_by_priority e [] = e ∷ []
 insert_by_priority e (f ∷ fs) = if nat_lt f.1 e.1 then e ∷ f ∷ fs else f ∷ insert_by_priority e fs

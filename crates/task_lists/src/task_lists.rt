@@ -7,8 +7,8 @@ use lists::{ListId, NodeId, Table};
 use model::TaskId;
 use std::marker::Model;
 
-/// `L` lists of tasks, where `L` is 4096 at most. A task is in one list at most, and there once, with a value. In every
-/// call the list is one below `L`. `M` is 32 more than `L`: the table has that many links.
+/// `L` lists of tasks; `L` is 4096 at most. A task is in one list at most, and there once, with a value. In every call
+/// the list is one below `L`. `M` is 32 more than `L`: the table has that many links.
 ///
 /// These are the lists of FreeRTOS's kernel, whose entries are of a task and `xItemValue`.
 #[derive(Drop)]
@@ -51,7 +51,7 @@ fn task_of(node: Option<NodeId>) -> Option<TaskId>
 }
 
 impl<const L: usize, const M: usize> TaskLists<L, M> {
-    /// `L` empty lists, where `L` is 4096 at most, and `M` is 32 more.
+    /// `L` empty lists; `L` is 4096 at most, and `M` is 32 more.
     #[inline]
     pub fn new() -> Self
         requires lists { L ≤ 4096 }
@@ -90,7 +90,7 @@ impl<const L: usize, const M: usize> TaskLists<L, M> {
         self.table.is_same(&other.table)
     }
 
-    /// The first task of a list; `None` where the list is empty.
+    /// The first task of a list; `None` if the list is empty.
     #[inline]
     pub fn first(&self, list: ListId) -> Option<TaskId>
         requires { list.number < L }
@@ -126,7 +126,7 @@ impl<const L: usize, const M: usize> TaskLists<L, M> {
     /// The task after this one in its list; `None` after the last, and for a task in no list.
     #[inline]
     pub fn next(&self, task: TaskId) -> Option<TaskId>
-        // Of a task in a list, it is the one behind it there.
+        // Of a task in a list, it is the one after it there.
         ensures next { (list : ℕ) → IsTrue (has_node task (entries_of self.now list))
             → result ≡ next_of task (entries_of self.now list) }
         ensures outside { place_of self.now task ≡ None → IsNone result }
@@ -145,7 +145,7 @@ impl<const L: usize, const M: usize> TaskLists<L, M> {
         task_of(self.table.next_in_list(node_of(task)))
     }
 
-    /// The list that a task is in; `None` where it is in no list.
+    /// The list that a task is in; `None` if it is in no list.
     #[inline]
     pub fn list_of(&self, task: TaskId) -> Option<ListId>
         ensures list { option_map (λ list. list.number) result ≡ place_of self.now task }
@@ -204,7 +204,7 @@ impl<const L: usize, const M: usize> TaskLists<L, M> {
     }
 
     /// Puts a task that is in no list (see `contains`) into a list, with a value of 0 to 4294967295: before the first
-    /// one of a greater value, or last where there is none.
+    /// one of a greater value, or last if there is none.
     #[inline]
     pub fn insert_sorted(&mut self, list: ListId, task: TaskId, value: u32)
         requires list { list.number < L }
@@ -216,8 +216,8 @@ impl<const L: usize, const M: usize> TaskLists<L, M> {
         self.table.insert_sorted(list, node_of(task), value);
     }
 
-    /// As `insert_sorted`, into a list in which no value is smaller than one before it. It takes constant time where no value
-    /// is greater.
+    /// As `insert_sorted`, into a list in which no value is smaller than one before it. It takes constant time if no value is
+    /// greater.
     #[inline]
     pub fn insert_sorted_from_back(&mut self, list: ListId, task: TaskId, value: u32)
         requires list { list.number < L }
@@ -231,7 +231,7 @@ impl<const L: usize, const M: usize> TaskLists<L, M> {
             .insert_sorted_from_back(list, node_of(task), value);
     }
 
-    /// Takes the first task out of a list, and answers it; `None` where the list is empty. The other entries keep their order.
+    /// Takes the first task out of a list, and returns it; `None` if the list is empty. The other entries keep their order.
     #[inline]
     pub fn pop_front(&mut self, list: ListId) -> Option<TaskId>
         requires { list.number < L }
@@ -243,8 +243,8 @@ impl<const L: usize, const M: usize> TaskLists<L, M> {
         task_of(self.table.pop_front(list))
     }
 
-    /// Puts the first task of a list last, with the value that it has. Answers the second task, which is the first from
-    /// then on; `None` where there is no second, and the list stays as it is.
+    /// Puts the first task of a list last, with the value that it has. Returns the second task, which is the first from
+    /// then on; `None` if there is no second, and the list stays as it is.
     #[inline]
     pub fn rotate(&mut self, list: ListId) -> Option<TaskId>
         requires { list.number < L }
