@@ -10,8 +10,9 @@ use crate::page::Page;
 use crate::put::{WriteFault, put_all};
 use crate::stream::Sink;
 
-// A text that is longer than this goes to the sink as it is: to copy it takes longer than a call of the sink's.
-const MOST_COPIED: usize = 4096;
+// A text that is longer than this goes to the sink as it is: to copy it takes longer than the call for it, and the one for what the page
+// holds, which is then sent sooner.
+const MOST_COPIED: usize = 12288;
 
 /// Puts the bytes of the page, and empties it. At `Err` the sink failed or took none of some bytes, it has taken a
 /// beginning of the page's bytes, and the page is as it was.

@@ -9,7 +9,7 @@ use kernel::{Kernel, Snapshot};
 use std::alloc::Global;
 
 // This many marks are kept before any is replaced.
-const LEAST_ROOM: usize = 256;
+const LEAST_ROOM: usize = 64;
 
 // This many marks are looked at for one that may be replaced.
 const TRIES: usize = 4;

@@ -34,8 +34,10 @@ impl Plan {
 // The widest spacing is halved at most this often.
 const MOST_HALVINGS: u32 = 3;
 
-// After this many rows, their cost is judged.
-const ROWS: u32 = 256;
+// After this many rows, their cost is judged: so many that rows from each step of the widest spacing
+// are among them. A campaign of a few thousand rows would do many of them in a bad way if each way
+// was tried for longer.
+const ROWS: u32 = 64;
 
 // This often as many rows look in the best way, before all are tried again.
 const TURNS: u32 = 256;
@@ -47,14 +49,19 @@ const MARK: u32 = 20;
 // these look first.
 const MOST: u32 = 512;
 
-// This many marks are kept at least: they stay in the cache that a processor has for itself.
-const FEWEST_MARKS: u32 = 384;
+// This many marks are kept at least: with all else that a row touches they stay in the cache that a
+// processor has for itself. A mark is written where another one was, which would be out of that
+// cache if there were three times as many.
+const FEWEST_MARKS: u32 = 128;
 
 // At most this many: with few tasks they take some 30 MB, with 32 some 55 MB.
 const MOST_MARKS: u32 = 8192;
 
 // One more is kept for so much that `ROWS` rows cost.
-const COST_OF_A_MARK: u32 = 16;
+const COST_OF_A_MARK: u32 = 4;
+
+// Beyond this, which is 12 steps of each row. Rows that cost little more meet rows of a moment ago.
+const FREE: u32 = 768;
 
 /// How many steps are between two marks near an injection, and how far after it a row looks for one
 /// first. Each way to look is tried with many rows. The one with which they cost least is kept for
@@ -159,7 +166,8 @@ impl Spacing {
         } else {
             self.follow(self.best);
             self.turns = TURNS;
-            self.room = (self.least / COST_OF_A_MARK).clamp(FEWEST_MARKS, MOST_MARKS);
+            let counted = self.least.saturating_sub(FREE);
+            self.room = (counted / COST_OF_A_MARK).clamp(FEWEST_MARKS, MOST_MARKS);
         }
     }
 }
