@@ -72,7 +72,7 @@ def of_handlers(application: Application) -> Iterator[Finding]:
 
 
 def of_interrupts(application: Application) -> Iterator[Finding]:
-    """Interrupts behind the limit of ticks."""
+    """Interrupts after the limit of ticks."""
     limit = integer_of(application.root.get("limits"), "ticks")
     for it in application.entries["interrupt"]:
         tick = integer_of(it.table, "tick")
