@@ -24,7 +24,7 @@ WORDS_OF_DRIVERS: Dict[str, List[str]] = {
     "encoder": [*HAL, "--ignore", "motor_stop"],
 }
 # Those whose campaigns are stored, as `--only failing --heads` has them.
-WITH_REPORTS = ("adc_dma", "encoder", "modbus_rtu", "rtc_alarm")
+WITH_REPORTS = ("adc_dma", "encoder", "modbus_rtu", "nor_poll", "rtc_alarm")
 Run = Callable[..., Tuple[int, str, str]]
 
 
