@@ -3,7 +3,7 @@ from __future__ import annotations
 
 from typing import Dict, Iterator, List, Optional, Tuple
 
-from .formats import DAEMON, NAME, NAMED, NUMBER, SECTIONS
+from .formats import DAEMON, NAME, NAMED, NUMBER, SECTIONS, TICK
 from .nodes import Array, Integer, Table, Text
 
 
@@ -57,6 +57,15 @@ class Application:
         campaign = self.root.get("campaign")
         array = campaign.get("points") if isinstance(campaign, Table) else None
         return array.items if isinstance(array, Array) else None
+
+    def has_handler(self, name: str) -> bool:
+        return any(it.name == name for it in self.entries["handler"])
+
+    def ticks_of_points(self) -> int:
+        """How many ticks a point injects at most: a run may end so many ticks after its limit, which isn't tested between them."""
+        texts = [it.value for it in self.points() or [] if isinstance(it, Text)]
+        ticks = [sum(handler == TICK for _, handler in pairs_of(it)) for it in texts]
+        return 0 if self.has_handler(TICK) else max(ticks, default=0)
 
 
 def pairs_of(text: str) -> List[Tuple[Optional[int], str]]:

@@ -236,7 +236,7 @@ def unknown_name(context: Context) -> Optional[Explanation]:
 
 
 def unknown_handler(context: Context) -> Explanation:
-    problem = explaining_points.no_handler(context, context.node.value)
+    problem = explaining_points.no_handler(context, context.node.value, False)
     return context.node.span, f"{context.label}: {problem}", context.key.rule
 
 

@@ -6,32 +6,40 @@ from typing import Any, List, Optional, Tuple
 
 from .application import Application
 from .context import Context
-from .formats import A_POINT, DAEMON, MOST_PAIRS, NAME, SEVERAL, STEP, Word, words_of
+from .formats import A_POINT, DAEMON, MEANT_TICK, MOST_PAIRS, NAME, SEVERAL, STEP, TICK, Word, words_of
 from .nearness import did_you_mean, near, quoted
 from .nodes import Integer, Text
 from .problem import Explanation
 
 
-def no_handler(context: Context, name: str) -> str:
-    """What to say of a name that no handler has."""
+def no_handler(context: Context, name: str, takes_tick: bool) -> str:
+    """What to say of a name that no handler has. A point takes the tick too."""
     application = context.application
     handlers = application.names_of(("handler",))
+    tick = f', and "{TICK}" is the tick interrupt' if takes_tick and not application.has_handler(TICK) else ""
     other = application.named.get(name)
     if other is not None:
         what = "the daemon" if other.section == DAEMON else f"a {other.section}"
-        return f'"{name}" is {what}, not a handler' + (f"; the handlers are {listed(handlers)}" if handlers else "")
-    meant = near(name, handlers)
+        return f'"{name}" is {what}, not a handler' + (f"; the handlers are {listed(handlers)}{tick}" if handlers else "")
+    meant = near(name, handlers) or (near(name, [TICK], MEANT_TICK) if tick else None)
     if meant:
         return f'no handler is called "{name}"' + did_you_mean(quoted(meant))
-    there = f"the handlers are {listed(handlers)}" if handlers else context.lost(["handler"]) or "the file has no [[handler]]"
-    return f'no handler is called "{name}"; {there}'
+    if name == TICK:
+        return f'no handler is called "{TICK}", and the tick interrupt can be named in points alone'
+    lost = None if handlers else context.lost(["handler"])
+    there = f"the handlers are {listed(handlers)}" if handlers else "the file has no [[handler]]"
+    return f'no handler is called "{name}"; {lost or there + tick}'
+
+
+def sources_of(application: Application) -> List[str]:
+    """The names that a point may have, those of handlers first."""
+    return list(dict.fromkeys([*application.names_of(("handler",)), TICK]))
 
 
 def meant_point(context: Context, node: Any) -> Optional[str]:
     """The point that is meant by the number of a step alone, or None."""
-    handlers = context.application.names_of(("handler",))
     is_step = isinstance(node, Integer) and context.place.section == "campaign" and STEP.least <= node.value <= STEP.most
-    return f'"{node.value} {handlers[0]}"' if is_step and handlers else None
+    return f'"{node.value} {example(context.application)}"' if is_step else None
 
 
 def listed(names: List[str], most: int = 8) -> str:
@@ -44,9 +52,8 @@ def unknown_handler(context: Context) -> Optional[Explanation]:
     if not isinstance(node, Text):
         return None
     for word, start, end in words_of(node.value)[1::2]:
-        entry = context.application.named.get(word)
-        if entry is None or entry.section != "handler":
-            return node.part(start, end), told(context, no_handler(context, word)), A_POINT
+        if word not in sources_of(context.application):
+            return node.part(start, end), told(context, no_handler(context, word, True)), A_POINT
     return None
 
 
@@ -93,8 +100,7 @@ def separated(word: Word) -> Word:
 
 
 def example(application: Application) -> str:
-    handlers = application.names_of(("handler",))
-    return handlers[0] if handlers else "HANDLER"
+    return sources_of(application)[0]
 
 
 def problem_of_all(words: List[Word], application: Application) -> Optional[Word]:
@@ -114,7 +120,7 @@ def problem_of_odd(words: List[Word], application: Application) -> Word:
         return f"{len(words)} words: each step needs its handler", start, end
     if STEP.fits(word):
         return f'the handler is missing; did you mean "{word} {example(application)}"?', start, end
-    if word in application.names_of(("handler",)):
+    if word in sources_of(application):
         return f'the step is missing; did you mean "all {word}"?', start, end
     return f'"{word}" isn\'t a point: expected a step and a handler', start, end
 

@@ -106,8 +106,8 @@ SECTIONS = {it.name: it for it in (
     Section("interrupt", True, 1024, "a file has at most 1024 base interrupts, and at most 4 at one tick",
             number_key("tick", 1, 1000000, "the elapsed tick at which the handler runs"),
             Key("handler", "a handler's name", "handler is the name of the [[handler]] that runs at that tick")),
-    Section("campaign", False, 1, "[campaign] has the points at which handlers are injected",
-            texts_key("points", 1000000, "points say before which steps handlers are injected: an array of texts", '["all uart", "12 uart"]')),
+    Section("campaign", False, 1, "[campaign] has the points at which handlers and ticks are injected",
+            texts_key("points", 1000000, "points say before which steps handlers or ticks come: an array of texts", '["all uart", "12 uart"]')),
 )}
 START = number_key("start", 0, MOST_OF_A_NUMBER, "the time at reset, above the first table", 0)
 TICKLESS = Key(
@@ -528,8 +528,11 @@ MEANT_TURNS = ("always", "infinite", "infinity", "inf", "ever", "true", "endless
 # -- points
 
 STEP = Number("STEP", 0, 1000000, "a number")
-A_POINT = 'a point is a step, 0 to 1000000, and a handler, such as "12 uart", or "all uart" for each step of the base run'
-SEVERAL = 'a point is one to three pairs of a step and a handler, in the order of their steps, such as "12 uart 15 timer"'
+# In a point it is the tick interrupt, unless a handler has this name.
+TICK = "tick"
+MEANT_TICK = dict.fromkeys(("systick", "sys_tick", "tick_interrupt", "xtaskincrementtick", "tick_isr"), TICK)
+A_POINT = 'a point is a step, 0 to 1000000, and a handler or tick, such as "12 uart", or "all uart" for each step of the base run'
+SEVERAL = 'a point is one to three pairs of a step and a handler or tick, with steps in order, such as "12 uart 15 timer"'
 MOST_PAIRS = 3
 # How many of them the schema takes, which is for this version alone.
 PAIRS = 3

@@ -7,7 +7,7 @@ from __future__ import annotations
 import json
 from typing import Any, Dict, List, Optional, Set, Tuple
 
-from .formats import DAEMON, Key, MEANT_OPS, NOT_SIMULATED_OPS, OBJECTS, OPS, SECTIONS, not_simulated, op_of
+from .formats import DAEMON, Key, MEANT_OPS, NOT_SIMULATED_OPS, OBJECTS, OPS, SECTIONS, TICK, not_simulated, op_of
 from .nearness import near
 from .nodes import Array, Moment, Table
 from .verdict import Place, Verdict
@@ -82,6 +82,11 @@ class Mending:
         """The name of a handler."""
         return next(it["name"] for it in self.entries("handler") if isinstance(it.get("name"), str))
 
+    def source(self) -> str:
+        """A name that a point may have: of a handler, or else the tick."""
+        names = [it["name"] for it in self.entries("handler") if isinstance(it.get("name"), str)]
+        return names[0] if names else TICK
+
     def kinds_at(self, place: Place) -> Tuple[str, ...]:
         """The kinds of which the name at a place must be."""
         if place.section not in OPS:
@@ -134,7 +139,7 @@ class Mending:
     def wrong_text(self, place: Place) -> None:
         """An op or a point that is none."""
         if place.section not in OPS:
-            self.entry(place)[place.key][place.at] = f"0 {self.handler()}"
+            self.entry(place)[place.key][place.at] = f"0 {self.source()}"
             return
         ops = self.ops(place)
         words = ops[place.at].split() if isinstance(ops[place.at], str) else []
@@ -153,10 +158,11 @@ class Mending:
             words, op = op_of(place.section, self.ops(place)[place.at])
             self.mend_ops_about(words[1 + op.name_at(words[1:])[0]], self.kinds_at(place))
         elif place.section == "interrupt":
-            self.mend_handler(self.entry(place)["handler"])
+            self.mend_handler(self.entry(place)["handler"], self.handler())
         else:
-            known = {it.get("name") for it in self.entries("handler")}
-            self.mend_handler(next(it for it in self.entry(place)["points"][place.at].split()[1::2] if it not in known))
+            known = {TICK, *(it.get("name") for it in self.entries("handler"))}
+            unknown = next(it for it in self.entry(place)["points"][place.at].split()[1::2] if it not in known)
+            self.mend_handler(unknown, self.source())
 
     def mend_ops_about(self, name: str, kinds: Tuple[str, ...]) -> None:
         if not any(self.entries(it) for it in kinds):
@@ -171,8 +177,7 @@ class Mending:
                     if found and words[1 + found[0]] == name and found[1] == kinds:
                         ops[at] = OF_BLOCKS.get(op.word, HARMLESS[section])
 
-    def mend_handler(self, name: str) -> None:
-        good = self.handler()
+    def mend_handler(self, name: str, good: str) -> None:
         for it in self.entries("interrupt"):
             if it.get("handler") == name:
                 it["handler"] = good

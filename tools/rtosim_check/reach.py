@@ -86,7 +86,7 @@ class Brought:
         self.notified: Set[str] = set()
         self.bits: Dict[str, int] = {}
         limit = integer_of(application.root.get("limits"), LIMIT.name)
-        self.limit = LIMIT.most if limit is None else limit
+        self.limit = (LIMIT.most if limit is None else limit) + application.ticks_of_points()
         for it in application.entries["counting"]:
             if integer_of(it.table, "initial") and it.name is not None:
                 self.semaphores.add(it.name)

@@ -4,6 +4,8 @@ from __future__ import annotations
 
 from typing import Iterator, List, Set
 
+from rtosim_report.faults import counted
+
 from .application import Application, integer_of, pairs_of
 from .findings import WARNING, Finding
 from .formats import AWAITS, CALLED, COMMANDS, OBJECTS, OPS, OWN, SECTIONS, op_of
@@ -73,11 +75,12 @@ def of_handlers(application: Application) -> Iterator[Finding]:
 
 def of_interrupts(application: Application) -> Iterator[Finding]:
     """Interrupts after the limit of ticks."""
-    limit = integer_of(application.root.get("limits"), "ticks")
+    limit, more = integer_of(application.root.get("limits"), "ticks"), application.ticks_of_points()
+    later = f", or up to {counted(more, 'tick')} later by those of a point," if more else ","
     for it in application.entries["interrupt"]:
         tick = integer_of(it.table, "tick")
-        if limit is not None and tick is not None and tick > limit:
-            message = f"interrupt {it.index} never comes: a run ends at tick {limit}, and it is due at tick {tick}"
+        if limit is not None and tick is not None and tick > limit + more:
+            message = f"interrupt {it.index} never comes: a run ends at tick {limit}{later} and it is due at tick {tick}"
             yield Finding(WARNING, "NeverComes", it.table.get("tick").span, message, SECTIONS["limits"].keys["ticks"].rule)
 
 

@@ -8,6 +8,7 @@ from typing import Any, Dict, List, NamedTuple, Optional, Tuple
 
 from .escaping import plain
 from .faults import Fault
+from .report import TICK
 
 # Words of ops for which no line names them.
 SILENT_WORDS = {"work", "mark", "expect", "repeat", "end", "if", "else", "break", "stamp", "enter_critical", "exit_critical"}
@@ -109,6 +110,10 @@ class Application(NamedTuple):
         ready = [it for it in self.tasks.values() if it.ops] + [self.daemon] * (self.daemon is not None)
         first = max(ready, key=lambda it: it.priority, default=None)
         return None if first is None else first.name
+
+    def is_tick(self, name: str) -> bool:
+        """Whether the tick is meant by this name in a point."""
+        return name == TICK and name not in self.handlers
 
     @property
     def has_sections(self) -> bool:

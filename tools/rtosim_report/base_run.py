@@ -16,7 +16,7 @@ from .faults import BadReport, Fault, WordsFault
 from .grammar import EVENT_LINES
 from .injections import own_stretches, own_words, without
 from .reading import Reader, Run, run_of_part
-from .report import Injection, Line
+from .report import Injection, Line, TICK
 from .source import Source
 
 # So many rows are looked at to presume the base run.
@@ -201,6 +201,12 @@ def beyond_known(run: Run, known: BaseRun) -> Optional[bytes]:
     return None if is_known else beyond
 
 
+def injects_tick(run: Run) -> bool:
+    """Whether a tick is injected in a row, which shifts the times of all that follows. A handler of this name has lines."""
+    has_handler = b" isr tick " in run.text or b" mark tick " in run.text
+    return not has_handler and any(it.handler == TICK for it in run.head.point)
+
+
 def presumed_base(source: Source, known: BaseRun, is_covered: bool) -> Optional[BaseRun]:
     """The run that most rows have except for their handlers' lines, if it begins with what is known. Where there is a point for
     each step, the base run ends after the last of them; otherwise one row alone is not enough."""
@@ -212,7 +218,7 @@ def presumed_base(source: Source, known: BaseRun, is_covered: bool) -> Optional[
         if is_covered and length not in part[:HEAD_BYTES]:
             continue
         run = run_of_part(part)
-        if run is None or run.head.steps <= last_step:
+        if run is None or run.head.steps <= last_step or injects_tick(run):
             continue
         looked_at += 1
         if looked_at > ENOUGH:

@@ -14,6 +14,7 @@ from .faults import STATUS_OUTPUT, STATUS_READER_LEFT, Fault
 from .job import Job
 from .known import Failure
 from .output import ReaderLeft, Text as Output, direct_output, output_file, standard_output
+from .report import TICK
 
 # What subcommands are added to.
 Commands = Any
@@ -71,12 +72,12 @@ def do_pairs(words: argparse.Namespace, output: Output) -> None:
     from .pairs import write_pairs
 
     application = read_application(words.application)
-    known = application.handlers
+    known = list(dict.fromkeys([*application.handlers, TICK]))
     if application.has_campaign:
         say(f"{plain(words.application)} has a [campaign], and a file has one: what is written takes its place")
     unknown = next((it for it in words.handler if it not in known), None)
     if unknown is not None:
-        raise WordsFault(f"no handler is called {unknown}; the handlers are {', '.join(known) or 'none'}")
+        raise WordsFault(f"no handler is called {unknown}; the handlers are {', '.join(application.handlers) or 'none'}, and {TICK} is the tick")
     last = MadeReport(words.application).base().head.steps if words.last is None else words.last + 1
     write_pairs(output, list(dict.fromkeys(words.handler)), range(words.first, last), words.within)
 
@@ -229,7 +230,7 @@ def add_pairs(commands: Commands) -> None:
     parser = commands.add_parser("pairs", help="the points of two interrupts each, as a section for the end of an application")
     parser.add_argument("file", nargs="?", metavar="FILE", help="the application")
     parser.add_argument("--application", metavar="FILE", help="the same")
-    parser.add_argument("--handler", action="append", required=True, metavar="H", help="the handler that comes twice; or two, in both orders")
+    parser.add_argument("--handler", action="append", required=True, metavar="H", help="the handler, or tick, that comes twice; or two, in both orders")
     parser.add_argument("--within", type=step, default=10, metavar="N", help="the second comes at most N steps later (10)")
     parser.add_argument("--from", dest="first", type=step, default=0, metavar="STEP", help="the first one's least step (0)")
     parser.add_argument("--to", dest="last", type=step, metavar="STEP", help="its greatest one; else the last one of the base run")
@@ -250,7 +251,7 @@ def add_explore(commands: Commands) -> None:
     parser.add_argument("file", nargs="?", metavar="FILE", help="the application")
     parser.add_argument("--application", metavar="FILE", help="the same")
     parser.add_argument("--injections", type=int, metavar="K", help="so many injections at most, 0 to 3 (1)")
-    parser.add_argument("--handlers", metavar="NAMES", help="of these handlers, joined by commas; else of all")
+    parser.add_argument("--handlers", metavar="NAMES", help="of these handlers and tick, joined by commas; else of all handlers")
     parser.add_argument("--pictures", metavar="FOLDER", help="draw the run of the least placement of each end that fails into this folder")
     parser.add_argument("--source", metavar="MAP", help="show lines of C, by the map that `rtosim-from-c --map` writes")
     parser.add_argument("--output", "-o", metavar="FILE", help="write to this file, when all of it is there")

@@ -2,15 +2,17 @@
 
 The lines of a step are in this order: those of the handlers that come before it, one handler after another, each with
 a change of the processor behind them if they bring one about; then those of the step. A handler that is injected while a critical section
-is open is pending, and comes before the first step after the section."""
+is open is pending, and comes before the first step after the section.
+
+An injected tick has no lines of its own: those that it brings are its base interrupts', and a change of the processor."""
 from __future__ import annotations
 
 import functools
 import re
 from itertools import groupby, islice
-from typing import Dict, Iterator, List, Optional, Sequence, Set, TYPE_CHECKING, Tuple, Union
+from typing import AbstractSet, Dict, Iterator, List, Optional, Sequence, Set, TYPE_CHECKING, Tuple, Union
 
-from .report import Injection, Line, Point
+from .report import Injection, Line, Point, TICK
 
 if TYPE_CHECKING:
     from .base_run import BaseRun
@@ -60,6 +62,8 @@ def arrival_of(lines: List[Line], injection: Injection, names: Set[bytes]) -> in
     lines of handlers of these names."""
     own, inside, left_at = own_words(injection.handler), None, None
     first = position_of(lines, injection.step)
+    if injection.handler == TICK and first < len(lines) and not any(it[2].startswith(own) for it in lines[first:]):
+        return arrival_of_tick(lines, injection, first)
     for at in range(first, len(lines)):
         step, tick, what = lines[at]
         kind, name = what.split(b" ", 2)[:2]
@@ -73,6 +77,20 @@ def arrival_of(lines: List[Line], injection: Injection, names: Set[bytes]) -> in
         # a task that ends with the section leaves the processor in the step of its last exit
         inside, left_at = name, int(step) if kind == b"run" else None
     return injection.step
+
+
+def arrival_of_tick(lines: List[Line], injection: Injection, first: int) -> int:
+    """As arrival_of, of a tick, of which no line is. It is pending if a line after it has the tick of the line before it; then it comes before
+    the first step that begins with a handler's line or with a change of the processor."""
+    name, at = lines[first][2].split(b" ", 2)[1], first
+    if first == 0 or lines[first - 1][1] != lines[first][1]:
+        return injection.step
+    while at < len(lines) and lines[at][1] == lines[first][1] and INSIDE.match(lines[at][2]) and lines[at][2].split(b" ", 2)[1] == name:
+        at += 1
+    if first == at or at == len(lines) or lines[at][0] == lines[at - 1][0]:
+        return injection.step
+    kind, come, is_followed = lines[at][2].split(b" ", 1)[0], int(lines[at][0]), lines[at][0] == lines[min(at + 1, len(lines) - 1)][0]
+    return come if kind in (b"isr", b"mark") or kind == b"run" and at + 1 < len(lines) and is_followed else injection.step
 
 
 def lines_of_step(lines: List[Line], at: int) -> Iterator[Line]:
@@ -103,9 +121,12 @@ def from_arrival(tail: List[Line], point: Point) -> List[Line]:
 
 
 def order_of(lines: List[Line], injection: Injection, come: Injection) -> int:
-    """Of a pending handler where its lines are, since they come in the order of the file; the others come in theirs."""
+    """Of a pending handler where its lines are, since they come in the order of the file, and the tick after them; the others come in
+    theirs."""
     if injection.step == come.step:
         return 0
+    if injection.handler == TICK:
+        return len(lines)
     own = own_words(come.handler)
     return next((at for at in range(position_of(lines, come.step), len(lines)) if lines[at][2].startswith(own)), 0)
 
@@ -119,15 +140,38 @@ def is_change_between(lines: List[Line], at: int, injection: Injection) -> bool:
     return lines[at][0] == following[0] == step and following[2].startswith(own_words(injection.handler))
 
 
-def stretches_of_step(lines: List[Line], start: int, injections: List[Injection]) -> List[Tuple[int, int]]:
+def is_change_before_tick(lines: List[Line], at: int) -> bool:
+    """Whether the processor changes in this line before an injected tick, of which a line of its step follows."""
+    pair = lines[at : at + 2]
+    return len(pair) == 2 and pair[0][2].startswith(b"run ") and pair[0][0] == pair[1][0] and pair[0][1] != pair[1][1]
+
+
+def end_of_base_interrupts(lines: List[Line], start: int, step: int, tasks: AbstractSet[bytes]) -> int:
+    """Where the lines of the base interrupts of a tick end that is injected before this step, and from which line on they may be. A mark is
+    a handler's unless a task has the name: one of these, or one that runs or calls in a line."""
+    runners = {what.split(b" ", 2)[1] for _, _, what in lines if what.startswith((b"run ", b"call "))}
+    when, end = lines[start : start + 1], start
+    while end < len(lines) and int(lines[end][0]) == step and lines[end][1] == when[0][1]:
+        kind, name = lines[end][2].split(b" ", 2)[:2]
+        if kind != b"isr" and (kind != b"mark" or name in runners or name in tasks):
+            break
+        end += 1
+    return end
+
+
+def stretches_of_step(lines: List[Line], start: int, injections: List[Injection], tasks: Optional[AbstractSet[bytes]] = None) -> List[Tuple[int, int]]:
     """Where the lines of handlers that come before one step are, a stretch for each of them: its first line, and how many
-    there are. Two of one name that follow each other are one stretch, and an empty one."""
+    there are. Two of one name that follow each other are one stretch, and an empty one. That of a tick is empty, and behind the lines of
+    its base interrupts if tasks are given, of which these have the names, or another injection follows."""
     found: List[Tuple[int, int]] = []
     at = start
-    for injection in injections:
-        if found and is_change_between(lines, at, injection):
+    for nth, injection in enumerate(injections, 1):
+        is_tick = injection.handler == TICK
+        if found and (is_change_between(lines, at, injection) or is_tick and is_change_before_tick(lines, at)):
             at += 1
         count = leading_own(lines, injection, at)
+        if is_tick and not count and (tasks is not None or nth < len(injections)):
+            at = end_of_base_interrupts(lines, at, injection.step, tasks or frozenset())
         found.append((at, count))
         at += count
     return found

@@ -91,11 +91,13 @@ class Window:
 
 @dataclass
 class Clock:
-    """The elapsed ticks at the boundaries: those that lines show, and between them evenly many."""
+    """The elapsed ticks at the boundaries: those that lines show, and between them evenly many. Where ticks are injected a boundary is there
+    twice, before them and after them."""
 
     boundaries: List[int]
     ticks: List[int]
     start: int = 0
+    injected: List[int] = field(default_factory=list)
 
     def at(self, boundary: int) -> int:
         return int(self.exactly(boundary))
@@ -109,7 +111,7 @@ class Clock:
 
     def silent_steps(self, start: int, end: int) -> int:
         """How many of the steps between the two were no ticks."""
-        return end - start - (self.at(end) - self.at(start))
+        return end - start - (self.at(end) - self.at(start) - sum(start < it <= end for it in self.injected))
 
 
 @dataclass

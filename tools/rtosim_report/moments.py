@@ -36,7 +36,7 @@ class Moments:
                 return
             take(place, lines[at:position])
             at = position
-            names = list(dict.fromkeys(it.handler for it in injections))
+            names = list(dict.fromkeys("the tick" if self.application.is_tick(it.handler) else it.handler for it in injections))
             who = f"{' and '.join(names)} come{'s' * (len(names) == 1)}"
             yield from self.words_of_moment(who, self.runner(lines[:position]), place, lines[position:])
 

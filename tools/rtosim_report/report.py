@@ -3,10 +3,12 @@ import enum
 from typing import Any, List, NamedTuple, Optional, Tuple
 
 IDLE = "-"
+# In a point it is the tick interrupt, unless a handler has this name.
+TICK = "tick"
 
 
 class Injection(NamedTuple):
-    """A handler before a step."""
+    """A handler, or the tick, before a step."""
 
     step: int
     handler: str
@@ -67,8 +69,8 @@ class Head(NamedTuple):
 
     @property
     def is_tickless(self) -> bool:
-        """Whether the run is surely one of a tickless application: no other step passes more than a tick."""
-        return self.ticks > self.steps
+        """Whether the run is surely one of a tickless application: no other step passes more than a tick, beside those of its point."""
+        return self.ticks > self.steps + sum(it.handler == TICK for it in self.point or ())
 
     def is_base(self) -> bool:
         """The lines below it are those of the base run."""

@@ -16,7 +16,7 @@ from .injections import arrivals_of, arrived, groups_of, position_of, stretches_
 from .lanes import Bar, Doing, Lane, LaneKind, Note, Timeline, Window, WindowKind
 from .op_times import Stretch
 from .reading import Run
-from .report import Event, Head, IDLE, Injection, Kind, Line, Point, event_of
+from .report import Event, Head, IDLE, Injection, Kind, Line, Point, TICK, event_of
 from .suspensions import changes_of
 from .variables import History
 from .windows import windows_of_calls, windows_of_sections, windows_of_waits
@@ -32,7 +32,8 @@ def of_row(run: Run, base: BaseRun, application: Optional[Application] = None) -
     """The timeline of a row. The base run shows whether a change of the processor at the injection is the step's own; and so do
     the daemon, which can't do in fewer steps what it does, and the scripts."""
     lines = run.checked_lines()
-    own, switches = injected_lines(lines, run.head.point, base) if run.head.is_reached else (set(), set())
+    tasks = frozenset(it.encode() for it in application.tasks) if application is not None else frozenset()
+    own, switches = injected_lines(lines, run.head.point, base, tasks) if run.head.is_reached else (set(), set())
     arrivals = arrivals_of(lines, run.head.point)
     events = [event_of(it) for it in lines]
     first: Any = None
@@ -46,25 +47,27 @@ def of_row(run: Run, base: BaseRun, application: Optional[Application] = None) -
     return first
 
 
-def injected_lines(lines: List[Line], point: Point, base: BaseRun) -> Tuple[Set[int], Set[int]]:
-    """Which lines come before their step: the handlers' own, and the changes of the processor that they bring about."""
+def injected_lines(lines: List[Line], point: Point, base: BaseRun, tasks: AbstractSet[bytes]) -> Tuple[Set[int], Set[int]]:
+    """Which lines come before their step: the handlers' own, those of the base interrupts of an injected tick, and the changes of the
+    processor that they bring about."""
     found: Set[int] = set()
     switches: Set[int] = set()
     for step, injections in groups_of(arrived(lines, point)):
         first = position_of(lines, step)
-        at, count = stretches_of_step(lines, first, injections)[-1]
+        at, count = stretches_of_step(lines, first, injections, tasks)[-1]
         own, following = lines[first : at + count], lines[at + count : at + count + 2]
-        is_first = step == point.first_step
+        is_first, has_tick = step == point.first_step, any(it.handler == TICK for it in injections)
         found.update(range(first, at + count))
-        if (own or is_first) and following and is_switch_of_injection(own, following, step, base):
+        if (own or is_first or has_tick) and following and is_switch_of_injection(own, following, step, base, has_tick):
             switches.add(at + count)
     return found, switches
 
 
-def is_switch_of_injection(own: List[Line], following: List[Line], injected_at: int, base: BaseRun) -> bool:
-    """Whether the line after the handlers' own shows that the processor changes at once, and not after the step."""
+def is_switch_of_injection(own: List[Line], following: List[Line], injected_at: int, base: BaseRun, has_tick: bool) -> bool:
+    """Whether the line after the handlers' own shows that the processor changes at once, and not after the step. A tick that is injected
+    there is that of the change."""
     step, tick, what = following[0]
-    if not what.startswith(b"run ") or int(step) != injected_at or own and own[-1][1] != tick:
+    if not what.startswith(b"run ") or int(step) != injected_at or own and own[-1][1] != tick and not has_tick:
         return False
     if len(following) > 1 and following[1][0] == step:
         return True
@@ -82,8 +85,9 @@ class Builder:
         self.lanes: Dict[str, Lane] = {}
         self.commands = commands_of(self)
         self.history = History(application, events, self.boundary)
+        self.has_handler_tick = self.is_handler_tick()
         self.name_lanes()
-        self.clock = TickReader(head, events, injected, self.boundary, application).clock()
+        self.clock = TickReader(head, events, injected, self.boundary, application, self.ticks()).clock()
         self.turns: List[Bar] = []
         self.notes: List[Note] = []
         self.is_contradicted = False
@@ -93,7 +97,9 @@ class Builder:
         tasks = [it.name for it in self.events if it.kind in (Kind.CALL, Kind.RUN) and it.name != IDLE]
         handlers = [it.name for it in self.events if it.kind is Kind.ISR]
         if self.head.point is not None:
-            handlers += [it.handler for it in self.head.point]
+            handlers += [it.handler for it in self.head.point if not self.is_tick(it)]
+        if self.application is not None:
+            handlers += [it.name for it in self.events if it.kind is Kind.MARK and it.name in self.application.handlers]
         if self.head.verdict.task is not None:
             (handlers if self.is_handler(self.head.verdict.task, handlers) else tasks).append(self.head.verdict.task)
         tasks += [it.name for it in self.events if it.kind is Kind.MARK and it.name not in handlers]
@@ -105,6 +111,20 @@ class Builder:
             self.lanes[IDLE] = Lane("idle", LaneKind.IDLE)
         for name in dict.fromkeys(handlers):
             self.lanes.setdefault(name, Lane(name, LaneKind.HANDLER))
+
+    def is_handler_tick(self) -> bool:
+        """Whether a handler has the name of the tick. Without the application it is one that has lines, and none of a task."""
+        if self.application is not None:
+            return TICK in self.application.handlers
+        kinds = {it.kind for it in self.events if it.name == TICK}
+        return bool(kinds) and not kinds & {Kind.CALL, Kind.RUN}
+
+    def is_tick(self, injection: Injection) -> bool:
+        return injection.handler == TICK and not self.has_handler_tick
+
+    def ticks(self) -> List[int]:
+        """The steps before which ticks are injected."""
+        return [it.step for it in self.injections() if self.is_tick(it)]
 
     @property
     def daemon_name(self) -> Optional[str]:
@@ -240,5 +260,6 @@ class Builder:
         for it in self.injections():
             open_there = next((window for window in masked if window.start <= it.step < window.end), None)
             end = open_there.end if open_there is not None else self.arrivals.get(it, it.step)
-            if end > it.step:
-                yield Bar(self.lanes[it.handler], it.step, end, Doing.PENDING)
+            lane = self.lanes.setdefault(it.handler, Lane(it.handler, LaneKind.HANDLER)) if end > it.step else None
+            if lane is not None and lane.kind is LaneKind.HANDLER:
+                yield Bar(lane, it.step, end, Doing.PENDING)
