@@ -45,8 +45,8 @@ const TURNS: u32 = 256;
 // This many steps cost as much as a look that finds no mark, and the one that it leaves.
 const MARK: u32 = 20;
 
-// Of a row at most this many count: few rows of a worker are run far, and it doesn't matter where
-// these look first.
+// Of a row at most this many count: few rows of a worker are run far, and which places these look at
+// first hardly matters.
 const MOST: u32 = 512;
 
 // This many marks are kept at least: with all else that a row touches they stay in the cache that a
