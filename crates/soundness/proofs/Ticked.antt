@@ -60,11 +60,11 @@ module _ (app : Application) (s : State) (none : holds_ticks s ≡ false) where
       ap (λ (u : Task). is_some (ticket_if_ready u.status)) ((spares-interrupt app 0 come).ready i still) ∙ still
 
   told_settled : IsSettled s → IsSettled told
-  told_settled h = subst (λ (r : Option ℕ). IfSome r (λ task. is_ready told task ≡ true)) (sym told_runs)
-  (by_current s.current h) where
-    by_current : (r : Option ℕ) → IfSome r (λ task. is_ready s task ≡ true) → IfSome r (λ task. is_ready told task ≡ true)
-    by_current None h = tt
-    by_current (Some i) h = told_ready i h
+  told_settled h =
+      subst (λ (r : Option ℕ). IfSome r (λ task. is_ready told task ≡ true)) (sym told_runs) (by_current s.current h) where
+        by_current : (r : Option ℕ) → IfSome r (λ task. is_ready s task ≡ true) → IfSome r (λ task. is_ready told task ≡ true)
+        by_current None h = tt
+        by_current (Some i) h = told_ready i h
 
 -- ---- the tick
 

@@ -16,7 +16,9 @@ loop-number-init g c = record {
     few = omega arith;
     before = refl;
   };
-  can = come_after_taken c.args.app.now c.well_formed-2.ensures 20 c.args.machine.now _ c.requires.can c.take_pending-pending.ensures.does;
+  can =
+      come_after_taken c.args.app.now c.well_formed-2.ensures 20 c.args.machine.now _ c.requires.can
+      c.take_pending-pending.ensures.does;
 }
 
 pub serve_if_pending-requires-clause-room : goal.serve_if_pending-requires-clause-room

@@ -21,7 +21,8 @@ none_open app k c s h =
     le-ltb 0 s.sections (omega arith)
 
 pub held_tick_interrupt-requires-clause-stands : goal.held_tick_interrupt-requires-clause-stands
-held_tick_interrupt-requires-clause-stands g c = come_stands c.args.app.now c.well_formed-2.ensures 1 c.args.machine.now c.requires.can
+held_tick_interrupt-requires-clause-stands g c =
+    come_stands c.args.app.now c.well_formed-2.ensures 1 c.args.machine.now c.requires.can
 
 pub held_tick_interrupt-requires-clause-objects : goal.held_tick_interrupt-requires-clause-objects
 held_tick_interrupt-requires-clause-objects g c =

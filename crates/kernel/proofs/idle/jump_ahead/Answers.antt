@@ -14,7 +14,8 @@ interrupt-requires-clause-stands g c =
 
 pub interrupt-requires-clause-objects : goal.interrupt-requires-clause-objects
 interrupt-requires-clause-objects g c =
-    room_after c.args.app.now c.args.machine.now c.pass_to_next.new.machine c.requires.can.tick.objects c.pass_to_next.ensures.leaves
+    room_after c.args.app.now c.args.machine.now c.pass_to_next.new.machine c.requires.can.tick.objects
+    c.pass_to_next.ensures.leaves
 
 pub slice-requires-clause-free : goal.slice-requires-clause-free
 slice-requires-clause-free g c =

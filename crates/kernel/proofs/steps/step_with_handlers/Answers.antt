@@ -20,7 +20,8 @@ act_current-requires-clause-there g c =
 pub act_current-requires-clause-can : goal.act_current-requires-clause-can
 act_current-requires-clause-can g c =
     let going = c.requires.going in
-    can_act_after c.args.app.now c.well_formed-2.ensures c.args.machine.now going c.args.handlers.now c.requires.few c.come_before.new.machine
+    can_act_after c.args.app.now c.well_formed-2.ensures c.args.machine.now going c.args.handlers.now c.requires.few
+    c.come_before.new.machine
     (begun_with c.args.app.now c.args.handlers.now going.state c.come_before.new.machine _
     (c.come_before.ensures.at _
     (begun c.args.machine.now (g.L.Log.logged c.args.log.now).told going.state going.stands c.requires.begun))).stands
