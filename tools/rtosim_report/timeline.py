@@ -187,7 +187,7 @@ class Builder:
         if daemon is not None:
             waits += daemon.bars(UNNAMED not in self.lanes)
             windows += daemon.windows
-        bars = [it for it in self.turns if it.end > it.start] + waits + list(self.pending(windows))
+        bars = [it for it in self.turns if it.end > it.start] + waits + list(dict.fromkeys(self.pending(windows)))
         used = {it.lane for it in bars} | {it.lane for it in self.notes}
         lanes = [it for it in self.lanes.values() if it in used or it.name != UNNAMED]
         variables = {name: self.history.stretches(name, self.head.steps) for name in self.history.starts}
