@@ -1,8 +1,10 @@
-"""Cases of the built program: shards of a campaign, joined by bin/rtosim-report. Until the program knows `--shard` they are skipped."""
+"""Cases of the built program: shards of a campaign, joined by bin/rtosim-report, which are skipped until the program knows `--shard`; and a
+campaign of as many points as there may be, classed by bin/rtosim-report."""
 import os
 import re
 import shutil
 import subprocess
+import time
 
 from cases import case, equal, long_case
 from failures import EXAMPLES
@@ -72,3 +74,34 @@ def sixteen_shards_by_gnu_parallel_joined_are_the_report():
         subprocess.run(commands, env=environment, stderr=subprocess.PIPE, timeout=PATIENCE, check=True)
         with open("driver.report", "rb") as it:
             equal(it.read(), run("campaign", "driver.toml")[1])
+
+
+def a_driver_of_a_million_steps():
+    """A driver that loses a wake-up, and a task below it that makes the run nearly as long as it may be."""
+    text = stored("examples/lost_wake_up.toml").decode()
+    long = '["repeat 499", "repeat 999", "work 1", "end", "end", "waiting rx", "expect 0"]'
+    return text.replace('["work 14", "waiting rx", "expect 0"]', long)
+
+
+@long_case
+def a_million_points_are_classed_within_two_minutes():
+    shutil.copytree(f"{ROOT}/tools", "tools")
+    os.mkdir("bin")
+    shutil.copy(f"{ROOT}/bin/rtosim-report", "bin/rtosim-report")
+    os.symlink(PROGRAM, "bin/rtosim")
+    with open("driver.toml", "w") as it:
+        it.write(a_driver_of_a_million_steps())
+    began = time.monotonic()
+    # nothing goes to the disk: there is no folder for temporary files
+    with open("table", "wb") as table:
+        words = ["bin/rtosim-report", "classes", "--failing", "--application", "driver.toml"]
+        with subprocess.Popen(words, stdout=table, env={**os.environ, "TMPDIR": "/none"}) as started:
+            _, status, used = os.wait4(started.pid, 0)
+            started.returncode = os.WEXITSTATUS(status)
+    equal(started.returncode, 0)
+    with open("table") as table:
+        rows, passing = map(int, re.match(r"([0-9]+) rows: ([0-9]+) pass 2 fail in 1 class; ", table.read().replace(",", "")).groups())
+    assert 990_000 < rows <= 1_000_000 and passing == rows - 2, (rows, passing)
+    processors, megabytes = used.ru_utime + used.ru_stime, used.ru_maxrss // 1024
+    print(f"   ({time.monotonic() - began:.1f} seconds, {processors:.1f} of processors, the largest process {megabytes} MB)")
+    assert processors < 120 and megabytes < 250, (processors, megabytes)

@@ -14,7 +14,7 @@ ENDING = (signal.SIGTERM, signal.SIGINT, signal.SIGHUP, signal.SIGQUIT)
 
 
 class Ended(BaseException):
-    """A signal has come that ends this command. It is no failure of what it comes to, which nothing is to catch as one."""
+    """A signal has come that ends this command. It isn't a failure of the code that it reaches, so nothing must catch it as one."""
 
 
 def end(process: Popen) -> None:
@@ -37,7 +37,7 @@ def children() -> Dict[int, List[int]]:
 
 
 def kill_all(pid: int) -> None:
-    """Kills a process and all that it started, where they are in the group of others. It is stopped first, so that it starts no more."""
+    """Kills a process and all that it started, if they are in the group of others. It is stopped first, so that it starts no more."""
     with contextlib.suppress(ProcessLookupError):
         os.kill(pid, signal.SIGSTOP)
     started, found = children(), [pid]

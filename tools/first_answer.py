@@ -34,7 +34,7 @@ def limited(words: Iterable[str]) -> List[str]:
 
 
 def first_difference(stream: IO[bytes], wanted: bytes) -> Optional[int]:
-    """Where what the stream gives first differs from the bytes that are wanted; None where it doesn't."""
+    """The first place at which the stream differs from the bytes that are wanted; None if it doesn't."""
     at = 0
     while part := stream.read(BYTES):
         here = wanted[at : at + len(part)]
@@ -77,7 +77,7 @@ class FirstAnswer:
             say(STAYS_UNPROVED)
 
     def confirm(self) -> int:
-        """Runs the proved program. Returns its status; or another one, where its answer isn't the one that was given."""
+        """Runs the proved program. Returns its status; or another one, if its answer isn't the one that was given."""
         folder = f"{self.room}/run"
         os.mkdir(folder)
         self.files.lay_out(folder)
@@ -93,7 +93,7 @@ class FirstAnswer:
         return CANNOT_WRITE if self.answer.status is None or not self.has_written else self.answer.status
 
     def difference(self, how: Dict[str, Any]) -> Optional[str]:
-        """In what the proved program's answer differs from the one that was given; None where it doesn't."""
+        """How the proved program's answer differs from the one that was given; None if it doesn't."""
         with tempfile.TemporaryFile() as said:
             how = {**how, "stdout": subprocess.PIPE, "stderr": said}
             at, status = ending.run(limited(self.files.words), self.compare, **how)
@@ -107,7 +107,7 @@ class FirstAnswer:
             return None if status == self.answer.status else f"in its status, {status} and not {self.answer.status}"
 
     def compare(self, program: ending.Popen) -> Tuple[Optional[int], int]:
-        """Where its output differs first, and its status."""
+        """The first place at which its output differs, and its status."""
         assert program.stdout
         at = first_difference(program.stdout, self.answer.out)
         if at is not None:

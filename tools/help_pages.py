@@ -77,7 +77,7 @@ def bash_value(command: Command, entry: Entry) -> str:
 
 
 def bash(command: Command) -> str:
-    """The completion for bash. Words that are no options are files, where the command takes any."""
+    """The completion for bash. Words that are no options are files, if the command takes any."""
     name, lines, files = function_name(command), "", ""
     all_of = [command, *command.commands]
     values = [bash_value(it, entry) for it in all_of for entry in it.options if entry.value]
@@ -114,7 +114,7 @@ complete -F {name} {command.name}
 
 
 def quoted(text: str) -> str:
-    """The text between single quotes, as zsh takes it; fish does too, where it has no backslash."""
+    """The text between single quotes, as zsh takes it; fish does too, if it has no backslash."""
     return "'" + text.replace("'", r"'\''") + "'"
 
 

@@ -17,7 +17,7 @@ MOST_BYTES = 1 << 20
 
 
 def document(name: str) -> Optional[Tuple[str, Any]]:
-    """The text of the file and its document; None where there is none."""
+    """The text of the file and its document; None if there is none."""
     try:
         with open(name, "rb") as file:
             found = file.read(MOST_BYTES + 1)
@@ -40,7 +40,7 @@ def lines(name: str, program: str) -> Iterator[str]:
 
 
 def asked(program: str) -> Callable[[AbstractSet[Any]], Set[Any]]:
-    """A function that finds those of some keys that the program ignores; all of them, where no program can be asked."""
+    """A function that finds those of some keys that the program ignores; all of them, if no program can be asked."""
 
     def ignored_of(keys: AbstractSet[Any]) -> Set[Any]:
         from rtosim_check.program import Program

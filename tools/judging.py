@@ -1,7 +1,7 @@
 """What `rt ci` refuses of crates that rattle proves, by rt's own functions.
 
 rattle's status says whether a crate is proved. rt also judges what rattle says of it, and the text of its sources. The functions by
-which it does so are parts of rt that nothing promises: where one is missing, or answers otherwise than is known here, OtherRt is
+which it does so are parts of rt that nothing promises: if one is missing, or returns something else than is known here, OtherRt is
 raised."""
 from __future__ import annotations
 
@@ -55,7 +55,7 @@ def loaded_rt() -> Any:
 
 
 def text_of(place: str) -> Optional[str]:
-    """The text of a file, or None where there is none."""
+    """The text of a file, or None if there is none."""
     if not os.path.isfile(place):
         return None
     with open(place, encoding="utf-8") as file:
@@ -91,7 +91,7 @@ class Judge:
             self.look_at_itself()
 
     def refuse(self, why: str) -> NoReturn:
-        """What rt does where it stops."""
+        """What rt does when it stops."""
         raise Refused(self.rt.FLAGS.sub("", why))
 
     def look_at_itself(self) -> None:
@@ -102,7 +102,7 @@ class Judge:
             raise OtherRt("it judges the last line of a proof otherwise")
 
     def look_at_texts(self) -> None:
-        """Raises Refused where rt ci refuses the text of a crate."""
+        """Raises Refused if rt ci refuses the text of a crate."""
         # (warnings, which rt check prints too)
         with parts_of_rt(), contextlib.redirect_stderr(io.StringIO()):
             for crate in self.crates:
@@ -148,7 +148,7 @@ class Judge:
         return next(((why, shows) for is_so, why, shows in tests if is_so), None)
 
     def look_at_proof(self, crate: Any, said: str) -> None:
-        """Raises Refused where rt ci refuses the crate, though rattle says this of it and proves it."""
+        """Raises Refused if rt ci refuses the crate, though rattle says this of it and proves it."""
         with parts_of_rt():
             if found := self.fault(crate, said):
                 why, shows = found
@@ -157,7 +157,7 @@ class Judge:
                 raise Refused(*(f"{crate.name}: {it}" for it in [*places, why]))
 
     def look_at_calls(self, place: str) -> None:
-        """Raises Refused where the program, which is at this place, calls what HANDLES doesn't allow."""
+        """Raises Refused if the program, which is at this place, calls what HANDLES doesn't allow."""
         program = self.crates[-1]
         with parts_of_rt():
             program.out = io.StringIO()
@@ -187,14 +187,14 @@ class JudgeOfKept(Judge):
                     os.remove(f"{crate.folder}/{stamp}")
 
     def look_at_proofs(self, lines: Iterable[str]) -> None:
-        """Raises Refused where rt ci refuses a crate that is proved by these lines of rt."""
+        """Raises Refused if rt ci refuses a crate that is proved by these lines of rt."""
         for name, said in proofs_in(lines):
             for crate in [it for it in self.crates if it.name == name]:
                 self.look_at_proof(crate, said.replace(" incremental=trusted\n", "\n"))
                 self.proved.add(crate)
 
     def finish(self, place: str) -> None:
-        """Raises OtherRt where a crate has not been judged, and Refused as look_at_calls does. Otherwise records what has been judged."""
+        """Raises OtherRt if a crate has not been judged, and Refused as look_at_calls does. Otherwise records what has been judged."""
         for crate in self.crates:
             if crate not in self.proved and not self.is_judged(crate):
                 raise OtherRt(f"it says nothing of the proof of {crate.name}")

@@ -19,7 +19,7 @@ def sum_of(crate: Any) -> str:
 
 
 def keep(crate: Any, said: str) -> None:
-    """Records what was said of the crate, which is proved and built. Where that can't be written, the next build proves it anew."""
+    """Records what was said of the crate, which is proved and built. If that can't be written, the next build proves it anew."""
     record = f"{crate.folder}/{RECORD}"
     with contextlib.suppress(OSError):
         its_sum = sum_of(crate)
@@ -29,7 +29,7 @@ def keep(crate: Any, said: str) -> None:
 
 
 def said_of(crate: Any) -> Optional[str]:
-    """What was said of the crate when it was proved; None where it isn't, or where anything is another since."""
+    """What was said of the crate when it was proved; None if it isn't, or if anything has changed since."""
     try:
         with open(f"{crate.folder}/{RECORD}", encoding="utf-8", errors="surrogateescape") as file:
             before, _, said = file.read().partition("\n")

@@ -18,7 +18,7 @@ import proving
 ROOT = proving.ROOT
 SECONDS = 60
 MOST_WRITTEN = "1 MiB"
-# The last line of `rt try`, where the program ended by itself, and those with which it reports on the run.
+# The last line of `rt try`, if the program ended by itself, and those with which it reports on the run.
 HAS_ENDED = re.compile(r"run=ended status=(\d+) .*\bproved=no")
 ABOUT_THE_RUN = re.compile(r"(?:interpreter|checked|races): |run=")
 # What is read of a file at most: /dev/zero has no end.
@@ -28,7 +28,7 @@ TAKEN = ("..", "program", "stdin", "stdout", "stderr")
 
 
 def say(text: str) -> None:
-    """Writes to standard error. Where nobody takes it, the work goes on."""
+    """Writes to standard error. If nobody takes it, the work goes on."""
     pass_on(2, f"rtosim: {text}\n".encode(errors="surrogateescape"))
 
 
@@ -53,7 +53,7 @@ class Files:
         self.words = [self.word_for(it) for it in words]
 
     def word_for(self, word: str) -> str:
-        """The word by which the program finds the file that this word names; the word itself where it names none."""
+        """The word by which the program finds the file that this word names; the word itself if it names none."""
         place = self.place_of(word)
         if place is None:
             return word
@@ -65,7 +65,7 @@ class Files:
         return called
 
     def place_of(self, word: str) -> Optional[str]:
-        """Where a copy is of the file that the word names, if it names one that can be read: a file, a pipe, or what is typed."""
+        """The place of a copy of the file that the word names, if it names one that can be read: a file, a pipe, or what is typed."""
         try:
             kind = os.stat(word).st_mode
             if not any(is_kind(kind) for is_kind in (stat.S_ISREG, stat.S_ISFIFO, stat.S_ISCHR)):

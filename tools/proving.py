@@ -37,7 +37,7 @@ def below(name: str, stand_on: Dict[str, List[str]]) -> List[str]:
 
 
 def copy(here: str, there: str) -> None:
-    """Copies a file or a folder with all in it, where there is one, and links as links, which rt refuses."""
+    """Copies a file or a folder with all in it, if there is one, and links as links, which rt refuses."""
     if os.path.isdir(here) and not os.path.islink(here):
         shutil.copytree(here, there, symlinks=True)
     elif os.path.lexists(here):
@@ -75,7 +75,7 @@ def rtlib() -> Any:
 
 def adopt_libraries(folder: str) -> None:
     """Has rt take the libraries below the crate of this folder as they are, though it is `rt ci` that has built them. They hold
-    statements and no proofs, and fit one another alone, so rt doesn't take them where others may come among them."""
+    statements and no proofs, and fit one another alone, so rt doesn't take them if others may come among them."""
     kit = rtlib()
     for crate in kit.Crate(folder, kit.root_above(folder), {}).below():
         with open(f"{crate.folder}/out/rlib/stamp", "w", encoding="utf-8") as file:

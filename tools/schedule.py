@@ -1,6 +1,6 @@
 """By how many jobs each crate of a build from nothing is proved, and when.
 
-A build takes no less than the longest chain of crates, each of which waits for the one before. The crate for which that chain waits is
+A build takes no less than the longest chain of crates, in which each waits for the one before. The crate for which that chain waits is
 the first one. It gets half of the jobs at least, whatever else is being proved, and all that are free if that is more; but no more than
 it has lines for, and the program gets one. Every other crate gets one job, and gives way to the first one (`nice`). If the first one
 works with fewer jobs than it could use and processors become free later, it is begun anew with more, if that saves a minute."""
@@ -13,7 +13,7 @@ Crate = Any
 Work = Any
 # A crate of fewer lines for each job is proved no sooner by more.
 LINES_OF_A_JOB = 400
-# How many seconds are to be saved where a crate is begun anew.
+# How many seconds must be saved if a crate is begun anew.
 LEAST_SAVED = 60
 
 

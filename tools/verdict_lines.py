@@ -94,7 +94,7 @@ def with_said(said: Iterable[str], root: str) -> str:
 
 
 def keep(said: Iterable[str], root: str = proving.ROOT) -> None:
-    """Keeps the lines that are said of the sources as they are, where that can be written."""
+    """Keeps the lines that are said of the sources as they are, if that can be written."""
     with contextlib.suppress(OSError):
         text = with_said(said, root)
         with open(f"{root}/{RECORD}.new", "w", encoding="utf-8", errors="surrogateescape") as file:

@@ -20,10 +20,11 @@ WORDS_OF_DRIVERS: Dict[str, List[str]] = {
     "adc_dma": [*HAL, "--ignore", "SystemClock_Config", "--handler", "HAL_ADC_ConvHalfCpltCallback", "--handler", "HAL_ADC_ConvCpltCallback"],
     "rtc_alarm": HAL,
     "modbus_rtu": ["--ignore", "mb_port_init", "--ignore", "mb_crc16=0"],
+    "nor_poll": [*HAL, "--ignore", "MX_*", "--ignore", "SystemClock_Config"],
     "encoder": [*HAL, "--ignore", "motor_stop"],
 }
 # Those whose campaigns are stored, as `--only failing --heads` has them.
-WITH_REPORTS = ("adc_dma", "encoder", "modbus_rtu", "rtc_alarm")
+WITH_REPORTS = ("adc_dma", "encoder", "modbus_rtu", "nor_poll", "rtc_alarm")
 Run = Callable[..., Tuple[int, str, str]]
 
 

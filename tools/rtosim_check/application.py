@@ -8,7 +8,7 @@ from .nodes import Array, Integer, Table, Text
 
 
 class Entry:
-    """An entry of a section: which one, its table, and its name where it has one."""
+    """An entry of a section: which one, its table, and its name if it has one."""
 
     def __init__(self, section: str, index: int, table: Table) -> None:
         self.section, self.index, self.table = section, index, table
@@ -17,7 +17,7 @@ class Entry:
 
     @property
     def label(self) -> str:
-        """As `task "drv"`, or `task 0` where it has no good name."""
+        """As `task "drv"`, or `task 0` if it has no good name."""
         return f'{self.section} "{self.name}"' if self.name and NAME.fullmatch(self.name) else f"{self.section} {self.index}"
 
     def texts(self) -> List[Tuple[int, Text]]:
@@ -53,7 +53,7 @@ class Application:
         return [name for name, entry in self.named.items() if entry.section in kinds]
 
     def points(self) -> Optional[List[Text]]:
-        """The nodes of the points, or None where there is no such array."""
+        """The nodes of the points, or None if there is no such array."""
         campaign = self.root.get("campaign")
         array = campaign.get("points") if isinstance(campaign, Table) else None
         return array.items if isinstance(array, Array) else None

@@ -28,7 +28,7 @@ def warnings(application: Application, end: BaseEnd) -> Iterator[Finding]:
 
 
 def of_interrupts(application: Application, end: BaseEnd) -> Iterator[Finding]:
-    """Base interrupts that are due after the base run, in one warning. One that fails ends where it fails, which is no wonder."""
+    """Base interrupts that are due after the base run, in one warning. A base run that fails ends early, which is no wonder."""
     if end.verdict not in ("pass", "steps"):
         return
     limit = integer_of(application.root.get("limits"), "ticks")

@@ -13,7 +13,7 @@ SHOWN = 40
 
 
 class Context:
-    """The text of a file, its document, and the place of a fault. `takes_several` answers whether the program takes several
+    """The text of a file, its document, and the place of a fault. `takes_several` returns whether the program takes several
     injections in a point."""
 
     def __init__(self, text: str, root: Table, place: Place, takes_several: Callable[[], bool]) -> None:
@@ -43,7 +43,7 @@ class Context:
 
     @property
     def node(self) -> Any:
-        """The node of the place, or None where it isn't there."""
+        """The node of the place, or None if it isn't there."""
         return self.nodes[-1] if self.is_found else None
 
     @property
@@ -91,7 +91,7 @@ class Context:
         return self.text.count("\n", 0, offset) + 1
 
     def lost(self, kinds: List[str]) -> Optional[str]:
-        """Which section is meant by one that isn't known, where the file has none of these kinds; or nothing."""
+        """Which section is meant by one that isn't known, if the file has none of these kinds; or None."""
         for name, member in self.root.members.items():
             meant = near(name, kinds, MEANT_SECTIONS) if name not in SECTIONS else None
             if meant:

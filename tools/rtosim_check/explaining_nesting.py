@@ -54,7 +54,7 @@ def open_blocks(items: List[Text]) -> List[Block]:
 
 
 def problem_of(word: str, opened: List[Block], section: str) -> Tuple[Optional[str], Optional[str]]:
-    """What is wrong with an op of this word inside the open blocks, and the rule; both None where nothing is."""
+    """What is wrong with an op of this word inside the open blocks, and the rule; both None if nothing is."""
     loops = [it.at for it in opened if it.word == "repeat"]
     if word == "repeat" and len(loops) == DEEPEST_LOOP:
         return f"loops are nested five deep: those at {joined(loops)} are open", f"loops nest at most {DEEPEST_LOOP} deep"

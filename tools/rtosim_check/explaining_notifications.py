@@ -22,7 +22,7 @@ ALL_BITS = ("ulong_max", "uint32_max", "~0", "-1")
 
 
 def problem_of_action(words: List[Word], ops: Dict[str, Op], application: Application) -> Optional[Problem]:
-    """What is wrong with the action of a notify, or with how many words it has; None of any other op, and where something else is wrong."""
+    """What is wrong with the action of a notify, or with how many words it has; None for any other op, and if something else is wrong."""
     op, text = ops[words[0][0]], [it[0] for it in words]
     given = text[1:]
     if not op.has_action or not given or not is_name(given[0]):
@@ -52,7 +52,7 @@ def no_action(start: str, given: List[str]) -> str:
 
 
 def problem_of_value(words: List[Word], op: Op, start: str, application: Application) -> Optional[Problem]:
-    """What is wrong with the words behind the word of the action."""
+    """What is wrong with the words after the word of the action."""
     text = [it[0] for it in words]
     action, rest = text[2], words[3:]
     many = 1 if action in Action.FRONTS else 0
@@ -76,7 +76,7 @@ def meant_masks(word: str, given: List[str]) -> Optional[str]:
 
 
 def op_of_function(name: str, arguments: List[str]) -> Optional[str]:
-    """The op that a function of FreeRTOS is with these arguments, of which storage and NULL are left out; None where it is none."""
+    """The op that a function of FreeRTOS is with these arguments, storage and NULL left out; None if it is none."""
     function = name.lower().replace("fromisr", "")
     form, wait_at = FUNCTIONS.get(function), WAITS.get(function)
     try:

@@ -19,7 +19,7 @@ class Finding:
 
 
 class Checked:
-    """A file that was checked: its name, its lines (None where it has no text), what was found, and the status."""
+    """A file that was checked: its name, its lines (None if it has no text), what was found, and the status."""
 
     def __init__(self, name: str, lines: Optional[Lines] = None) -> None:
         self.name, self.lines = name, lines

@@ -21,7 +21,7 @@ ANSWER, WORDS_OF_CONDITIONS = "answer", ("none", "not", "below", "above")
 # The ops on the last answer, and with them all that are about variables.
 ARITHMETIC = ("add", "sub", "mul", "div", "mod", "and", "or", "xor")
 OF_VARIABLES = ("load", "store", *ARITHMETIC)
-# The section of the task that does handlers' commands, of which a file has one.
+# The section of the task that does handlers' commands; a file has one at most.
 DAEMON = "daemon"
 # How a message calls what a section names.
 CALLED = {
@@ -42,12 +42,12 @@ class Key:
 
     def __init__(self, name: str, kind: str, rule: str, needed: bool = True, least: int = 0, most: int = 0) -> None:
         self.name, self.kind, self.rule, self.needed, self.least, self.most = name, kind, rule, needed, least, most
-        # The greatest number where the application is tickless.
+        # The greatest number if the application is tickless.
         self.most_tickless = most
 
 
 class Section:
-    """A section of the file; `is_list` where its entries have two brackets each."""
+    """A section of the file; `is_list` if its entries have two brackets each."""
 
     def __init__(self, name: str, is_list: bool, most: int, rule: str, *keys: Key) -> None:
         self.name, self.is_list, self.most, self.rule = name, is_list, most, rule
@@ -467,7 +467,7 @@ MEANT_OPS = {
     "notify_give": "notify", "notification": "notify", "wait_notify": "notify_wait", "take_notify": "notify_take",
     "notify_state_clear": "notify_clear", "notify_clear_value": "notify_value_clear",
 }
-# What others write for an op whose next word is a variable, and the ops for it; {x} is the variable, {v} a word behind it.
+# What others write for an op whose next word is a variable, and the ops for it; {x} is the variable, {v} a word after it.
 MEANT_OF_VARIABLES = {
     "read": ("load {x}",), "get": ("load {x}",), "receive": ("load {x}",), "peek": ("load {x}",), "write": ("store {x} {v}",),
     "set": ("store {x} {v}",), "put": ("store {x} {v}",), "send": ("store {x} {v}",), "inc": ("load {x}", "add 1", "store {x} answer"),
@@ -540,7 +540,7 @@ MOST_POINTS = 1000000
 
 
 def not_simulated(word: str, table: Dict[str, Tuple[str, ...]]) -> Optional[str]:
-    """What of FreeRTOS isn't simulated that a word or a section is about; None where it is about nothing of that kind."""
+    """What of FreeRTOS isn't simulated that a word or a section is about; None if it is about nothing of that kind."""
     plain = word.lower().replace("_", "")
     return next((what for what, starts in table.items() if plain.startswith(tuple(it.replace("_", "") for it in starts))), None)
 
@@ -550,7 +550,7 @@ def not_simulated_rule(what: str) -> str:
 
 
 def op_of(section: str, text: str) -> Tuple[List[str], Any]:
-    """The words of an op and the op that they spell, which is None where this check doesn't know it."""
+    """The words of an op and the op that they spell, which is None if this check doesn't know it."""
     words = [it[0] for it in words_of(text)]
     op = OPS[section].get(words[0]) if words else None
     return words, op if op and op.fits(words[1:]) else None

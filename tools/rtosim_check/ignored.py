@@ -55,7 +55,7 @@ def of_section(member: Member) -> Finding:
 
 
 def owner_of(key: str) -> Optional[str]:
-    """The header of the section that has the key, or the headers of two; None where there are more."""
+    """The header of the section that has the key, or the headers of two; None if there are more."""
     owners = [it.header for it in SECTIONS.values() if key in it.keys]
     return " or ".join(owners) if 0 < len(owners) < 3 else None
 

@@ -31,7 +31,7 @@ class Mending:
         self.document: Dict[str, Any] = plain(root)
         # Sections that the file has, which may be lost with a fault.
         self.sections = {key for key, member in root.members.items() if not (isinstance(member.value, Array) and not member.value.items)}
-        # Kinds of which names may be lost; scripts whose blocks aren't known, each as a section and an index.
+        # Kinds whose names may be lost; scripts whose blocks aren't known, each as a section and an index.
         self.lost: Set[str] = set()
         self.broken: Set[Tuple[str, Optional[int]]] = set()
         self.names = 0
@@ -88,7 +88,7 @@ class Mending:
         return names[0] if names else TICK
 
     def kinds_at(self, place: Place) -> Tuple[str, ...]:
-        """Of which kinds the name at a place is to be."""
+        """The kinds of which the name at a place must be."""
         if place.section not in OPS:
             return ("handler",)
         words, op = op_of(place.section, self.ops(place)[place.at])

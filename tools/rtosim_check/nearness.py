@@ -35,7 +35,7 @@ def allowed(word: str, other: str) -> int:
 
 
 def distance(word: str, other: str) -> int:
-    """How many letters are to be put in, left out, replaced, or exchanged with the next one."""
+    """How many letters must be put in, left out, replaced, or exchanged with the next one."""
     older, old = [], list(range(len(other) + 1))
     for at in range(1, len(word) + 1):
         older, old = old, next_row(word[:at], other, old, older)

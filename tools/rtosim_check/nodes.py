@@ -1,4 +1,4 @@
-"""What a TOML document holds, and where it is in the text: offsets in characters, the end not included."""
+"""What a TOML document holds, with its places in the text: offsets in characters, the end not included."""
 from __future__ import annotations
 
 from typing import Any, Dict, List, Optional, Tuple, Union
@@ -52,7 +52,7 @@ class Moment(Scalar):
 
 
 class Text(Scalar):
-    """A string. `places` are the offsets of its characters, or that of the first where they follow each other."""
+    """A string. `places` are the offsets of its characters, or that of the first if they follow each other."""
 
     __slots__ = ("places",)
     kind = "a text"
@@ -75,7 +75,7 @@ class Text(Scalar):
 
 
 class Array(Node):
-    """An array; `is_of_headers` where its elements are tables with headers of their own, as `[[task]]`."""
+    """An array; `is_of_headers` if its elements are tables with headers of their own, as `[[task]]`."""
 
     __slots__ = ("items", "is_of_headers")
 
@@ -90,7 +90,7 @@ class Array(Node):
 
 
 class Member:
-    """A key of a table with its value. Start and end are those of the key where it is first."""
+    """A key of a table with its value. Start and end are those of the key's first occurrence."""
 
     __slots__ = ("key", "start", "end", "value")
 
@@ -104,7 +104,7 @@ class Member:
 
     @property
     def span(self) -> Span:
-        """Where the section begins: its first header, or the key where it has none."""
+        """Where the section begins: its first header, or the key if it has none."""
         return self.value.span if self.has_header else (self.start, self.end)
 
     @property

@@ -9,7 +9,7 @@ class Paths:
 
     def __init__(self, ops: List[List[str]]) -> None:
         self.ops = ops
-        # Of each block where it is parted and where it ends; of each else and each end its block; of each break its loop.
+        # The places at which each block is parted and ends; of each else and each end its block; of each break its loop.
         self.parts, self.ends, self.blocks, self.loops = {}, {}, {}, {}
         opened = []
         for at, (word, *_) in enumerate(ops):

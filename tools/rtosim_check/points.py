@@ -1,4 +1,4 @@
-"""The points of a campaign: too many of them, and those behind the end of the base run."""
+"""The points of a campaign: too many of them, and those after the end of the base run."""
 from __future__ import annotations
 
 from typing import Iterator, List
@@ -12,7 +12,7 @@ from .nodes import Table, Text
 
 
 def count(nodes: List[Text], steps: int) -> int:
-    """How many points these are, where the base run has this many steps."""
+    """How many points these are, if the base run has this many steps."""
     every = sum(isinstance(it, Text) and it.value.lstrip(" ").startswith("all ") for it in nodes)
     return len(nodes) - every + every * steps
 

@@ -6,7 +6,7 @@ from typing import List, Optional, Tuple
 from .context import Context
 from .nodes import Span
 
-# Where a message points, what it says, and the rule.
+# The place at which a message points, what it says, and the rule.
 Explanation = Tuple[Span, str, Optional[str]]
 
 

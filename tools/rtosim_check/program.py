@@ -42,7 +42,7 @@ class Program:
         self.answers: Dict[str, bool] = {}
 
     def is_there(self) -> None:
-        """Starts it once, so that a build shows how far it is; its reason is on standard error where there is no program."""
+        """Starts it once, so that a build shows how far it is; its reason is on standard error if there is no program."""
         try:
             ran = subprocess.run([self.path, "--version"], stdin=subprocess.DEVNULL, stdout=subprocess.DEVNULL, check=False)
         except OSError as why:
@@ -73,14 +73,14 @@ class Program:
             raise Fault(f"{plain(self.path)} didn't end within {LONGEST} seconds") from None
 
     def fault_line(self, status: int, lines: bytes) -> str:
-        """The last line of what it said, where it ends as a program that judged the file."""
+        """The last line of what it said, if it ends as a program that judged the file."""
         line = lines.decode("utf-8", "surrogateescape").rstrip("\n").rpartition("\n")[2]
         if line.startswith("rtosim: ") and status in (3, 4):
             return line
         raise Fault(f"{plain(self.path)} ends with status {status}" + (f": {plain(line)}" if line else ""))
 
     def campaign(self, text: bytes) -> Optional[str]:
-        """The fault line of a campaign of too many points, which comes before rows are made; None where rows are made."""
+        """The fault line of a campaign of too many points, which comes before rows are made; None if rows are made."""
         with kept(text) as given:
             words = [self.path, "campaign", "/dev/stdin", "--quiet"]
             streams: Any = {"stdin": given, "stdout": subprocess.DEVNULL, "stderr": subprocess.PIPE}
@@ -107,7 +107,7 @@ class Program:
         return {it for it in keys if self.takes(with_floats([it]))}
 
     def fault_of_file(self, name: str) -> Optional[str]:
-        """What the program says of a file that can't be read here; None where it can read it."""
+        """What the program says of a file that can't be read here; None if it can read it."""
         streams: Any = {"stdin": subprocess.DEVNULL, "stdout": subprocess.DEVNULL, "stderr": subprocess.PIPE}
         try:
             ran = subprocess.run([self.path, "run", "--", name], check=False, **streams)

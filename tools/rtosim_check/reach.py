@@ -1,8 +1,8 @@
-"""Warnings of what can't succeed: a task that waits for ever for what nobody does, or loops for ever; an op that no way leads to; and
+"""Warnings of what can't succeed: a task that waits forever for what nobody does, or loops forever; an op that no way leads to; and
 a handler's call that always fails.
 
 All are sure. What a task waits for is taken to come wherever an op that brings it may be reached at all, each condition may hold or
-not, and each handler is taken to come at any time. Where an op isn't known, nothing is said."""
+not, and each handler is taken to come at any time. If an op isn't known, nothing is said."""
 from __future__ import annotations
 
 from typing import Any, Dict, FrozenSet, Iterator, List, Optional, Set
@@ -63,7 +63,7 @@ class Script:
         return len(self.ops) in self.held
 
     def come(self, at: int, held: FrozenSet[str]) -> bool:
-        """It may come to this op with these mutexes; whether that is new."""
+        """It may reach this op with these mutexes; whether that is new."""
         before = self.held.get(at)
         self.held[at] = held if before is None else before & held
         return self.held[at] != before
@@ -141,7 +141,7 @@ class Brought:
 
 
 def of_tasks(application: Application, scripts: List[Script]) -> Iterator[Finding]:
-    """The tasks that come to an op which can't end, or never to their end."""
+    """The tasks that reach an op which can't end, or never to their end."""
     brought = Brought(application)
     tasks = [it for it in scripts if it.entry.section == "task"]
     for it in scripts:
@@ -159,7 +159,7 @@ def of_tasks(application: Application, scripts: List[Script]) -> Iterator[Findin
 
 
 def go_on(script: Script, brought: Brought) -> bool:
-    """Lets a task go on as far as it may come, and answers whether it has."""
+    """Lets a task go on as far as it may come, and returns whether it has."""
     has_gone, following = False, list(script.held)
     while following:
         at = following.pop()
@@ -177,7 +177,7 @@ def go_on(script: Script, brought: Brought) -> bool:
 
 
 def never_ends(script: Script, brought: Brought) -> Finding:
-    """The first op that can't end; where there is none, the loop that is never left."""
+    """The first op that can't end; if there is none, the loop that is never left."""
     stuck = [it for it in sorted(script.held) if brought.lacks(script, it) is not None]
     if not stuck:
         return never_left(script)
@@ -229,7 +229,7 @@ def of_handlers(application: Application, handlers: List[Script]) -> Iterator[Fi
 
 
 def needs_room(words: List[str]) -> bool:
-    """Whether an op of a handler fails where there is no room. Of a task's notifications one alone is pending, which `keep` keeps."""
+    """Whether an op of a handler fails if there is no room. Of a task's notifications one alone is pending, which `keep` keeps."""
     return words[0] in FILLS or words[0] == NOTIFIES and words[2] == KEEPS
 
 

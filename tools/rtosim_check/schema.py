@@ -16,7 +16,7 @@ TITLE = "Application for rtosim"
 
 
 def number_pattern(least: int, most: int) -> str:
-    """A pattern of the numbers of a range, whose least is 0 or 1: at most ten digits, of which the first may be zeros."""
+    """A pattern of the numbers of a range, whose least is 0 or 1: at most ten digits; the first ones may be zeros."""
     text = str(most)
     parts = ["0{1,10}"] if least == 0 else []
     parts += [zeros(size) + "[1-9]" + digits(size - 1) for size in range(1, len(text))]

@@ -1,4 +1,4 @@
-"""Reads a TOML 1.1 document, and keeps where each key, table and value is.
+"""Reads a TOML 1.1 document, and keeps the place of each key, table and value.
 
 It takes what the program takes, whose reader goes by the grammar of TOML 1.1: arrays and inline tables at most 80 deep, keys of at
 most 80 parts, integers of 64 bits."""
@@ -69,7 +69,7 @@ class Reader:
         return NotToml(self.at, self.at + len(self.next_piece()), message, rule)
 
     def next_piece(self) -> str:
-        """The word that comes next, or the character where there is none."""
+        """The word that comes next, or the character if there is none."""
         word = PIECE.match(self.text, self.at)
         return word.group() if word else self.text[self.at : self.at + 1]
 
@@ -136,7 +136,7 @@ class Reader:
     # -- keys
 
     def key(self) -> List[Word]:
-        """The parts of a key, each with its span, and the spaces behind it."""
+        """The parts of a key, each with its span, and the spaces after it."""
         parts = []
         while True:
             start = self.at

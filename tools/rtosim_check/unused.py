@@ -74,7 +74,7 @@ def of_handlers(application: Application) -> Iterator[Finding]:
 
 
 def of_interrupts(application: Application) -> Iterator[Finding]:
-    """Interrupts behind the limit of ticks."""
+    """Interrupts after the limit of ticks."""
     limit, more = integer_of(application.root.get("limits"), "ticks"), application.ticks_of_points()
     later = f", or up to {counted(more, 'tick')} later by those of a point," if more else ","
     for it in application.entries["interrupt"]:

@@ -1,4 +1,4 @@
-"""Warnings of the last answer and of variables: an op that needs a number where the last answer is none, or divides by a variable that is 0;
+"""Warnings of the last answer and of variables: an op that needs a number while the last answer is none, or divides by a variable that is 0;
 variables that nothing stores or nothing reads; and variables whose names are other words too.
 
 Failed checks are sure: each condition may hold or not, and each op may end that may."""
@@ -103,7 +103,7 @@ def answers_after(script: Script, at: int, before: FrozenSet[str]) -> List[Tuple
 
 
 def narrowed(before: FrozenSet[str], condition: List[str], holds: bool) -> FrozenSet[str]:
-    """What the last answer may be where a condition holds, or where it doesn't."""
+    """What the last answer may be if a condition holds, or if it doesn't."""
     is_negated = condition[0] == "not"
     if condition[-1] == "none":
         return before & {NONE if holds != is_negated else NUMBER}

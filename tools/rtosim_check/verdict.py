@@ -29,7 +29,7 @@ class Verdict:
 
 
 class Place:
-    """A place: the section, the entry's index, the key, the index in the key's array, each None where it isn't there."""
+    """A place: the section, the entry's index, the key, the index in the key's array, each None if it isn't there."""
 
     def __init__(self, words: List[str]) -> None:
         numbered: List[Any] = [int(it) if it.isdigit() else it for it in words]

@@ -132,6 +132,10 @@ class Addresses(Core):
         """The locals whose addresses a function of the file takes that can't be followed."""
         self.let_arguments_go(call, path)
 
+    def changes_globals(self, call: object, path: Path) -> bool:
+        """Whether a function of the file may change variables of a script by what it is given."""
+        return False
+
     def let_addresses_go(self, node: object, path: Path) -> None:
         """The locals whose addresses are in an expression that isn't followed."""
         for it in trees.walk(node):

@@ -234,7 +234,7 @@ class Api(Expressions):
         own = -(-type_.bits // 8) if isinstance(type_, Integer) else 0
         if size and own and size > own and "." not in local.split("@")[0]:
             name = local.split("@")[0]
-            self.note(node, f"an item of `{queue.name}` has {size} bytes and `{name}` has {own}: FreeRTOS {what} what is behind it", True)
+            self.note(node, f"an item of `{queue.name}` has {size} bytes and `{name}` has {own}: FreeRTOS {what} beyond it", True)
         return max(0, own - size) if size else 0
 
     def item_of(self, value: Known, queue: Handle, node: object, path: Path) -> str:

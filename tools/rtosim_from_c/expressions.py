@@ -359,7 +359,9 @@ class Expressions(Addresses):
             if why is None or why.local is not None:
                 return found
             return self.unknown(f"what {name} returns isn't known: {why.why}", f"--ignore {name}=NUMBER, or {A_CONSTANT}")
-        except LostUse:
+        except LostUse as why:
+            if why.lost.taken_at is not None and self.changes_globals(node, path):
+                raise
             self.let_parameters_go(node, path)
             self.keep_all(trees.arguments(node), path)
             self.note(node, f"`{name}` has no op: left out")

@@ -3,6 +3,8 @@ from dataclasses import dataclass, field
 from typing import Callable, Dict, List, Optional, Set, Tuple, Union
 
 from . import trees
+from .addresses import Escaped
+from .answers import NUMBERS
 from .directives import number
 from .families import Target
 from .frames import Continuation
@@ -39,6 +41,8 @@ class Loops(Statements):
         super().__init__(unit, target, owner)
         # Loops whose turns a comment counts, with how many are left.
         self.turns_left: Dict[object, int] = {}
+        # Loops that are left by their end and by `return`, with the answer that says by `return`, and the one that says by the end.
+        self.marks: Dict[object, Tuple[int, Optional[int]]] = {}
         # whether a loop around this can still be tried in another form
         self.has_other_forms = False
 
@@ -193,12 +197,14 @@ class Loops(Statements):
         bodies: List[State] = []
 
         def leave(fork: Path) -> None:
+            self.mark_way(node, fork, False)
             ways.left.append(fork.state)
             fork.items.append(Break(self.place(self.jump or node)))
             fork.end()
 
         def leave_by_return(fork: Path, value: Known) -> None:
             self.put(RETURNED, value, node, fork)
+            self.mark_way(node, fork, True)
             ways.returned.append(fork.state)
             fork.items.append(Break(self.place(self.jump or node)))
             fork.end()
@@ -282,12 +288,15 @@ class Loops(Statements):
 
     def part(self, node: object, path: Path, left: State, returned: State, rest: Optional[Continuation]) -> None:
         """Both ways lead behind the loop: the last answer says which it was."""
+        if left.answers & returned.answers and rest is None:
+            self.mark(node, left)
         by_return, by_end = Path(returned), Path(left)
         self.return_on(by_return)
         if rest is not None:
             rest(by_end)
         if left.answers & returned.answers:
             if rest is None or by_return.items != by_end.items:
+                self.mark(node, left)
                 raise self.refuse(node, "this loop is left by its end and by `return`, and the last answer doesn't say by which",
                                   "a loop that is left by `break`, and a test after it that the answer decides")
             path.items += by_end.items
@@ -296,6 +305,21 @@ class Loops(Statements):
         path.items += items
         if rest is None:
             path.state = left
+
+
+    def mark(self, node: object, left: State) -> None:
+        """Lets the last answer say how this loop is left, the next time."""
+        if self.can_mark() and node not in self.marks:
+            others = NUMBERS - left.answers
+            self.marks[node] = (others.least(), None) if others else (1, 0)
+            raise Escaped()
+
+    def can_mark(self) -> bool:
+        """Whether a number can be made the last answer."""
+        return False
+
+    def mark_way(self, node: object, path: Path, is_return: bool) -> None:
+        """Makes the last answer say how a loop is left, if nothing else says it."""
 
 
 def said_turns(node: object) -> Optional[int]:

@@ -162,6 +162,14 @@ class Memory(Loops):
     def is_variable(self, name: str) -> bool:
         return self.has_variables and self.unit.is_followed(name) and isinstance(self.unit.constants.type_of(self.unit.globals[name]), Integer)
 
+    def can_mark(self) -> bool:
+        return self.has_variables and not self.is_handler
+
+    def mark_way(self, node: object, path: Path, is_return: bool) -> None:
+        number = self.marks[node][not is_return] if node in self.marks else None
+        if number is not None and not path.is_over:
+            self.answer_number(number, node, path, None)
+
     def read_global(self, node: object, path: Path) -> Known:
         why = self.unit.fields.why_not(node.name) if self.is_variable(node.name) else None
         if why is not None:

@@ -327,6 +327,10 @@ class Shared(Structures):
             if self.unit.fields.unfollow(where.name, why):
                 raise Escaped()
 
+    def changes_globals(self, call: object, path: Path) -> bool:
+        words, name = trees.arguments(call), trees.called(call) or ""
+        return any(self.unit.may_write(name, at) and is_shared(self.address_of(it, path)) for at, it in enumerate(words))
+
     def let_parameters_go(self, call: object, path: Path) -> None:
         super().let_parameters_go(call, path)
         name, line = trees.called(call) or "", self.place(call).line

@@ -51,4 +51,5 @@ module _ {ls : List (List (ℕ × ℕ))} {age base tick current overflow : ℕ} 
     pub jumps_unslept : (held : ℕ) (old : Timeline) → timeline_of ls age held base tick current overflow ≡ old
         → Jumps ticks old (timeline_of ls (age + ticks) held base' tick' current overflow) []
     jumps_unslept held old is =
-        subst (λ (t : Timeline). Jumps ticks t (timeline_of ls (age + ticks) held base' tick' current overflow) []) is (jumps_now held)
+        subst (λ (t : Timeline). Jumps ticks t (timeline_of ls (age + ticks) held base' tick' current overflow) []) is
+        (jumps_now held)

@@ -12,7 +12,8 @@ use Rattle.campaign.specs.declared.file.ServeFault.TheVariants.{UnknownHandler, 
 use Rattle.campaign.specs.Named.{IsFirstUnknown}
 use Rattle.campaign.specs.Serving.{HasFileFault, IsFileOf, Serves, Streams}
 
--- These are the interrupts that have the names of a list, in its order: handlers, or the tick. If no list is named, they are all handlers
+-- These are the interrupts that have the names of a list, in its order: handlers, or the tick. If no list is named, they are
+-- all handlers
 -- of the file.
 abbrev pub AreAsked : Option (List ℕ) → Application → (handlers : List ℕ) → Type 0
 AreAsked None app handlers = (handler : ℕ) → Contains handlers handler ↔ (handler < length app.handlers)

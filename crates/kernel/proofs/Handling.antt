@@ -355,7 +355,8 @@ guessed k n log s h =
     }
 
 -- nor is it while a task is still to be placed
-pub guessed_any : (k : Machine) (n : ℕ) (log : List Event) (s : State) → AtAny k log s → AtAny (record k { next_interrupt = n }) log s
+pub guessed_any : (k : Machine) (n : ℕ) (log : List Event) (s : State) → AtAny k log s
+    → AtAny (record k { next_interrupt = n }) log s
 guessed_any k n log s h = record { stands = by_stands h.stands; log = h.log } where
   by_stands : Stands k s → Stands (record k { next_interrupt = n }) s
   by_stands (Placed p) = Placed (guessed k n s.log s (record { stands = p; log = refl })).stands

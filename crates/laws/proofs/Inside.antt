@@ -38,7 +38,8 @@ use Rattle.model.proofs.Sorting.{by_test}
 use Rattle.model.proofs.Lists.{eqb-refl, eqb-same}
 use Rattle.soundness.proofs.Settled.{when_held, when_free, nothing_holds, unlike}
 use Rattle.soundness.proofs.Judging.{by_judgement, not_barred}
-use Rattle.soundness.proofs.Pending.{AreNonePending, begun_critical, begun_open, begun_with, none_still, not_pending, same_sources, sources-step}
+use Rattle.soundness.proofs.Pending.{AreNonePending, begun_critical, begun_open, begun_with, none_still, not_pending}
+use Rattle.soundness.proofs.Pending.{same_sources, sources-step}
 use Rattle.soundness.proofs.Begun.{reached_step}
 use Rattle.laws.specs.Sections.{alone, are_critical, is_of_handler}
 

@@ -244,7 +244,7 @@ hits_interrupt elapsed d (i ∷ is) c = by_test (ltb elapsed i.tick)
 one_far : (now d : ℕ) (o : Option ℕ) (ds : List ℕ) → IfSome o (λ w. now < w) → (Contains ds d → 1 ≤ d)
     → Contains (cons_option (option_map (λ time. time - now) o) ds) d → 1 ≤ d
 one_far now d None ds later k c = k c
-one_far now d (Some w) ds later k c = elim (here_or_there (w - now) d ds c) [ | inl e ↦ omega arith | inr more ↦ k more ]
+one_far now d (Some w) ds later k c = elim (here_or_there (w - now) d ds c) [ inl e ↦ omega arith | inr more ↦ k more ]
 
 far_wake : (now d : ℕ) (ts : List Task) → ((i : ℕ) → IfSome (wake_time_of (get_or ts i no_task).status) (λ w. now < w))
     → Contains (to_wakes now ts) d → 1 ≤ d

@@ -1,7 +1,8 @@
 -- A step in which a task runs lets one tick pass at most beside those that come before it: only idle sleeps.
 use Rattle.model.specs.Step.{act_by_value}
 use Rattle.soundness.proofs.Passing.{by_value}
-use Rattle.std.proofs.Common.{◌≡◌, ◌<◌, ◌≤◌, ◌+◌, ◌-◌, ◌++◌, ◌∙◌, ℕ, true, false, List, [], ◌∷◌, length, Option, Some, None, ap, refl, arith}
+use Rattle.std.proofs.Common.{◌≡◌, ◌<◌, ◌≤◌, ◌+◌, ◌-◌, ◌++◌, ◌∙◌, ℕ, true, false, List, [], ◌∷◌, length, Option, Some, None}
+use Rattle.std.proofs.Common.{ap, refl, arith}
 use Rattle.std.specs.Option.{is_some}
 use Rattle.model.specs.declared.op.Op.{Op}
 use Rattle.model.specs.declared.event.Misuse.{Misuse}

@@ -1,5 +1,6 @@
 -- Interrupts: handlers do their ops without waiting, before a step or at a tick, and the tick itself is one.
-use Rattle.std.specs.Prelude.{ℕ, zero, suc, ◌+◌, ◌-◌, ◌==◌, Bool, true, false, not, max, min, List, [], ◌∷◌, ◌++◌, Option, Some, None, nat_lt}
+use Rattle.std.specs.Prelude.{ℕ, zero, suc, ◌+◌, ◌-◌, ◌==◌, Bool, true, false, not, max, min, List, [], ◌∷◌, ◌++◌, Option}
+use Rattle.std.specs.Prelude.{Some, None, nat_lt}
 use Rattle.std.specs.Prelude.{if◌then◌else◌, map, filter, fold, filter_map, option_map, length, is_none}
 use Rattle.std.specs.List.{range_with_len}
 use Rattle.model.specs.declared.op.IsrOp.{IsrOp}

@@ -1,5 +1,6 @@
 -- Interrupts that come before a step keep what is true of every state that a run comes to, and so does the step.
-use Rattle.std.proofs.Common.{◌≡◌, ◌∙◌, ℕ, Bool, true, false, List, [], ◌∷◌, length, map, slice_set, Option, Some, None, ap, sym, subst}
+use Rattle.std.proofs.Common.{◌≡◌, ◌∙◌, ℕ, Bool, true, false, List, [], ◌∷◌, length, map, slice_set, Option, Some, None, ap}
+use Rattle.std.proofs.Common.{sym, subst}
 use Rattle.std.proofs.Common.{◌+◌, inl, inr, ltb, refl}
 use Rattle.std.proofs.Math.ListN.{length-set}
 use Rattle.std.proofs.lemmas.List.{length-map}
@@ -37,8 +38,10 @@ module _ (app : Application) (formed : IsWellFormed app) where
         preempted_at_rest none =
             let off : t.call_hold ≡ false = no_call_holds app formed t k none in
             let same : hold_of t ≡ free = hold_none app formed t k off in
-            at_rest app formed (preempt t) (preempted app formed free t (sound_free app formed t k off)) ((keeps-preempt t).hold ∙ same)
-            ((keeps-preempt t).suspension ∙ calm_now app formed t k none) (settled-preempt t (by_current t.current k.runs off)) where
+            at_rest app formed (preempt t) (preempted app formed free t (sound_free app formed t k off))
+            ((keeps-preempt t).hold ∙ same)
+            ((keeps-preempt t).suspension
+            ∙ calm_now app formed t k none) (settled-preempt t (by_current t.current k.runs off)) where
               by_current : (r : Option ℕ) → RunsIn app t r → t.call_hold ≡ false → IfSome r (λ task. is_ready t task ≡ true)
               by_current None r off = tt
               by_current (Some i) r off =

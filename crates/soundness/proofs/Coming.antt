@@ -1,4 +1,5 @@
--- What interrupts make of the ticks, and of what holds the scheduler, when they come before a step: no more ticks pass than there are
+-- What interrupts make of the ticks, and of what holds the scheduler, when they come before a step: no more ticks pass than
+-- there are
 -- ticks among them.
 use Rattle.std.proofs.Common.{ap, ◌≡◌, ◌≤◌, ◌+◌, ◌∙◌, ℕ, Bool, true, false, List, [], ◌∷◌, length, refl, arith}
 use Rattle.std.specs.Prelude.{if◌then◌else◌}
@@ -123,7 +124,8 @@ module _ (app : Application) (deed : ℕ → State → State)
 
 -- ---- what a step begins with
 
-comes-pend : (sources : List ℕ) (s : State) → Comes 0 (record s { sources = (for_each pend sources s).sources }) (for_each pend sources s)
+comes-pend : (sources : List ℕ) (s : State)
+    → Comes 0 (record s { sources = (for_each pend sources s).sources }) (for_each pend sources s)
 comes-pend [] s =
     record {
       elapsed = omega arith;

@@ -116,7 +116,7 @@ moves-step app limits sources s =
     record {
       elapsed = λ off. (let m1 : acted.elapsed ≤ begun.elapsed + 0 + 1 = m.elapsed off in omega arith);
       most = λ most few l. (let m3 : acted.elapsed ≤ most + ticks_before app sources s + 0 =
-      m.most (most + ticks_before app sources s) (omega arith) (omega arith) in omega arith);
+          m.most (most + ticks_before app sources s) (omega arith) (omega arith) in omega arith);
       suspensions = omega arith;
       by_tasks =
           (let b4 : task_holds begun ≡ task_holds s = ap₂ (λ (x y : ℕ). x + y) b.suspensions b.sections in

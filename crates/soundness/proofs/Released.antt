@@ -34,7 +34,8 @@ due_apart s i r (e ∷ es) = by_test (is_due s e)
     ))
     (λ t. rw t (due_apart s i r es))
 
-pub all_but : (js : List ℕ) (i : ℕ) (s : State) → AllByRecursion (λ j. j ≢ i) js → task_at (for_each make_ready js s) i ≡ task_at s i
+pub all_but : (js : List ℕ) (i : ℕ) (s : State) → AllByRecursion (λ j. j ≢ i) js
+    → task_at (for_each make_ready js s) i ≡ task_at s i
 all_but [] i s h = refl
 all_but (j ∷ js) i s h =
     all_but js i (make_ready j s) h.1

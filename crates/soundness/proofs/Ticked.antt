@@ -12,7 +12,8 @@ use Rattle.model.specs.Handlers.{handle, interrupt, tick_interrupt}
 use Rattle.model.specs.Invariant.{hold_of, IsSound, RunsIn, IsRunning, IsState}
 use Rattle.model.proofs.Sorting.{by_test}
 use Rattle.model.proofs.Unlocking.{current-all_ready}
-use Rattle.soundness.proofs.Settled.{IsSettled, settled-slice, when_held, when_free, nothing_holds, no_task_holds, ticks_free, unlike}
+use Rattle.soundness.proofs.Settled.{IsSettled, settled-slice, when_held, when_free, nothing_holds, no_task_holds, ticks_free}
+use Rattle.soundness.proofs.Settled.{unlike}
 use Rattle.soundness.proofs.Passing.{held-told, hold-tick, suspension-tick}
 use Rattle.soundness.proofs.Released.{all_but, due_apart}
 use Rattle.soundness.proofs.Sound.{held_up}
@@ -59,7 +60,8 @@ module _ (app : Application) (s : State) (none : holds_ticks s ≡ false) where
       ap (λ (u : Task). is_some (ticket_if_ready u.status)) ((spares-interrupt app 0 come).ready i still) ∙ still
 
   told_settled : IsSettled s → IsSettled told
-  told_settled h = subst (λ (r : Option ℕ). IfSome r (λ task. is_ready told task ≡ true)) (sym told_runs) (by_current s.current h) where
+  told_settled h = subst (λ (r : Option ℕ). IfSome r (λ task. is_ready told task ≡ true)) (sym told_runs)
+  (by_current s.current h) where
     by_current : (r : Option ℕ) → IfSome r (λ task. is_ready s task ≡ true) → IfSome r (λ task. is_ready told task ≡ true)
     by_current None h = tt
     by_current (Some i) h = told_ready i h

@@ -29,12 +29,14 @@ held_tick_interrupt-requires-clause-objects g c =
 
 pub held_tick_interrupt-requires-clause-held : goal.held_tick_interrupt-requires-clause-held
 held_tick_interrupt-requires-clause-held g c = λ s h.
-    held_alone s (none_open c.args.app.now c.args.machine.now c.requires.can s h) (sym (c.is_held.ensures.held s h) ∙ c.if-is_held.true)
+    held_alone s (none_open c.args.app.now c.args.machine.now c.requires.can s h) (sym (c.is_held.ensures.held s h)
+    ∙ c.if-is_held.true)
 
 pub held_tick_interrupt-requires-clause-few : goal.held_tick_interrupt-requires-clause-few
 held_tick_interrupt-requires-clause-few g c =
     let can = c.requires.can in
-    held_below c.args.app.now c.well_formed-2.ensures c.args.machine.now can.state can.sound can.stands (let l = can.early in omega arith)
+    held_below c.args.app.now c.well_formed-2.ensures c.args.machine.now can.state can.sound can.stands
+    (let l = can.early in omega arith)
 
 -- nothing holds the scheduler
 pub tick_interrupt-requires-clause-can : goal.tick_interrupt-requires-clause-can

@@ -13,7 +13,8 @@ use Rattle.kernel.proofs.suspended.work_on.Goals as goal
 
 pub held_tick_interrupt-requires-clause-stands : goal.held_tick_interrupt-requires-clause-stands
 held_tick_interrupt-requires-clause-stands g c =
-    let a = agrees_after c.args.machine.now c.use_up.new.machine [] [] c.requires.can.agrees _ (λ s h. c.use_up.ensures.does [] s h) in
+    let a = agrees_after c.args.machine.now c.use_up.new.machine [] [] c.requires.can.agrees _
+    (λ s h. c.use_up.ensures.does [] s h) in
     (a.0, Placed a.1)
 
 pub held_tick_interrupt-requires-clause-objects : goal.held_tick_interrupt-requires-clause-objects

@@ -8,7 +8,8 @@ pub invariant_of-self : goal.invariant_of-self
 invariant_of-self c =
     let q = c.self.inside in
     clock_unslept c.self.invariant (ap (λ (t : Timeline). t.delayed_list) c.self.view_is ∙ c.requires.quiet)
-    c.args.ticks _ _ (omega arith) (let age = ap (λ (t : Timeline). t.age) c.self.view_is in let few = c.requires.age in omega arith)
+    c.args.ticks _ _ (omega arith)
+    (let age = ap (λ (t : Timeline). t.age) c.self.view_is in let few = c.requires.age in omega arith)
 
 pub returns-clause-jumps : goal.returns-clause-jumps
 returns-clause-jumps c =
