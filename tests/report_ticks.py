@@ -20,7 +20,7 @@ def task(name, priority, *ops):
     return f'[[task]]\nname = "{name}"\npriority = {priority}\nscript = [{script}]\n'
 
 
-# two tasks of one priority, of which a tick lets the other one run
+# a tick lets the second of two tasks of one priority run
 SLICES = task("a", 1, "mark 1", "mark 2") + task("b", 1, "mark 3")
 SLICES_BASE = "base: pass in 3 steps, 0 ticks\n0 0 mark a 1\n1 0 mark a 2\n1 0 run b\n2 0 mark b 3\n2 0 run -\n"
 SLICES_ROWS = """row 0 at 0 tick: pass in 3 steps, 1 ticks
@@ -238,6 +238,18 @@ def base_runs_are_not_presumed_from_rows_with_ticks():
 
 
 @case
+def a_task_may_have_the_name_of_the_tick():
+    rows = re.sub(r"\bb\b", "tick", SLICES_ROWS)
+    lines = [next(it for it in source_of(rows).reader() if it.head.row == row).lines() for row in range(3)]
+    equal([injections.own_stretches(it, Point([Injection(row, "tick")])) for row, it in enumerate(lines)], [[(0, 0)], [(1, 0)], [(3, 0)]])
+    equal(base_run.find_base(source_of(rows)).head, None)
+    known(re.sub(r'"b"', '"tick"', SLICES))
+    equal(turns_of(drawn(re.sub(r'"b"', '"tick"', SLICES), rows, 2)), [(0, 2, "a"), (2, 3, "tick")])
+    write("base.out", re.sub(r"\bb\b", "tick", SLICES_BASE))
+    holds(good_and_quick("classes", "--base", "base.out", text=rows), "as the base run")
+
+
+@case
 def classes_and_causes_name_the_tick():
     write("base.out", SLICES_BASE)
     table = good_and_quick("classes", "--base", "base.out", text=SLICES_ROWS)
@@ -310,7 +322,8 @@ def points_of_pairs_of_ticks():
     known(HANDLER + CHECKED)
     equal(good("pairs", "ticks.toml", "--handler", "tick", "--within", "1", companion=companion),
           '[campaign]\npoints = [\n  "0 tick 0 tick", "0 tick 1 tick",\n  "1 tick 1 tick", "1 tick 2 tick",\n]\n')
-    holds(good("pairs", "ticks.toml", "--handler", "h", "--handler", "tick", "--within", "0", companion=companion), '"0 h 0 tick", "0 tick 0 h",')
+    both = good("pairs", "ticks.toml", "--handler", "h", "--handler", "tick", "--within", "0", companion=companion)
+    holds(both, '"0 h 0 tick", "0 tick 0 h",')
     status, out, err = run("pairs", "ticks.toml", "--handler", "tock", companion=companion)
     equal((status, out), (2, b""))
     holds(err.decode(), "no handler is called tock; the handlers are h, and tick is the tick interrupt")

@@ -64,8 +64,8 @@ def injected_lines(lines: List[Line], point: Point, base: BaseRun, tasks: Abstra
 
 
 def is_switch_of_injection(own: List[Line], following: List[Line], injected_at: int, base: BaseRun, has_tick: bool) -> bool:
-    """Whether the line after the handlers' own shows that the processor changes at once, and not after the step. A tick that is injected
-    there is that of the change."""
+    """Whether the line after the handlers' own shows that the processor changes at once, and not after the step. It has another tick than
+    theirs only if a tick is injected too."""
     step, tick, what = following[0]
     if not what.startswith(b"run ") or int(step) != injected_at or own and own[-1][1] != tick and not has_tick:
         return False
