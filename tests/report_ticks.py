@@ -183,6 +183,16 @@ def the_processor_changes_before_the_step_of_a_tick():
 
 
 @case
+def the_change_of_a_step_that_releases_a_tick_comes_after_it():
+    held = HELD_ROW.replace("at 2 tick", "at 4 tick").replace("2 0 mark h 9", "4 0 mark h 9")
+    base = "base: pass in 8 steps, 1 ticks\n4 0 run u\n5 0 mark u 2\n5 0 run -\n6 1 mark h 9\n6 1 run a\n7 1 call a 0 receive = none\n"
+    given = base_run.given_base(list(source_of(base + "7 1 run -\n").reader()))
+    run_of_row = next(iter(source_of(held).reader()))
+    for it in (known(HELD), None):
+        equal(turns_of(timeline.of_row(run_of_row, given, it))[-2:], [(5, 6, "u"), (6, 8, "a")])
+
+
+@case
 def the_clock_takes_no_step_for_a_tick():
     for text, row, ticks, silent in (
         (UPDATE, UPDATE_ROW, [0, 0, 1, 1, 1, 1], 5), (SECTION, SECTION_ROW, [0, 0, 0, 0, 1, 1, 1], 6),
