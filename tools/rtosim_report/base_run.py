@@ -203,8 +203,11 @@ def beyond_known(run: Run, known: BaseRun) -> Optional[bytes]:
 
 def injects_tick(run: Run) -> bool:
     """Whether a tick is injected in a row, which shifts the times of all that follows. A handler of this name has lines."""
-    has_handler = b" isr tick " in run.text or b" mark tick " in run.text
-    return not has_handler and any(it.handler == TICK for it in run.head.point)
+    if not any(it.handler == TICK for it in run.head.point):
+        return False
+    has_task = b" run tick\n" in run.text or b" call tick " in run.text
+    has_handler = b" isr tick " in run.text or b" mark tick " in run.text and not has_task
+    return not has_handler
 
 
 def presumed_base(source: Source, known: BaseRun, is_covered: bool) -> Optional[BaseRun]:

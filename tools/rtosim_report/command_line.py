@@ -77,7 +77,7 @@ def do_pairs(words: argparse.Namespace, output: Output) -> None:
         say(f"{plain(words.application)} has a [campaign], and a file has one: what is written takes its place")
     unknown = next((it for it in words.handler if it not in known), None)
     if unknown is not None:
-        raise WordsFault(f"no handler is called {unknown}; the handlers are {', '.join(application.handlers) or 'none'}, and {TICK} is the tick")
+        raise WordsFault(f"no handler is called {unknown}; the handlers are {', '.join(application.handlers) or 'none'}, and {TICK} is the tick interrupt")
     last = MadeReport(words.application).base().head.steps if words.last is None else words.last + 1
     write_pairs(output, list(dict.fromkeys(words.handler)), range(words.first, last), words.within)
 

@@ -37,7 +37,14 @@ def leading_own(lines: List[Line], injection: Injection, start: int = 0) -> int:
     own, end = own_words(injection.handler), start
     while end < len(lines) and lines[end][:2] == when and lines[end][2].startswith(own):
         end += 1
+    if end > start and injection.handler == TICK and has_task_tick(lines):
+        return 0
     return end - start
+
+
+def has_task_tick(lines: List[Line]) -> bool:
+    """Whether a task has the name of the tick, so that no handler has it."""
+    return any(what == b"run tick" or what.startswith(b"call tick ") for _, _, what in lines)
 
 
 def position_of(lines: List[Line], step: int) -> int:
@@ -80,7 +87,7 @@ def arrival_of(lines: List[Line], injection: Injection, names: Set[bytes]) -> in
 
 
 def arrival_of_tick(lines: List[Line], injection: Injection, first: int) -> int:
-    """As arrival_of, of a tick, of which no line is. It is pending if a line after it has the tick of the line before it; then it comes before
+    """As arrival_of, for a tick, which has no line. It is pending if the lines before and after it have the same tick. Then it comes before
     the first step that begins with a handler's line or with a change of the processor."""
     name, at = lines[first][2].split(b" ", 2)[1], first
     if first == 0 or lines[first - 1][1] != lines[first][1]:
@@ -141,7 +148,7 @@ def is_change_between(lines: List[Line], at: int, injection: Injection) -> bool:
 
 
 def is_change_before_tick(lines: List[Line], at: int) -> bool:
-    """Whether the processor changes in this line before an injected tick, of which a line of its step follows."""
+    """Whether the processor changes in this line before an injected tick: a line of the same step and another tick follows."""
     pair = lines[at : at + 2]
     return len(pair) == 2 and pair[0][2].startswith(b"run ") and pair[0][0] == pair[1][0] and pair[0][1] != pair[1][1]
 
@@ -161,8 +168,8 @@ def end_of_base_interrupts(lines: List[Line], start: int, step: int, tasks: Abst
 
 def stretches_of_step(lines: List[Line], start: int, injections: List[Injection], tasks: Optional[AbstractSet[bytes]] = None) -> List[Tuple[int, int]]:
     """Where the lines of handlers that come before one step are, a stretch for each of them: its first line, and how many
-    there are. Two of one name that follow each other are one stretch, and an empty one. That of a tick is empty, and behind the lines of
-    its base interrupts if tasks are given, of which these have the names, or another injection follows."""
+    there are. Two of one name that follow each other are one stretch, and an empty one. That of a tick is empty. It comes after the lines of
+    its base interrupts if another injection follows, or if the names of tasks are given."""
     found: List[Tuple[int, int]] = []
     at = start
     for nth, injection in enumerate(injections, 1):

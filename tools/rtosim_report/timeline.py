@@ -10,7 +10,7 @@ from typing import AbstractSet, Any, Dict, Iterator, List, Optional, Set, Tuple
 from .application import Application
 from .away import UNNAMED, AwayTimes
 from .base_run import BaseRun
-from .clock_of_lines import TickReader
+from .clock_of_lines import TickReader, WRAP
 from .daemon import commands_of, find_daemon, Command
 from .injections import arrivals_of, arrived, groups_of, position_of, stretches_of_step
 from .lanes import Bar, Doing, Lane, LaneKind, Note, Timeline, Window, WindowKind
@@ -54,24 +54,25 @@ def injected_lines(lines: List[Line], point: Point, base: BaseRun, tasks: Abstra
     switches: Set[int] = set()
     for step, injections in groups_of(arrived(lines, point)):
         first = position_of(lines, step)
-        at, count = stretches_of_step(lines, first, injections, tasks)[-1]
+        stretches = stretches_of_step(lines, first, injections, tasks)
+        at, count = stretches[-1]
         own, following = lines[first : at + count], lines[at + count : at + count + 2]
-        is_first, has_tick = step == point.first_step, any(it.handler == TICK for it in injections)
+        ticks = sum(it.handler == TICK and not its_lines for it, (_, its_lines) in zip(injections, stretches))
         found.update(range(first, at + count))
-        if (own or is_first or has_tick) and following and is_switch_of_injection(own, following, step, base, has_tick):
+        if (own or ticks or step == point.first_step) and following and is_switch_of_injection(own, following, step, base, ticks):
             switches.add(at + count)
     return found, switches
 
 
-def is_switch_of_injection(own: List[Line], following: List[Line], injected_at: int, base: BaseRun, has_tick: bool) -> bool:
-    """Whether the line after the handlers' own shows that the processor changes at once, and not after the step. A tick that is injected
-    there is that of the change."""
+def is_switch_of_injection(own: List[Line], following: List[Line], injected_at: int, base: BaseRun, ticks: int) -> bool:
+    """Whether the line after the handlers' own shows that the processor changes at once, and not after the step. If ticks are injected
+    too, it may have another tick than theirs, and a change of the base run's step comes so many ticks later here."""
     step, tick, what = following[0]
-    if not what.startswith(b"run ") or int(step) != injected_at or own and own[-1][1] != tick and not has_tick:
+    if not what.startswith(b"run ") or int(step) != injected_at or own and own[-1][1] != tick and not ticks:
         return False
     if len(following) > 1 and following[1][0] == step:
         return True
-    return base is None or (step, tick, what) not in base.lines
+    return base is None or (step, str((int(tick) - ticks) % WRAP).encode() if ticks else tick, what) not in base.lines
 
 
 class Builder:
@@ -187,7 +188,7 @@ class Builder:
         if daemon is not None:
             waits += daemon.bars(UNNAMED not in self.lanes)
             windows += daemon.windows
-        bars = [it for it in self.turns if it.end > it.start] + waits + list(self.pending(windows))
+        bars = [it for it in self.turns if it.end > it.start] + waits + list(dict.fromkeys(self.pending(windows)))
         used = {it.lane for it in bars} | {it.lane for it in self.notes}
         lanes = [it for it in self.lanes.values() if it in used or it.name != UNNAMED]
         variables = {name: self.history.stretches(name, self.head.steps) for name in self.history.starts}
