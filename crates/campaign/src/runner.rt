@@ -45,12 +45,12 @@ pub(crate) struct Runner {
     spacing: Spacing,
 }
 
-// The first step at which a row looks for marks, whose last injection comes before this step. It is
-// after that, or after each step that a run can reach.
-fn first_mark(spacing: &Spacing, last: u32) -> u32
-    ensures { min last 1000000 < result }
+// The first step at which the row of a point looks for marks. It is after that of the last
+// injection, or after each step that a run can reach.
+fn first_mark(spacing: &Spacing, point: &Point) -> u32
+    ensures { min (last_step point.now) 1000000 < result }
 {
-    let last = last.min(Limits::MOST);
+    let last = point.last_step().min(Limits::MOST);
     let delay = spacing.delay().min(Limits::MOST);
     next_mark(spacing.steps(), last, last + delay)
 }
@@ -447,7 +447,7 @@ impl Runner {
         self.passed.clear();
         let from = self.trail.len();
         let last = point.last_step();
-        let until = first_mark(&self.spacing, last);
+        let until = first_mark(&self.spacing, point);
         let mut meter = Meter::new();
         let begun = shelf.begin_row_after(
             app,

@@ -50,6 +50,14 @@ fn points_of_a_block(options: Options, points: usize, workers: usize) -> usize
     most.min(points / workers / LEAST_BLOCKS).max(1)
 }
 
+// How many threads make the rows, and then spell them.
+fn threads_of(options: Options) -> usize
+    ensures some { 0 < result }
+    ensures few { result ≤ 64 }
+{
+    options.workers.clamp(1, Options::MOST_WORKERS) as usize
+}
+
 // How many steps are between two stops of the base run: as many as are asked for, and eight times
 // as many if the report isn't a whole one. There it is of no use that a row goes on as the base run
 // does, and not as another row, so most stops would only take memory.
@@ -84,7 +92,7 @@ fn report_from<R: Threads + Wait + Sync, G: Gate + Sync>(
     ensures first { IfOk result (λ report. report.first ≡ first) }
     ensures rows { IfOk result (λ report. AreSeen app.now shelf.limits view points.now report.rows) }
 {
-    let workers = options.workers.clamp(1, Options::MOST_WORKERS) as usize;
+    let workers = threads_of(options);
     let block = points_of_a_block(options, points.len(), workers);
     let Ok(division) = Division::even(alloc, points.len(), block) else {
         return Err(Memory);
@@ -135,7 +143,7 @@ fn serve_app<T: Threads + Wait + Sync, W: Sink, G: Gate + Sync>(
         → ServesCampaign view shard (streams_of input false
         (W.held writer.old) (W.held writer.new) (W.has_failed writer.new)) result }
 {
-    let threads = options.workers.clamp(1, Options::MOST_WORKERS) as usize;
+    let threads = threads_of(options);
     let report = report_of(rt, alloc, app, view, shard, options, gate)?;
     write_report_in_threads(rt, alloc, app, &report, threads, writer)?;
     let totals = report.totals();
