@@ -128,10 +128,9 @@ impl Planner {
 
     /// Which interrupt is injected next: a handler or, if ticks are among the injections, the tick as often as all of these.
     fn roll_source(&mut self, app: &App) -> HandlerId {
+        let tick = app.handlers().len().min(App::MOST_HANDLERS);
         if self.has_ticks && self.dice.roll(2) == 0 {
-            return HandlerId {
-                number: app.handlers().len() as u8,
-            };
+            return HandlerId { number: tick as u8 };
         }
         HandlerId {
             number: self.dice.roll(3) as u8,
