@@ -671,10 +671,10 @@ fn the_slow_program_agrees_where_tasks_open_critical_sections(rt: HostRuntime) {
 #[test]
 fn the_slow_program_agrees_where_ticks_are_injected(rt: HostRuntime) {
     let seen = seen_in(&rt, rt.alloc(), Sort::Tick);
-    let has_ticks = seen.injected_ticks > 100 && seen.ticks_in_calls > 10;
-    has_enough(&rt, &seen, has_ticks && seen.pending_ticks > 10);
-    let has_held = seen.held_ticks > 10 && seen.held_wakes > 0;
-    has_enough(&rt, &seen, has_held && seen.timeouts > 10);
+    let has_ticks = seen.injected_ticks > 10_000 && seen.ticks_in_calls > 1_000;
+    has_enough(&rt, &seen, has_ticks && seen.pending_ticks > 1_000);
+    let has_held = seen.held_ticks > 1_000 && seen.held_wakes > 100;
+    has_enough(&rt, &seen, has_held && seen.timeouts > 1_000);
 }
 
 #[test]
