@@ -101,7 +101,7 @@ with_sections app task n s = complete app task (progress_at s task) (record s { 
 abbrev pub enter_critical : Application → ℕ → State → State
 enter_critical app task s = with_sections app task (s.sections + 1) s
 
--- One fewer is open (`taskEXIT_CRITICAL`). If it was the last, the pending handlers come before the next
+-- One fewer is open (`taskEXIT_CRITICAL`). If it was the last, the pending interrupts come before the next
 -- step.
 abbrev pub exit_critical : Application → ℕ → State → State
 exit_critical app task s = with_sections app task (s.sections - 1) s
