@@ -74,8 +74,8 @@ pub struct Clock {
     age: u64,
     /// The ticks that have come and wait to be applied.
     held: HeldTicks,
-    overflows: u32,
     tick: u32,
+    overflows: u32,
     current: ListId,
     overflow: ListId,
 }
@@ -106,8 +106,8 @@ impl Clock {
             lists: TaskLists::new(),
             age: 0,
             held: HeldTicks { number: 0 },
-            overflows: 0,
             tick: start,
+            overflows: 0,
             current: ListId { number: 0 },
             overflow: ListId { number: 1 },
         }
@@ -121,8 +121,8 @@ impl Clock {
             lists: self.lists.copy(),
             age: self.age,
             held: self.held,
-            overflows: self.overflows,
             tick: self.tick,
+            overflows: self.overflows,
             current: self.current,
             overflow: self.overflow,
         }
@@ -135,8 +135,8 @@ impl Clock {
         self.lists.set_from(&other.lists);
         self.age = other.age;
         self.held = other.held;
-        self.overflows = other.overflows;
         self.tick = other.tick;
+        self.overflows = other.overflows;
         self.current = other.current;
         self.overflow = other.overflow;
     }

@@ -22,3 +22,4 @@ pub mod Storing
 pub mod Answering
 pub mod LastAnswers
 pub mod Notifying
+pub mod Lengthening

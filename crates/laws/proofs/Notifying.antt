@@ -125,6 +125,14 @@ ready_waits_not (WaitingForNotification n d) h = absurd (cc)
 ready_waits_not Suspended h = refl
 ready_waits_not Ended h = refl
 
+pub ready_there : (s : State) (i : ℕ) → is_ready s i ≡ true → i < length s.tasks
+ready_there s i is = by_test (ltb i (length s.tasks))
+    (λ t. ltb-true i (length s.tasks) t)
+    (λ t.
+    let none : task_at s i ≡ no_task = get_or_past s.tasks i no_task (ltb-false i (length s.tasks) t) in
+    let f : is_ready s i ≡ false = ap (λ (u : Task). is_some (ticket_if_ready u.status)) none in
+    absurd (cc))
+
 ready_then : (s : State) (i : ℕ) → i < length s.tasks → is_ready (make_ready i s) i ≡ true
 ready_then s i l =
     ap (λ (u : Task). is_some (ticket_if_ready u.status))
@@ -194,14 +202,7 @@ ready-back j (Some i) s h = by_test (is_ready s i)
     let apart : j ≢ i = (λ same. let f : eqb j i ≡ true = rw same (eqb-refl i) in absurd (cc)) in
     ap (λ (u : Task). is_some (ticket_if_ready u.status))
     (get_or-set_other s.tasks i j (record (task_at s i) { status = Ready s.next_ticket }) no_task apart) ∙ h)))
-    (λ t. rw t h) where
-      ready_there : (s : State) (i : ℕ) → is_ready s i ≡ true → i < length s.tasks
-      ready_there s i is = by_test (ltb i (length s.tasks))
-          (λ t. ltb-true i (length s.tasks) t)
-          (λ t.
-          let none : task_at s i ≡ no_task = get_or_past s.tasks i no_task (ltb-false i (length s.tasks) t) in
-          let f : is_ready s i ≡ false = ap (λ (u : Task). is_some (ticket_if_ready u.status)) none in
-          absurd (cc))
+    (λ t. rw t h)
 
 ready-choose : (j : ℕ) (s : State) → is_ready s j ≡ true → is_ready (choose s) j ≡ true
 unfolding choose dispatch

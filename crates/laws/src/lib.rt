@@ -49,10 +49,10 @@ pub use sections::{
 pub use stamps::{stamps_measure_time, stamps_stay, stamps_take_no_time};
 pub use states::{
     choice_in_words, idle_runs_alone, idle_sleeps_past_nothing,
-    idle_sleeps_until_something_happens, no_one_outranks_after_a_tick, no_switch_while_held,
-    priorities_are_at_least_those_of_the_file, running_task_is_ready, sleepers_wake_later,
-    states_are_sound, steps_keep_states_sound, tickets_differ, ticks_pass_up_to_the_limit,
-    time_is_start_and_elapsed,
+    idle_sleeps_until_something_happens, injected_ticks_are_ticks_of_work,
+    no_one_outranks_after_a_tick, no_switch_while_held, priorities_are_at_least_those_of_the_file,
+    running_task_is_ready, sleepers_wake_later, states_are_sound, steps_keep_states_sound,
+    tickets_differ, ticks_pass_up_to_the_limit, time_is_start_and_elapsed,
 };
 pub use values::{
     arithmetic_is_modular, last_answers_stay_in_a_call, loads_find_what_was_stored,

@@ -1,5 +1,5 @@
 //! What is true of the states that a run comes to.
-ghost use Rattle.std.specs.Prelude.{◌≡◌, ◌<◌, ◌≤◌, ◌+◌, ◌++◌, ◌⊎◌, ℕ, filter_map, map, max, length, true, false, List, [], Some, None, IfSome};
+ghost use Rattle.std.specs.Prelude.{◌≡◌, ◌<◌, ◌≤◌, ◌+◌, ◌++◌, ◌⊎◌, ℕ, filter_map, map, max, length, true, false, List, [], ◌∷◌, Some, None, IfSome};
 ghost use Rattle.std.specs.List.{AllByRecursion, Contains};
 ghost use Rattle.std.specs.Option.{is_some};
 ghost use Rattle.model.specs.declared.call.Phase.{Phase};
@@ -7,15 +7,16 @@ ghost use Rattle.model.specs.declared.plan.Injection.{Injection};
 ghost use Rattle.model.specs.Application.{Application, Interrupt, Limits, definition_of, interrupts_at};
 ghost use Rattle.model.specs.Scripts.{IsWellFormed};
 ghost use Rattle.model.specs.State.{State, Task, status_at, task_at, ticket_of, wake_time_of};
-ghost use Rattle.model.specs.Switching.{choice, holds_ticks, is_held, is_ready, is_outranked};
+ghost use Rattle.model.specs.Switching.{choice, holds_ticks, is_critical, is_held, is_ready, is_outranked};
 ghost use Rattle.model.specs.Time.{increment_tick};
+ghost use Rattle.model.specs.Ops.{use_up};
 ghost use Rattle.model.specs.Waiting.{end_hold};
 ghost use Rattle.model.specs.Handlers.{idle, inject, pending_of, tick_interrupt};
 ghost use Rattle.model.specs.Step.{before_step, step};
 ghost use Rattle.model.specs.Run.{state_after};
-ghost use Rattle.model.specs.Invariant.{IsState};
+ghost use Rattle.model.specs.Invariant.{IsNonePending, IsState};
 ghost use Rattle.laws.specs.Choice.{IsChoice};
-ghost use Rattle.laws.specs.Ticks.{ticks_among};
+ghost use Rattle.laws.specs.Ticks.{ticks_among, with_steps, WorksOn};
 
 /// The choice is a Ready task; none is of higher priority, and none of equal priority came earlier. It is idle only
 /// where no task is Ready.
@@ -83,6 +84,15 @@ pub fn ticks_pass_up_to_the_limit()
     ensures limit { (app : Application) (limits : Limits) (sources : List ℕ) (s : State)
         → s.elapsed < limits.ticks
         → (step app limits sources s).elapsed ≤ limits.ticks + ticks_among app (pending_of s ++ sources) }
+{}
+
+/// A tick that is injected before a step of `work` is a tick of that work: it leads to the state to which a step of the work leads
+/// that has a tick more to go, but for the number of steps.
+pub fn injected_ticks_are_ticks_of_work()
+    // A tick of the work is used up in the state into which the tick is injected, and not in the other one.
+    ensures { (app : Application) (limits : Limits) (s : State) (task ticks : ℕ) → WorksOn app s task ticks
+        → is_critical s ≡ false → IsNonePending s
+        → with_steps (s.steps + 1) (before_step app (length app.handlers ∷ []) (use_up app task ticks s)) ≡ step app limits [] s }
 {}
 
 /// Idle sleeps past nothing. However many ticks pass in its step, they don't go past the time at which a task is to wake by

@@ -68,6 +68,13 @@ module _ (app : Application) (s : State) (none : holds_ticks s ≡ false) where
 
 -- ---- the tick
 
+pub settled_tick : (app : Application) (s : State) → is_held s ≡ false → holds_ticks s ≡ false
+    → IsSettled s → IsSettled (tick_interrupt app s)
+unfolding tick_interrupt told come
+settled_tick app s none off h =
+    subst IsSettled (sym (when_free slice (told app s off) (held-told app s ∙ none)))
+    (settled-slice (told app s off) (told_settled app s off h))
+
 module _ (app : Application) (formed : IsWellFormed app) where
   all_between : (handlers : List ℕ) (s : State) → IsState app s → IsState app (for_each (handle app) handlers s)
   all_between [] s h = h
@@ -102,12 +109,6 @@ module _ (app : Application) (formed : IsWellFormed app) where
       (interrupted_between (increment_tick s) (held_between s on h))
 
   -- or it isn't
-  settled_tick : (s : State) → is_held s ≡ false → holds_ticks s ≡ false → IsSettled s → IsSettled (tick_interrupt app s)
-  unfolding tick_interrupt told come
-  settled_tick s none off h =
-      subst IsSettled (sym (when_free slice (told app s off) (held-told app s ∙ none)))
-      (settled-slice (told app s off) (told_settled app s off h))
-
   running_ready : (s : State) → IsState app s → is_held s ≡ false → IsSettled s
   running_ready s h none = by_current s.current h.runs where
     by_current : (r : Option ℕ) → RunsIn app s r → IfSome r (λ task. is_ready s task ≡ true)
@@ -124,7 +125,7 @@ module _ (app : Application) (formed : IsWellFormed app) where
       (ticked app formed free s (sound_free app formed s h off.0) (h.locked off.0))
       (hold-tick app s ∙ same)
       (suspension-tick app s ticks ∙ calm_now app formed s h none)
-      (settled_tick s none ticks (running_ready s h none))
+      (settled_tick app s none ticks (running_ready s h none))
 
   -- A tick that comes before a step before which no critical section is open.
   pub ticked_between : (s : State) → is_critical s ≡ false → IsState app s → IsState app (tick_interrupt app s)
