@@ -242,5 +242,5 @@ class Applications:
         parts += [self.task(it) for it in "ab"]
         parts += [self.daemon()] if self.has_daemon else []
         parts += self.interrupts()
-        parts.append(f'[limits]\n{self.limit_of_ticks()}steps = 300\n[campaign]\npoints = ["all h", "all k", "7 h", "30 h"]')
+        parts.append(f'[limits]\n{self.limit_of_ticks()}steps = 300\n[campaign]\npoints = ["all h", "all k", "7 h", "30 h", "all k from 20 to 24"]')
         return "\n".join(it for it in parts if it) + "\n"

@@ -45,7 +45,7 @@ def top_of(path):
 # What the schema doesn't say. To it 1.0 is an integer; `initial` is compared with no `max`; objects of several sections aren't
 # counted together, nor interrupts of one tick, nor the daemon with the tasks; nor are the steps of a point compared.
 NOT_IN_SCHEMA = re.compile(
-    r"= 1\.0|initial = 3|'[0-9]+ \w+ [0-9]+ \w+( [0-9]+ \w+)?'|^(Unknown|Double)Name|^BadNesting|^OverwriteLength|^NoDaemon"
+    r"= 1\.0|initial = 3|'[0-9]+ \w+ [0-9]+ \w+( [0-9]+ \w+)?'|from 2 to 1'|^(Unknown|Double)Name|^BadNesting|^OverwriteLength|^NoDaemon"
     r"|^TooMany: (interrupt 4|mutex|counting|binary|daemon)"
 )
 

@@ -167,6 +167,9 @@ def too_many_points():
     holds(found, f"{FILE}:9:1: campaign, points: 1,000,001 points, and a campaign has at most 1,000,000; the base run has ")
     holds(found, "       rtosim: too many points\n")
     equal(said(TASK + HANDLER + points("all h"), StandIn(steps=1000000)), "")
+    most = TASK + HANDLER + points("all h from 1 to 1000000", "all h from 7 to 7")
+    equal(said(most, StandIn(steps=1000000)), "")
+    holds(said(most.replace("to 7", "to 8"), StandIn(steps=1000000)), "1,000,001 points, and a campaign has at most 1,000,000")
     if HAS_PROGRAM:
         long = TASK.replace('"mark 7"', '"repeat 1000", "work 1000", "end"') + HANDLER
         equal(said(long + points("all h"), Program(PROGRAM)), "")

@@ -3,7 +3,7 @@ from __future__ import annotations
 
 from typing import Dict, Iterator, List, Optional, Tuple
 
-from .formats import DAEMON, NAME, NAMED, NUMBER, SECTIONS, TICK
+from .formats import DAEMON, NAME, NAMED, NUMBER, SECTIONS, STEP, TICK
 from .nodes import Array, Integer, Table, Text
 
 
@@ -68,11 +68,22 @@ class Application:
         return 0 if self.has_handler(TICK) else max(ticks, default=0)
 
 
-def pairs_of(text: str) -> List[Tuple[Optional[int], str]]:
-    """A point's text as pairs of a step and a handler; of `all HANDLER` the step is None."""
+def range_of(text: str) -> Optional[Tuple[str, int, int]]:
+    """The handler of `all HANDLER` or `all HANDLER from A to B`, and its first and its last step; None if the text is another point."""
     words = [it for it in text.split(" ") if it]
     if len(words) == 2 and words[0] == "all":
-        return [(None, words[1])]
+        return words[1], STEP.least, STEP.most
+    if len(words) == 6 and words[0] == "all" and STEP.fits(words[3]) and STEP.fits(words[5]):
+        return words[1], int(words[3]), int(words[5])
+    return None
+
+
+def pairs_of(text: str) -> List[Tuple[Optional[int], str]]:
+    """A point's text as pairs of a step and a handler; of `all HANDLER`, with steps or without, the step is None."""
+    found = range_of(text)
+    if found:
+        return [(None, found[0])]
+    words = [it for it in text.split(" ") if it]
     return [(int(step), handler) for step, handler in zip(words[::2], words[1::2]) if NUMBER.fullmatch(step)]
 
 

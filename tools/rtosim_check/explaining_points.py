@@ -6,7 +6,7 @@ from typing import Any, List, Optional, Tuple
 
 from .application import Application
 from .context import Context
-from .formats import A_POINT, DAEMON, MEANT_TICK, MOST_PAIRS, NAME, SEVERAL, STEP, TICK, Word, words_of
+from .formats import A_POINT, A_RANGE, DAEMON, MEANT_TICK, MOST_PAIRS, NAME, SEVERAL, STEP, TICK, Word, words_of
 from .nearness import did_you_mean, near, quoted
 from .nodes import Integer, Text
 from .problem import Explanation
@@ -67,8 +67,13 @@ def bad_point(context: Context) -> Optional[Explanation]:
         return None
     words = words_of(node.value)
     problem, start, end = problem_of(words, context) or ("the program doesn't accept this point", 0, 0)
-    rule = SEVERAL if len(words) > 3 and words[0][0] != "all" and context.takes_several() else A_POINT
-    return node.part(start, end) if end else node.span, told(context, problem), rule
+    return node.part(start, end) if end else node.span, told(context, problem), rule_of(words, context)
+
+
+def rule_of(words: List[Word], context: Context) -> str:
+    if len(words) > 2 and words[0][0] == "all":
+        return A_RANGE
+    return SEVERAL if len(words) > 3 and context.takes_several() else A_POINT
 
 
 def problem_of(words: List[Word], context: Context) -> Optional[Word]:
@@ -109,9 +114,28 @@ def problem_of_all(words: List[Word], application: Application) -> Optional[Word
         return f'"{first}" needs a handler; did you mean "all {example(application)}"?', start, end
     if first != "all":
         return f'expected a step or all, found "{first}"; did you mean "all {words[1][0]}"?', start, end
-    if len(words) > 2:
-        return "nothing may follow all HANDLER", words[2][1], words[-1][2]
-    return problem_of_name(words[1])
+    return problem_of_name(words[1]) or (problem_of_steps(words[1][0], words[2:]) if len(words) > 2 else None)
+
+
+def problem_of_steps(handler: str, words: List[Word]) -> Optional[Word]:
+    """What is wrong with the words after `all HANDLER`."""
+    texts = [it for it, _, _ in words]
+    if len(texts) != 4 or texts[::2] != ["from", "to"]:
+        return f'only from STEP to STEP may follow all HANDLER{meant_steps(handler, " ".join(texts))}', words[0][1], words[-1][2]
+    first, last = words[1], words[3]
+    wrong = next((it for it in (first, last) if not STEP.fits(it[0])), None)
+    if wrong:
+        return problem_of_number(wrong) or (f'expected a step, 0 to {STEP.most}, found "{wrong[0]}"', wrong[1], wrong[2])
+    if int(last[0]) < int(first[0]):
+        return f"the range ends at step {last[0]}, before its first step {first[0]}", last[1], last[2]
+    return None
+
+
+def meant_steps(handler: str, text: str) -> str:
+    """The range that is meant by other words for its steps, such as `3-9`, as a question; empty if none is."""
+    found = re.fullmatch(r"(?:from )?([0-9]+)(?: ?(?:-|\.\.\.?|to|until) ?| )([0-9]+)", text.lower())
+    is_range = found and STEP.fits(found[1]) and STEP.fits(found[2]) and int(found[1]) <= int(found[2])
+    return did_you_mean(quoted(f"all {handler} from {found[1]} to {found[2]}")) if found and is_range else ""
 
 
 def problem_of_odd(words: List[Word], application: Application) -> Word:
@@ -129,18 +153,27 @@ def problem_of_step(step: Word, handler: Word) -> Optional[Word]:
     word, start, end = step
     if STEP.fits(word):
         return None
-    if re.fullmatch("[0-9]+", word):
-        why = "more than ten digits" if len(word) > 10 else f"out of range: {STEP.least} to {STEP.most}"
-        return f"step {word} is {why}" if len(word) <= 10 else f"step {word} has {why}", start, end
-    if re.fullmatch("0[xX][0-9A-Fa-f]+", word):
-        return f"{word} isn't a decimal number; did you mean {int(word, 16)}?", start, end
+    found = problem_of_number(step)
+    if found:
+        return found
     if re.fullmatch(r"[0-9]+(\.\.\.?|-|to)[0-9]+", word):
-        return f'"{word}" isn\'t a step: a point names one step, and all HANDLER each step of the base run', start, end
+        return f'"{word}" isn\'t a step{meant_steps(handler[0], word)}', start, end
     if word.lower() in ("*", "every", "each", "any"):
         return f'expected a step or all, found "{word}"; did you mean "all {handler[0]}"?', start, end
     if STEP.fits(handler[0]):
         return f'expected the step first; did you mean "{handler[0]} {word}"?', start, end
     return f'expected a step, 0 to {STEP.most}, or all, found "{word}"', start, end
+
+
+def problem_of_number(step: Word) -> Optional[Word]:
+    """What is wrong with a step that is written as a number."""
+    word, start, end = step
+    if re.fullmatch("[0-9]+", word):
+        why = "more than ten digits" if len(word) > 10 else f"out of range: {STEP.least} to {STEP.most}"
+        return f"step {word} is {why}" if len(word) <= 10 else f"step {word} has {why}", start, end
+    if re.fullmatch("0[xX][0-9A-Fa-f]+", word):
+        return f"{word} isn't a decimal number; did you mean {int(word, 16)}?", start, end
+    return None
 
 
 def problem_of_name(word: Word) -> Optional[Word]:

@@ -531,7 +531,9 @@ STEP = Number("STEP", 0, 1000000, "a number")
 # In a point it is the tick interrupt, unless a handler has this name.
 TICK = "tick"
 MEANT_TICK = dict.fromkeys(("systick", "sys_tick", "tick_interrupt", "xtaskincrementtick", "tick_isr"), TICK)
-A_POINT = 'a point is a step, 0 to 1000000, and a handler or tick, such as "12 uart", or "all uart" for each step of the base run'
+A_POINT = 'a point is a step, 0 to 1000000, and a handler or tick, such as "12 uart", or "all uart" for each step of the base run, \
+or "all uart from 3 to 9" for these'
+A_RANGE = 'a range of points is all, a handler or tick, from, its first step, to, and its last step, such as "all uart from 3 to 9"'
 SEVERAL = 'a point is one to three pairs of a step and a handler or tick, with steps in order, such as "12 uart 15 timer"'
 MOST_PAIRS = 3
 # How many of them the schema takes, which is for this version alone.

@@ -184,9 +184,11 @@ class Mending:
         for campaign in self.entries("campaign"):
             points: Any = campaign.get("points")
             for at, text in enumerate(points if isinstance(points, list) else []):
-                words = text.split(" ") if isinstance(text, str) else []
-                if name in words[1:]:
-                    points[at] = " ".join([*words[:1], *(good if it == name else it for it in words[1:])])
+                words = [it for it in text.split(" ") if it] if isinstance(text, str) else []
+                # of a range the one word after `all`
+                handlers = range(1, 2 if words[:1] == ["all"] else len(words), 2)
+                if any(words[it] == name for it in handlers if it < len(words)):
+                    points[at] = " ".join(good if it == name and place in handlers else it for place, it in enumerate(words))
 
     def plain_op(self, place: Place) -> None:
         self.ops(place)[place.at] = HARMLESS[place.section]

@@ -74,7 +74,9 @@ def ops_schema(section: str) -> Dict[str, Union[List[Dict[str, str]], str]]:
 def points_schema() -> Dict[str, Union[List[Dict[str, str]], str]]:
     pair = (number_pattern(STEP.least, STEP.most), NAME)
     pairs = [text_of(*pair * count) for count in range(1, PAIRS + 1)]
-    return {"type": "string", "description": A_POINT, "anyOf": [text_of("all", NAME), *pairs]}
+    step = number_pattern(STEP.least, STEP.most)
+    ranges = [text_of("all", NAME), text_of("all", NAME, "from", step, "to", step)]
+    return {"type": "string", "description": A_POINT, "anyOf": [*ranges, *pairs]}
 
 
 def key_schema(section: Any, key: Key) -> Dict[str, Any]:

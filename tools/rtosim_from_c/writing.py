@@ -94,7 +94,9 @@ def points_of(unit: Unit) -> List[str]:
     found = []
     for text, place in unit.directives.points:
         words = text.split()
-        found.append(" ".join(handler_name(unit, it, place) if at % 2 else it for at, it in enumerate(words)))
+        # of a range the one word after `all`
+        handlers = range(1, 2 if words[:1] == ["all"] else len(words), 2)
+        found.append(" ".join(handler_name(unit, it, place) if at in handlers else it for at, it in enumerate(words)))
     return found
 
 

@@ -1,11 +1,12 @@
 //! The points of a file, one by one.
-ghost use Rattle.std.specs.Prelude.{◌≡◌, ◌≤◌, ◌<◌, ◌^◌, ◌++◌, ◌∷◌, [], length, IfOk, IfErr, OnOk, OnErr, MatchOption};
+ghost use Rattle.std.specs.Prelude.{◌≡◌, ◌≤◌, ◌<◌, ◌+◌, ◌-◌, ◌^◌, ◌++◌, ◌∷◌, [], length, min, IfOk, IfErr, OnOk, OnErr, MatchOption};
 ghost use Rattle.std.specs.List.{flat_map};
 ghost use Rattle.model.specs.Scripts.{most_points};
-ghost use Rattle.model.specs.Campaign.{every_step, points_of, points_in};
+ghost use Rattle.model.specs.Campaign.{points_of, points_in};
+ghost use Rattle.model.specs.declared.plan.PointEntry.TheVariants.{Each};
 ghost use Rattle.campaign.specs.Points.{IsExpandFault};
 
-use model::{App, HandlerId, Memory, Point, PointEntry, Run};
+use model::{App, Memory, Point, PointEntry, PointRange, Run};
 use std::alloc::Global;
 
 /// Why the points of a file are not listed.
@@ -17,6 +18,17 @@ pub enum ExpandFault {
     Memory,
 }
 
+// The step after the last one of a range that a run of this many steps has.
+fn end_of(range: PointRange, steps: u32) -> u32
+    ensures { result ≡ min steps (range.last + 1) }
+{
+    if range.last < steps {
+        range.last + 1
+    } else {
+        steps
+    }
+}
+
 // How many points an entry means, if the base run has this many steps.
 fn count_of(entry: &PointEntry, steps: u32) -> usize
     ensures count { result ≡ length (points_of steps entry.now) }
@@ -24,7 +36,7 @@ fn count_of(entry: &PointEntry, steps: u32) -> usize
 {
     match entry {
         PointEntry::One(_) => 1,
-        PointEntry::Every(_) => steps as usize,
+        PointEntry::Each(range) => end_of(*range, steps).saturating_sub(range.first) as usize,
     }
 }
 
@@ -51,11 +63,13 @@ fn push_point(points: &mut Vec<Point>, point: &Point) -> Result<(), Memory>
     Ok(())
 }
 
-// Appends the points of a handler before each step.
-fn push_every(points: &mut Vec<Point>, handler: HandlerId, steps: u32) -> Result<(), Memory>
-    ensures { OnOk result (points.new.items ≡ points.old.items ++ every_step handler steps) }
+// Appends the points of a range.
+fn push_each(points: &mut Vec<Point>, range: PointRange, steps: u32) -> Result<(), Memory>
+    ensures { OnOk result (points.new.items ≡ points.old.items ++ points_of steps (Each range)) }
 {
-    for step in 0..steps {
+    let PointRange { handler, first, .. } = range;
+    let end = end_of(range, steps);
+    for step in first..end {
         push_point(points, &Point::one(step, handler))?;
     }
     Ok(())
@@ -67,7 +81,7 @@ fn push_entry(points: &mut Vec<Point>, entry: &PointEntry, steps: u32) -> Result
 {
     match entry {
         PointEntry::One(point) => push_point(points, point),
-        PointEntry::Every(handler) => push_every(points, *handler, steps),
+        PointEntry::Each(range) => push_each(points, *range, steps),
     }
 }
 
@@ -95,8 +109,8 @@ fn points_from(
     Ok(points)
 }
 
-/// The points of an application's campaign, in the order of the file: `all` means every step of the base run, which is
-/// this one. `TooManyPoints` is found before memory is taken.
+/// The points of an application's campaign, in the order of the file: `all` means steps of the base run, which is this
+/// one. `TooManyPoints` is found before memory is taken.
 pub fn expand(alloc: Global, app: &App, base: &Run) -> Result<Vec<Point>, ExpandFault>
     ensures points { IfOk result (λ points. (points.items ≡ points_in app.now base.now.steps)
         × (length points.items ≤ most_points)) }

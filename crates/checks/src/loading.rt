@@ -3,7 +3,7 @@
 use model::{
     Access, AnswerCondition, App, Arithmetic, Command, Condition, GroupId, HandlerId, IsrOp,
     NotificationClear, NotificationMasks, NotificationWait, NotifyAction, ObjectId, ObjectKind, Op,
-    Point, PointEntry, TaskId, Value, ValueOp, VariableId,
+    Point, PointEntry, PointRange, TaskId, Value, ValueOp, VariableId,
 };
 use script::FromDocument;
 use std::alloc::Global;
@@ -565,6 +565,7 @@ const POINTS: &str = "
 [campaign]
 points = [
     '0 h', '  00  h ', 'all h', '1000000 all', '0001000000 h', '0 all', 'all all', ' all   h', '5 h', '0 h',
+    'all h from 2 to 5', ' all  all from 0 to 0001000000 ', 'all h from 7 to 7',
 ]
 
 [[handler]]
@@ -587,17 +588,27 @@ fn points_are_loaded(rt: HostRuntime) {
     let h = HandlerId { number: 0 };
     let all = HandlerId { number: 1 };
     let at = |step: u32, handler: HandlerId| PointEntry::One(Point::one(step, handler));
+    let each = |handler: HandlerId, first: u32, last: u32| {
+        PointEntry::Each(PointRange {
+            handler,
+            first,
+            last,
+        })
+    };
     let points = [
         at(0, h),
         at(0, h),
-        PointEntry::Every(h),
+        each(h, 0, 1_000_000),
         at(1_000_000, all),
         at(1_000_000, h),
         at(0, all),
-        PointEntry::Every(all),
-        PointEntry::Every(h),
+        each(all, 0, 1_000_000),
+        each(h, 0, 1_000_000),
         at(5, h),
         at(0, h),
+        each(h, 2, 5),
+        each(all, 0, 1_000_000),
+        each(h, 7, 7),
     ];
     assert!(rt; app.points() == points.as_slice());
 }

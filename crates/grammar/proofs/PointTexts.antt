@@ -1,6 +1,6 @@
 -- What is read of an entry's words is what the grammar of points spells.
-use Rattle.std.proofs.Common.{◌≡◌, ◌≤◌, ◌<◌, ◌+◌, ◌++◌, ℕ, Bool, true, false, cond, leb, ltb, List, [], ◌∷◌, length, map, Option}
-use Rattle.std.proofs.Common.{Some, None, refl, ap, sym, subst, ◌∙◌, inl, inr, option_map, arith}
+use Rattle.std.proofs.Common.{◌≡◌, ◌≤◌, ◌<◌, ◌+◌, ◌++◌, ◌&&◌, ℕ, Bool, true, false, cond, leb, ltb, List, [], ◌∷◌, length, map}
+use Rattle.std.proofs.Common.{Option, Some, None, refl, ap, sym, subst, ◌∙◌, inl, inr, option_map, arith}
 use Rattle.std.specs.Prelude.{option_and_then, codes}
 use Rattle.std.specs.List.{AllByRecursion, position_from}
 use Rattle.std.specs.Option.{option_map_or}
@@ -10,15 +10,16 @@ use Rattle.std.proofs.lemmas.List.{append_assoc, length-append}
 use Rattle.std.proofs.lemmas.Slice.Eq.{bytes_eq-Decides}
 use Rattle.model.specs.declared.plan.Injection.{Injection}
 use Rattle.model.specs.declared.plan.PointEntry.{PointEntry}
-use Rattle.model.specs.declared.plan.PointEntry.TheVariants.{One, Every}
+use Rattle.model.specs.declared.plan.PointEntry.TheVariants.{One, Each}
 use Rattle.model.specs.Points.{AreInOrder, IsPoint, most_of_point}
 use Rattle.model.specs.Scripts.{last_point}
 use Rattle.model.proofs.Sorting.{by_test}
 use Rattle.grammar.specs.Grammar.{Word, number_of}
 use Rattle.grammar.specs.Names.{is_name, index_of}
-use Rattle.grammar.specs.Points.{SpellsEntry, SpellsInjections, RawEntry, RawPair, RawOne, RawEvery, all_known, all_there}
-use Rattle.grammar.specs.Points.{entry_from, entry_of, falls_from, if_named, if_point, if_step, injection_at, is_formed, known}
-use Rattle.grammar.specs.Points.{may_be_point, name_of_every, raw_at, raw_of, raw_pair, raw_pairs}
+use Rattle.grammar.specs.Points.{SpellsEntry, SpellsInjections, SpellsSteps, RawEntry, RawPair, RawSpan, RawOne, RawEach}
+use Rattle.grammar.specs.Points.{after_all, all_known, all_there, entry_from, entry_of, falls_from, if_point, if_step, injection_at}
+use Rattle.grammar.specs.Points.{is_formed, known, may_be_point, range_at, raw_at, raw_each, raw_of, raw_pair, raw_pairs, span_at}
+use Rattle.grammar.specs.Points.{span_between, span_of, span_of_steps, step_of}
 use Rattle.grammar.proofs.Reading.{chosen}
 
 -- ---- two words
@@ -215,12 +216,109 @@ no_number w step number = by_test (bytes_eq w (codes "all"))
     cc)
     (λ t. t)
 
-pairs_have_no_all : (names ws : List Word) (is : List Injection) → SpellsInjections names is ws → name_of_every ws ≡ None
+pairs_have_no_all : (names ws : List Word) (is : List Injection) → SpellsInjections names is ws → after_all ws ≡ None
 pairs_have_no_all names [] is h = refl
-pairs_have_no_all names (w ∷ []) is h = refl
-pairs_have_no_all names (w ∷ name ∷ v ∷ vs) is h = refl
-pairs_have_no_all names (w ∷ name ∷ []) [] h = absurd h
-pairs_have_no_all names (w ∷ name ∷ []) (i ∷ is) h = rw (no_number w i.step h.0) refl
+pairs_have_no_all names (w ∷ []) [] h = absurd h
+pairs_have_no_all names (w ∷ []) (i ∷ is) h = absurd h
+pairs_have_no_all names (w ∷ name ∷ ws) [] h = absurd h
+pairs_have_no_all names (w ∷ name ∷ ws) (i ∷ is) h = rw (no_number w i.step h.0) refl
+
+-- ---- a range
+
+-- They spell this range, whose handler is still a name.
+abbrev IsSpan : List Word → RawSpan → Type 0
+IsSpan [] span = ⊥
+IsSpan (name ∷ ws) span = (is_name name ≡ true) × (name ≡ span.handler) × SpellsSteps span.first span.last ws
+
+may_be_step : (m n : ℕ) (b : Bool) → leb m last_point ≡ b → cond b (Some m) None ≡ Some n → (m ≡ n) × (n ≤ last_point)
+may_be_step m n true few e =
+    let same : m ≡ n = cc in
+    (same, subst (λ k. k ≤ last_point) same (leb-true m last_point few))
+may_be_step m n false few e = cc
+
+number_sound : (o : Option ℕ) (n : ℕ) → option_and_then if_step o ≡ Some n → (o ≡ Some n) × (n ≤ last_point)
+number_sound None n e = cc
+number_sound (Some m) n e = let is = may_be_step m n (leb m last_point) refl e in (ap Some is.0, is.1)
+
+step_sound : (w : Word) (n : ℕ) → step_of w ≡ Some n → (number_of w ≡ Some n) × (n ≤ last_point)
+step_sound w n e = number_sound (number_of w) n e
+
+step_complete : (w : Word) (n : ℕ) → number_of w ≡ Some n → n ≤ last_point → step_of w ≡ Some n
+step_complete w n number few =
+    ap (option_and_then if_step) number ∙ ap (λ b. cond b (Some n) None) (le-leb n last_point few)
+
+-- What is read of two steps is this range.
+abbrev IsBetween : Word → Option ℕ → Option ℕ → RawSpan → Type 0
+IsBetween name a b span = (name ≡ span.handler) × (a ≡ Some span.first) × (b ≡ Some span.last) × (span.first ≤ span.last)
+
+rising_span : (name : Word) (first last : ℕ) (span : RawSpan) (b : Bool) → leb first last ≡ b
+    → cond b (Some (span_at name first last)) None ≡ Some span → IsBetween name (Some first) (Some last) span
+rising_span name first last span true is e =
+    let same : span_at name first last ≡ span = cc in
+    subst (IsBetween name (Some first) (Some last)) same (refl, refl, refl, leb-true first last is)
+rising_span name first last span false is e = cc
+
+between_sound : (name : Word) (a b : Option ℕ) (span : RawSpan) → span_between name a b ≡ Some span → IsBetween name a b span
+between_sound name None b span e = cc
+between_sound name (Some first) None span e = cc
+between_sound name (Some first) (Some last) span e = rising_span name first last span (leb first last) refl e
+
+from_to_sound : (name from a to b : Word) (span : RawSpan) → span_of_steps name (from ∷ a ∷ to ∷ b ∷ []) ≡ Some span
+    → (name ≡ span.handler) × SpellsSteps span.first span.last (from ∷ a ∷ to ∷ b ∷ [])
+from_to_sound name from a to b span e =
+    elim (chosen (bytes_eq from (codes "from") && bytes_eq to (codes "to")) _ _ _ e) [
+      | inl here ↦
+          let words = and_parts (bytes_eq from (codes "from")) _ here.0 in
+          let between = between_sound name (step_of a) (step_of b) span here.1 in
+          let first = step_sound a span.first between.1 in
+          let last = step_sound b span.last between.2 in
+          let is_from = (bytes_eq-Decides from (codes "from")).0 words.0 in
+          let is_to = (bytes_eq-Decides to (codes "to")).0 words.1 in
+          (between.0, (is_from, first.0, is_to, last.0, between.3, last.1))
+      | inr later ↦ let none = later.1 in cc
+    ]
+
+steps_sound : (name : Word) (ws : List Word) (span : RawSpan) → span_of_steps name ws ≡ Some span
+    → (name ≡ span.handler) × SpellsSteps span.first span.last ws
+steps_sound name [] span e =
+    let same : span_at name 0 last_point ≡ span = cc in
+    subst (λ (s : RawSpan). (name ≡ s.handler) × SpellsSteps s.first s.last []) same (refl, (refl, refl))
+steps_sound name (from ∷ []) span e = cc
+steps_sound name (from ∷ a ∷ []) span e = cc
+steps_sound name (from ∷ a ∷ to ∷ []) span e = cc
+steps_sound name (from ∷ a ∷ to ∷ b ∷ []) span e = from_to_sound name from a to b span e
+steps_sound name (from ∷ a ∷ to ∷ b ∷ w ∷ ws) span e = cc
+
+steps_complete : (name : Word) (ws : List Word) (first last : ℕ) → SpellsSteps first last ws
+    → span_of_steps name ws ≡ Some (span_at name first last)
+steps_complete name [] first last h = rw (h.0, h.1) refl
+steps_complete name (from ∷ []) first last h = absurd h
+steps_complete name (from ∷ a ∷ []) first last h = absurd h
+steps_complete name (from ∷ a ∷ to ∷ []) first last h = absurd h
+steps_complete name (from ∷ a ∷ to ∷ b ∷ []) first last h =
+    let rising : first ≤ last = h.4 in
+    let few : last ≤ last_point = h.5 in
+    let one : first ≤ last_point = omega (arith, rising, few) in
+    rw (
+      (bytes_eq-Decides from (codes "from")).1 h.0,
+      (bytes_eq-Decides to (codes "to")).1 h.2,
+      step_complete a first h.1 one,
+      step_complete b last h.3 few,
+      le-leb first last rising,
+    ) refl
+steps_complete name (from ∷ a ∷ to ∷ b ∷ w ∷ ws) first last h = absurd h
+
+span_sound : (ws : List Word) (span : RawSpan) → span_of ws ≡ Some span → IsSpan ws span
+span_sound [] span e = cc
+span_sound (name ∷ ws) span e = elim (chosen (is_name name) _ _ _ e) [
+  | inl here ↦ let steps = steps_sound name ws span here.1 in (here.0, steps.0, steps.1)
+  | inr later ↦ let none = later.1 in cc
+]
+
+span_complete : (name : Word) (ws : List Word) (first last : ℕ) → is_name name ≡ true → SpellsSteps first last ws
+    → span_of (name ∷ ws) ≡ Some (span_at name first last)
+span_complete name ws first last t h =
+    ap (λ b. cond b (span_of_steps name ws) None) t ∙ steps_complete name ws first last h
 
 -- ---- an entry
 
@@ -231,15 +329,15 @@ found made (Some x) y e = (x, refl, cc)
 -- The words spell this entry, whose handlers are still names.
 abbrev IsRaw : RawEntry → List Word → Type 0
 IsRaw (RawOne ps) ws = (raw_pairs ws ≡ Some ps) × (may_be_point ps ≡ true)
-IsRaw (RawEvery handler) (w ∷ name ∷ []) = (w ≡ codes "all") × (is_name name ≡ true) × (name ≡ handler)
-IsRaw (RawEvery handler) ws = ⊥
+IsRaw (RawEach span) [] = ⊥
+IsRaw (RawEach span) (w ∷ ws) = (w ≡ codes "all") × IsSpan ws span
 
-every_raw : (w name : Word) (raw : RawEntry) (b : Bool) → is_name name ≡ b → w ≡ codes "all"
-    → cond b (Some (RawEvery name)) None ≡ Some raw → IsRaw raw (w ∷ name ∷ [])
-every_raw w name raw true t all e =
-    let same : RawEvery name ≡ raw = cc in
-    subst (λ r. IsRaw r (w ∷ name ∷ [])) same (all, t, refl)
-every_raw w name raw false t all e = cc
+each_raw : (w : Word) (ws : List Word) (o : Option RawSpan) (raw : RawEntry) → span_of ws ≡ o → w ≡ codes "all"
+    → option_map RawEach o ≡ Some raw → IsRaw raw (w ∷ ws)
+each_raw w ws None raw read all e = cc
+each_raw w ws (Some span) raw read all e =
+    let same : RawEach span ≡ raw = cc in
+    subst (λ r. IsRaw r (w ∷ ws)) same (all, span_sound ws span read)
 
 one_raw : (ws : List Word) (ps : List RawPair) (raw : RawEntry) (b : Bool) → may_be_point ps ≡ b → raw_pairs ws ≡ Some ps
     → cond b (Some (RawOne ps)) None ≡ Some raw → IsRaw raw ws
@@ -253,22 +351,20 @@ pairs_raw : (ws : List Word) (o : Option (List RawPair)) (raw : RawEntry)
 pairs_raw ws None raw pairs e = cc
 pairs_raw ws (Some ps) raw pairs e = one_raw ws ps raw (may_be_point ps) refl pairs e
 
-two_raw : (w name : Word) (raw : RawEntry) (b : Bool) → bytes_eq w (codes "all") ≡ b
-    → option_map_or if_named (cond b (Some name) None) (option_and_then if_point (raw_pairs (w ∷ name ∷ []))) ≡ Some raw
-    → IsRaw raw (w ∷ name ∷ [])
-two_raw w name raw true all e = every_raw w name raw (is_name name) refl ((bytes_eq-Decides w (codes "all")).0 all) e
-two_raw w name raw false all e = pairs_raw (w ∷ name ∷ []) (raw_pairs (w ∷ name ∷ [])) raw refl e
+word_raw : (w : Word) (ws : List Word) (raw : RawEntry) (b : Bool) → bytes_eq w (codes "all") ≡ b
+    → option_map_or raw_each (cond b (Some ws) None) (option_and_then if_point (raw_pairs (w ∷ ws))) ≡ Some raw
+    → IsRaw raw (w ∷ ws)
+word_raw w ws raw true all e = each_raw w ws (span_of ws) raw refl ((bytes_eq-Decides w (codes "all")).0 all) e
+word_raw w ws raw false all e = pairs_raw (w ∷ ws) (raw_pairs (w ∷ ws)) raw refl e
 
 raw_sound : (ws : List Word) (raw : RawEntry) → raw_of ws ≡ Some raw → IsRaw raw ws
 raw_sound [] raw e = pairs_raw [] (raw_pairs []) raw refl e
-raw_sound (w ∷ []) raw e = pairs_raw (w ∷ []) (raw_pairs (w ∷ [])) raw refl e
-raw_sound (w ∷ name ∷ []) raw e = two_raw w name raw (bytes_eq w (codes "all")) refl e
-raw_sound (w ∷ name ∷ v ∷ vs) raw e = pairs_raw (w ∷ name ∷ v ∷ vs) (raw_pairs (w ∷ name ∷ v ∷ vs)) raw refl e
+raw_sound (w ∷ ws) raw e = word_raw w ws raw (bytes_eq w (codes "all")) refl e
 
 -- The injections of an entry that was read may be a point.
 formed_raw : (ws : List Word) (raw : RawEntry) → IsRaw raw ws → is_formed raw ≡ true
 formed_raw ws (RawOne ps) h = h.1
-formed_raw ws (RawEvery name) h = refl
+formed_raw ws (RawEach span) h = refl
 
 pub formed : (ws : List Word) (raw : RawEntry) → raw_of ws ≡ Some raw → is_formed raw ≡ true
 formed ws raw e = formed_raw ws raw (raw_sound ws raw e)
@@ -277,22 +373,21 @@ one_spelled : (names ws : List Word) (ps : List RawPair) (is : List Injection)
     → IsRaw (RawOne ps) ws → AreKnown names ps is → SpellsEntry names (One is) ws
 one_spelled names ws ps is raw h = (is_point names ps is h raw.1, spelled names ws ps is (pairs_sound ws ps raw.0) h)
 
-every_spelled : (names ws : List Word) (name : Word) (handler : ℕ) → IsRaw (RawEvery name) ws → index_of name names ≡ Some handler
-    → SpellsEntry names (Every handler) ws
-every_spelled names [] name handler raw index = absurd raw
-every_spelled names (w ∷ []) name handler raw index = absurd raw
-every_spelled names (w ∷ word ∷ []) name handler raw index =
-    (raw.0, raw.1, subst (λ n. index_of n names ≡ Some handler) (sym raw.2) index)
-every_spelled names (w ∷ word ∷ v ∷ vs) name handler raw index = absurd raw
+each_spelled : (names ws : List Word) (span : RawSpan) (handler : ℕ) → IsRaw (RawEach span) ws
+    → index_of span.handler names ≡ Some handler → SpellsEntry names (range_at span handler) ws
+each_spelled names [] span handler raw index = absurd raw
+each_spelled names (w ∷ []) span handler raw index = absurd raw.1
+each_spelled names (w ∷ name ∷ ws) span handler raw index =
+    (raw.0, raw.1.0, subst (λ n. index_of n names ≡ Some handler) (sym raw.1.1) index, raw.1.2)
 
 from_raw : (names ws : List Word) (raw : RawEntry) (entry : PointEntry)
     → IsRaw raw ws → entry_from names raw ≡ Some entry → SpellsEntry names entry ws
 from_raw names ws (RawOne ps) entry raw e =
     let f = found One (all_known names ps) entry e in
     subst (λ x. SpellsEntry names x ws) f.2 (one_spelled names ws ps f.0 raw (known_sound names ps f.0 f.1))
-from_raw names ws (RawEvery name) entry raw e =
-    let f = found Every (index_of name names) entry e in
-    subst (λ x. SpellsEntry names x ws) f.2 (every_spelled names ws name f.0 raw f.1)
+from_raw names ws (RawEach span) entry raw e =
+    let f = found (range_at span) (index_of span.handler names) entry e in
+    subst (λ x. SpellsEntry names x ws) f.2 (each_spelled names ws span f.0 raw f.1)
 
 read_sound : (names ws : List Word) (o : Option RawEntry) (entry : PointEntry) → raw_of ws ≡ o
     → option_and_then (entry_from names) o ≡ Some entry → SpellsEntry names entry ws
@@ -307,7 +402,7 @@ one_complete : (names ws : List Word) (is : List Injection) → IsPoint is
 one_complete names ws is point h =
     let r = read names ws is h in
     let may = may_be names r.0 is r.2 point in
-    ap (λ o. option_and_then (entry_from names) (option_map_or if_named o (option_and_then if_point (raw_pairs ws))))
+    ap (λ o. option_and_then (entry_from names) (option_map_or raw_each o (option_and_then if_point (raw_pairs ws))))
     (pairs_have_no_all names ws is h)
     ∙ ap (λ o. option_and_then (entry_from names) (option_and_then if_point o)) r.1
     ∙ ap (λ b. option_and_then (entry_from names) (cond b (Some (RawOne r.0)) None)) may
@@ -315,16 +410,16 @@ one_complete names ws is point h =
 
 pub complete : (names ws : List Word) (entry : PointEntry) → SpellsEntry names entry ws → entry_of names ws ≡ Some entry
 complete names ws (One is) h = one_complete names ws is h.0 h.1
-complete names [] (Every handler) h = absurd h
-complete names (w ∷ []) (Every handler) h = absurd h
-complete names (w ∷ name ∷ []) (Every handler) h =
+complete names [] (Each range) h = absurd h
+complete names (w ∷ []) (Each range) h = absurd h
+complete names (w ∷ name ∷ ws) (Each range) h =
+    let span = span_at name range.first range.last in
     ap (λ b.
     option_and_then (entry_from names)
-    (option_map_or if_named (cond b (Some name) None) (option_and_then if_point (raw_pairs (w ∷ name ∷ [])))))
+    (option_map_or raw_each (cond b (Some (name ∷ ws)) None) (option_and_then if_point (raw_pairs (w ∷ name ∷ ws)))))
     ((bytes_eq-Decides w (codes "all")).1 h.0)
-    ∙ ap (λ b. option_and_then (entry_from names) (cond b (Some (RawEvery name)) None)) h.1
-    ∙ ap (option_map Every) h.2
-complete names (w ∷ name ∷ v ∷ vs) (Every handler) h = absurd h
+    ∙ ap (λ o. option_and_then (entry_from names) (option_map RawEach o)) (span_complete name ws range.first range.last h.1 h.3)
+    ∙ ap (option_map (range_at span)) h.2
 
 -- ---- words that are read with no handler's name in view
 
@@ -362,9 +457,9 @@ spelled_with : (ws : List Word) (raw : RawEntry) → IsRaw raw ws
 spelled_with ws (RawOne ps) raw =
     let known = known_by_their_names [] ps in
     (names_in ps, One known.0, one_spelled (names_in ps) ws ps known.0 raw known.1)
-spelled_with ws (RawEvery name) raw =
-    let index = index_from name 0 [] [] in
-    (name ∷ [], Every index.0, every_spelled (name ∷ []) ws name index.0 raw index.1)
+spelled_with ws (RawEach span) raw =
+    let index = index_from span.handler 0 [] [] in
+    (span.handler ∷ [], range_at span index.0, each_spelled (span.handler ∷ []) ws span index.0 raw index.1)
 
 pub with_some_names : (ws : List Word) (raw : RawEntry) → raw_of ws ≡ Some raw
     → (names : List Word) × (entry : PointEntry) × SpellsEntry names entry ws

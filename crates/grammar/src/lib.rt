@@ -14,4 +14,4 @@ pub use name::is_name;
 pub use object_sort::ObjectSort;
 pub use op_text::{isr_op_of, op_grammar, op_of};
 pub use point_text::{points_grammar, read_point};
-pub use raw_point::{RawInjection, RawPoint};
+pub use raw_point::{RawInjection, RawPoint, RawRange};

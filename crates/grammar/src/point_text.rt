@@ -3,10 +3,10 @@ ghost use Rattle.std.specs.Prelude.{◌≡◌, ◌≢◌, ◌≤◌, [], ◌∷�
 ghost use Rattle.model.specs.declared.plan.PointEntry.{PointEntry};
 ghost use Rattle.model.specs.Scripts.{last_point};
 ghost use Rattle.grammar.specs.Grammar.{number_of, words_of};
-ghost use Rattle.grammar.specs.Points.{SpellsEntry, RawEntry, all_there, entry_of, falls_from, if_point, if_step, name_of_every, pair_view, raw_of, raw_pair, raw_pairs, raw_view};
+ghost use Rattle.grammar.specs.Points.{SpellsEntry, RawEntry, after_all, all_there, entry_of, falls_from, if_point, pair_view, raw_of, raw_pair, raw_pairs, raw_view, span_between, span_of, span_of_steps, span_view, step_of};
 
 use crate::name::is_name;
-use crate::raw_point::{RawInjection, RawPoint};
+use crate::raw_point::{RawInjection, RawPoint, RawRange};
 use crate::words::{Words, number_of};
 use arrayvec::ArrayVec;
 
@@ -15,7 +15,7 @@ const LAST_STEP: u32 = 1_000_000;
 
 // The step that a word writes, if an injection may be before it.
 fn step_of(word: &[u8]) -> Option<u32>
-    ensures step { result ≡ option_and_then if_step (number_of word.now) }
+    ensures step { result ≡ step_of word.now }
     ensures range { IfSome result (λ n. n ≤ last_point) }
 {
     let step = number_of(word)?;
@@ -87,17 +87,66 @@ fn read_one(text: &[u8]) -> Option<RawPoint<'_>>
     Some(RawPoint::One(pairs))
 }
 
-// The name after `all`, if a text is these two words.
-fn name_of_every(text: &[u8]) -> Option<&[u8]>
-    ensures { option_map (λ name. name.now) result ≡ name_of_every (words_of text.now) }
+// The words after `all`, if that is the first one of a text.
+fn after_all(text: &[u8]) -> Option<Words<'_>>
+    ensures { result ≡ after_all (words_of text.now) }
 {
     let mut words = Words::new(text);
-    let first = words.next()?;
-    if first != b"all".as_slice() {
+    if words.next()? == b"all".as_slice() {
+        Some(words)
+    } else {
+        None
+    }
+}
+
+// The range of a handler from the step that one word writes to that of another.
+fn range_between<'a>(handler: &'a [u8], first: &[u8], last: &[u8]) -> Option<RawRange<'a>>
+    ensures { option_map span_view result ≡ span_between handler.now (step_of first.now) (step_of last.now) }
+{
+    let first = step_of(first)?;
+    let last = step_of(last)?;
+    if first > last {
         return None;
     }
-    let name = words.next()?;
-    if words.is_at_end() { Some(name) } else { None }
+    Some(RawRange {
+        handler,
+        first,
+        last,
+    })
+}
+
+// The range of a handler whose steps the words spell.
+fn range_of_steps<'a>(handler: &'a [u8], words: &mut Words<'_>) -> Option<RawRange<'a>>
+    ensures { option_map span_view result ≡ span_of_steps handler.now words.old }
+{
+    if words.is_at_end() {
+        return Some(RawRange {
+            handler,
+            first: 0,
+            last: LAST_STEP,
+        });
+    }
+    let from = words.next()?;
+    let first = words.next()?;
+    let to = words.next()?;
+    let last = words.next()?;
+    if words.is_at_end() && from == b"from".as_slice() && to == b"to".as_slice() {
+        range_between(handler, first, last)
+    } else {
+        None
+    }
+}
+
+// The range that the words after `all` spell.
+fn range_of<'a>(words: &mut Words<'a>) -> Option<RawRange<'a>>
+    ensures { option_map span_view result ≡ span_of words.old }
+{
+    let handler = words.next()?;
+    if is_name(handler) {
+        range_of_steps(handler, words)
+    } else {
+        None
+    }
 }
 
 /// The entry that a text spells, if some handlers have its names; `None` if it spells none,
@@ -105,14 +154,10 @@ fn name_of_every(text: &[u8]) -> Option<&[u8]>
 pub fn read_point(text: &[u8]) -> Option<RawPoint<'_>>
     ensures { option_map raw_view result ≡ raw_of (words_of text.now) }
 {
-    let Some(name) = name_of_every(text) else {
+    let Some(mut words) = after_all(text) else {
         return read_one(text);
     };
-    if is_name(name) {
-        Some(RawPoint::Every(name))
-    } else {
-        None
-    }
+    Some(RawPoint::Each(range_of(&mut words)?))
 }
 
 /// What the reader of points takes is what the grammar spells, and `BadOp` is for words that spell no entry, whatever

@@ -22,11 +22,19 @@ impl Default for RawInjection<'_> {
     }
 }
 
+/// A range of steps whose handler is still a name: from the first to the last, both included.
+#[derive(Clone, Copy)]
+pub struct RawRange<'a> {
+    pub handler: &'a [u8],
+    pub first: u32,
+    pub last: u32,
+}
+
 /// An entry of points whose handlers are still names.
 #[derive(Drop)]
 pub enum RawPoint<'a> {
     /// A point of these injections.
     One(ArrayVec<RawInjection<'a>, 3>),
-    /// Every step, with this handler.
-    Every(&'a [u8]),
+    /// The points of a handler before each of these steps.
+    Each(RawRange<'a>),
 }

@@ -1,11 +1,11 @@
 -- A campaign: a run for each injection point, and how many of them end in which way.
-use Rattle.std.specs.Prelude.{◌≡◌, ℕ, Bool, true, false, not, List, [], ◌∷◌, length, map, filter}
+use Rattle.std.specs.Prelude.{◌≡◌, ℕ, ◌+◌, ◌-◌, Bool, true, false, not, min, List, [], ◌∷◌, length, map, filter}
 use Rattle.std.specs.List.{AllByRecursion, flat_map, range_with_len}
 use Rattle.model.specs.declared.event.End.{End}
 use Rattle.model.specs.declared.event.End.TheVariants.{Pass, Check, HandlerCheck, Misuse, Ticks, Steps, Stuck}
 use Rattle.model.specs.declared.plan.Injection.{Injection}
 use Rattle.model.specs.declared.plan.PointEntry.{PointEntry}
-use Rattle.model.specs.declared.plan.PointEntry.TheVariants.{One, Every}
+use Rattle.model.specs.declared.plan.PointEntry.TheVariants.{One, Each}
 use Rattle.model.specs.declared.totals.Totals.{Totals}
 use Rattle.model.specs.Application.{Application, Limits}
 use Rattle.model.specs.Run.{Run, IsRow}
@@ -16,14 +16,14 @@ use Rattle.model.specs.Run.{Run, IsRow}
 abbrev pub one_point : (handler step : ℕ) → List Injection
 one_point handler step = record { step = step; handler = handler } ∷ []
 
--- the points of a handler before each of this many steps, from the first on
-abbrev pub every_step : (handler steps : ℕ) → List (List Injection)
-every_step handler steps = map (one_point handler) (range_with_len 0 steps)
+-- the steps from the first of these to the last, both included, that a run of this many steps has
+abbrev pub steps_within : (steps first last : ℕ) → List ℕ
+steps_within steps first last = range_with_len first (min steps (last + 1) - first)
 
 -- the points that an entry of the file means, if the base run has this many steps
 abbrev pub points_of : (steps : ℕ) → PointEntry → List (List Injection)
 points_of steps (One point) = point ∷ []
-points_of steps (Every handler) = every_step handler steps
+points_of steps (Each range) = map (one_point range.handler) (steps_within steps range.first range.last)
 
 -- the points of a file, in its order
 abbrev pub points_in : Application → (steps : ℕ) → List (List Injection)

@@ -23,7 +23,7 @@ use Rattle.model.specs.declared.op.IsrOp.{IsrOp}
 use Rattle.model.specs.declared.op.IsrOp.TheVariants as isr
 use Rattle.model.specs.declared.plan.Injection.{Injection}
 use Rattle.model.specs.declared.plan.PointEntry.{PointEntry}
-use Rattle.model.specs.declared.plan.PointEntry.TheVariants.{One, Every}
+use Rattle.model.specs.declared.plan.PointEntry.TheVariants.{One, Each}
 use Rattle.model.specs.Points.{IsPoint}
 use Rattle.model.specs.Blocks.{Nests, NestsSoFar, edges_of, isr_edges_of}
 use Rattle.model.specs.Application.{Application, Handler, Interrupt, Definition, interrupts_at, of_file, commands_of, script_of}
@@ -294,11 +294,13 @@ pub record IsInterrupt (app : Application) (interrupt : Interrupt) : Type 0 wher
   pub last : interrupt.tick ≤ last_interrupt
   pub handler : interrupt.handler < length app.handlers
 
--- an entry of points that an application may have (profile: its limits): of its handlers, and of the tick
+-- an entry of points that an application may have (profile: its limits): of its handlers, or of the tick, before steps up to the
+-- last one; of a range the first step isn't after the last
 abbrev pub IsPointEntry : Application → PointEntry → Type 0
 IsPointEntry app (One point) =
     IsPoint point × AllByRecursion (λ (i : Injection). (i.step ≤ last_point) × (i.handler ≤ length app.handlers)) point
-IsPointEntry app (Every handler) = handler ≤ length app.handlers
+IsPointEntry app (Each range) =
+    (range.handler ≤ length app.handlers) × (range.first ≤ range.last) × (range.last ≤ last_point)
 
 -- a task that an application may have (profile: its limits)
 pub record IsDefinition (task : Definition) : Type 0 where

@@ -36,7 +36,7 @@ pub use notification::{
 };
 pub use object::ObjectKind;
 pub use op::{Access, Command, IsrOp, Op};
-pub use plan::{BadPlan, BadPoint, Injection, Injections, Plan, Point, PointEntry};
+pub use plan::{BadPlan, BadPoint, Injection, Injections, Plan, Point, PointEntry, PointRange};
 pub use run::{Ending, Memory, Run};
 pub use script::{NestingFault, Script, ScriptBuilder};
 pub use totals::Totals;

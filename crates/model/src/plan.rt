@@ -193,13 +193,22 @@ impl Injections {
     }
 }
 
+/// A handler and steps from 0: it is injected before each step from the first to the last, both included, in a run of its own for each.
+/// If the base run doesn't have a step, there is no point for it.
+#[derive(Clone, Copy, PartialEq, Eq)]
+pub struct PointRange {
+    pub handler: HandlerId,
+    pub first: u32,
+    pub last: u32,
+}
+
 /// An entry of the list of points that a file has for its campaign.
 #[derive(Clone, Copy, PartialEq, Eq)]
 pub enum PointEntry {
     /// This point.
     One(Point),
-    /// The points of this handler before every step of the base run, in order.
-    Every(HandlerId),
+    /// The points of a handler before each of these steps that the base run has, in order.
+    Each(PointRange),
 }
 
 /// Why some injections are no plan.

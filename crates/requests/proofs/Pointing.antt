@@ -12,9 +12,8 @@ use Rattle.std.proofs.lemmas.Str.{IsUtf8-from_ascii}
 use Rattle.grammar.specs.declared.raw_point.RawInjection.{RawInjection}
 use Rattle.grammar.specs.Grammar.{Word, number_of}
 use Rattle.grammar.specs.Names.{is_name, is_name_byte}
-use Rattle.grammar.specs.Points.{RawEntry, RawEvery, RawOne, RawPair, all_there, falls_from, if_named, if_point, if_step}
-use Rattle.grammar.specs.Points.{may_be_point}
-use Rattle.grammar.specs.Points.{name_of_every, pair_view, raw_at, raw_of, raw_pair, raw_pairs}
+use Rattle.grammar.specs.Points.{RawEntry, RawEach, RawOne, RawPair, RawSpan, after_all, all_there, falls_from, if_point, if_step}
+use Rattle.grammar.specs.Points.{may_be_point, pair_view, raw_at, raw_each, raw_of, raw_pair, raw_pairs, span_of}
 use Rattle.model.specs.Points.{Rises}
 use Rattle.requests.specs.Asked.{is_rising}
 
@@ -57,22 +56,22 @@ if_one (Some qs) ps e = by (may_be_point qs) refl e
     by true may same = let is : qs ≡ ps = cc in (ap Some is, subst (λ (rs : List RawPair). may_be_point rs ≡ true) is may)
     by false may same = absurd (cc same)
 
-no_every : (name : Word) (ps : List RawPair) → if_named name ≡ Some (RawOne ps) → ⊥
-no_every name ps e = by (is_name name) e
+no_each : (ws : List Word) (ps : List RawPair) → raw_each ws ≡ Some (RawOne ps) → ⊥
+no_each ws ps e = by (span_of ws) e
   where
-    by : (b : Bool) → cond b (Some (RawEvery name)) None ≡ Some (RawOne ps) → ⊥
-    by true same = cc same
-    by false same = cc same
+    by : (o : Option RawSpan) → option_map RawEach o ≡ Some (RawOne ps) → ⊥
+    by (Some span) same = cc same
+    by None same = cc same
 
 -- What spells a point is pairs that may be one.
 pub of_pairs : (ws : List Word) (ps : List RawPair) → raw_of ws ≡ Some (RawOne ps)
     → (raw_pairs ws ≡ Some ps) × (may_be_point ps ≡ true)
-of_pairs ws ps e = by (name_of_every ws) e
+of_pairs ws ps e = by (after_all ws) e
   where
-    by : (o : Option Word) → option_map_or if_named o (option_and_then if_point (raw_pairs ws)) ≡ Some (RawOne ps)
+    by : (o : Option (List Word)) → option_map_or raw_each o (option_and_then if_point (raw_pairs ws)) ≡ Some (RawOne ps)
         → (raw_pairs ws ≡ Some ps) × (may_be_point ps ≡ true)
     by None same = if_one (raw_pairs ws) ps same
-    by (Some name) same = absurd (no_every name ps same)
+    by (Some after) same = absurd (no_each after ps same)
 
 -- ---- their names
 

@@ -2,7 +2,7 @@
 use Rattle.std.specs.Prelude.{Bool, not, List, [], ◌∷◌, map, Option, Some, None}
 use Rattle.clap.specs.Words.{Text}
 use Rattle.grammar.specs.Grammar.{words_of}
-use Rattle.grammar.specs.Points.{RawEntry, RawEvery, RawOne, RawPair, falls_from, raw_of}
+use Rattle.grammar.specs.Points.{RawEntry, RawEach, RawOne, RawPair, falls_from, raw_of}
 use Rattle.requests.specs.declared.at.At.{At}
 use Rattle.requests.specs.declared.at.NamedInjections.{NamedInjections}
 use Rattle.requests.specs.declared.at.NamedInjections.TheVariants.{One, Two, Three}
@@ -27,7 +27,7 @@ names_in pairs = map (λ (p : RawPair). p.handler) pairs
 abbrev pub pairs_of_entry : Option RawEntry → Option (List RawPair)
 pairs_of_entry None = None
 pairs_of_entry (Some (RawOne pairs)) = Some pairs
-pairs_of_entry (Some (RawEvery handler)) = None
+pairs_of_entry (Some (RawEach span)) = None
 
 -- the injections of the point that a text spells, as a file has it
 abbrev pub pairs_spelled : Text → Option (List RawPair)

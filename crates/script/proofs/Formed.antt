@@ -8,7 +8,7 @@ use Rattle.std.proofs.lemmas.List.{append-nil, append_assoc, length-map, length-
 use Rattle.toml.specs.Data.{Data, Members, as_str, as_integer, as_table, get_member}
 use Rattle.model.specs.declared.plan.Injection.{Injection}
 use Rattle.model.specs.declared.plan.PointEntry.{PointEntry}
-use Rattle.model.specs.declared.plan.PointEntry.TheVariants.{One, Every}
+use Rattle.model.specs.declared.plan.PointEntry.TheVariants.{One, Each}
 use Rattle.model.specs.Application.{Application, Interrupt, interrupts_at}
 use Rattle.model.specs.Points.{IsPoint}
 use Rattle.model.specs.Scripts.{IsInterrupt, IsPointEntry, last_interrupt, last_point, most_at_once, most_interrupts, most_points}
@@ -26,7 +26,7 @@ use Rattle.script.specs.Values.{member_of}
 use Rattle.script.specs.Arrays.{array_of, elements_of, tables, each_fault, section_fault}
 use Rattle.script.specs.Sections.{data_at}
 use Rattle.grammar.specs.Grammar.{Word, words_of}
-use Rattle.grammar.specs.Points.{SpellsEntry, SpellsInjections, entry_of}
+use Rattle.grammar.specs.Points.{SpellsEntry, SpellsInjections, SpellsSteps, entry_of}
 use Rattle.script.specs.Points.{entry_named, point_elements, points_fault, campaign_fault, campaign_named}
 use Rattle.script.specs.Interrupts.{count_at, interrupt_named, interrupt_keys, interrupts_fault, interrupts_named}
 use Rattle.script.proofs.Checks.{none_fails, passes}
@@ -197,7 +197,7 @@ few_come app tick few =
 abbrev IsEntry : (handlers : ℕ) → PointEntry → Type 0
 IsEntry handlers (One point) =
     IsPoint point × AllByRecursion (λ (i : Injection). (i.step ≤ last_point) × (i.handler < handlers)) point
-IsEntry handlers (Every handler) = handler < handlers
+IsEntry handlers (Each range) = (range.handler < handlers) × (range.first ≤ range.last) × (range.last ≤ last_point)
 
 spelled_injections : (names ws : List Word) (is : List Injection) → SpellsInjections names is ws
     → AllByRecursion (λ (i : Injection). (i.step ≤ last_point) × (i.handler < length names)) is
@@ -209,12 +209,24 @@ spelled_injections names (w ∷ []) (i ∷ is) h = absurd h
 spelled_injections names (w ∷ name ∷ ws) (i ∷ is) h =
     ((h.1, let below = below_from 0 name names i.handler h.3 in omega arith), spelled_injections names ws is h.4)
 
+spelled_steps : (first last : ℕ) (ws : List Word) → SpellsSteps first last ws → (first ≤ last) × (last ≤ last_point)
+spelled_steps first last [] h =
+    let from_start : first ≡ 0 = h.0 in
+    let to_end : last ≡ last_point = h.1 in
+    (omega (arith, from_start), omega (arith, to_end))
+spelled_steps first last (from ∷ []) h = absurd h
+spelled_steps first last (from ∷ a ∷ []) h = absurd h
+spelled_steps first last (from ∷ a ∷ to ∷ []) h = absurd h
+spelled_steps first last (from ∷ a ∷ to ∷ b ∷ []) h = (h.4, h.5)
+spelled_steps first last (from ∷ a ∷ to ∷ b ∷ w ∷ ws) h = absurd h
+
 spelled_entry : (names ws : List Word) (entry : PointEntry) → SpellsEntry names entry ws → IsEntry (length names) entry
 spelled_entry names ws (One point) h = (h.0, spelled_injections names ws point h.1)
-spelled_entry names [] (Every handler) h = absurd h
-spelled_entry names (w ∷ []) (Every handler) h = absurd h
-spelled_entry names (w ∷ name ∷ []) (Every handler) h = let below = below_from 0 name names handler h.2 in omega arith
-spelled_entry names (w ∷ name ∷ v ∷ vs) (Every handler) h = absurd h
+spelled_entry names [] (Each range) h = absurd h
+spelled_entry names (w ∷ []) (Each range) h = absurd h
+spelled_entry names (w ∷ name ∷ ws) (Each range) h =
+    let steps = spelled_steps range.first range.last ws h.3 in
+    (let below = below_from 0 name names range.handler h.2 in omega arith, steps.0, steps.1)
 
 text_entry : (names : List Word) (text : Option (List ℕ)) (entry : PointEntry)
     → option_and_then (λ text. entry_of names (words_of text)) text ≡ Some entry → IsEntry (length names) entry
@@ -291,4 +303,4 @@ pub are_entries : (app : Application) (points : List PointEntry) → AllByRecurs
     → AllByRecursion (IsPointEntry app) points
 are_entries app [] h = tt
 are_entries app (One point ∷ points) h = ((h.0.0, up_to (length app.handlers) point h.0.1), are_entries app points h.1)
-are_entries app (Every handler ∷ points) h = (let less = h.0 in omega arith, are_entries app points h.1)
+are_entries app (Each range ∷ points) h = ((let less = h.0.0 in omega arith, h.0.1, h.0.2), are_entries app points h.1)

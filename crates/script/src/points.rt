@@ -1,6 +1,7 @@
 //! The points of a document's campaign.
 ghost use Rattle.std.specs.Prelude.{◌≡◌, ◌≤◌, [], map, filter_map, length, option_map, true, vec_capacity, Some};
-ghost use Rattle.grammar.specs.Points.{all_known, entry_from, is_formed, may_be_point, pair_view, raw_view};
+ghost use Rattle.model.specs.declared.plan.PointEntry.TheVariants.{Each};
+ghost use Rattle.grammar.specs.Points.{RawEach, all_known, entry_from, is_formed, may_be_point, pair_view, raw_view, span_view};
 ghost use Rattle.toml.specs.View.{view, table_view};
 ghost use Rattle.script.specs.Faults.{Judges, Loads, seen};
 ghost use Rattle.script.specs.Arrays.{each_fault, elements_of};
@@ -13,8 +14,8 @@ use crate::interrupts::source_among;
 use crate::place::{Key, Place, Section};
 use crate::values::{array, at_key, at_section};
 use arrayvec::ArrayVec;
-use grammar::{RawInjection, RawPoint, read_point};
-use model::{App, Injection, Point, PointEntry};
+use grammar::{RawInjection, RawPoint, RawRange, read_point};
+use model::{App, Injection, Point, PointEntry, PointRange};
 use std::alloc::Global;
 use toml::{Table, Value};
 
@@ -48,6 +49,18 @@ fn point_of(pairs: &[RawInjection<'_>], entries: &NamedEntries<'_>) -> Option<Po
     Point::new(injections.as_slice()).ok()
 }
 
+// The range, if there is a handler of its name.
+fn range_of(raw: &RawRange<'_>, entries: &NamedEntries<'_>) -> Option<PointRange>
+    ensures { option_map Each result ≡ entry_from (source_names (entries_view entries.now)) (RawEach (span_view raw.now)) }
+{
+    let handler = source_among(entries, raw.handler)?;
+    Some(PointRange {
+        handler,
+        first: raw.first,
+        last: raw.last,
+    })
+}
+
 // The entry, if there are handlers of its names.
 fn known_entry(raw: &RawPoint<'_>, entries: &NamedEntries<'_>) -> Option<PointEntry>
     requires { is_formed (raw_view raw.now) ≡ true }
@@ -55,7 +68,7 @@ fn known_entry(raw: &RawPoint<'_>, entries: &NamedEntries<'_>) -> Option<PointEn
 {
     match raw {
         RawPoint::One(pairs) => Some(PointEntry::One(point_of(pairs.as_slice(), entries)?)),
-        RawPoint::Every(name) => Some(PointEntry::Every(source_among(entries, name)?)),
+        RawPoint::Each(range) => Some(PointEntry::Each(range_of(range, entries)?)),
     }
 }
 
