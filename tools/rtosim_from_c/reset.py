@@ -165,7 +165,8 @@ class Reset:
         for it in members:
             if it:
                 yield from self.leaves(f"{name}.{it}")
-        elements = self.elements(declaration) if self.unit.constants.structure(trees.element(declaration)) is not None else 0
+        is_table = self.unit.constants.structure(trees.element(declaration)) is not None or self.unit.arrays.is_followed(name)
+        elements = self.elements(declaration) if is_table else 0
         for at in range(elements):
             yield from self.leaves(f"{name}[{at}]")
         if not members and not elements:

@@ -5,6 +5,7 @@ from typing import Dict, Iterator, List, Optional, Union
 from . import trees
 from .addresses import SOMEWHERE, Escaped, is_address, shown
 from .answers import NUMBERS
+from .arrays import shape
 from .calls import Argument, Call
 from .expressions import not_set
 from .fields import ONE_TARGET, Member
@@ -90,10 +91,11 @@ class Shared(Structures):
         leaves = list(self.unit.reset.leaves(where.name.replace(ANY, "[0]")))
         if not any(isinstance(self.unit.fields.of(it), (Member, Value)) for it in leaves):
             return
-        why = f"`{array}` isn't followed: in line {self.place(node).line} which element this is isn't known"
+        why = Lost(f"`{array}` isn't followed: in line {self.place(node).line} which element this is isn't known", instead=KNOWN_INDEX,
+                   array=None if self.unit.arrays.is_followed(array) else shape(array))
         if self.has_other_forms:
-            raise LostUse(self.place(node), Lost(why, instead=KNOWN_INDEX))
-        if self.unit.fields.unfollow(array, Lost(why, instead=KNOWN_INDEX)):
+            raise LostUse(self.place(node), why)
+        if self.unit.fields.unfollow(array, why):
             raise Escaped()
 
     # -- what is there
