@@ -5,6 +5,7 @@ from typing import TYPE_CHECKING, Dict, FrozenSet, Iterator, List, Optional, Set
 
 from . import trees
 from .integers import WRITTEN, Integer
+from .refusals import Lost
 
 if TYPE_CHECKING:
     from .unit import Unit
@@ -12,6 +13,7 @@ if TYPE_CHECKING:
 # How many elements an array has at most that a variable index is followed in, and one of constants.
 MOST_FOLLOWED, MOST_CONSTANTS = 16, 64
 INDEX = re.compile(r"\[[^\]]*\]")
+ONE_ARRAY = "an index, or a pointer that has the address of one array wherever it is used"
 STEPS = ("++", "--", "p++", "p--")
 # A local by its function, a global, or a member of any structure.
 Name = Tuple[str, str]
@@ -41,7 +43,14 @@ class Arrays:
         return True
 
     def is_followed(self, name: str) -> bool:
-        return bool(self.followed) and shape(name) in self.followed
+        return bool(self.followed) and shape(name) in self.followed and self.unit.fields.why_not(name) is None
+
+    def unfollow_all(self, member: Optional[str], line: int) -> bool:
+        """Follows no array any more that a pointer may lead to which isn't known, or no member of this name; false if there was none."""
+        found = [it for it in self.followed if member is None or it.split(".")[-1] == member]
+        why = f"line {line} writes by a pointer that isn't known"
+        names = [it if "[" not in it else trees.root(it) for it in found]
+        return any([self.unit.fields.unfollow(it, Lost(f"`{it}` isn't followed: {why}", instead=ONE_ARRAY)) for it in names])
 
     def is_named(self, node: object) -> bool:
         """Whether a node names an array that is followed."""
@@ -54,10 +63,8 @@ class Arrays:
     # -- bounds
 
     def bound(self, function: str, node: object) -> Optional[int]:
-        """The greatest number that a name or a member has, if all that gives it a value says so by itself; None otherwise."""
-        node = trees.plain(node)
-        name = self.name_of(function, node)
-        return self.bound_of(name, frozenset()) if name is not None else None
+        """The greatest number that an index may be, if it and all that gives its names values say so; None otherwise."""
+        return self.greatest(function, node, frozenset())
 
     def name_of(self, function: str, node: object) -> Optional[Name]:
         if trees.kind(node) == "StructRef":

@@ -13,6 +13,7 @@ HANDLES = {"QueueHandle_t": "queue", "SemaphoreHandle_t": "semaphore", "EventGro
 ESCAPES = {"n": 10, "t": 9, "r": 13, "0": 0, "\\": 92, "'": 39, '"': 34, "a": 7, "b": 8, "f": 12, "v": 11}
 SUFFIX = re.compile(r"[uUlL]*$")
 ESCAPE = re.compile(r"\\(?:x[0-9a-fA-F]+|[0-7]{1,3}|.)")
+CHARACTER = re.compile(f"{ESCAPE.pattern}|[^\\\\]")
 POINTER = Integer(64, False)
 # What a declaration may be of: integers, a handle by its kind, or another thing by its name.
 Type = Union[Integer, str]
@@ -242,6 +243,12 @@ def type_of_literal(number: int, is_unsigned: bool, is_long_long: bool, is_decim
         if number <= it.greatest:
             return it
     return types[-1]
+
+
+def text_numbers(node: object) -> Optional[List[int]]:
+    """The characters of a text; None for anything else."""
+    is_text = trees.kind(node) == "Constant" and node.value.startswith('"')
+    return [character(it) for it in CHARACTER.findall(node.value[1:-1])] if is_text else None
 
 
 def character(text: str) -> int:

@@ -6,9 +6,9 @@ from dataclasses import replace
 from typing import Callable, Dict, Iterator, List, Optional, Set, Tuple, Union
 
 from . import trees
-from .addresses import NOWHERE, Escaped, is_address
+from .addresses import NOWHERE, SOMEWHERE, Escaped, is_address
 from .answers import NOTHING, Answers
-from .arrays import MOST_CONSTANTS, MOST_FOLLOWED, shape
+from .arrays import MOST_CONSTANTS, MOST_FOLLOWED, STEPS, shape
 from .expressions import NOT_SET
 from .families import Target
 from .integers import INT, UNSIGNED, Integer
@@ -17,10 +17,12 @@ from .pointees import OF_ITS_TYPE, Pointees
 from .refusals import Lost, LostUse
 from .shared import ANY, is_shared
 from .unit import Handler, Task, Unit
-from .values import Address, Known, Reference, Stored, Value, binary, constant, converted, lost, truth
+from .values import Address, Known, Reference, Stored, Value, binary, constant, converted, lost, the_answer, truth
 
 SMALLER = "an array with fewer elements, by `#ifdef RTOSIM`"
 HELD = "held@"
+MOVED = ("is led to by a pointer that was moved", "a constant index, or the array itself with an index")
+MOST_CASES = 8
 # The last answers for each element that an index means; None for what is beyond the array.
 Part = Tuple[Answers, Optional[int]]
 
@@ -34,6 +36,8 @@ class Elements(Pointees):
         self.local_arrays: Set[str] = set()
         # Indices that are computed once for a read and a write.
         self.held: Dict[object, str] = {}
+        # Arrays in which an index that isn't constant was followed.
+        self.arrays_named: List[str] = []
         # What an index is at most, by its key, if that is known.
         self.bounds: Dict[str, Optional[int]] = {}
 
@@ -96,8 +100,8 @@ class Elements(Pointees):
         name = where.array
         if name is None and where.name not in NOWHERE and not self.is_followed_array(inner) and self.declared_array(inner) is not None:
             name = self.name_of_array(inner)
-        is_lost = name is not None and "@" not in name and self.unit.fields.why_not(inner.name) is not None
-        return found if name is None or is_lost else lost(found.type, replace(why, array=name))
+        reason = self.unit.fields.why_not(inner.name) if name is not None and "@" not in name else None
+        return lost(found.type, reason or replace(why, array=name))
 
     # -- where an element is
 
@@ -126,6 +130,39 @@ class Elements(Pointees):
         is_part = isinstance(value, Address) and value.key is not None and not is_shared(value) and "[" in value.name
         super().let_go(replace(value, name=value.name.partition("[")[0]) if is_part else value)
 
+    def let_addresses_go(self, node: object, path: Path) -> None:
+        for it in self.arrays_in(node):
+            self.let_go(it)
+        super().let_addresses_go(node, path)
+
+    def arrays_in(self, node: object) -> Iterator[Address]:
+        """The local arrays whose addresses an expression has. What is read from one is no address."""
+        kind, name = trees.kind(node), trees.dotted(node)
+        key = self.frame.local(trees.root(name)) if name is not None else None
+        where = Address(name, key) if name is not None and key is not None else None
+        if where is not None and self.is_followed_array(where):
+            yield where
+        elif kind == "UnaryOp" and node.op == "&":
+            inner = node.expr
+            while trees.kind(inner) in ("ArrayRef", "StructRef") and trees.dotted(inner) is None:
+                inner = inner.name
+            yield from self.arrays_in(inner)
+        elif kind == "ArrayRef":
+            yield from self.arrays_in(node.subscript)
+        elif not (kind == "UnaryOp" and node.op == "sizeof"):
+            for it in trees.children(node):
+                yield from self.arrays_in(it)
+
+    def lose_behind(self, where: Union[Address, Reference], node: object) -> None:
+        super().lose_behind(where, node)
+        target = getattr(node, "lvalue", None) or getattr(node, "expr", None)
+        if not isinstance(where, Address) or where.name != SOMEWHERE or trees.kind(target) not in ("ArrayRef", "UnaryOp"):
+            return
+        array = target.name if trees.kind(target) == "ArrayRef" else None
+        member = array.field.name if trees.kind(array) == "StructRef" else None
+        if self.unit.arrays.unfollow_all(member, self.place(node).line):
+            raise Escaped()
+
     def member(self, inner: Union[Address, Reference], node: object) -> Address:
         found = super().member(inner, node)
         return found if isinstance(inner, Reference) else replace(found, index=inner.index, array=inner.array)
@@ -151,6 +188,7 @@ class Elements(Pointees):
         self.bounds[key] = self.unit.arrays.bound(self.frame.function, node.subscript)
         if not key.startswith(HELD):
             self.put(key, index, node.subscript, path)
+        self.arrays_named.append(inner.name)
         return replace(inner, name=f"{inner.name}{ANY}", index=key)
 
     def beside(self, inner: Union[Address, Reference], number: Optional[int], node: object) -> Optional[Address]:
@@ -160,20 +198,20 @@ class Elements(Pointees):
             return None
         at = int(inner.name.rpartition("[")[2][:-1]) + number if number is not None else -1
         if not 0 <= at < self.length_of(array):
-            self.forget_array(array, node, "is led to by a pointer that was moved", "a constant index, or the array itself with an index")
+            self.forget_array(array, node, *MOVED)
         return replace(array, name=f"{array.name}[{at}]")
 
     def pointer_arithmetic(self, node: object, left: Known, right: Known, path: Path) -> Known:
         one, other = (left, right) if isinstance(left, Address) else (right, left)
-        number = other.among(path.state.answers).constant() if isinstance(other, Value) and isinstance(one, Address) else None
-        if node.op in ("+", "-") and number is not None and one.index is None:
-            number = number if node.op == "+" else -number
-            if self.is_followed_array(one) and 0 <= number < self.length_of(one):
-                return replace(one, name=f"{one.name}[{number}]")
-            found = self.beside(one, number, node)
-            if found is not None:
-                return found
-        return super().pointer_arithmetic(node, left, right, path)
+        if node.op not in ("+", "-") or not isinstance(one, Address) or is_address(other):
+            return super().pointer_arithmetic(node, left, right, path)
+        number = other.among(path.state.answers).constant() if isinstance(other, Value) else None
+        number = -number if number is not None and node.op == "-" else number
+        if self.is_followed_array(one):
+            if number is None or not 0 <= number < self.length_of(one):
+                self.forget_array(one, node, *MOVED)
+            return replace(one, name=f"{one.name}[{number}]")
+        return self.beside(one, number, node) or super().pointer_arithmetic(node, left, right, path)
 
     def address(self, node: object, path: Path) -> Known:
         found = super().address(node, path)
@@ -186,6 +224,9 @@ class Elements(Pointees):
 
     # -- what is there
 
+    def of_constants(self, array: Optional[Known], node: object, path: Path) -> Optional[Value]:
+        return None if self.is_followed_array(array) else super().of_constants(array, node, path)
+
     def content(self, where: Union[Address, Reference], node: object, path: Path) -> Known:
         if self.is_followed_array(where):
             return where
@@ -196,8 +237,15 @@ class Elements(Pointees):
             return lost(INT, why)
         key = f"element@{self.spot(node)}"
 
+        is_long = self.length_of(self.array_of(where)) > MOST_CASES
+
         def read(fork: Path, there: Address) -> None:
-            self.put(key, self.content(there, node, fork), node, fork)
+            found = self.content(there, node, fork)
+            if is_long and isinstance(found, Value) and found.constant() is not None:
+                # to tell so many numbers apart later by the index would be too deep
+                self.to_answer(found, node, fork)
+                found = the_answer(found.type, fork.state.answers)
+            self.put(key, found, node, fork)
         self.by_index(where, node, path, read)
         return constant(0) if path.is_over else self.taken(key, path, node)
 
@@ -230,15 +278,18 @@ class Elements(Pointees):
             return
         name = where.name.partition(ANY)[0]
         reason = f"`{name}` isn't known: line {self.place(node).line} gives an element a value, and {why.why}"
-        if self.unit.fields.unfollow(name, Lost(reason, instead=why.instead)):
+        if self.unit.fields.unfollow(name, Lost(reason, instead=why.instead, array=why.array)):
             raise Escaped()
 
     def by_index(self, where: Address, node: object, path: Path, go: Callable[[Path, Address], None]) -> None:
         """Goes on for each element that an index may mean, and where these ways meet. Beyond the array a check fails."""
-        array = replace(where, name=where.name.partition(ANY)[0], index=None)
+        if not self.uses_memory:
+            # to let ways go on apart for each element would be too many
+            self.uses_memory, self.splits, self.parted = True, set(), set()
+            raise Escaped()
         index = self.known(self.index_of(where, node, path), node, path)
         path.state = path.state.among(self.within_bound(index, self.bounds[where.index or ""], path))
-        parts = parts_of(index, self.length_of(array), path)
+        parts = parts_of(index, self.length_of(self.array_of(where)), path)
 
         def part(end: Callable[[Path], None]) -> None:
             def choose(some: List[Part], fork: Path) -> None:
@@ -252,6 +303,10 @@ class Elements(Pointees):
                     end(fork)
             choose(parts, path)
         self.meet(path, part)
+
+    def array_of(self, where: Address) -> Address:
+        """The array of an element that an index means."""
+        return replace(where, name=where.name.partition(ANY)[0], index=None)
 
     def index_of(self, where: Address, node: object, path: Path) -> Value:
         """An index, which was computed where its element was named."""
@@ -273,10 +328,11 @@ class Elements(Pointees):
     @contextlib.contextmanager
     def holding(self, target: object, path: Path) -> Iterator[None]:
         """Computes the indices of what is read and then written, as `count[at]++` has it, once."""
+        has_followed = bool(self.local_arrays or self.unit.arrays.followed)
         found = [it for it in trees.walk(target) if trees.kind(it) == "ArrayRef" and self.unit.constants.value(it.subscript) is None]
+        found = [it for it in found if has_followed or trees.find(it.subscript, changes) is not None]
         before = dict(self.held)
-        is_there = any(map(self.may_be_followed, found))
-        for it in found if is_there else []:
+        for it in found:
             key = f"{HELD}{self.spot(it)}"
             index = self.operand(it.subscript, path)
             is_shared_one = isinstance(index, Stored) and index.name in self.shared
@@ -286,12 +342,8 @@ class Elements(Pointees):
             yield
         finally:
             self.held = before
-            for it in found if is_there else []:
+            for it in found:
                 path.state = path.state.without(f"{HELD}{self.spot(it)}")
-
-    def may_be_followed(self, node: object) -> bool:
-        """Whether an element is of an array that may be followed."""
-        return bool(self.local_arrays or self.unit.arrays.followed) and trees.kind(node) == "ArrayRef"
 
     def operand(self, node: object, path: Path) -> Known:
         key = next((key for it, key in self.held.items() if it.subscript is node), None)
@@ -306,6 +358,11 @@ class Elements(Pointees):
     def step(self, node: object, path: Path) -> Known:
         with self.holding(node.expr, path):
             return super().step(node, path)
+
+
+def changes(node: object) -> bool:
+    """Whether an expression calls something, or gives something a new value."""
+    return trees.kind(node) in ("FuncCall", "Assignment") or trees.kind(node) == "UnaryOp" and node.op in STEPS
 
 
 def parts_of(index: Value, length: int, path: Path) -> List[Part]:

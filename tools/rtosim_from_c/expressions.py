@@ -364,14 +364,14 @@ class Expressions(Addresses):
             why = found.lost() if isinstance(found, Value) and all(it.kind == LOST for it in found.pieces) else None
             if why is None or why.local is not None:
                 return found
-            return self.unknown(f"what {name} returns isn't known: {why.why}", f"--ignore {name}=NUMBER, or {A_CONSTANT}")
+            return self.unknown(f"what {name} returns isn't known: {why.why}", f"--ignore {name}=NUMBER, or {A_CONSTANT}", why.array)
         except LostUse as why:
             if why.lost.taken_at is not None and self.changes_globals(node, path):
                 raise
             self.let_parameters_go(node, path)
             self.keep_all(trees.arguments(node), path)
             self.note(node, f"`{name}` has no op: left out")
-            return self.unknown(f"what {name} returns isn't known", f"--ignore {name}=NUMBER, or {A_CONSTANT}")
+            return self.unknown(f"what {name} returns isn't known", f"--ignore {name}=NUMBER, or {A_CONSTANT}", why.lost.array)
 
     def followed(self, node: object, path: Path) -> Known:
         """What a call of a function of the file returns."""

@@ -7,9 +7,9 @@ from typing import TYPE_CHECKING, Dict, FrozenSet, Iterator, List, Optional, Set
 
 from . import trees
 from .calls import CREATORS, SETUP, SILENT, TASK_CREATORS
+from .cells import Content
 from .integers import Integer
 from .refusals import Lost, Place
-from .reset import Content
 from .values import Address, Handle, Value
 
 if TYPE_CHECKING:

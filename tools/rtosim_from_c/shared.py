@@ -174,7 +174,7 @@ class Shared(Structures):
         if why is not None and why.local is None:
             line = self.place(node).line
             reason = f"`{where.name}` isn't known: line {line} gives it a value, and {why.why}"
-            self.unit.fields.unfollow(where.name, Lost(reason, instead=why.instead))
+            self.unit.fields.unfollow(where.name, Lost(reason, instead=why.instead, array=why.array))
             raise Escaped()
         self.store(stored, self.fitted(number, stored.type, node, path), node, path)
         return the_answer(stored.type, path.state.answers)

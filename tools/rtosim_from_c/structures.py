@@ -6,6 +6,7 @@ from typing import Dict, Iterator, List, Optional, Set, Tuple, Union
 from . import trees
 from .addresses import Escaped
 from .calls import Argument, Call
+from .cells import PART
 from .constants import Type
 from .expressions import not_set
 from .frames import Continuation
@@ -14,7 +15,6 @@ from .integers import INT, Integer
 from .memory import Memory
 from .paths import Path
 from .refusals import Lost, LostUse
-from .reset import PART
 from .values import Address, Handle, Known, Reference, constant, lost
 
 STRUCTURE = "a structure"

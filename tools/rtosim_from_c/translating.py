@@ -67,11 +67,13 @@ class Translation(Handles):
         self.missed: List[Lost] = []
 
     def script(self) -> Script:
-        """The script. If it is refused since an element of an array isn't known, that array is followed by its elements."""
+        """The script. If it is refused since an element of an array isn't known, that array is followed by its elements. After this of a
+        global all functions are followed anew."""
         try:
             return self.in_two_ways()
         except Refusal:
-            if not any([self.follows(it) for it in self.missed]):
+            known = self.unit.learned()
+            if not any([self.follows(it) for it in self.missed]) or self.unit.learned() != known:
                 raise
         again = Translation(self.unit, self.target, self.owner)
         again.local_arrays = self.local_arrays
@@ -85,7 +87,7 @@ class Translation(Handles):
         try:
             return self.with_retries()
         except Refusal as first:
-            if not self.has_variables:
+            if not self.has_variables or self.uses_memory:
                 raise
             is_alike = not self.splits and not self.parted and not self.is_flat
             self.splits, self.parted, self.is_flat, self.uses_memory = set(), set(), False, True
@@ -152,6 +154,8 @@ class Translation(Handles):
             instead = "fewer calls, or loops whose turns are all the same"
             if self.is_handler:
                 instead = "less in the handler: a task that it wakes may compute and test as well; --ignore NAME for variables on which nothing depends"
+            if self.arrays_named:
+                instead = f"fewer elements of `{self.arrays_named[0]}`, by `#ifdef RTOSIM`; or {instead}"
             raise Refusal(lines[most].place, f"{self.owner.name} would need {len(lines)} ops, and {most} are the most", instead)
         self.check_depth(items, 0, 0)
 
