@@ -9,13 +9,13 @@ from . import trees
 from .addresses import NOWHERE, SOMEWHERE, Escaped, is_address
 from .answers import NOTHING, Answers
 from .arrays import MOST_CONSTANTS, MOST_FOLLOWED, STEPS, shape
-from .expressions import NOT_SET
 from .families import Target
 from .integers import INT, UNSIGNED, Integer
 from .paths import Path
 from .pointees import OF_ITS_TYPE, Pointees
 from .refusals import Lost, LostUse
 from .shared import ANY, is_shared
+from .structures import STRUCTURE
 from .unit import Handler, Task, Unit
 from .values import Address, Known, Reference, Stored, Value, binary, constant, converted, lost, the_answer, truth
 
@@ -93,9 +93,6 @@ class Elements(Pointees):
         why = found.lost() if isinstance(found, Value) and isinstance(where, Address) else None
         if why is None or why.local is not None or why.array is not None or len(found.pieces) != 1:
             return found
-        if where.key is not None and not is_shared(where) and why == NOT_SET:
-            key = self.field(where)
-            return lost(found.type, replace(why, local=key)) if key is not None else found
         inner = replace(where, name=where.name.partition(ANY)[0])
         name = where.array
         if name is None and where.name not in NOWHERE and not self.is_followed_array(inner) and self.declared_array(inner) is not None:
@@ -235,9 +232,10 @@ class Elements(Pointees):
         why = self.unknown_index(where, path)
         if why is not None:
             return lost(INT, why)
-        key = f"element@{self.spot(node)}"
-
-        is_long = self.length_of(self.array_of(where)) > MOST_CASES
+        declaration = self.declared_element(where)
+        if self.unit.constants.structure(declaration) is not None:
+            return self.whole_element(where, declaration, node, path)
+        key, is_long = f"element@{self.spot(node)}", self.length_of(self.array_of(where)) > MOST_CASES
 
         def read(fork: Path, there: Address) -> None:
             found = self.content(there, node, fork)
@@ -249,6 +247,20 @@ class Elements(Pointees):
         self.by_index(where, node, path, read)
         return constant(0) if path.is_over else self.taken(key, path, node)
 
+    def declared_element(self, where: Address) -> Optional[object]:
+        """The declaration of what is there for each index."""
+        return self.declared_at(replace(where, name=where.name.replace(ANY, "[0]"), index=None))
+
+    def whole_element(self, where: Address, declaration: object, node: object, path: Path) -> Address:
+        """A structure that an index means, as a local of its own."""
+        found = Address("element", f"element@{self.spot(node)}")
+        self.declarations[found.key], self.types[found.key] = declaration, STRUCTURE
+
+        def read(fork: Path, there: Address) -> None:
+            self.copy(found, there, node, fork)
+        self.by_index(where, node, path, read)
+        return found
+
     def write_part(self, target: object, value: Known, node: object, path: Path) -> Known:
         if trees.find(target, lambda it: trees.kind(it) == "ArrayRef") is None:
             return super().write_part(target, value, node, path)
@@ -258,11 +270,19 @@ class Elements(Pointees):
         if not isinstance(where, Address) or where.index is None:
             return self.write_there(where, self.taken(key, path, node), node, path)
         self.check_known(where, path.state.locals[key], node, path)
+        self.keep_in_memory(self.array_of(where))
 
         def write(fork: Path, there: Address) -> None:
             self.put(after, self.write_there(there, self.taken(key, fork, node), node, fork), node, fork)
         self.by_index(where, node, path, write)
         return constant(0) if path.is_over else self.taken(after, path, node)
+
+    def keep_in_memory(self, array: Address) -> None:
+        """The elements of a local array are variables if any of them may be given a value."""
+        keys = set() if is_shared(array) else {key for _, key in self.fields(array) if isinstance(self.types[key], Integer)}
+        if keys - self.in_memory:
+            self.in_memory |= keys
+            raise Escaped()
 
     def unknown_index(self, where: Address, path: Path) -> Optional[Lost]:
         """Why an index isn't known, if no local says it."""
@@ -273,7 +293,8 @@ class Elements(Pointees):
     def check_known(self, where: Address, value: Known, node: object, path: Path) -> None:
         """An array isn't followed any more if one of its elements is given what isn't known."""
         why = value.among(path.state.answers).lost() if isinstance(value, Value) else None
-        why = Lost("an address as a number isn't known") if is_address(value) else self.unknown_index(where, path) or why
+        is_number = isinstance(self.unit.constants.type_of(self.declared_element(where)), Integer)
+        why = Lost("an address as a number isn't known") if is_address(value) and is_number else self.unknown_index(where, path) or why
         if why is None or why.local is not None or not is_shared(where):
             return
         name = where.name.partition(ANY)[0]

@@ -240,7 +240,9 @@ class Shared(Structures):
                 self.keep_pointer(it, replace(value, name=value.name + it.name[len(where.name):]) if isinstance(value, Address) else None, node, path)
                 continue
             source = replace(value, name=value.name + it.name[len(where.name):]) if isinstance(value, Address) else None
-            found = self.unknown(f"{shown(it)} isn't known here") if source is None else self.content(source, node, path)
+            why = value.lost() if isinstance(value, Value) else None
+            found = self.unknown(f"{shown(it)} isn't known here", array=why.array if why is not None else None)
+            found = found if source is None else self.content(source, node, path)
             self.write_there(it, found, node, path)
         return value
 

@@ -8,14 +8,14 @@ from .addresses import Escaped
 from .calls import Argument, Call
 from .cells import PART
 from .constants import Type
-from .expressions import not_set
+from .expressions import NOT_SET, not_set
 from .frames import Continuation
 from .initializers import Initializers
 from .integers import INT, Integer
 from .memory import Memory
 from .paths import Path
 from .refusals import Lost, LostUse
-from .values import Address, Handle, Known, Reference, constant, lost
+from .values import Address, Handle, Known, Reference, Value, constant, lost
 
 STRUCTURE = "a structure"
 
@@ -91,7 +91,13 @@ class Structures(Memory):
 
     def content(self, where: Union[Address, Reference], node: object, path: Path) -> Known:
         key = self.field(where)
+        if key is None and isinstance(where, Address) and where.key in self.declarations and self.is_whole(where):
+            return where
         return super().content(where, node, path) if key is None or key not in path.state.locals else self.read_local(key, node, path)
+
+    def is_whole(self, where: Address) -> bool:
+        """Whether a whole structure is there."""
+        return where.index is None and self.unit.constants.structure(self.declaration(where)) is not None
 
     def write_there(self, where: Union[Address, Reference], value: Known, node: object, path: Path) -> Known:
         key = self.field(where)
@@ -111,9 +117,11 @@ class Structures(Memory):
 
     def copy(self, where: Address, value: Known, node: object, path: Path) -> Known:
         """Gives each integer of a structure the value that it has in another one."""
+        why = value.lost() if isinstance(value, Value) else None
         for rest, key in list(self.fields(where)):
             source = replace(value, name=value.name + rest) if isinstance(value, Address) else None
-            found = self.unknown(f"`{where.name}{rest}` isn't known here") if source is None else self.content(source, node, path)
+            found = self.unknown(f"`{where.name}{rest}` isn't known here", array=why.array if why is not None else None)
+            found = found if source is None else self.content(source, node, path)
             self.write_local(key, self.integer(found, node) if isinstance(self.types[key], Integer) else found, node, path)
         self.let_pointers_go(value, {rest for rest, _ in self.fields(where)}, path)
         return value
@@ -146,6 +154,8 @@ class Structures(Memory):
             return
         for _, key in self.fields(where):
             path.state = path.state.without(key)
+            if isinstance(self.types[key], Integer):
+                self.put(key, not_set(self.types[key]), node, path)
         if trees.kind(node.init) == "InitList":
             self.begin(where, node.init.exprs, path)
         elif node.init is not None:
@@ -223,7 +233,8 @@ class Structures(Memory):
         if member is None:
             return super().item(value, queue, node, path)
         key = self.field(member)
-        if key not in path.state.locals:
+        found = path.state.locals.get(key)
+        if found is None or isinstance(found, Value) and found.lost() == NOT_SET:
             raise LostUse(self.place(node), Lost(f"`{member.name}` isn't known here", instead="a value for it before"))
         self.note(node, f"of `{value.name}` the queue has `{member.name.split('.')[-1]}`")
         return super().item(Reference(key), queue, node, path)
