@@ -45,11 +45,15 @@ class Arrays:
     def is_followed(self, name: str) -> bool:
         return bool(self.followed) and shape(name) in self.followed and self.unit.fields.why_not(name) is None
 
-    def unfollow_all(self, member: Optional[str], line: int) -> bool:
-        """Follows no array any more that a pointer may lead to which isn't known, or no member of this name; false if there was none."""
-        found = [it for it in self.followed if member is None or it.split(".")[-1] == member]
-        why = f"line {line} writes by a pointer that isn't known"
+    def led_to(self, member: Optional[str]) -> List[str]:
+        """The arrays that are followed and that a pointer may lead to which isn't known, or those that are members of this name."""
+        found = [it for it in sorted(self.followed) if member is None or it.split(".")[-1] == member]
         names = [it if "[" not in it else trees.root(it) for it in found]
+        return [it for it in names if self.unit.fields.why_not(it) is None]
+
+    def unfollow_all(self, member: Optional[str], line: int) -> bool:
+        """Follows none of these arrays any more; false if there was none."""
+        why, names = f"line {line} writes by a pointer that isn't known", self.led_to(member)
         return any([self.unit.fields.unfollow(it, Lost(f"`{it}` isn't followed: {why}", instead=ONE_ARRAY)) for it in names])
 
     def is_named(self, node: object) -> bool:

@@ -8,7 +8,7 @@ from typing import Callable, Dict, Iterator, List, Optional, Set, Tuple, Union
 from . import trees
 from .addresses import NOWHERE, SOMEWHERE, Escaped, is_address
 from .answers import NOTHING, Answers
-from .arrays import MOST_CONSTANTS, MOST_FOLLOWED, STEPS, shape
+from .arrays import MOST_CONSTANTS, MOST_FOLLOWED, ONE_ARRAY, STEPS, shape
 from .families import Target
 from .integers import INT, UNSIGNED, Integer
 from .paths import Path
@@ -78,6 +78,9 @@ class Elements(Pointees):
             return found
         return Address(name, key) if f"{name}@{key}" in self.local_arrays else replace(found, array=f"{name}@{key}")
 
+    def has_followed(self) -> bool:
+        return bool(self.local_arrays or self.unit.arrays.followed)
+
     def follows(self, why: Lost) -> bool:
         """Follows an array from now on, if that is why a value isn't known; false if it was followed before."""
         if why.array is None or not self.has_variables:
@@ -94,6 +97,8 @@ class Elements(Pointees):
         if why is None or why.local is not None or why.array is not None or len(found.pieces) != 1:
             return found
         inner = replace(where, name=where.name.partition(ANY)[0])
+        if inner.name.endswith("]") and self.declared_array(inner) is None:
+            inner = replace(inner, name=inner.name.rpartition("[")[0])
         name = where.array
         if name is None and where.name not in NOWHERE and not self.is_followed_array(inner) and self.declared_array(inner) is not None:
             name = self.name_of_array(inner)
@@ -108,7 +113,10 @@ class Elements(Pointees):
             why = value.lost()
             return replace(found, array=why.array) if why is not None else found
         if not self.is_followed_array(found):
-            return found
+            if isinstance(found, Address) and trees.kind(node) != "ArrayRef":
+                self.check_end(found, node)
+            is_first = trees.kind(node) != "ArrayRef" and is_shared(found) and self.length_of_table(found) is not None
+            return replace(found, name=f"{found.name}[0]") if is_first else found
         pointer = node.expr if trees.kind(node) == "UnaryOp" else node.name
         wanted = self.unit.types.pointee(self.unit.types.of(pointer, self.declaration_of))
         if wanted is None or not self.is_alike(trees.element(self.declared_array(found)), wanted):
@@ -151,14 +159,15 @@ class Elements(Pointees):
                 yield from self.arrays_in(it)
 
     def lose_behind(self, where: Union[Address, Reference], node: object) -> None:
-        super().lose_behind(where, node)
         target = getattr(node, "lvalue", None) or getattr(node, "expr", None)
-        if not isinstance(where, Address) or where.name != SOMEWHERE or trees.kind(target) not in ("ArrayRef", "UnaryOp"):
-            return
-        array = target.name if trees.kind(target) == "ArrayRef" else None
-        member = array.field.name if trees.kind(array) == "StructRef" else None
-        if self.unit.arrays.unfollow_all(member, self.place(node).line):
-            raise Escaped()
+        if isinstance(where, Address) and where.name == SOMEWHERE and trees.kind(target) in ("ArrayRef", "UnaryOp"):
+            array = target.name if trees.kind(target) == "ArrayRef" else None
+            member = array.field.name if trees.kind(array) == "StructRef" else None
+            if self.has_other_forms and self.unit.arrays.led_to(member):
+                raise LostUse(self.place(node), Lost("what this pointer leads to isn't known", instead=ONE_ARRAY))
+            if self.unit.arrays.unfollow_all(member, self.place(node).line):
+                raise Escaped()
+        super().lose_behind(where, node)
 
     def member(self, inner: Union[Address, Reference], node: object) -> Address:
         found = super().member(inner, node)
@@ -188,15 +197,23 @@ class Elements(Pointees):
         self.arrays_named.append(inner.name)
         return replace(inner, name=f"{inner.name}{ANY}", index=key)
 
-    def beside(self, inner: Union[Address, Reference], number: Optional[int], node: object) -> Optional[Address]:
-        """The element beside another one, of which a pointer has the address; None for anything else."""
+    def beside(self, inner: Union[Address, Reference], number: Optional[int], node: object, is_moved: bool = False) -> Optional[Address]:
+        """The element beside another one, of which a pointer has the address; None for anything else. A pointer that is moved may lead
+        to the end of the array."""
         array = replace(inner, name=inner.name.rpartition("[")[0]) if isinstance(inner, Address) and inner.name.endswith("]") else None
         if array is None or inner.index is not None or not self.is_followed_array(array) or self.declared_array(inner) is not None:
             return None
         at = int(inner.name.rpartition("[")[2][:-1]) + number if number is not None else -1
-        if not 0 <= at < self.length_of(array):
+        if not 0 <= at < self.length_of(array) + is_moved:
             self.forget_array(array, node, *MOVED)
         return replace(array, name=f"{array.name}[{at}]")
+
+    def check_end(self, where: Address, node: object) -> None:
+        """Refuses what is read or written at the end of an array."""
+        array = replace(where, name=where.name.rpartition("[")[0]) if where.name.endswith("]") else None
+        at = int(where.name.rpartition("[")[2][:-1]) if array is not None and self.is_followed_array(array) else -1
+        if array is not None and at >= 0 and at == self.length_of(array):
+            raise self.refuse(node, f"`{array.name}` has {at} elements, and this is beyond them", f"an index from 0 to {at - 1}")
 
     def pointer_arithmetic(self, node: object, left: Known, right: Known, path: Path) -> Known:
         one, other = (left, right) if isinstance(left, Address) else (right, left)
@@ -205,10 +222,10 @@ class Elements(Pointees):
         number = other.among(path.state.answers).constant() if isinstance(other, Value) else None
         number = -number if number is not None and node.op == "-" else number
         if self.is_followed_array(one):
-            if number is None or not 0 <= number < self.length_of(one):
+            if number is None or not 0 <= number <= self.length_of(one):
                 self.forget_array(one, node, *MOVED)
             return replace(one, name=f"{one.name}[{number}]")
-        return self.beside(one, number, node) or super().pointer_arithmetic(node, left, right, path)
+        return self.beside(one, number, node, True) or super().pointer_arithmetic(node, left, right, path)
 
     def address(self, node: object, path: Path) -> Known:
         found = super().address(node, path)
@@ -227,6 +244,9 @@ class Elements(Pointees):
     def content(self, where: Union[Address, Reference], node: object, path: Path) -> Known:
         if self.is_followed_array(where):
             return where
+        is_local = isinstance(where, Address) and where.key in self.declarations and where.index is None
+        if is_local and self.has_followed() and self.declared_array(where) is not None:
+            return replace(where, key=None, array=self.name_of_array(where))
         if not isinstance(where, Address) or where.index is None:
             return self.with_array(super().content(where, node, path), where)
         why = self.unknown_index(where, path)
@@ -349,7 +369,7 @@ class Elements(Pointees):
     @contextlib.contextmanager
     def holding(self, target: object, path: Path) -> Iterator[None]:
         """Computes the indices of what is read and then written, as `count[at]++` has it, once."""
-        has_followed = bool(self.local_arrays or self.unit.arrays.followed)
+        has_followed = self.has_followed()
         found = [it for it in trees.walk(target) if trees.kind(it) == "ArrayRef" and self.unit.constants.value(it.subscript) is None]
         found = [it for it in found if has_followed or trees.find(it.subscript, changes) is not None]
         before = dict(self.held)
