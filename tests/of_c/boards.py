@@ -22,9 +22,12 @@ WORDS_OF_DRIVERS: Dict[str, List[str]] = {
     "modbus_rtu": ["--ignore", "mb_port_init", "--ignore", "mb_crc16=0"],
     "nor_poll": [*HAL, "--ignore", "MX_*", "--ignore", "SystemClock_Config"],
     "encoder": [*HAL, "--ignore", "motor_stop"],
+    "w25q": [*HAL, "--ignore", "MX_*", "--ignore", "SystemClock_Config", "--handler", "HAL_SPI_TxRxCpltCallback", "--handler", "HAL_SPI_ErrorCallback"],
+    "rotary": [*HAL, "--handler", "HAL_GPIO_EXTI_Callback(6)"],
+    "lora_modem": [],
 }
 # Those whose campaigns are stored, as `--only failing --heads` has them.
-WITH_REPORTS = ("adc_dma", "encoder", "modbus_rtu", "nor_poll", "rtc_alarm")
+WITH_REPORTS = ("adc_dma", "encoder", "lora_modem", "modbus_rtu", "nor_poll", "rotary", "rtc_alarm", "w25q")
 Run = Callable[..., Tuple[int, str, str]]
 
 

@@ -43,7 +43,7 @@ def script_of(unit: Unit, task: Task) -> Optional[Script]:
         try:
             script = Translation(unit, PROGRAM, task).script()
         except Refusal:
-            return None
+            script = None
         if unit.learned() == known:
             return script
 

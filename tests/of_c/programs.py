@@ -14,6 +14,10 @@ static SemaphoreHandle_t flag, count, bus;
 static EventGroupHandle_t events;
 static const int limit = 3;
 enum command { STOP, GO = 4, WAIT };
+enum mode { OFF, ON, AUTO };
+enum level { BELOW = -3, NEAR, ABOVE = 2 };
+enum wide { NARROW = 1, WIDE = 0x80000000 };
+struct ring { uint8_t data[4]; volatile uint8_t head, tail; };
 struct context { int total; uint8_t last; };
 static struct context context;
 struct pair { int x; uint8_t y; };
@@ -32,6 +36,9 @@ static const uint8_t table[4] = { 9, 4, 250, 1 };
 static const struct pair rows[3] = { { 1, 2 }, { -3, 4 }, { .y = 5 } };
 struct port { QueueHandle_t to; struct pair *about; int n; };
 static void add_to(int *to, int by) { *to += by; }
+static void put(struct ring *r, int c) { r->data[r->head] = (uint8_t)c; r->head = (r->head + 1) & 3; }
+static uint8_t get(struct ring *r) { uint8_t c = r->data[r->tail++]; r->tail %= 4; return c; }
+static void shift(int16_t *in, int by) { for (int i = 0; i < 2; i++) in[i] = in[i + 1]; in[2] = (int16_t)by; }
 
 static int sum(const uint8_t *data, int size)
 {
@@ -66,6 +73,8 @@ class Programs:
         self.structure = ""
         # What that task has of arrays of structures, of functions with static locals, and of integers whose address may be taken.
         self.rows = self.stepped = self.addressed = ""
+        # An array of integers, and its type; and a ring buffer.
+        self.array = self.element = self.ring = ""
         self.labels = 0
         # What main gives them.
         self.given: List[str] = []
@@ -78,7 +87,7 @@ class Programs:
         return self.dice.choice(choices)
 
     def number(self) -> str:
-        return self.one_of("0", "1", "2", "3", "4", "7", "limit", "GO", "'c'", "0x10", "250u")
+        return self.one_of("0", "1", "2", "3", "4", "7", "limit", "GO", "'c'", "0x10", "250u", "NEAR", "WIDE")
 
     def file(self, tasks: int) -> str:
         functions, creates = [], []
@@ -97,8 +106,10 @@ class Programs:
     def lasting(self, end: str) -> List[str]:
         """The declarations of globals and of static locals, of half of the tasks."""
         self.shared, self.structure, self.rows, self.stepped, self.addressed = [], "", "", "", ""
+        self.array = self.element = self.ring = ""
         declared = ["", ""]
-        for type_, at in (("uint8_t", 0), ("unsigned", 0), ("int", 0), ("int16_t", 1), ("bool", 1)):
+        for type_, at in (("uint8_t", 0), ("unsigned", 0), ("int", 0), ("int16_t", 1), ("bool", 1), ("enum mode", 0),
+                          ("enum level", 1)):
             if self.has_lasting(end) and self.dice.random() < 0.5:
                 self.shared.append(f"{'gs'[at]}{len(self.shared)}_{end}")
                 declared[at] += f"{'    ' * at}static {self.one_of('', 'volatile ')}{type_} {self.shared[-1]} = {self.one_of('0', '1', '3', '250')};\n"
@@ -129,11 +140,23 @@ class Programs:
             self.shared += [f"{self.rows}[0].x", f"{self.rows}[1].y"]
             found += f"static struct pair {self.rows}[2]{self.one_of('', ' = { 1, 2, 3, 4 }', ' = { { 1 }, { .y = 250 } }', ' = { [1] = { 5, 6 } }')};\n"
             self.given += self.one_of("", f"for (int i = 0; i < 2; i++) {self.rows}[i].x += i;", f"{self.rows}[0] = {self.rows}[1];").splitlines()
+        if self.dice.random() < 0.5:
+            found += self.lasting_array(end)
         if self.dice.random() < 0.6:
             self.stepped = f"stepped_{end}"
             found += (f"static int {self.stepped}(int by)\n{{\n    static int n = 2;\n    static struct pair last{self.one_of('', ' = { 7 }')};\n"
                       f"    {{ static int n = 7; n ^= by; last.y = (uint8_t)n; }}\n    n += by;\n    last.x += n;\n    return last.x - last.y;\n}}\n")
         return found
+
+    def lasting_array(self, end: str) -> str:
+        """The declarations of an array of integers, and of a ring buffer."""
+        self.array, self.ring = f"array_{end}", f"ring_{end}"
+        self.shared += [f"{self.array}[1]", f"{self.array}[n % 3]", f"{self.ring}.data[{self.ring}.tail & 3]"]
+        self.element = self.one_of("uint8_t", "int16_t", "int16_t", "int", "unsigned", "bool", "enum mode")
+        self.given += self.one_of("", f"{self.array}[2] = {self.number()};", f"for (int i = 0; i < 3; i++) {self.array}[i] += i;",
+                                  f"memset({self.array}, 0, sizeof({self.array}));", f"put(&{self.ring}, 5);").splitlines()
+        return (f"static {self.one_of('', 'volatile ')}{self.element} {self.array}[3]{self.one_of('', ' = { 0 }', ' = { 1, 2 }', ' = { [1] = 250 }')};\n"
+                f"static struct ring {self.ring}{self.one_of('', ' = { { 1, 2 }, 1 }', ' = { .tail = 3 }')};\n")
 
     def has_lasting(self, end: str) -> bool:
         return int(end.partition("_")[2]) % 2 == 1
@@ -247,7 +270,7 @@ class Programs:
             lambda: f"{self.one_of(*self.names())} = {self.asking()};", lambda: f"{self.one_of(*self.names())} = {self.integer()};",
             lambda: f"{self.asking()};", lambda: f"{self.one_of('a', 'b', 'n', 'v', *self.shared)}{self.one_of('++', '--', ' += 2', ' |= 5', ' *= 3')};",
             lambda: f"rtosim_mark({self.number()});", lambda: f"rtosim_mark((uint8_t){self.one_of('a', 'n', 'v', *self.shared)});", self.passing, self.apart, self.timing, self.pointed, self.pointed, self.hiding, self.hiding,
-            lambda: f"configASSERT({self.condition(1)});", lambda: f"ok = {self.condition()};",
+            self.elements, lambda: f"configASSERT({self.condition(1)});", lambda: f"ok = {self.condition()};",
             lambda: f"if ({self.condition()}) {self.one_of(*self.jumps(jumps))};",
         ]
         nested = [self.branch, self.branch, self.switch, self.while_loop, self.counted_loop, self.endless_loop, self.do_loop]
@@ -296,6 +319,32 @@ class Programs:
                       f"memcpy(&{rows}[{at}], &pair, sizeof(pair));"] * 2
         if self.stepped:
             found += [f"{local} = {self.stepped}({self.integer(1)});"] * 4
+        return self.dice.choice(found)
+
+    def elements(self) -> str:
+        """A statement about elements of arrays, by an index that is constant, or that isn't."""
+        local, other = self.one_of("a", "b", "n", *self.shared), self.one_of("a", "b", "v")
+        at = self.one_of("1", "n % 3", "(n & 1) + 1", "(uint8_t)a % 3", "b & 1", "uxQueueMessagesWaiting(jobs) % 3")
+        found = [
+            f"{{ int xs[3] = {{ {local}, 2 }}; xs[{at}] {self.one_of('=', '+=')} {other}; {other} = xs[n % 3]; }}",
+            f"{{ uint8_t xs[3] = {{ 0 }}; for (int i = 0; i < 3; i++) xs[i] = (uint8_t)({local} + i); {other} = xs[{at}] + xs[2]; }}",
+            f"{{ struct pair ps[2] = {{ {{ 1, 2 }}, {{ {local} }} }}; ps[n & 1].{self.one_of('x', 'y')}++; {other} = ps[0].x + ps[1].{self.one_of('x', 'y')}; }}",
+            f"{{ struct ring r = {{ 0 }}; put(&r, {local}); put(&r, 7); {other} = get(&r) + r.data[{self.one_of('1', 'n & 3')}]; }}",
+            f"{{ enum level l = {self.one_of('BELOW', 'ABOVE')}; l += {other}; {local} = l < NEAR; }}", f"{{ enum mode m = {local}; m--; {other} = m > AUTO; }}",
+        ]
+        if self.array:
+            name = self.array
+            found += [
+                f"{name}[{at}] {self.one_of('=', '+=', '^=', '-=')} {self.one_of(local, self.integer(1))};", f"{local} = {name}[{at}];", f"{name}[{at}]{self.one_of('++', '--')};",
+                f"{local} = {name}[{at}]++ + 1;", f"if ({name}[{at}] {self.one_of(*COMPARISONS)} {other}) rtosim_mark(3);", f"{name}[{at}] = {self.asking()};",
+                f"{{ {self.element} *to = &{name}[1]; *to = {other}; to[1]++; {local} = to[-1]; }}", f"{{ {self.element} *to = {name}; {local} = 0; for (int i = 0; i < 3; i++) {local} += *to++; }}",
+                f"for (int i = 0; i < 3; i++) {name}[i] = {other};", f"memset({name}, 0, sizeof({name}));", f"{local} = {name}[0] + {name}[{at}];", f"rtosim_mark((uint8_t){name}[{at}]);",
+                f"put(&{self.ring}, {self.one_of(local, self.integer(1))});", f"{other} = get(&{self.ring});", f"if (get(&{self.ring}) {self.one_of(*COMPARISONS)} {self.number()}) {local} = 3;",
+                f"{self.ring}.data[{self.one_of('0', 'n & 3')}]++;", f"{{ struct ring copy = {self.ring}; {other} = copy.data[n & 3]; }}", f"xQueueReceive(box, &{self.ring}.data[{self.one_of('0', '2')}], 0);",
+            ] + [f"shift({name}, {local});"] * 3 * (self.element == "int16_t")
+        if self.rows:
+            found += [f"{self.rows}[n & 1].{self.one_of('x', 'y')} {self.one_of('=', '+=', '^=')} {local};", f"{other} = {self.rows}[{self.one_of('n', 'a', 'b')} & 1].x;",
+                      f"{{ struct pair *row = &{self.rows}[1]; row->y++; {local} = {self.rows}[n & 1].y; }}"] * 2
         return self.dice.choice(found)
 
     def hiding(self) -> str:

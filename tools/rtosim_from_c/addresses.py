@@ -98,8 +98,8 @@ class Addresses(Core):
         """The handle that a global, or a member of one, has from reset on."""
         return self.unit.handles.get(("", name)) or self.unit.handles.get((self.frame.function, name))
 
-    def unknown(self, why: str, instead: str = A_CONSTANT) -> Value:
-        return lost(INT, Lost(why, instead=instead))
+    def unknown(self, why: str, instead: str = A_CONSTANT, array: Optional[str] = None) -> Value:
+        return lost(INT, Lost(why, instead=instead, array=array))
 
     def of_StructRef(self, node: object, path: Path) -> Known:
         name = trees.dotted(node)

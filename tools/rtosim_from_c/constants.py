@@ -1,7 +1,7 @@
 """Types of declarations, and expressions that are constant wherever they are."""
 import functools
 import re
-from typing import Dict, List, Optional, Tuple, Union
+from typing import Dict, List, Optional, Sequence, Tuple, Union
 
 from . import trees
 from .answers import ALL
@@ -13,6 +13,7 @@ HANDLES = {"QueueHandle_t": "queue", "SemaphoreHandle_t": "semaphore", "EventGro
 ESCAPES = {"n": 10, "t": 9, "r": 13, "0": 0, "\\": 92, "'": 39, '"': 34, "a": 7, "b": 8, "f": 12, "v": 11}
 SUFFIX = re.compile(r"[uUlL]*$")
 ESCAPE = re.compile(r"\\(?:x[0-9a-fA-F]+|[0-7]{1,3}|.)")
+CHARACTER = re.compile(f"{ESCAPE.pattern}|[^\\\\]")
 POINTER = Integer(64, False)
 # What a declaration may be of: integers, a handle by its kind, or another thing by its name.
 Type = Union[Integer, str]
@@ -21,7 +22,10 @@ Type = Union[Integer, str]
 class Constants:
     """The types and the constants of a file."""
 
-    def __init__(self) -> None:
+    def __init__(self, has_short_enums: bool = False) -> None:
+        self.has_short_enums = has_short_enums
+        # the types of enumerations, by their nodes and by their tags
+        self.enums: Dict[object, Integer] = {}
         self.typedefs: Dict[str, object] = {}
         self.numbers: Dict[str, Value] = {}
         self.structures: Dict[str, object] = {}
@@ -32,7 +36,7 @@ class Constants:
         if name in ("Decl", "Typename", "TypeDecl", "Typedef"):
             return self.type_of(node.type)
         if name == "Enum":
-            return INT
+            return self.enums.get(node if node.values else node.name, UNSIGNED)
         if name == "IdentifierType":
             return self.named(node.names)
         return {"PtrDecl": "a pointer", "ArrayDecl": "an array", "Struct": "a structure", "Union": "a union",
@@ -159,17 +163,29 @@ class Constants:
             size, begin = -(-size // step) * step + bytes_, max(begin, step)
         return -(-size // begin) * begin, begin
 
-    def take_enum(self, node: object) -> None:
-        """The names of an enumeration."""
-        next_one = 0
+    def take_enum(self, node: object) -> bool:
+        """The constants of an enumeration, which are `int`s if they fit, and its type; false if another one of its tag has another type."""
+        next_one: Optional[int] = 0
+        found: List[int] = []
         for it in node.values.enumerators if node.values else []:
+            value = self.value(it.value) if it.value is not None else None
             if it.value is not None:
-                value = self.value(it.value)
-                if value is None:
-                    continue
-                next_one = value.constant() or 0
-            self.numbers[it.name] = constant(next_one)
+                next_one = value.constant() if value is not None else None
+            if next_one is None:
+                continue
+            found.append(next_one)
+            self.numbers[it.name] = constant(next_one, type_of_literal(next_one, False, False, False) if next_one >= 0 else INT)
             next_one += 1
+        if node.values:
+            self.enums[node] = of_enum(found, self.has_short_enums)
+        return not node.values or node.name is None or self.enums.setdefault(node.name, self.enums[node]) == self.enums[node]
+
+
+def of_enum(numbers: Sequence[int], is_short: bool) -> Integer:
+    """The type that a compiler gives an enumeration with these constants: it has a sign if one of them has."""
+    least, greatest = min(numbers, default=0), max(numbers, default=0)
+    types = [Integer(bits, least < 0) for bits in ((8, 16, 32, 64) if is_short else (32, 64))]
+    return next(it for it in types if it.least <= least and greatest <= it.greatest)
 
 
 def count_of(initial: object) -> Optional[Value]:
@@ -227,6 +243,12 @@ def type_of_literal(number: int, is_unsigned: bool, is_long_long: bool, is_decim
         if number <= it.greatest:
             return it
     return types[-1]
+
+
+def text_numbers(node: object) -> Optional[List[int]]:
+    """The characters of a text; None for anything else."""
+    is_text = trees.kind(node) == "Constant" and node.value.startswith('"')
+    return [character(it) for it in CHARACTER.findall(node.value[1:-1])] if is_text else None
 
 
 def character(text: str) -> int:

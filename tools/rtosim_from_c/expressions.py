@@ -254,10 +254,14 @@ class Expressions(Addresses):
             self.note(node, f"`{name}` is `{value.name}` from reset on")
             return value
         if trees.kind(target) != "ID":
-            return self.write_there(self.whole(target, path), value, node, path)
+            return self.write_part(target, value, node, path)
         if self.unit.constants.type_of(self.unit.globals.get(target.name)) in (*OPAQUE, "a pointer"):
             return self.write_there(self.opaque(target.name) or Address(target.name), value, node, path)
         return self.write_global(target, self.integer(value, node), node, path)
+
+    def write_part(self, target: object, value: Known, node: object, path: Path) -> Known:
+        """Gives a member, an element, or what a pointer leads to a new value."""
+        return self.write_there(self.whole(target, path), value, node, path)
 
     def step(self, node: object, path: Path) -> Known:
         """`++` and `--`."""
@@ -266,7 +270,9 @@ class Expressions(Addresses):
         key = f"before@{self.spot(node)}"
         there = self.evaluate(node.expr, path)
         if is_address(there):
-            return self.write(node.expr, self.pointer_arithmetic(Written("+", node), there, constant(1), path), node, path)
+            moved = self.pointer_arithmetic(Written(node.op.strip("p")[0], node), there, constant(1), path)
+            written = self.write(node.expr, moved, node, path)
+            return there if node.op.startswith("p") else written
         before = self.integer(there, node)
         self.put(key, before, node, path)
         after = self.arithmetic(Written(node.op.strip("p")[0], node), before, constant(1), path)
@@ -358,14 +364,14 @@ class Expressions(Addresses):
             why = found.lost() if isinstance(found, Value) and all(it.kind == LOST for it in found.pieces) else None
             if why is None or why.local is not None:
                 return found
-            return self.unknown(f"what {name} returns isn't known: {why.why}", f"--ignore {name}=NUMBER, or {A_CONSTANT}")
+            return self.unknown(f"what {name} returns isn't known: {why.why}", f"--ignore {name}=NUMBER, or {A_CONSTANT}", why.array)
         except LostUse as why:
             if why.lost.taken_at is not None and self.changes_globals(node, path):
                 raise
             self.let_parameters_go(node, path)
             self.keep_all(trees.arguments(node), path)
             self.note(node, f"`{name}` has no op: left out")
-            return self.unknown(f"what {name} returns isn't known", f"--ignore {name}=NUMBER, or {A_CONSTANT}")
+            return self.unknown(f"what {name} returns isn't known", f"--ignore {name}=NUMBER, or {A_CONSTANT}", why.lost.array)
 
     def followed(self, node: object, path: Path) -> Known:
         """What a call of a function of the file returns."""

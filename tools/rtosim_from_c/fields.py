@@ -7,9 +7,9 @@ from typing import TYPE_CHECKING, Dict, FrozenSet, Iterator, List, Optional, Set
 
 from . import trees
 from .calls import CREATORS, SETUP, SILENT, TASK_CREATORS
+from .cells import Content
 from .integers import Integer
 from .refusals import Lost, Place
-from .reset import Content
 from .values import Address, Handle, Value
 
 if TYPE_CHECKING:
@@ -133,8 +133,10 @@ class Fields:
         type_ = self.unit.constants.type_of(declaration) if declaration is not None else None
         if name in self.unit.globals and isinstance(type_, Integer):
             return self.of_integer(name, type_)
-        member = name.split(".")[-1]
-        if not isinstance(type_, Integer) or member not in self.read:
+        is_element = name.endswith("]")
+        member = trees.root(name.split(".")[-1])
+        is_left_out = not self.unit.arrays.is_followed(name.rpartition("[")[0]) if is_element else member not in self.read
+        if not isinstance(type_, Integer) or is_left_out:
             return None
         why = self.why_not(name)
         if getattr(declaration, "bitsize", None) is not None:
@@ -144,7 +146,7 @@ class Fields:
         number = self.unit.reset.value(name)
         if not isinstance(number, Value):
             return self.not_at_reset(name)
-        is_fixed = member not in self.written and not is_volatile(declaration) or trees.is_const(self.unit.globals.get(trees.root(name)))
+        is_fixed = not is_element and member not in self.written and not is_volatile(declaration) or trees.is_const(self.unit.globals.get(trees.root(name)))
         return number if is_fixed else Member(type_, number.constant() or 0)
 
     def of_integer(self, name: str, type_: Integer) -> Union[Lost, Member]:
@@ -172,6 +174,14 @@ class Fields:
         self.unfollowed[name] = why
         self.version += 1
         return True
+
+    def follow_again(self, array: str) -> None:
+        """An array is followed by its elements, and wasn't before."""
+        for it in [name for name, why in self.unfollowed.items() if why.array == array]:
+            del self.unfollowed[it]
+        self.unit.silent.clear()
+        self.kept_found.clear()
+        self.version += 1
 
     def lose_members(self, names: Set[str], line: int) -> bool:
         """Doesn't follow any member of these names; false if there is none that was followed."""

@@ -8,6 +8,7 @@ from typing import Dict, Iterable, List, Optional, Set, Tuple, Union
 from . import trees
 from .answers import GREATEST, NONE, NUMBERS, Answers, answers, only
 from .calls import Argument
+from .cells import NotKnown
 from .core import Compared, Test
 from .expressions import NOT_SET, Written
 from .families import Family, Target
@@ -16,7 +17,6 @@ from .items import If, Op
 from .loops import Loops
 from .paths import Path
 from .refusals import Lost, LostUse, Refusal
-from .reset import NotKnown
 from .statements import MIRRORED
 from .unit import GLOBAL, Handler, Task, Unit
 from .values import ANSWER, LOST, NUMBER, Handle, Known, Piece, Stored, Value, binary, constant, converted, lost, steady, the_answer

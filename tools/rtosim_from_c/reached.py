@@ -10,6 +10,7 @@ from .refusals import Place
 from .static_types import DeclarationOf, PointerTo, StaticTypes
 
 if TYPE_CHECKING:
+    from .arrays import Arrays
     from .fields import Fields
     from .unit import Handler, Task
 
@@ -26,6 +27,7 @@ class Reached:
     tasks: "List[Task]"
     handlers: "List[Handler]"
     fields: "Fields"
+    arrays: "Arrays"
     silent: Dict[str, bool]
     # the handles that tasks and handlers give other values, once these are asked for
     changing: Optional[Dict[str, FrozenSet[str]]] = None
@@ -79,6 +81,7 @@ class Reached:
             is_alone = all(it in self.functions or it in self.directives.ignored or it in WITHOUT_OP for it in called)
             named = {it.name for it in nodes if trees.kind(it) == "ID"}
             is_alone = is_alone and not any(trees.kind(it) == "StructRef" and it.field.name in self.fields.of_globals for it in nodes)
+            is_alone = is_alone and not any(map(self.arrays.is_named, nodes))
             shared = [it for it in named if it in self.globals and isinstance(self.constants.type_of(self.globals[it]), Integer)]
             has_comment = any(trees.kind(it) == "Pragma" for it in nodes)
             is_own = all(it in self.constants.numbers or it in self.directives.ignored for it in shared)

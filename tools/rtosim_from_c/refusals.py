@@ -29,12 +29,14 @@ class SeveralRefusals(Exception):
 
 @dataclass(frozen=True)
 class Lost:
-    """Why a value isn't known at a place: the local that had it, if there is one, and where another call's answer took it."""
+    """Why a value isn't known at a place: the local that had it, if there is one, and where another call's answer took it. `array` is the
+    one of which it is an element, if its elements may be followed."""
 
     why: str
     local: Optional[str] = None
     taken_at: Optional[Place] = None
     instead: str = ""
+    array: Optional[str] = None
 
 
 class LostUse(Refusal):

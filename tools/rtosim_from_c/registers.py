@@ -3,14 +3,14 @@ from typing import Optional, Union
 
 from . import trees
 from .addresses import SOMEWHERE
+from .elements import Elements
 from .integers import Integer
 from .paths import Path
-from .pointees import Pointees
 from .unit import GLOBAL, STUB
 from .values import Address, Known, Reference, Stored, Value, the_answer
 
 
-class Registers(Pointees):
+class Registers(Elements):
     """Such a member is a variable, as a global is."""
 
     def register(self, where: Union[Address, Reference]) -> Optional[Stored]:

@@ -1,16 +1,13 @@
 """What globals have when the scheduler starts. `main`, and what it calls, is followed as far as it gives globals, members of structures,
 handles and pointers a value. What depends on a condition that isn't known isn't known then."""
-import re
-from dataclasses import dataclass, field
-from typing import TYPE_CHECKING, Dict, Iterator, List, Optional, Tuple, Union
+from typing import TYPE_CHECKING, List, Optional, Tuple
 
 from . import trees
 from .answers import ALL
 from .calls import COPIES, CREATORS, SETUP, TASK_CREATORS
+from .cells import Called, Cells, Content
 from .constants import POINTER, literal, numeral
-from .initializers import MOST_ELEMENTS, Initializers
 from .integers import WRITTEN, Integer
-from .refusals import Place
 from .values import Address, Handle, Value, binary, constant, converted, unary
 
 if TYPE_CHECKING:
@@ -20,21 +17,6 @@ STARTS = ("vTaskStartScheduler", "osKernelStart")
 MOST_STEPS = 20_000
 MOST_DEPTH = 30
 MOST_TURNS = 64
-# A part of a name, as `.rx` or `[0]`.
-PART = re.compile(r"\.(\w+)|\[(\d+)\]")
-
-
-@dataclass(frozen=True)
-class NotKnown:
-    """Why a global isn't known when the scheduler starts."""
-
-    why: str
-    place: Place
-
-
-# A constant, a handle, or the address of a global.
-Content = Union[Value, Handle, Address]
-Cell = Union[Content, NotKnown]
 
 
 class Started(Exception):
@@ -65,27 +47,14 @@ class Returned(Exception):
         self.value = value
 
 
-@dataclass
-class Called:
-    """A call that is followed: the function, the cells of its locals by their names, and whether it is surely made."""
-
-    function: str
-    number: int
-    is_sure: bool = True
-    names: Dict[str, str] = field(default_factory=dict)
-
-
-class Reset:
-    """The cells of a file, each a global or a member of one, by its name with dots; those of locals have `@`."""
+class Reset(Cells):
+    """Follows what gives cells their values."""
 
     def __init__(self, unit: "Unit"):
-        self.unit = unit
-        self.cells: Dict[str, Cell] = {}
+        super().__init__(unit)
         self.steps = self.calls = self.depth = 0
         # what was created last: the call, and its arguments
         self.created: Tuple[str, List[Optional[Content]]] = ("", [])
-        self.declared: Dict[str, object] = {}
-        self.given = Initializers(unit.constants)
 
     def run(self) -> None:
         """Follows what is called before the scheduler starts."""
@@ -104,114 +73,6 @@ class Reset:
             if creates and name not in self.unit.given.calls and name not in running and name not in found:
                 found.append(name)
         return found
-
-    # -- what is there
-
-    def value(self, name: str) -> Optional[Content]:
-        """What a global has when the scheduler starts; None if that isn't known."""
-        found = self.cells[name] if name in self.cells else self.initial(name)
-        return None if isinstance(found, NotKnown) else found
-
-    def why(self, name: str) -> Optional[NotKnown]:
-        """Why a global isn't known when the scheduler starts."""
-        found = self.cells.get(name)
-        return found if isinstance(found, NotKnown) else None
-
-    def declaration(self, name: str) -> Optional[object]:
-        """The declaration of a global or a local, or of a member of one."""
-        found: Optional[object] = None
-        for at, it in enumerate(name.split(".")):
-            member, *indices = it.split("[")
-            found = self.unit.constants.members(found).get(member) if at else self.declared.get(member) or self.unit.globals.get(member)
-            for _ in indices:
-                found = trees.element(found)
-        return found
-
-    def initial(self, name: str) -> Optional[Content]:
-        """What a global is declared with."""
-        root = trees.root(name)
-        declaration = self.unit.globals.get(root)
-        if declaration is None or "extern" in (declaration.storage or []) and declaration.init is None:
-            return None
-        node = declaration.init
-        for member, index in PART.findall(name[len(root):]):
-            if node is not None and trees.kind(node) != "InitList":
-                return None
-            given = node.exprs if node is not None else []
-            inner = self.unit.constants.members(declaration).get(member) if member else trees.element(declaration)
-            if inner is None:
-                return None
-            node = self.given.of_members(declaration, given).get(member) if member else self.given.of_element(declaration, given, int(index))
-            declaration = inner
-        return self.begun(declaration, node)
-
-    def begun(self, declaration: object, node: Optional[object]) -> Optional[Content]:
-        """What a number, a handle or a pointer begins with; None for anything else."""
-        type_ = self.unit.constants.type_of(declaration)
-        is_pointer = type_ == "a pointer" or isinstance(type_, str) and type_.startswith("handle")
-        if not isinstance(type_, Integer) and not is_pointer:
-            return None
-        if trees.kind(node) == "InitList":
-            node = node.exprs[0]
-        if node is None:
-            return constant(0, POINTER if is_pointer else type_)
-        found = self.evaluate(node, Called("", 0)) if is_pointer else self.unit.constants.value(node)
-        return converted(found, type_) if isinstance(type_, Integer) and isinstance(found, Value) else found
-
-    def leaves(self, name: str) -> Iterator[str]:
-        """The members of a structure, and of an array of structures, that are no structures; a name of something else itself."""
-        declaration = self.declaration(name)
-        members = self.unit.constants.members(declaration)
-        for it in members:
-            if it:
-                yield from self.leaves(f"{name}.{it}")
-        elements = self.elements(declaration) if self.unit.constants.structure(trees.element(declaration)) is not None else 0
-        for at in range(elements):
-            yield from self.leaves(f"{name}[{at}]")
-        if not members and not elements:
-            yield name
-
-    def elements(self, declaration: object) -> int:
-        """How many elements of an array are followed."""
-        length = self.unit.constants.length(declaration) or 0
-        return length if length <= MOST_ELEMENTS else 0
-
-    def write(self, name: Optional[str], value: Optional[Content], node: object, called: Called) -> None:
-        if name is None:
-            return
-        if self.unit.constants.members(self.declaration(name)):
-            self.copy(name, value, node, called)
-            return
-        type_ = self.unit.constants.type_of(self.declaration(name)) if self.declaration(name) is not None else ""
-        if isinstance(type_, Integer) and isinstance(value, Value):
-            value = converted(value, type_)
-        place = self.unit.place(node)
-        if value is None:
-            self.cells[name] = NotKnown("it is given what isn't known, before the scheduler starts", place)
-        elif called.is_sure or self.value(name) == value:
-            self.cells[name] = value
-        else:
-            self.cells[name] = NotKnown("it is given a value that depends on what isn't known, before the scheduler starts", place)
-
-    def copy(self, name: str, value: Optional[Content], node: object, called: Called) -> None:
-        for it in self.leaves(name):
-            source = f"{value.name}{it[len(name):]}" if isinstance(value, Address) else None
-            self.write(it, self.value(source) if source is not None else None, node, called)
-
-    def fill(self, name: str, given: List[object], node: object, called: Called) -> None:
-        """Gives a structure or an array the values of a list, and 0 where that has none."""
-        declaration = self.declaration(name)
-        names = [it for it in self.unit.constants.members(declaration) if it]
-        found = Initializers(self.unit.constants, lambda it: isinstance(self.evaluate(it, called), Address)).of_members(declaration, given)
-        parts = [(f"{name}.{it}", found.get(it)) for it in names]
-        parts += [(f"{name}[{at}]", self.given.of_element(declaration, given, at)) for at in range(self.elements(declaration))]
-        for inner, value in parts:
-            is_many = bool(self.unit.constants.members(self.declaration(inner))) or trees.element(self.declaration(inner)) is not None
-            if is_many and (value is None or trees.kind(value) == "InitList"):
-                self.fill(inner, value.exprs if value is not None else [], node, called)
-            else:
-                value = value.exprs[0] if trees.kind(value) == "InitList" else value
-                self.write(inner, constant(0) if value is None else self.evaluate(value, called), node, called)
 
     # -- statements
 
@@ -409,7 +270,7 @@ class Reset:
         return Address(name) if name is not None and type_ in ("a structure", "an array") else self.read(name, called)
 
     def read(self, name: Optional[str], called: Called) -> Optional[Content]:
-        if name is None:
+        if name is None or name.endswith("[?]"):
             return None
         return self.value(name) if name in self.cells else self.unit.handles.get((called.function, name.split("@")[0])) or self.value(name)
 
@@ -504,8 +365,10 @@ class Reset:
             return f"{inner}.{node.field.name}" if inner is not None else None
         if name == "ArrayRef":
             array, index = self.evaluate(node.name, called), self.evaluate(node.subscript, called)
-            is_array = isinstance(array, Address) and trees.element(self.declaration(array.name)) is not None
-            return f"{array.name}[{index.constant()}]" if is_array and isinstance(index, Value) else None
+            element = trees.element(self.declaration(array.name)) if isinstance(array, Address) else None
+            if element is not None and isinstance(index, Value):
+                return f"{array.name}[{index.constant()}]"
+            return f"{array.name}[?]" if element is not None and isinstance(self.unit.constants.type_of(element), Integer) else None
         pointer = node.name if name == "StructRef" else node.expr if name == "UnaryOp" and node.op == "*" else None
         found = self.evaluate(pointer, called) if pointer is not None else None
         if not isinstance(found, Address):
@@ -561,12 +424,6 @@ class Reset:
             self.write(values[5].name, found, node, called)
         return constant(1)
 
-    def clear(self, name: str, node: object, called: Called) -> None:
-        for it in self.leaves(name):
-            type_ = self.unit.constants.type_of(self.declaration(it)) if self.declaration(it) is not None else ""
-            if type_ != "an array":
-                self.write(it, constant(0), node, called)
-
     def are_alike(self, places: List[Optional[Content]], words: List[object], called: Called) -> bool:
         """Whether a copy is of one whole structure to another."""
         declared = [self.declaration(getattr(it, "name", "")) for it in places[:2]]
@@ -577,14 +434,6 @@ class Reset:
     def declared_as(self, name: str, called: Called) -> Optional[object]:
         """The declaration of what is named in a function."""
         return self.declaration(called.names[name]) if name in called.names else self.unit.globals.get(name)
-
-    def give_away(self, name: str, function: Optional[str], node: object) -> None:
-        """A function that isn't followed may change the numbers that are there."""
-        for it in self.leaves(name):
-            declaration = self.declaration(it)
-            if declaration is not None and isinstance(self.unit.constants.type_of(declaration), Integer):
-                why = f"{function or 'a function'} is given its address before the scheduler starts"
-                self.cells[it] = NotKnown(why, self.unit.place(node))
 
 
 def is_same(value: Value, label: Value) -> bool:

@@ -5,6 +5,7 @@ from typing import Dict, Iterator, List, Optional, Union
 from . import trees
 from .addresses import SOMEWHERE, Escaped, is_address, shown
 from .answers import NUMBERS
+from .arrays import shape
 from .calls import Argument, Call
 from .expressions import not_set
 from .fields import ONE_TARGET, Member
@@ -90,10 +91,11 @@ class Shared(Structures):
         leaves = list(self.unit.reset.leaves(where.name.replace(ANY, "[0]")))
         if not any(isinstance(self.unit.fields.of(it), (Member, Value)) for it in leaves):
             return
-        why = f"`{array}` isn't followed: in line {self.place(node).line} which element this is isn't known"
+        why = Lost(f"`{array}` isn't followed: in line {self.place(node).line} which element this is isn't known", instead=KNOWN_INDEX,
+                   array=None if self.unit.arrays.is_followed(array) else shape(array))
         if self.has_other_forms:
-            raise LostUse(self.place(node), Lost(why, instead=KNOWN_INDEX))
-        if self.unit.fields.unfollow(array, Lost(why, instead=KNOWN_INDEX)):
+            raise LostUse(self.place(node), why)
+        if self.unit.fields.unfollow(array, why):
             raise Escaped()
 
     # -- what is there
@@ -172,7 +174,7 @@ class Shared(Structures):
         if why is not None and why.local is None:
             line = self.place(node).line
             reason = f"`{where.name}` isn't known: line {line} gives it a value, and {why.why}"
-            self.unit.fields.unfollow(where.name, Lost(reason, instead=why.instead))
+            self.unit.fields.unfollow(where.name, Lost(reason, instead=why.instead, array=why.array))
             raise Escaped()
         self.store(stored, self.fitted(number, stored.type, node, path), node, path)
         return the_answer(stored.type, path.state.answers)
@@ -238,7 +240,9 @@ class Shared(Structures):
                 self.keep_pointer(it, replace(value, name=value.name + it.name[len(where.name):]) if isinstance(value, Address) else None, node, path)
                 continue
             source = replace(value, name=value.name + it.name[len(where.name):]) if isinstance(value, Address) else None
-            found = self.unknown(f"{shown(it)} isn't known here") if source is None else self.content(source, node, path)
+            why = value.lost() if isinstance(value, Value) else None
+            found = self.unknown(f"{shown(it)} isn't known here", array=why.array if why is not None else None)
+            found = found if source is None else self.content(source, node, path)
             self.write_there(it, found, node, path)
         return value
 

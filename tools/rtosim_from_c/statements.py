@@ -88,7 +88,7 @@ class Statements(Api):
     def uses(self, nodes: Sequence[object], local: str) -> int:
         """How many of these statements it takes to the last one that names the local; 0 if the function names it later, or a jump
         passes over what follows."""
-        name = local.split("@")[0].split(".")[0]
+        name = trees.root(local.split("@")[0])
         last = max((at for at, it in enumerate(nodes) if self.unit.mentions(it, name)), default=0)
         body = self.unit.functions[self.frame.function].body
         is_all = sum(self.unit.mentions(it, name) for it in nodes) == self.unit.named_from(body, name, self.place(nodes[0]).line)

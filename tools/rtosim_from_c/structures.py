@@ -1,19 +1,21 @@
 """Structures that are locals: their integer members are followed one by one, as locals are. A queue passes one member of a structure."""
+import re
 from dataclasses import replace
 from typing import Dict, Iterator, List, Optional, Set, Tuple, Union
 
 from . import trees
 from .addresses import Escaped
 from .calls import Argument, Call
+from .cells import PART
 from .constants import Type
-from .expressions import not_set
+from .expressions import NOT_SET, not_set
 from .frames import Continuation
 from .initializers import Initializers
 from .integers import INT, Integer
 from .memory import Memory
 from .paths import Path
 from .refusals import Lost, LostUse
-from .values import Address, Handle, Known, Reference, constant, lost
+from .values import Address, Handle, Known, Reference, Value, constant, lost
 
 STRUCTURE = "a structure"
 
@@ -47,13 +49,14 @@ class Structures(Memory):
     def declaration(self, where: Address) -> Optional[object]:
         """The declaration of what is there, in a local structure."""
         found = self.declarations.get(where.key)
-        for it in where.name.split(".")[1:]:
-            found = self.unit.constants.members(found).get(it)
+        for member, _ in PART.findall(where.name[len(trees.root(where.name)):]):
+            found = self.unit.constants.members(found).get(member) if member else trees.element(found)
         return found
 
     def field(self, where: Known) -> Optional[str]:
         """The key of an integer, a handle or a pointer that is a member of a local structure; None if it isn't followed."""
-        declaration = self.declaration(where) if isinstance(where, Address) and where.key is not None and "." in where.name else None
+        is_part = isinstance(where, Address) and where.key is not None and where.name != trees.root(where.name)
+        declaration = self.declaration(where) if is_part else None
         if declaration is None or getattr(declaration, "bitsize", None) is not None:
             return None
         type_, key = self.unit.constants.type_of(declaration), f"{where.name}@{where.key}"
@@ -64,14 +67,20 @@ class Structures(Memory):
 
     def may_be_changed(self, where: Address) -> bool:
         """Whether the address of what is there goes where it isn't followed."""
-        names = where.name.split(".")
-        return any(f"{'.'.join(names[:at])}@{where.key}" in self.escaped for at in range(1, len(names) + 1))
+        ends = [*(it.start() for it in re.finditer(r"[.\[]", where.name)), len(where.name)]
+        return any(f"{where.name[:at]}@{where.key}" in self.escaped for at in ends)
 
     def inner(self, where: Address) -> Iterator[Address]:
-        """Each member of a structure."""
+        """Each member of a structure, and each element of an array that is followed."""
         for name in self.unit.constants.members(self.declaration(where)):
             if name:
                 yield replace(where, name=f"{where.name}.{name}")
+        for at in range(self.elements(where)):
+            yield replace(where, name=f"{where.name}[{at}]")
+
+    def elements(self, where: Address) -> int:
+        """How many elements of an array are followed."""
+        return 0
 
     def fields(self, where: Address) -> Iterator[Tuple[str, str]]:
         """The path and the key of each integer, handle and pointer in a structure."""
@@ -82,7 +91,13 @@ class Structures(Memory):
 
     def content(self, where: Union[Address, Reference], node: object, path: Path) -> Known:
         key = self.field(where)
+        if key is None and isinstance(where, Address) and where.key in self.declarations and self.is_whole(where):
+            return where
         return super().content(where, node, path) if key is None or key not in path.state.locals else self.read_local(key, node, path)
+
+    def is_whole(self, where: Address) -> bool:
+        """Whether a whole structure is there."""
+        return where.index is None and self.unit.constants.structure(self.declaration(where)) is not None
 
     def write_there(self, where: Union[Address, Reference], value: Known, node: object, path: Path) -> Known:
         key = self.field(where)
@@ -102,9 +117,11 @@ class Structures(Memory):
 
     def copy(self, where: Address, value: Known, node: object, path: Path) -> Known:
         """Gives each integer of a structure the value that it has in another one."""
+        why = value.lost() if isinstance(value, Value) else None
         for rest, key in list(self.fields(where)):
             source = replace(value, name=value.name + rest) if isinstance(value, Address) else None
-            found = self.unknown(f"`{where.name}{rest}` isn't known here") if source is None else self.content(source, node, path)
+            found = self.unknown(f"`{where.name}{rest}` isn't known here", array=why.array if why is not None else None)
+            found = found if source is None else self.content(source, node, path)
             self.write_local(key, self.integer(found, node) if isinstance(self.types[key], Integer) else found, node, path)
         self.let_pointers_go(value, {rest for rest, _ in self.fields(where)}, path)
         return value
@@ -137,6 +154,8 @@ class Structures(Memory):
             return
         for _, key in self.fields(where):
             path.state = path.state.without(key)
+            if isinstance(self.types[key], Integer):
+                self.put(key, not_set(self.types[key]), node, path)
         if trees.kind(node.init) == "InitList":
             self.begin(where, node.init.exprs, path)
         elif node.init is not None:
@@ -145,9 +164,12 @@ class Structures(Memory):
     def begin(self, where: Address, given: List[object], path: Path) -> None:
         """A structure that begins with these values, and otherwise with 0."""
         members = list(self.inner(where))
-        of_members = Initializers(self.unit.constants, self.is_structure).of_members(self.declaration(where), given)
-        for it in members:
-            node, key = of_members.get(it.name.split(".")[-1]), self.field(it)
+        declaration, initializers = self.declaration(where), Initializers(self.unit.constants, self.is_structure)
+        of_members = initializers.of_members(declaration, given)
+        for at, it in enumerate(members):
+            is_element = it.name.endswith("]")
+            node = initializers.of_element(declaration, given, at) if is_element else of_members.get(it.name.split(".")[-1])
+            key = self.field(it)
             is_structure = key is None and bool(list(self.inner(it)))
             is_whole = node is not None and trees.kind(node) != "InitList"
             if is_structure and is_whole:
@@ -211,7 +233,8 @@ class Structures(Memory):
         if member is None:
             return super().item(value, queue, node, path)
         key = self.field(member)
-        if key not in path.state.locals:
+        found = path.state.locals.get(key)
+        if found is None or isinstance(found, Value) and found.lost() == NOT_SET:
             raise LostUse(self.place(node), Lost(f"`{member.name}` isn't known here", instead="a value for it before"))
         self.note(node, f"of `{value.name}` the queue has `{member.name.split('.')[-1]}`")
         return super().item(Reference(key), queue, node, path)

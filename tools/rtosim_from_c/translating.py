@@ -61,12 +61,33 @@ class Translation(Handles):
 
     uses_daemon = False
 
+    def __init__(self, unit: Unit, target: Target, owner: Union[Task, Handler]):
+        super().__init__(unit, target, owner)
+        # What wasn't known where the script was refused.
+        self.missed: List[Lost] = []
+
     def script(self) -> Script:
-        """The script. A local whose value another answer takes splits its ways, where that helps; otherwise it is a variable."""
+        """The script. If it is refused since an element of an array isn't known, that array is followed by its elements. After this of a
+        global all functions are followed anew."""
+        try:
+            return self.in_two_ways()
+        except Refusal:
+            known = self.unit.learned()
+            if not any([self.follows(it) for it in self.missed]) or self.unit.learned() != known:
+                raise
+        again = Translation(self.unit, self.target, self.owner)
+        again.local_arrays = self.local_arrays
+        try:
+            return again.script()
+        finally:
+            self.notes, self.uses_daemon = again.notes, again.uses_daemon
+
+    def in_two_ways(self) -> Script:
+        """A local whose value another answer takes splits the ways, where that helps; otherwise it is a variable."""
         try:
             return self.with_retries()
         except Refusal as first:
-            if not self.has_variables:
+            if not self.has_variables or self.uses_memory:
                 raise
             is_alike = not self.splits and not self.parted and not self.is_flat
             self.splits, self.parted, self.is_flat, self.uses_memory = set(), set(), False, True
@@ -90,6 +111,7 @@ class Translation(Handles):
                 continue
             except LostUse as why:
                 if not self.learns(why.lost):
+                    self.missed.append(why.lost)
                     raise
         raise Refusal(self.owner.place, "this function keeps too many results at once", "a test right after each call")
 
@@ -132,6 +154,8 @@ class Translation(Handles):
             instead = "fewer calls, or loops whose turns are all the same"
             if self.is_handler:
                 instead = "less in the handler: a task that it wakes may compute and test as well; --ignore NAME for variables on which nothing depends"
+            if self.arrays_named:
+                instead = f"fewer elements of `{self.arrays_named[0]}`, by `#ifdef RTOSIM`; or {instead}"
             raise Refusal(lines[most].place, f"{self.owner.name} would need {len(lines)} ops, and {most} are the most", instead)
         self.check_depth(items, 0, 0)
 
@@ -206,9 +230,9 @@ def without_doubles(refusals: Sequence[Refusal]) -> List[Refusal]:
 
 
 def read_unit(name: str, lines: Lines, folders: Sequence[str] = (), macros: Sequence[str] = (), handlers: Sequence[str] = (),
-              ignored: Sequence[str] = (), failing: Sequence[str] = ()) -> Unit:
+              ignored: Sequence[str] = (), failing: Sequence[str] = (), has_short_enums: bool = False) -> Unit:
     """What the file declares, with its objects and tasks."""
     text = preprocessed(name, folders, macros, lines)
-    return Unit(parsed(text, name, lines), lines, handlers, ignored, failing)
+    return Unit(parsed(text, name, lines), lines, handlers, ignored, failing, has_short_enums)
 
 

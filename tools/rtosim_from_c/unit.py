@@ -5,6 +5,7 @@ from typing import Dict, FrozenSet, Iterator, List, Mapping, Optional, Sequence,
 
 from . import trees
 from .answers import Answers, answers, only
+from .arrays import Arrays
 from .calls import CALLS, CREATORS, SETUP, TASK_CREATORS
 from .constants import Constants, numeral
 from .directives import Directives, Ignored
@@ -63,8 +64,9 @@ class Handler:
 class Unit(Reached):
     """A file, as far as it is known without its functions being followed."""
 
-    def __init__(self, tree: object, lines: Lines, handlers: Sequence[str] = (), ignored: Sequence[str] = (), failing: Sequence[str] = ()):
-        self.lines, self.names, self.constants = lines, Names(), Constants()
+    def __init__(self, tree: object, lines: Lines, handlers: Sequence[str] = (), ignored: Sequence[str] = (), failing: Sequence[str] = (),
+                 has_short_enums: bool = False):
+        self.lines, self.names, self.constants = lines, Names(), Constants(has_short_enums)
         self.directives = Directives(handlers=set(handlers), ignored=Ignored(ignored), failing=Ignored(failing))
         self.functions: Dict[str, object] = {}
         self.globals: Dict[str, object] = {}
@@ -98,6 +100,7 @@ class Unit(Reached):
         self.names_of_locals: Dict[str, Set[str]] = {}
         # what has another name than in C: what it is there
         self.shown: Dict[str, str] = {}
+        self.arrays = Arrays(self)
         self.declare(tree)
         self.reset = Reset(self)
         self.find_all()
@@ -123,8 +126,8 @@ class Unit(Reached):
         for it in tree.ext:
             name = trees.kind(it)
             for inner in trees.walk(it):
-                if trees.kind(inner) == "Enum":
-                    self.constants.take_enum(inner)
+                if trees.kind(inner) == "Enum" and not self.constants.take_enum(inner):
+                    self.refusals.append(two_types(self.place(inner), inner.name))
             if name == "FuncDef":
                 self.functions[it.decl.name] = it
             elif name == "Decl" and it.name and trees.kind(it.type) != "FuncDecl":
@@ -150,7 +153,7 @@ class Unit(Reached):
                 elif trees.kind(node) == "Typedef":
                     before = self.constants.typedefs.setdefault(name, node)
                 if before not in (None, node) and (before is None or not trees.is_alike(before, node)):
-                    self.refusals.append(Refusal(self.place(node), f"`{name}` is the name of two types", "a name for each of them"))
+                    self.refusals.append(two_types(self.place(node), name))
 
     def declare_global(self, declaration: object) -> None:
         name = declaration.name
@@ -436,12 +439,14 @@ class Unit(Reached):
     # -- global structures
 
     def is_followed(self, name: str) -> bool:
-        """Whether a global is an integer, or a structure or an array of them whose members may be variables."""
+        """Whether a global is an integer, or a structure or an array of them whose members may be variables; or an array of integers that
+        is followed by its elements."""
         declaration = self.globals.get(name)
         if declaration is None or name.startswith(STUB) or name in self.directives.ignored or name in self.constants.numbers:
             return False
         is_table = self.constants.structure(trees.element(declaration)) is not None
-        return is_table or self.constants.type_of(declaration) == "a structure" or isinstance(self.constants.type_of(declaration), Integer)
+        type_ = self.constants.type_of(declaration)
+        return is_table or type_ == "a structure" or isinstance(type_, Integer) or self.arrays.is_followed(name)
 
     def followed(self, where: Address) -> Address:
         """The same address; with a key if its members may be variables."""
@@ -507,6 +512,10 @@ class Unit(Reached):
         found.numbers["initial"] = min(found.numbers["max"], found.numbers.get("initial", 0) + 1)
         self.notes.append(Note(self.place(call), f"the semaphore `{found.name}` counts {found.numbers['initial']} at reset"))
         return True
+
+
+def two_types(place: Place, name: str) -> Refusal:
+    return Refusal(place, f"`{name}` is the name of two types", "a name for each of them")
 
 
 def created(node: object) -> Tuple[Optional[str], Optional[object]]:

@@ -90,10 +90,13 @@ class Reference:
 
 @dataclass(frozen=True)
 class Address:
-    """The address of an array or a structure, or of a member, by its name. A local structure has a key, and its members are followed."""
+    """The address of an array or a structure, or of a part of one, by its name. What is followed has a key. An element that an index means
+    has the key of the index; an element of an array that isn't followed has the array's name in `Lost`."""
 
     name: str
     key: Optional[str] = None
+    index: Optional[str] = None
+    array: Optional[str] = field(default=None, compare=False)
 
 
 @dataclass(frozen=True)
