@@ -86,8 +86,8 @@ pub fn ticks_pass_up_to_the_limit()
         → (step app limits sources s).elapsed ≤ limits.ticks + ticks_among app (pending_of s ++ sources) }
 {}
 
-/// A tick that is injected before a step of `work` is a tick of that work: it leads to the state to which a step of the work leads
-/// that has a tick more to go, but for the number of steps.
+/// A tick that is injected before a step of `work` counts as a tick of that work. It leads to the state that a step of the work leads to
+/// if one tick more is left of it. Only the number of steps differs.
 pub fn injected_ticks_are_ticks_of_work()
     // A tick of the work is used up in the state into which the tick is injected, and not in the other one.
     ensures { (app : Application) (limits : Limits) (s : State) (task ticks : ℕ) → WorksOn app s task ticks
