@@ -15,7 +15,13 @@ A_CONSTANT = "a constant in its place, by `#ifdef RTOSIM`; or, as the first in t
 SOMEWHERE = "what a pointer leads to"
 REGISTER = "a register of the hardware"
 NOWHERE = (SOMEWHERE, REGISTER)
+ONE_INDEX = "an array with one index, such as `table[row * COLUMNS + column]`; or " + A_CONSTANT
 A_STUB = "a stub of it, as `static TIM_TypeDef rtosim_TIM2;` and `#define TIM2 (&rtosim_TIM2)`; or " + A_CONSTANT
+
+
+def has_two_indexes(node: object) -> bool:
+    """Whether it is an element of an array's element."""
+    return trees.kind(node) == "ArrayRef" and trees.kind(node.name) == "ArrayRef"
 
 
 class Escaped(Exception):
@@ -92,6 +98,8 @@ class Addresses(Core):
         """What is read there."""
         if isinstance(where, Reference):
             return self.read_local(where.local, node, path)
+        if where.name == SOMEWHERE and has_two_indexes(node):
+            return self.unknown("an array with two indexes isn't followed", ONE_INDEX)
         return self.handle_named(where.name) or self.unknown(f"{shown(where)} isn't known here", A_STUB if where.name == REGISTER else A_CONSTANT)
 
     def handle_named(self, name: str) -> Optional[Known]:
