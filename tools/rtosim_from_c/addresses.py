@@ -98,9 +98,18 @@ class Addresses(Core):
         """What is read there."""
         if isinstance(where, Reference):
             return self.read_local(where.local, node, path)
+        if where.name == SOMEWHERE and self.is_of_union(node):
+            return self.unknown("a union isn't followed", "its members as variables of their own; or " + A_CONSTANT)
         if where.name == SOMEWHERE and has_two_indexes(node):
             return self.unknown("an array with two indexes isn't followed", ONE_INDEX)
         return self.handle_named(where.name) or self.unknown(f"{shown(where)} isn't known here", A_STUB if where.name == REGISTER else A_CONSTANT)
+
+    def is_of_union(self, node: object) -> bool:
+        """Whether it is a part of a global union."""
+        while trees.kind(node) in ("StructRef", "ArrayRef"):
+            node = node.name
+        declaration = self.unit.globals.get(node.name) if trees.kind(node) == "ID" else None
+        return declaration is not None and self.unit.constants.type_of(declaration) == "a union"
 
     def handle_named(self, name: str) -> Optional[Known]:
         """The handle that a global, or a member of one, has from reset on."""
