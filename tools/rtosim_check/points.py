@@ -1,7 +1,7 @@
 """The points of a campaign: too many of them, and those after the end of the base run."""
 from __future__ import annotations
 
-from typing import Any, Iterator, List, Optional
+from typing import Any, Iterator, List, Optional, Tuple
 
 from rtosim_report.faults import counted
 
@@ -32,7 +32,8 @@ def too_many(nodes: List[Text], steps: int, root: Table, line: str) -> Finding:
 
 def warnings(application: Application, steps: int) -> Iterator[Finding]:
     """Points that are not reached by a base run of this many steps, in one warning."""
-    behind, empty = [], []
+    behind: List[Tuple[int, Text]] = []
+    empty: List[Tuple[int, Text]] = []
     for at, node in enumerate(application.points() or []):
         step = first_step(node)
         if step is not None and step >= steps:
