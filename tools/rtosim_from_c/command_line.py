@@ -36,7 +36,7 @@ def parsed(words: Optional[Sequence[str]]) -> argparse.Namespace:
     parser.add_argument("--fails", action="append", default=[], metavar="NAME", help="a call of this function is a check that fails")
     parser.add_argument("-I", dest="folders", action="append", default=[], metavar="FOLDER", help="where headers are")
     parser.add_argument("-D", dest="macros", action="append", default=[], metavar="NAME=VALUE", help="a macro")
-    parser.add_argument("-fshort-enums", dest="has_short_enums", action="store_true", help="an enum is as small as its constants allow, as with compilers for ARM")
+    parser.add_argument("--short-enums", dest="has_short_enums", action="store_true", help="an enum is as small as its constants allow, as with compilers for ARM (-fshort-enums)")
     parser.add_argument("--program", default=PROGRAM, metavar="PATH", help="another program than bin/rtosim")
     found, found.others = parser.parse_known_args(words)
     asked = [it for it in COMMANDS if getattr(found, it)]
